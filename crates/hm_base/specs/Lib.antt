@@ -1,0 +1,4 @@
+pub mod Pages
+pub mod Areas
+pub mod Program
+pub mod PlaceWords

@@ -1,0 +1,173 @@
+// Operations and scripts.
+use crate::lists::{ActorLists, Bytes, DeviceList, Schedule};
+use crate::{Actor, Dev, MirrorId, Page, Proc, Span};
+use std::marker::Model;
+
+/// What an area allows: `PROT_READ`, or `PROT_READ | PROT_WRITE`.
+#[derive(Clone, Copy, PartialEq, Eq, Debug)]
+pub enum Rights {
+    Read,
+    ReadWrite,
+}
+
+/// An operation of a script.
+#[derive(Drop)]
+pub enum Op {
+    /// Map fresh zero pages; refused where a page has an area, or at the 65th area.
+    Map {
+        proc: Proc,
+        span: Span,
+        rights: Rights,
+    },
+    /// Unmap the pages, each area being cut at the span's ends.
+    Unmap {
+        proc: Proc,
+        span: Span,
+    },
+    /// Change the right of pages that all have an area.
+    Protect {
+        proc: Proc,
+        span: Span,
+        rights: Rights,
+    },
+    /// Read bytes by the CPU.
+    Load {
+        proc: Proc,
+        addr: u64,
+        len: u32,
+    },
+    /// Write bytes by the CPU.
+    Store {
+        proc: Proc,
+        addr: u64,
+        bytes: Bytes,
+    },
+    /// Make the child a copy of the process, by copy on write.
+    Fork {
+        proc: Proc,
+        child: Proc,
+    },
+    /// End the process and unmap all its pages.
+    Exit {
+        proc: Proc,
+    },
+    /// Attach a mirror of the window to the process, for the device.
+    Attach {
+        mirror: MirrorId,
+        dev: Dev,
+        proc: Proc,
+        span: Span,
+    },
+    /// Detach the mirror, after the invalidations under way.
+    Detach {
+        mirror: MirrorId,
+    },
+    /// Read bytes by the device, through the mirror.
+    DeviceLoad {
+        mirror: MirrorId,
+        addr: u64,
+        len: u32,
+    },
+    /// Write bytes by the device, through the mirror.
+    DeviceStore {
+        mirror: MirrorId,
+        addr: u64,
+        bytes: Bytes,
+    },
+    /// Migrate the pages to the mirror's device.
+    ToDevice {
+        mirror: MirrorId,
+        span: Span,
+    },
+    /// Migrate the pages back to system memory.
+    ToSystem {
+        mirror: MirrorId,
+        span: Span,
+    },
+    /// Tell what the page tables have for the pages.
+    Snap {
+        mirror: MirrorId,
+        span: Span,
+    },
+    /// Migrate every page in the device's memory whose frame no other actor has locked to system memory.
+    Evict {
+        dev: Dev,
+    },
+    /// Give out no frame of the device any more, empty it, and take it away for good.
+    Remove {
+        dev: Dev,
+    },
+    /// Take a writable system page for this actor alone.
+    Exclusive {
+        mirror: MirrorId,
+        page: Page,
+    },
+    /// Add to a byte by a read and a write of the page that the actor has alone.
+    Add {
+        mirror: MirrorId,
+        addr: u64,
+        amount: u8,
+    },
+}
+
+/// A line of a schedule: so many turns of one actor, or rounds of all until none has work left.
+#[derive(Clone, Copy, PartialEq, Eq, Debug)]
+pub enum ScheduleLine {
+    Run { actor: Actor, count: u32 },
+    Drain,
+}
+
+/// The version that a script's first line names. Version 2 has two operations more.
+#[derive(Clone, Copy, PartialEq, Eq, Debug)]
+pub enum Version {
+    One,
+    Two,
+}
+
+/// A script whose numbers, counts and names are in range. `frames` and `devices` count frames of
+/// 4,096 bytes; `skip` is 0, or migrations to a
+/// device pass over the pages whose number it divides.
+#[derive(Drop)]
+pub struct Script {
+    pub version: Version,
+    pub frames: u32,
+    pub devices: DeviceList,
+    pub skip: u64,
+    pub actors: ActorLists,
+    pub schedule: Schedule,
+}
+
+impl Model for Script {
+    ghost use Rattle.hm_base.specs.Program.{Program, IsScript};
+
+    ghost Value = { Program };
+
+    ghost view = { λ s. record {
+      version = s.version;
+      frames = s.frames;
+      devices = s.devices;
+      skip = s.skip;
+      actors = s.actors;
+      schedule = s.schedule;
+    } };
+
+    ghost invariant = { λ s. IsScript (record {
+      version = s.version;
+      frames = s.frames;
+      devices = s.devices;
+      skip = s.skip;
+      actors = s.actors;
+      schedule = s.schedule;
+    }) };
+}
+
+impl Script {
+    ghost use Rattle.hm_base.specs.Program.{IsScript};
+
+    /// Gives what keeps a script in range where only its value is at hand; it does nothing.
+    pub fn fits(&self)
+        ensures { IsScript self.now }
+    {
+        let _ = &self.frames;
+    }
+}
