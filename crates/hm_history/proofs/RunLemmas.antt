@@ -1,0 +1,76 @@
+-- A run adds what is due.
+use Rattle.std.proofs.Common.{◌≡◌, ℕ, zero, suc, Bool, true, false, Option, None, Some, List, [], ◌∷◌, ◌++◌, refl, sym, subst, append_assoc, append-nil, fold}
+use Rattle.hm_base.specs.Program.{Program}
+use Rattle.hm_base.specs.declared.ops.Op.{Op}
+use Rattle.hm_base.specs.declared.ops.ScheduleLine.{ScheduleLine}
+use Rattle.hm_history.specs.After.{After}
+use Rattle.hm_history.specs.Going.{state_of}
+use Rattle.hm_history.specs.Due.{due, due_top, due_phase, progress}
+use Rattle.hm_history.specs.Run.{enough, has_room, added, turn, turns, turns_on, actors_of, round, drained, line_run}
+use Rattle.hm_history.specs.Laws.{DueFrom, RunsAreDue}
+use Rattle.hm_history.specs.declared.Entry.{Entry}
+use Rattle.hm_history.specs.declared.Progress.{Progress}
+use Rattle.hm_history.specs.declared.phases.Migrating.{Migrating}
+use Rattle.hm_history.specs.declared.phases.Phase.{Phase}
+use Rattle.hm_history.specs.declared.phases.Next.{Next}
+use Rattle.hm_history.specs.declared.phases.Next.TheVariants.{Do, Wait}
+
+-- what is due to an actor is an entry of its own
+pub progress_own : (a : ℕ) (n : Next) (e : Entry) → progress a n ≡ Progress.Did e → a ≡ e.actor
+progress_own a (Do k) e p = cc
+progress_own a (Wait w) e p = cc
+
+pub due_top_own : (c : Program) (s : After) (a : ℕ) (o : Option Op) (xs : List Migrating) (st : List Phase) (e : Entry) → due_top c s a o xs st ≡ Progress.Did e → a ≡ e.actor
+due_top_own c s a (Some o) xs (top ∷ below) e p = progress_own a (due_phase c s a o xs top) e p
+due_top_own c s a (Some o) xs [] e p = cc
+due_top_own c s a None xs st e p = cc
+
+pub due_own : (c : Program) (h : List Entry) (a : ℕ) (e : Entry) → due c h a ≡ Progress.Did e → due c h e.actor ≡ Progress.Did e
+due_own c h a e p = subst (λ b. due c h b ≡ Progress.Did e) (due_top_own c (state_of c h).after a _ _ _ e p) p
+
+pub DueFrom-append : (c : Program) (g h : List Entry) (e : Entry) → DueFrom c g h → due c (g ++ h) e.actor ≡ Progress.Did e → DueFrom c g (h ++ e ∷ [])
+DueFrom-append c g [] e d p = (rw append-nil at p, tt)
+DueFrom-append c g (x ∷ h) e d p = (d.0, DueFrom-append c (g ++ x ∷ []) h e d.1 (subst (λ l. due c l e.actor ≡ Progress.Did e) (sym (append_assoc g (x ∷ []) h)) p))
+
+pub added_due : (c : Program) (h : List Entry) (a : ℕ) (n : Progress) → due c h a ≡ n → DueFrom c [] h → DueFrom c [] (added h n)
+added_due c h a (Progress.Did e) p d =
+    elim (has_room h) as (λ b. DueFrom c [] (elim b [ true ↦ h ++ e ∷ [] | false ↦ h ])) [
+      | true ↦ DueFrom-append c [] h e d (due_own c h a e p)
+      | false ↦ d
+    ]
+added_due c h a (Progress.Waiting w) p d = d
+added_due c h a Progress.Idle p d = d
+
+pub turn_due : (c : Program) (h : List Entry) (a : ℕ) → DueFrom c [] h → DueFrom c [] (turn c h a)
+turn_due c h a d = added_due c h a (due c h a) refl d
+
+pub turns_due : (c : Program) (h : List Entry) (a n : ℕ) → DueFrom c [] h → DueFrom c [] (turns c h a n)
+turns_due c h a zero d = d
+turns_due c h a (suc n) d = turns_due c (turn c h a) a n (turn_due c h a d)
+
+pub either_due : (c : Program) (b : Bool) (g h : List Entry) → DueFrom c [] g → DueFrom c [] h → DueFrom c [] (elim b [ true ↦ g | false ↦ h ])
+either_due c true g h p q = p
+either_due c false g h p q = q
+
+pub turns_on_due : (c : Program) (h : List Entry) (a n : ℕ) → DueFrom c [] h → DueFrom c [] (turns_on c h a n)
+turns_on_due c h a zero d = d
+turns_on_due c h a (suc n) d = either_due c _ _ _ (turns_on_due c (turn c h a) a n (turn_due c h a d)) d
+
+pub round_from_due : (c : Program) (as_ : List ℕ) (h : List Entry) → DueFrom c [] h → DueFrom c [] (fold (λ g a. turns_on c g a enough) h as_)
+round_from_due c [] h d = d
+round_from_due c (a ∷ as_) h d = round_from_due c as_ (turns_on c h a enough) (turns_on_due c h a enough d)
+
+pub drained_due : (c : Program) (h : List Entry) (n : ℕ) → DueFrom c [] h → DueFrom c [] (drained c h n)
+drained_due c h zero d = d
+drained_due c h (suc n) d = either_due c _ _ _ (drained_due c (round c h) n (round_from_due c (actors_of c) h d)) d
+
+pub line_due : (c : Program) (h : List Entry) (l : ScheduleLine) → DueFrom c [] h → DueFrom c [] (line_run c h l)
+line_due c h (ScheduleLine.Run a n) d = turns_due c h a n d
+line_due c h ScheduleLine.Drain d = drained_due c h enough d
+
+pub lines_due : (c : Program) (ls : List ScheduleLine) (h : List Entry) → DueFrom c [] h → DueFrom c [] (fold (line_run c) h ls)
+lines_due c [] h d = d
+lines_due c (l ∷ ls) h d = lines_due c ls (line_run c h l) (line_due c h l d)
+
+pub runs_due : RunsAreDue
+runs_due c = lines_due c c.schedule [] tt

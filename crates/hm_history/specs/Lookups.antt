@@ -1,0 +1,76 @@
+-- Uses since a look-up (the pattern of `mmu_interval_read_begin` and `mmu_interval_read_retry` in
+-- Documentation/mm/hmm.rst), and narrowing under a guard: invalidate before the change.
+use Rattle.std.specs.Prelude.{ℕ, ◌+◌, Bool, true, false, not, ◌&&◌, ◌||◌, ◌==◌, if◌then◌else◌, Option, Some, None, List, [], ◌∷◌, drop, take}
+use Rattle.std.specs.List.{list_all}
+use Rattle.hm_base.specs.Pages.{covers}
+use Rattle.hm_base.specs.declared.Place.{Place}
+use Rattle.hm_base.specs.declared.Place.TheVariants.{Empty, Zero, Sys, Own, Moving}
+use Rattle.hm_history.specs.Words.{page_of, writable}
+use Rattle.hm_history.specs.Sequences.{Sequences, all_told, guard_passes}
+use Rattle.hm_history.specs.declared.Who.TheVariants.{Mirror}
+use Rattle.hm_history.specs.declared.Kind.{Kind}
+use Rattle.hm_history.specs.declared.Entry.{Entry}
+
+-- the position of the last entry that passes the test, counted from `at`
+abbrev pub last_from : (Entry → Bool) → ℕ → Option ℕ → List Entry → Option ℕ
+last_from test at best [] = best
+last_from test at best (e ∷ es) = last_from test (at + 1) (if test e then Some at else best) es
+
+abbrev pub last_where : (Entry → Bool) → List Entry → Option ℕ
+last_where test h = last_from test 0 None h
+
+abbrev pub sets : ℕ → ℕ → Kind → Bool
+sets m v (Kind.Set k u f w from) = (k == m) && (u == v)
+sets m v _ = false
+
+abbrev pub begins : ℕ → Kind → Bool
+begins m (Kind.Begin k q) = k == m
+begins m _ = false
+
+abbrev pub tells : ℕ → ℕ → Kind → Bool
+tells m v (Kind.Told k r q) = (k == m) && covers r v
+tells m v _ = false
+
+abbrev pub set_from : Kind → ℕ
+set_from (Kind.Set k u f w from) = from
+set_from _ = 0
+
+-- FROM of the `set` of this actor at j is j, or the actor's last `begin` of that mirror before it
+abbrev pub is_begin_before : List Entry → ℕ → ℕ → ℕ → ℕ → Bool
+is_begin_before h a m j from = (from == j)
+    || elim (last_where (λ e. (e.actor == a) && begins m e.kind) (take j h)) [ None ↦ false | Some i ↦ from == i ]
+
+abbrev pub at_set : List Entry → ℕ → ℕ → ℕ → List Entry → Bool
+at_set h m v j [] = false
+at_set h m v j (e ∷ es) = is_begin_before h e.actor m j (set_from e.kind)
+    && list_all (λ x. not (tells m v x.kind)) (drop (set_from e.kind + 1) h)
+
+-- the mirror's entry on the page was set after a look-up since which nobody was told
+abbrev pub is_untold : List Entry → ℕ → ℕ → Bool
+is_untold h m v = elim (last_where (λ e. sets m v e.kind) h) [ None ↦ false | Some j ↦ at_set h m v j (drop j h) ]
+
+abbrev pub uses_untold : List Entry → Kind → Bool
+uses_untold h (Kind.Loaded (Mirror m) a bs) = is_untold h m (page_of a)
+uses_untold h (Kind.Stored (Mirror m) a bs) = is_untold h m (page_of a)
+uses_untold h (Kind.Fetched m a bs) = is_untold h m (page_of a)
+uses_untold h (Kind.Added m a was now) = is_untold h m (page_of a)
+uses_untold h _ = true
+
+-- the new place takes something from the old one: a mapping, its frame, or its write right
+abbrev pub loses : Place → Place → Bool
+loses (Sys n w) (Sys k x) = not (n == k) || (w && not x)
+loses (Own d n w) (Own e k x) = not ((d == e) && (n == k)) || (w && not x)
+loses (Moving f w) (Moving g x) = w && not x
+loses (Moving f w) Empty = true
+loses (Moving f w) x = w && not (writable x)
+loses Zero Zero = false
+loses Empty x = false
+loses _ x = true
+
+-- under a guard of the actor that has the page, and in which each interval that overlapped was told
+abbrev pub is_guarded : Sequences → ℕ → ℕ → ℕ → Bool
+is_guarded s a p v = guard_passes (λ g. (g.proc == p) && (covers g.span v && all_told g)) (s.guard a)
+
+abbrev pub narrows_guarded : Sequences → (ℕ → ℕ → Place) → ℕ → Kind → Bool
+narrows_guarded s place a (Kind.Place p v x) = not (loses (place p v) x) || is_guarded s a p v
+narrows_guarded s place a _ = true

@@ -1,0 +1,39 @@
+-- Words on addresses, frames and places.
+use Rattle.std.specs.Prelude.{ℕ, ◌+◌, ◌-◌, ◌/◌, ◌%◌, suc, zero, Bool, true, false, ◌&&◌, nat_le, ◌==◌, if◌then◌else◌, Option, Some, None, List, [], ◌∷◌}
+pub use Rattle.hm_base.specs.PlaceWords.{sys_frame, dev_frame, same_pool, same_frame, is_frame, with_frame, names, names_directly, moving_frame, is_empty_place, writable, narrowed, place_in, same_place, snap_code}
+
+-- f, but x at k
+abbrev pub with_at : {X : Type 0} → (ℕ → X) → ℕ → X → ℕ → X
+with_at f k x q = if q == k then x else f q
+
+-- numbers from `from`, so many
+abbrev pub numbers : ℕ → ℕ → List ℕ
+numbers from zero = []
+numbers from (suc n) = from ∷ numbers (from + 1) n
+
+-- the least number from `from` on, among so many, that passes the test
+abbrev pub least : (ℕ → Bool) → ℕ → ℕ → Option ℕ
+least test from zero = None
+least test from (suc n) = elim (test from) [ true ↦ Some from | false ↦ least test (from + 1) n ]
+
+abbrev pub same_bytes : List ℕ → List ℕ → Bool
+same_bytes [] [] = true
+same_bytes (x ∷ xs) (y ∷ ys) = (x == y) && same_bytes xs ys
+same_bytes _ _ = false
+
+-- the bytes from an address on, so many
+abbrev pub bytes_from : (ℕ → ℕ) → ℕ → ℕ → List ℕ
+bytes_from f a zero = []
+bytes_from f a (suc n) = f a ∷ bytes_from f (a + 1) n
+
+-- the page of an address, and the pieces of an access: each has an address and a length
+abbrev pub page_of : ℕ → ℕ
+page_of a = a / 4096
+
+abbrev pub first_len : ℕ → ℕ → ℕ
+first_len a n = if nat_le (a % 4096 + n) 4096 then n else 4096 - a % 4096
+
+-- an access has at most 4,096 bytes, so at most two pieces
+abbrev pub pieces : ℕ → ℕ → List (ℕ × ℕ)
+pieces a n = let k = first_len a n in
+    if k == n then (a, n) ∷ [] else ((a, k) ∷ (a + k, n - k) ∷ [])
