@@ -1,0 +1,185 @@
+-- What it is for an entry that is due to be good, and how decisions are gone through.
+use Rattle.std.proofs.Common.{◌≤◌}
+use Rattle.std.proofs.Common.{◌≡◌, ℕ, ◌+◌, ◌%◌, ◌<◌, ◌⊎◌, inl, inr, Bool, true, false, ◌==◌, ◌&&◌, nat_lt, if◌then◌else◌, not, is_some, is_none, Option, Some, None, List, [], ◌∷◌, refl, sym, ap, ◌∙◌, subst, arith, length}
+use Rattle.std.proofs.lemmas.Bool.Decides.{nat_tests}
+use Rattle.hm_base.specs.Program.{Program}
+use Rattle.hm_base.specs.declared.PoolId.{PoolId}
+use Rattle.hm_base.specs.declared.Place.{Place}
+use Rattle.hm_base.specs.declared.ops.Rights.{Rights}
+use Rattle.hm_base.specs.declared.ops.Op.{Op}
+use Rattle.hm_history.specs.Words.{is_empty_place, same_place, page_of}
+use Rattle.hm_history.specs.Plain.{Plain, rights_of, is_read_write, is_read_only}
+use Rattle.hm_history.specs.Places.{lowest_free}
+use Rattle.hm_history.specs.Locks.{lock_passes}
+use Rattle.hm_history.specs.After.{After}
+use Rattle.hm_history.specs.declared.locks.MapLock.{MapLock}
+use Rattle.hm_history.specs.declared.Who.{Who}
+use Rattle.hm_history.specs.declared.Kind.{Kind}
+use Rattle.hm_laws.specs.Stood.{lock_on}
+use Rattle.hm_laws.specs.Past.{Past, past_next}
+use Rattle.hm_laws.specs.Sound.{LockRules, Sound}
+use Rattle.hm_laws.specs.Allowed.{next, shows, Clean, MayRelease, ReadsThere, WritesThere, Allowed}
+use Rattle.std.specs.Prelude.{⊤}
+use Rattle.hm_laws.proofs.Search.{least_none}
+use Rattle.hm_laws.proofs.Updates.{here_at, some_none, true_false}
+use Rattle.hm_laws.specs.Facts.{Is, Reads, No_guard, Locks_only, takes_lock, has_piece, nothing_held, facts, HoldsAll}
+use Rattle.hm_history.specs.Due.{proc_of_op}
+use Rattle.hm_history.specs.Plain.{may_fail}
+use Rattle.hm_history.specs.Locks.{writer, lowest_other}
+use Rattle.hm_history.specs.Operation.{op_pieces}
+use Rattle.hm_history.specs.Moved.{moved, piece_ends}
+use Rattle.hm_history.specs.Going.{seen_at}
+use Rattle.hm_history.specs.Due.{rlock, wlock}
+use Rattle.hm_history.specs.declared.phases.Migrating.{Migrating}
+use Rattle.hm_history.specs.declared.phases.Phase.{Phase}
+use Rattle.hm_history.specs.declared.phases.Next.{Next}
+use Rattle.hm_history.specs.declared.phases.Next.TheVariants.{Do, Wait}
+use Rattle.hm_laws.specs.Facts.{is_core}
+
+-- no system frame is free, where the cause says so
+abbrev pub IsShort : Program → After → ℕ → Type 0
+IsShort c s k = k ≡ 3 → lowest_free c s.places PoolId.System ≡ None
+
+-- what an entry of these operations is, beyond what makes it allowed
+abbrev pub Fair : Program → After → Kind → Type 0
+Fair c s (Kind.Failed (Who.Cpu p) at n k) = IsShort c s k
+Fair c s (Kind.Failed x at n k) = ⊥
+Fair c s (Kind.Refused n) = IsShort c s n
+Fair c s (Kind.Place p v x) = is_core x ≡ true
+Fair c s (Kind.Mapped p r w) = 1 ≤ r.count
+Fair c s (Kind.Take f) = f.pool ≡ PoolId.System
+Fair c s (Kind.Kept at why) = ⊥
+Fair c s (Kind.Attached m d p r q) = ⊥
+Fair c s (Kind.Loaded (Who.Mirror m) at bs) = ⊥
+Fair c s (Kind.Stored (Who.Mirror m) at bs) = ⊥
+Fair c s (Kind.Fetched m at bs) = ⊥
+Fair c s (Kind.Added m at was now) = ⊥
+Fair c s k = ⊤
+
+-- the facts of the stack to which an entry leads
+abbrev pub Led : After → Past → ℕ → Op → List Migrating → Phase → List Phase → Kind → Type 0
+Led s t a o xs top below k = HoldsAll (next s a k) (past_next t s.length a k) a (facts o (moved o (top ∷ below) k (seen_at s o xs top k)))
+
+-- it is allowed, and its actor then knows what its next phases say
+abbrev pub Good : Program → After → Past → ℕ → Op → List Migrating → Phase → List Phase → Next → Type 0
+Good c s t a o xs top below (Do k) = Allowed c s t a k × Fair c s k × Led s t a o xs top below k
+Good c s t a o xs top below (Wait w) = ⊤
+
+abbrev pub Core : After → Type 0
+Core s = (p v : ℕ) → is_core (s.places.place p v) ≡ true
+
+pub either : {X : Type 0} (P : X → Type 0) (b : Bool) (x y : X) → (b ≡ true → P x) → (b ≡ false → P y) → P (elim b [ true ↦ x | false ↦ y ])
+either P true x y f g = f refl
+either P false x y f g = g refl
+
+pub either_option : {X Y : Type 0} (P : X → Type 0) (o : Option Y) (x : X) (f : Y → X) → (o ≡ None → P x) → ((y : Y) → o ≡ Some y → P (f y)) → P (elim o [ None ↦ x | Some y ↦ f y ])
+either_option P None x f g h = g refl
+either_option P (Some y) x f g h = h y refl
+
+-- releases
+pub release_none : (s : After) (a : ℕ) → s.locks.map a ≡ None → MayRelease s a
+release_none s a h p e = absurd (some_none (s.locks.map a) _ e h)
+
+abbrev lock_writes : Option MapLock → Bool
+lock_writes None = false
+lock_writes (Some l) = l.writes
+
+abbrev lock_proc : Option MapLock → ℕ
+lock_proc None = 0
+lock_proc (Some l) = l.proc
+
+one_right : (p q : ℕ) → lock_on p false ≡ lock_on q true → ⊥
+one_right p q h = true_false true refl (sym (ap lock_writes h))
+
+one_proc : (p q : ℕ) → lock_on p true ≡ lock_on q true → p ≡ q
+one_proc p q h = ap lock_proc h
+
+pub release_read : (s : After) (a p : ℕ) → ReadsThere s a p → MayRelease s a
+release_read s a p h q e = absurd (one_right p q (sym h.0 ∙ e))
+
+pub release_clean : (s : After) (a p : ℕ) → WritesThere s a p → Clean s p → MayRelease s a
+release_clean s a p h cl q e there = subst (Clean s) (one_proc p q (sym h.0 ∙ e)) cl
+
+-- who has a process to read, or has it alone, finds it clean
+pub clean_read : (c : Program) (s : After) (t : Past) (a p : ℕ) → Sound c s t → ReadsThere s a p → Clean s p
+clean_read c s t a p so h x e i = by (so.untouched.untouched p x h.1 e i)
+  where
+    by : (s.plain.bytes p x ≡ 0) ⊎ ((b : ℕ) × (s.locks.map b ≡ lock_on p true)) → s.plain.bytes p x ≡ 0
+    by (inl k) = k
+    by (inr k) = absurd (one_right p p (sym h.0 ∙ ap s.locks.map (sym (so.locks.one_writer p k.0 a false k.1 h.0)) ∙ k.1))
+
+-- locks of processes
+no_writer : (s : After) (p : ℕ) → LockRules s.locks.map → writer s.locks p ≡ None → (b : ℕ) → s.locks.map b ≡ lock_on p true → ⊥
+no_writer s p so h b m = grind (arith, nat_tests, least_none (λ d. lock_passes (λ x. (x.proc == p) && x.writes) (s.locks.map d)) 0 16 b h, so.free_above b)
+
+no_holder : (s : After) (p a : ℕ) → LockRules s.locks.map → s.locks.map a ≡ None → lowest_other s.locks p a ≡ None → (b : ℕ) (w : Bool) → s.locks.map b ≡ lock_on p w → ⊥
+no_holder s p a so n h b w m = grind (arith, nat_tests, least_none (λ d. not (d == a) && lock_passes (λ x. x.proc == p) (s.locks.map d)) 0 16 b h, so.free_above b)
+
+pub rlock_ok : (c : Program) (s : After) (t : Past) (a : ℕ) (o : Op) (xs : List Migrating) (k p : ℕ) → a < 16 → Sound c s t → HoldsAll s t a (Is (has_piece o k) ∷ nothing_held) → s.plain.there p ≡ true →
+    facts o (moved o (Phase.Piece k ∷ []) (Kind.Rlock p) (seen_at s o xs (Phase.Piece k) (Kind.Rlock p))) ≡ Is (has_piece o k) ∷ Reads p ∷ No_guard ∷ Locks_only [] ∷ [] → Good c s t a o xs (Phase.Piece k) [] (rlock s p)
+rlock_ok c s t a o xs k p few so h th e = either_option (Good c s t a o xs (Phase.Piece k) []) (writer s.locks p) _ _ (λ n. ((few, h.1.0, no_writer s p so.locks n), tt, rw e (h.0, ((here_at s.locks.map a _, th), h.1.1)))) (λ b n. tt)
+
+clean_alone : (c : Program) (s : After) (t : Past) (p : ℕ) → Sound c s t → s.plain.there p ≡ true → ((b : ℕ) → s.locks.map b ≡ lock_on p true → ⊥) → Clean s p
+clean_alone c s t p so th no_one x e i = by (so.untouched.untouched p x th e i)
+  where
+    by : (s.plain.bytes p x ≡ 0) ⊎ ((b : ℕ) × (s.locks.map b ≡ lock_on p true)) → s.plain.bytes p x ≡ 0
+    by (inl k) = k
+    by (inr k) = absurd (no_one k.0 k.1)
+
+pub wlock_ok : (c : Program) (s : After) (t : Past) (a : ℕ) (o : Op) (xs : List Migrating) → a < 16 → Sound c s t → HoldsAll s t a (Is (takes_lock o) ∷ nothing_held) → s.plain.there (proc_of_op o) ≡ true → Good c s t a o xs Phase.Begin [] (wlock s (proc_of_op o) a)
+wlock_ok c s t a o xs few so h th = either_option (Good c s t a o xs Phase.Begin []) (lowest_other s.locks (proc_of_op o) a) _ _
+    (λ n. ((few, h.1.0, no_holder s (proc_of_op o) a so.locks h.1.0 n), tt, (h.1.1.0, (h.1.1.1.0, (h.0, (((here_at s.locks.map a _, th), clean_alone c s t (proc_of_op o) so th (λ b. no_holder s (proc_of_op o) a so.locks h.1.0 n b true)), tt))))))
+    (λ b n. tt)
+
+-- the next piece, or the end
+pub ends_ok : (o : Op) (k : ℕ) (s : After) (t : Past) (a : ℕ) → HoldsAll s t a nothing_held → HoldsAll s t a (facts o (piece_ends o k))
+ends_ok o k s t a h = by (nat_lt (k + 1) (length (op_pieces o))) refl
+  where
+    by : (b : Bool) → has_piece o (k + 1) ≡ b → HoldsAll s t a (facts o (if b then Phase.Piece (k + 1) ∷ [] else []))
+    by true e = (e, h)
+    by false e = h
+
+-- rights
+pub some_rights : (x : Option Rights) → is_none x ≡ false → is_some x ≡ true
+some_rights x h = grind arith
+
+pub write_rights : (x : Option Rights) → is_none x ≡ false → is_read_only x ≡ false → is_read_write x ≡ true
+write_rights None h k = cc
+write_rights (Some Rights.Read) h k = cc
+write_rights (Some Rights.ReadWrite) h k = refl
+
+pub some_write : (x : Option Rights) → is_read_write x ≡ true → is_some x ≡ true
+some_write x h = grind arith
+
+-- failures have their causes
+pub not_there : (s : Plain) (p v : ℕ) → s.there p ≡ false → may_fail s (Who.Cpu p) v 1 ≡ true
+not_there s p v e = grind (arith, nat_tests)
+
+pub no_area : (s : Plain) (p v : ℕ) → is_none (rights_of s p v) ≡ true → may_fail s (Who.Cpu p) v 1 ≡ true
+no_area s p v e = grind (arith, nat_tests)
+
+pub no_frame : (s : Plain) (p v : ℕ) → s.there p ≡ true → is_some (rights_of s p v) ≡ true → may_fail s (Who.Cpu p) v 3 ≡ true
+no_frame s p v t r = grind (arith, nat_tests)
+
+pub read_only : (s : Plain) (p v : ℕ) → s.there p ≡ true → is_none (rights_of s p v) ≡ false → is_read_only (rights_of s p v) ≡ true → may_fail s (Who.Cpu p) v 2 ≡ true
+read_only s p v t n r = grind (arith, nat_tests)
+
+pub not_short : (c : Program) (s : After) (n : ℕ) → (n == 3) ≡ false → IsShort c s n
+not_short c s n h e = grind (arith, nat_tests)
+
+pub same_place_says : (x y : Place) → is_core y ≡ true → same_place x y ≡ true → x ≡ y
+same_place_says Place.Empty Place.Empty c h = refl
+same_place_says Place.Zero Place.Zero c h = refl
+same_place_says (Place.Sys n w) (Place.Sys m z) c h = grind (arith, nat_tests)
+same_place_says x (Place.Own d n w) c h = cc
+same_place_says x (Place.Moving f w) c h = cc
+same_place_says x (Place.Exclusive n b) c h = cc
+same_place_says x y c h = cc
+
+-- what a page reads, whether it has a place or not
+pub reads_plain : (c : Program) (s : After) (t : Past) (p x : ℕ) → Sound c s t → s.plain.there p ≡ true → Clean s p → is_some (rights_of s.plain p (page_of x)) ≡ true → shows s (s.places.place p (page_of x)) (x % 4096) ≡ s.plain.bytes p x
+reads_plain c s t p x so th cl r = by (s.places.place p (page_of x)) refl
+  where
+    by : (y : Place) → s.places.place p (page_of x) ≡ y → shows s (s.places.place p (page_of x)) (x % 4096) ≡ s.plain.bytes p x
+    by Place.Empty e = ap (λ y. shows s y (x % 4096)) e ∙ sym (cl x (ap is_empty_place e) r)
+    by y e = so.reads.reads p x th (ap is_empty_place e)

@@ -1,0 +1,229 @@
+-- What is due at each stack of phases is good.
+use Rattle.std.proofs.Common.{◌≡◌, ℕ, ◌^◌, ◌<◌, ◌≤◌, Bool, true, false, nat_lt, not, Option, None, List, [], ◌∷◌, refl, sym, ap, ◌∙◌, subst, arith, length}
+use Rattle.std.proofs.lemmas.Bool.Decides.{nat_tests}
+use Rattle.hm_base.specs.Pages.{Pages, covers}
+use Rattle.hm_base.specs.Areas.{last_of}
+use Rattle.hm_base.specs.Program.{Program}
+use Rattle.hm_base.specs.declared.Frame.{Frame}
+use Rattle.hm_base.specs.declared.Place.{Place}
+use Rattle.hm_base.specs.declared.ops.Rights.{Rights}
+use Rattle.hm_base.specs.declared.ops.Op.{Op}
+use Rattle.hm_history.specs.Words.{writable, is_empty_place}
+use Rattle.hm_history.specs.Plain.{area_refusal}
+use Rattle.hm_history.specs.After.{After}
+use Rattle.hm_history.specs.declared.Kind.{Kind}
+use Rattle.hm_laws.specs.Past.{Past, past_next}
+use Rattle.hm_laws.specs.Sound.{Sound}
+use Rattle.hm_laws.specs.Allowed.{next, HasChild, Alike}
+use Rattle.hm_laws.proofs.Updates.{here_at, some_none, true_false, both_of}
+use Rattle.hm_laws.specs.Facts.{Fact, Is, Writes, Emptying, Narrowing, Forking, No_guard, Over, Locks_only, Zeroed, Copy_of, EmptyBelow, Holds, takes_lock, op_span, cpu_proc, at_page, has_piece, is_zero_place, nothing_held, deciding, forking, answering, facts, HoldsAll}
+use Rattle.hm_history.specs.Due.{proc_of_op}
+use Rattle.hm_base.specs.Program.{op_fits}
+use Rattle.hm_base.specs.Pages.{all_pages}
+use Rattle.hm_history.specs.Due.{due_phase, due_guard}
+use Rattle.hm_history.specs.declared.phases.Migrating.{Migrating}
+use Rattle.hm_history.specs.declared.phases.Touch.{Touch}
+use Rattle.hm_history.specs.declared.phases.Body.{Body}
+use Rattle.hm_history.specs.declared.phases.Phase.{Phase}
+use Rattle.hm_history.specs.declared.phases.Next.TheVariants.{Do}
+use Rattle.hm_laws.specs.Basic.{is_basic}
+use Rattle.hm_laws.specs.Facts.{is_core}
+use Rattle.hm_laws.proofs.DueWords.{Good, Core}
+use Rattle.hm_laws.proofs.Pieces.{few_bytes}
+use Rattle.hm_laws.proofs.DueAccess.{load_piece_ok, store_piece_ok, load_fault_ok, store_fault_ok}
+use Rattle.hm_laws.proofs.DueAreas.{begin_ok, locked, locked_ok, map_ok, unmap_ok, protect_ok, exit_ok}
+use Rattle.hm_laws.proofs.DueSpans.{zap_guard, zap_ok, zap_drop, narrow_guard, narrow_ok, widen_ok}
+use Rattle.hm_laws.proofs.DueFork.{fork_name_ok, fork_ready, fork_guard, fork_ok}
+use Rattle.hm_laws.proofs.DueFaults.{AllSystem, taking, taken_ok, armed_ok, replace_at, nothing_at, drop_in_guard, drop_ok}
+use Rattle.hm_laws.proofs.DueAreas.{is_none_of}
+
+-- the operation is one of those, and its numbers are in range
+abbrev pub OpOk : Program → Op → Type 0
+OpOk c o = (is_basic o ≡ true) × (op_fits (length c.devices) o ≡ true)
+
+begin_at : (c : Program) (s : After) (t : Past) (a : ℕ) (o : Op) (xs : List Migrating) → a < 16 → Sound c s t → HoldsAll s t a (Is (takes_lock o) ∷ nothing_held) → Good c s t a o xs Phase.Begin [] (due_phase c s a o xs Phase.Begin)
+begin_at c s t a (Op.Map p r w) xs few so h = begin_ok c s t a (Op.Map p r w) xs few so h
+begin_at c s t a (Op.Unmap p r) xs few so h = begin_ok c s t a (Op.Unmap p r) xs few so h
+begin_at c s t a (Op.Protect p r w) xs few so h = begin_ok c s t a (Op.Protect p r w) xs few so h
+begin_at c s t a (Op.Exit p) xs few so h = begin_ok c s t a (Op.Exit p) xs few so h
+begin_at c s t a (Op.Fork p d) xs few so h = begin_ok c s t a (Op.Fork p d) xs few so h
+begin_at c s t a o xs few so h = cc
+
+map_span : (n p : ℕ) (r : Pages) (w : Rights) → op_fits n (Op.Map p r w) ≡ true → (1 ≤ r.count) × (last_of r ≤ 2 ^ 36)
+map_span n p r w h = (grind (arith, nat_tests), grind (arith, nat_tests))
+
+locked_at : (c : Program) (s : After) (t : Past) (a : ℕ) (o : Op) (xs : List Migrating) → OpOk c o → a < 16 → Sound c s t → HoldsAll s t a (locked o) → Good c s t a o xs Phase.Locked [] (due_phase c s a o xs Phase.Locked)
+locked_at c s t a (Op.Map p r w) xs sm few so h = locked_ok c s t a (Op.Map p r w) xs so h (map_ok c s t a p r w xs (map_span (length c.devices) p r w sm.1) h)
+locked_at c s t a (Op.Unmap p r) xs sm few so h = locked_ok c s t a (Op.Unmap p r) xs so h (unmap_ok c s t a p r xs few so h)
+locked_at c s t a (Op.Protect p r w) xs sm few so h = locked_ok c s t a (Op.Protect p r w) xs so h (protect_ok c s t a p r w xs few h)
+locked_at c s t a (Op.Exit p) xs sm few so h = locked_ok c s t a (Op.Exit p) xs so h (exit_ok c s t a p xs few h)
+locked_at c s t a (Op.Fork p d) xs sm few so h = locked_ok c s t a (Op.Fork p d) xs so h (λ e. fork_name_ok c s t a p d xs so h)
+locked_at c s t a o xs sm few so h = cc
+
+ready_at : (c : Program) (s : After) (t : Past) (a : ℕ) (o : Op) (xs : List Migrating) → a < 16 → HoldsAll s t a (No_guard ∷ Locks_only [] ∷ forking o 0 false) → Good c s t a o xs Phase.Ready [] (due_phase c s a o xs Phase.Ready)
+ready_at c s t a (Op.Fork p d) xs few h = fork_ready c s t a p d xs few h
+ready_at c s t a o xs few h = cc
+
+-- answers
+ends_nothing : (s : After) (t : Past) (a : ℕ) (k : Kind) → (next s a k).locks.map a ≡ None → HoldsAll (next s a k) (past_next t s.length a k) a (No_guard ∷ Locks_only [] ∷ []) → HoldsAll (next s a k) (past_next t s.length a k) a nothing_held
+ends_nothing s t a k m h = (m, h)
+
+in_all : (v : ℕ) → v < 2 ^ 36 → covers all_pages v ≡ true
+in_all v l = grind (arith, nat_tests)
+
+span_upto : (r : Pages) (v : ℕ) → covers r v ≡ true → v < last_of r
+span_upto r v h = grind (arith, nat_tests)
+
+all_empty : (c : Program) (s : After) (t : Past) (p : ℕ) → Sound c s t → EmptyBelow s p all_pages (last_of all_pages) → (v : ℕ) → is_empty_place (s.places.place p v) ≡ true
+all_empty c s t p so f v = by (is_empty_place (s.places.place p v)) refl
+  where
+    by : (b : Bool) → is_empty_place (s.places.place p v) ≡ b → b ≡ true
+    by true e = refl
+    by false e = absurd (true_false (is_empty_place (s.places.place p v)) (f v (in_all v (so.places.ranged p v e)) (span_upto all_pages v (in_all v (so.places.ranged p v e)))) e)
+
+is_named : (c : Program) (s : After) (t : Past) (a d : ℕ) → Sound c s t → HasChild s t a d → s.plain.named d ≡ true
+is_named c s t a d so h = by (s.plain.named d) refl
+  where
+    by : (b : Bool) → s.plain.named d ≡ b → b ≡ true
+    by true e = refl
+    by false e = absurd (some_none (t.namer d) a h.0 (so.processes.namer_named d e))
+
+all_alike : (c : Program) (s : After) (t : Past) (p d : ℕ) → Sound c s t → ((u : ℕ) → u < last_of all_pages → Alike s p d u) → (v : ℕ) → Alike s p d v
+all_alike c s t p d so f v = by (nat_lt v (last_of all_pages)) refl
+  where
+    less : nat_lt v (last_of all_pages) ≡ true → v < last_of all_pages
+    less e = grind (arith, nat_tests)
+
+    past : nat_lt v (last_of all_pages) ≡ false → v < 2 ^ 36 → ⊥
+    past e l = grind (arith, nat_tests)
+
+    empty : nat_lt v (last_of all_pages) ≡ false → (q : ℕ) → is_empty_place (s.places.place q v) ≡ true
+    empty e q = at (is_empty_place (s.places.place q v)) refl
+      where
+        at : (b : Bool) → is_empty_place (s.places.place q v) ≡ b → b ≡ true
+        at true i = refl
+        at false i = absurd (past e (so.places.ranged q v i))
+
+    narrow : (x : Place) → is_empty_place x ≡ true → writable x ≡ false
+    narrow x h = grind arith
+
+    by : (b : Bool) → nat_lt v (last_of all_pages) ≡ b → Alike s p d v
+    by true e = f v (less e)
+    by false e = record {
+      emptiness = empty e d ∙ sym (empty e p);
+      contents = λ x i n. absurd (true_false (is_empty_place (s.places.place d v)) (empty e d) n);
+      child_right = narrow (s.places.place d v) (empty e d);
+      parent_right = narrow (s.places.place p v) (empty e p);
+    }
+
+answer_at : (c : Program) (s : After) (t : Past) (a : ℕ) (o : Op) (xs : List Migrating) → is_basic o ≡ true → Sound c s t → HoldsAll s t a (No_guard ∷ Locks_only [] ∷ answering o) → Good c s t a o xs Phase.Answer [] (due_phase c s a o xs Phase.Answer)
+answer_at c s t a (Op.Unmap p r) xs ba so h = ((e.0, e.1, (λ v cv. e.2 v cv (span_upto r v cv)), both_of (s.plain.there p) _ e.0.1 (is_none_of (area_refusal s.plain (Op.Unmap p r)) h.1.1.1.1.0.1)), tt, (here_at s.locks.map a None, (h.0, (h.1.0, tt))))
+  where
+    e : Holds s t a (Emptying p r (last_of r))
+    e = h.1.1.1.1.1.0
+answer_at c s t a (Op.Exit p) xs ba so h = ((e.0, all_empty c s t p so e.2, e.0.1), tt, (here_at s.locks.map a None, (h.0, (h.1.0, tt))))
+  where
+    e : Holds s t a (Emptying p all_pages (last_of all_pages))
+    e = h.1.1.1.1.1.0
+answer_at c s t a (Op.Protect p r Rights.Read) xs ba so h = ((e.0, e.1, (λ i v cv. e.2 v cv (span_upto r v cv)), both_of (s.plain.there p) _ e.0.1 (is_none_of (area_refusal s.plain (Op.Protect p r Rights.Read)) h.1.1.1.1.0.1)), tt, (here_at s.locks.map a None, (h.0, (h.1.0, tt))))
+  where
+    e : Holds s t a (Narrowing p r (last_of r))
+    e = h.1.1.1.1.1.0
+answer_at c s t a (Op.Protect p r Rights.ReadWrite) xs ba so h = ((e.0, e.1, (λ i v cv. absurd (clash i)), both_of (s.plain.there p) _ e.0.1 (is_none_of (area_refusal s.plain (Op.Protect p r Rights.ReadWrite)) h.1.1.1.0.1)), tt, (here_at s.locks.map a None, (h.0, (h.1.0, tt))))
+  where
+    e : Holds s t a (Writes p)
+    e = h.1.1.1.1.0
+
+    clash : Rights.ReadWrite ≡ Rights.Read → ⊥
+    clash i = cc
+answer_at c s t a (Op.Fork p d) xs ba so h = ((e.0, e.1, e.2, all_alike c s t p d so e.3, both_of (s.plain.there p) _ e.0.1 (both_of (s.plain.named d) _ (is_named c s t a d so e.2) (ap not e.2.1))), tt, (here_at s.locks.map a None, (h.0, (h.1.0, tt))))
+  where
+    e : Holds s t a (Forking p d (last_of all_pages))
+    e = h.1.1.1.1.0
+answer_at c s t a (Op.Map p r w) xs ba so h = absurd h.1.1.0
+answer_at c s t a (Op.Load p at n) xs ba so h = absurd h.1.1.0
+answer_at c s t a (Op.Store p at bs) xs ba so h = absurd h.1.1.0
+answer_at c s t a o xs ba so h = cc
+
+-- accesses
+no_piece : (k : ℕ) → nat_lt k 0 ≡ true → ⊥
+no_piece k h = grind (arith, nat_tests)
+
+piece_at_ok : (c : Program) (s : After) (t : Past) (a : ℕ) (o : Op) (xs : List Migrating) (k : ℕ) → OpOk c o → a < 16 → Sound c s t → HoldsAll s t a (Is (has_piece o k) ∷ nothing_held) → Good c s t a o xs (Phase.Piece k) [] (due_phase c s a o xs (Phase.Piece k))
+piece_at_ok c s t a (Op.Load p at n) xs k sm few so h = load_piece_ok c s t a p at n k xs few so h
+piece_at_ok c s t a (Op.Store p at bs) xs k sm few so h = store_piece_ok c s t a p at bs k xs few (few_bytes (length c.devices) p at bs sm.1) so h
+piece_at_ok c s t a (Op.Map p r w) xs k sm few so h = absurd (no_piece k h.0)
+piece_at_ok c s t a (Op.Unmap p r) xs k sm few so h = absurd (no_piece k h.0)
+piece_at_ok c s t a (Op.Protect p r w) xs k sm few so h = absurd (no_piece k h.0)
+piece_at_ok c s t a (Op.Fork p d) xs k sm few so h = absurd (no_piece k h.0)
+piece_at_ok c s t a (Op.Exit p) xs k sm few so h = absurd (no_piece k h.0)
+piece_at_ok c s t a o xs k sm few so h = cc
+
+decide_at : (c : Program) (s : After) (t : Past) (a : ℕ) (o : Op) (xs : List Migrating) (k : ℕ) → OpOk c o → Sound c s t → Core s → HoldsAll s t a (deciding o k) → Good c s t a o xs (Phase.Decide (Touch.Cpu k)) [] (due_phase c s a o xs (Phase.Decide (Touch.Cpu k)))
+decide_at c s t a (Op.Load p at n) xs k sm so co h = load_fault_ok c s t a p at n k xs so co h
+decide_at c s t a (Op.Store p at bs) xs k sm so co h = store_fault_ok c s t a p at bs k xs so co h
+decide_at c s t a (Op.Map p r w) xs k sm so co h = absurd (no_piece k h.0)
+decide_at c s t a (Op.Unmap p r) xs k sm so co h = absurd (no_piece k h.0)
+decide_at c s t a (Op.Protect p r w) xs k sm so co h = absurd (no_piece k h.0)
+decide_at c s t a (Op.Fork p d) xs k sm so co h = absurd (no_piece k h.0)
+decide_at c s t a (Op.Exit p) xs k sm so co h = absurd (no_piece k h.0)
+decide_at c s t a o xs k sm so co h = cc
+
+-- an operation that has a piece is an access
+access_only : (P : Op → Type 0) (o : Op) (k : ℕ) → is_basic o ≡ true → has_piece o k ≡ true → ((p at n : ℕ) → P (Op.Load p at n)) → ((p at : ℕ) (bs : List ℕ) → P (Op.Store p at bs)) → P o
+access_only P (Op.Load p at n) k ba h f g = f p at n
+access_only P (Op.Store p at bs) k ba h f g = g p at bs
+access_only P (Op.Map p r w) k ba h f g = absurd (no_piece k h)
+access_only P (Op.Unmap p r) k ba h f g = absurd (no_piece k h)
+access_only P (Op.Protect p r w) k ba h f g = absurd (no_piece k h)
+access_only P (Op.Fork p d) k ba h f g = absurd (no_piece k h)
+access_only P (Op.Exit p) k ba h f g = absurd (no_piece k h)
+access_only P o k ba h f g = cc
+
+taken_at : (c : Program) (s : After) (t : Past) (a : ℕ) (o : Op) (xs : List Migrating) (k : ℕ) (g : Frame) (over : Place) → OpOk c o → Sound c s t → AllSystem s → is_zero_place over ≡ false →
+    HoldsAll s t a (taking o k g (Zeroed g ∷ Is (is_core over) ∷ Is (not (writable over)) ∷ [])) → Good c s t a o xs (Phase.Taken (Touch.Cpu k) g over) [] (due_phase c s a o xs (Phase.Taken (Touch.Cpu k) g over))
+taken_at c s t a o xs k g over sm so sys nz h = access_only (λ o. HoldsAll s t a (taking o k g (Zeroed g ∷ Is (is_core over) ∷ Is (not (writable over)) ∷ [])) → Good c s t a o xs (Phase.Taken (Touch.Cpu k) g over) [] (due_phase c s a o xs (Phase.Taken (Touch.Cpu k) g over))) o k sm.0 h.0
+    (λ p at n i. taken_ok c s t a (Op.Load p at n) xs k g over so sys nz i)
+    (λ p at bs i. taken_ok c s t a (Op.Store p at bs) xs k g over so sys nz i)
+    h
+
+armed_at : (c : Program) (s : After) (t : Past) (a : ℕ) (o : Op) (xs : List Migrating) (k : ℕ) (g : Frame) (over : Place) → OpOk c o → a < 16 →
+    HoldsAll s t a (taking o k g (Copy_of g (cpu_proc o) (at_page o k) ∷ Is (is_core over) ∷ Is (not (writable over)) ∷ [])) → Good c s t a o xs (Phase.Armed (Touch.Cpu k) g over) [] (due_phase c s a o xs (Phase.Armed (Touch.Cpu k) g over))
+armed_at c s t a o xs k g over sm few h = access_only (λ o. HoldsAll s t a (taking o k g (Copy_of g (cpu_proc o) (at_page o k) ∷ Is (is_core over) ∷ Is (not (writable over)) ∷ [])) → Good c s t a o xs (Phase.Armed (Touch.Cpu k) g over) [] (due_phase c s a o xs (Phase.Armed (Touch.Cpu k) g over))) o k sm.0 h.0
+    (λ p at n i. armed_ok c s t a (Op.Load p at n) xs k g over few i)
+    (λ p at bs i. armed_ok c s t a (Op.Store p at bs) xs k g over few i)
+    h
+
+-- guards, of the operation's process and span
+over_op : (c : Program) (s : After) (t : Past) (a : ℕ) (o : Op) (xs : List Migrating) (q : ℕ) (r : Pages) (met : Bool) (told : Option ℕ) (body : Body) (l : ℕ → Pages → List Fact) → Holds s t a (Over q r (proc_of_op o) (op_span o)) →
+    (HoldsAll s t a (l (proc_of_op o) (op_span o)) → Good c s t a o xs (Phase.Guard (proc_of_op o) (op_span o) met told body) (Phase.Answer ∷ []) (Do (due_guard s a o (proc_of_op o) (op_span o) met told body))) →
+    HoldsAll s t a (l q r) → Good c s t a o xs (Phase.Guard q r met told body) (Phase.Answer ∷ []) (Do (due_guard s a o q r met told body))
+over_op c s t a o xs q r met told body l e go h =
+    subst (λ z. HoldsAll s t a (l z r) → Good c s t a o xs (Phase.Guard z r met told body) (Phase.Answer ∷ []) (Do (due_guard s a o z r met told body))) (sym e.0)
+    (subst (λ z. HoldsAll s t a (l (proc_of_op o) z) → Good c s t a o xs (Phase.Guard (proc_of_op o) z met told body) (Phase.Answer ∷ []) (Do (due_guard s a o (proc_of_op o) z met told body))) (sym e.1) go) h
+
+fork_at : (c : Program) (s : After) (t : Past) (a : ℕ) (o : Op) (xs : List Migrating) (met : Bool) (told : Option ℕ) (n : ℕ) (half : Bool) → Sound c s t → Core s → HoldsAll s t a (fork_guard o (proc_of_op o) (op_span o) met told n half) →
+    Good c s t a o xs (Phase.Guard (proc_of_op o) (op_span o) met told (Body.Fork n half)) (Phase.Answer ∷ []) (Do (due_guard s a o (proc_of_op o) (op_span o) met told (Body.Fork n half)))
+fork_at c s t a (Op.Fork p d) xs met told n half so co h = fork_ok c s t a p d xs met told n half so co h
+fork_at c s t a o xs met told n half so co h = cc
+
+pub due_ok : (c : Program) (s : After) (t : Past) (a : ℕ) (o : Op) (xs : List Migrating) → OpOk c o → a < 16 → Sound c s t → Core s → AllSystem s → (top : Phase) (below : List Phase) → HoldsAll s t a (facts o (top ∷ below)) → Good c s t a o xs top below (due_phase c s a o xs top)
+due_ok c s t a o xs sm few so co sys Phase.Begin [] h = begin_at c s t a o xs few so h
+due_ok c s t a o xs sm few so co sys Phase.Locked [] h = locked_at c s t a o xs sm few so h
+due_ok c s t a o xs sm few so co sys Phase.Ready [] h = ready_at c s t a o xs few h
+due_ok c s t a o xs sm few so co sys Phase.Answer [] h = answer_at c s t a o xs sm.0 so h
+due_ok c s t a o xs sm few so co sys (Phase.Guard q r met told (Body.Zap n)) (Phase.Answer ∷ []) h = over_op c s t a o xs q r met told (Body.Zap n) (λ z w. zap_guard o z w met told n) h.1.1.0 (zap_ok c s t a o xs met told n so) h
+due_ok c s t a o xs sm few so co sys (Phase.Drop f) (Phase.Guard q r met told (Body.Zap n) ∷ Phase.Answer ∷ []) h = zap_drop c s t a o xs f q r met told n h
+due_ok c s t a o xs sm few so co sys (Phase.Guard q r met told (Body.Narrow n)) (Phase.Answer ∷ []) h = over_op c s t a o xs q r met told (Body.Narrow n) (λ z w. narrow_guard o z w met told n) h.1.1.0 (narrow_ok c s t a o xs met told n so co) h
+due_ok c s t a o xs sm few so co sys (Phase.Guard q r met told (Body.Fork n half)) (Phase.Answer ∷ []) h = over_op c s t a o xs q r met told (Body.Fork n half) (λ z w. fork_guard o z w met told n half) h.1.1.0 (fork_at c s t a o xs met told n half so co) h
+due_ok c s t a o xs sm few so co sys (Phase.Guard q r met told Body.Nothing) (Phase.Answer ∷ []) h = widen_ok c s t a o xs q r met told so h
+due_ok c s t a o xs sm few so co sys (Phase.Piece k) [] h = piece_at_ok c s t a o xs k sm few so h
+due_ok c s t a o xs sm few so co sys (Phase.Decide (Touch.Cpu k)) [] h = decide_at c s t a o xs k sm so co h
+due_ok c s t a o xs sm few so co sys (Phase.Taken (Touch.Cpu k) g Place.Zero) [] h = absurd h.0
+due_ok c s t a o xs sm few so co sys (Phase.Taken (Touch.Cpu k) g over) [] h = taken_at c s t a o xs k g over sm so sys refl h
+due_ok c s t a o xs sm few so co sys (Phase.Armed (Touch.Cpu k) g over) [] h = armed_at c s t a o xs k g over sm few h
+due_ok c s t a o xs sm few so co sys (Phase.Guard q r met told (Body.Replace over g)) (Phase.Decide (Touch.Cpu k) ∷ []) h = replace_at c s t a o xs k g over met told q r so sys h
+due_ok c s t a o xs sm few so co sys (Phase.Guard q r met told Body.Nothing) (Phase.Decide (Touch.Cpu k) ∷ []) h = nothing_at c s t a o xs k q r met told so h
+due_ok c s t a o xs sm few so co sys (Phase.Drop f) (Phase.Guard q r met told Body.Nothing ∷ Phase.Decide (Touch.Cpu k) ∷ []) h = drop_in_guard c s t a o xs f q r met told k h
+due_ok c s t a o xs sm few so co sys (Phase.Drop f) (Phase.Decide (Touch.Cpu k) ∷ []) h = drop_ok c s t a o xs f k h
+due_ok c s t a o xs sm few so co sys top below h = absurd h.0

@@ -1,0 +1,206 @@
+-- Each history of entries that were due keeps the rules, and each actor what it knows.
+use Rattle.std.proofs.Common.{◌≡◌, ℕ, zero, suc, ◌+◌, ◌-◌, ◌<◌, ◌⊎◌, inl, inr, Bool, true, false, ◌==◌, ◌&&◌, nat_lt, if◌then◌else◌, Option, Some, None, List, [], ◌∷◌, ◌++◌, refl, sym, ap, ◌∙◌, subst, arith, length, fold}
+use Rattle.std.specs.List.{list_all}
+use Rattle.hm_base.specs.Program.{Program}
+use Rattle.hm_base.specs.declared.ops.Op.{Op}
+use Rattle.hm_history.specs.Words.{with_at}
+use Rattle.hm_history.specs.After.{After, after_entry}
+use Rattle.hm_history.specs.declared.Kind.{Kind}
+use Rattle.hm_laws.specs.Past.{Past, past_next}
+use Rattle.hm_laws.specs.Sound.{Sound}
+use Rattle.hm_laws.specs.Allowed.{next, Allowed}
+use Rattle.std.proofs.lemmas.Bool.{cases_eq}
+use Rattle.hm_laws.proofs.Updates.{other_at, here_at}
+use Rattle.hm_laws.specs.Facts.{Fact, nothing_held, facts, facts_of, HoldsAll, Knows}
+use Rattle.hm_base.specs.Program.{op_fits}
+use Rattle.hm_history.specs.Words.{pieces, first_len}
+use Rattle.hm_history.specs.Moved.{moved}
+use Rattle.hm_history.specs.Going.{seen_at}
+use Rattle.hm_history.specs.Due.{due_phase}
+use Rattle.hm_history.specs.declared.phases.Migrating.{Migrating}
+use Rattle.hm_history.specs.declared.phases.Body.{Body}
+use Rattle.hm_history.specs.declared.phases.Phase.{Phase}
+use Rattle.hm_history.specs.declared.phases.Next.{Next}
+use Rattle.hm_history.specs.declared.phases.Next.TheVariants.{Do, Wait}
+use Rattle.hm_laws.specs.Basic.{is_basic}
+use Rattle.hm_laws.proofs.DueWords.{Fair, Led, Good}
+use Rattle.std.proofs.Common.{slice_get, fold, append_assoc, append-nil}
+use Rattle.std.proofs.lemmas.Option.{slice_get_within}
+use Rattle.hm_history.specs.After.{after, after_entry, after_nothing}
+use Rattle.hm_history.specs.Moved.{first_phase}
+use Rattle.hm_history.specs.Going.{State, Going, op_at, first_stack, going_from, going_on, going_next, going_top, recorded, state_next, state_of, state_start, state_of-snoc}
+use Rattle.hm_history.specs.Due.{due, due_in, due_top, progress}
+use Rattle.hm_history.specs.Laws.{DueFrom}
+use Rattle.hm_history.specs.declared.Entry.{Entry}
+use Rattle.hm_history.specs.declared.Progress.{Progress}
+use Rattle.hm_base.specs.Program.{IsScript}
+use Rattle.hm_laws.specs.Past.{past_start}
+use Rattle.hm_laws.specs.Basic.{IsBasic}
+use Rattle.hm_laws.specs.Cpu.{CpuRules}
+use Rattle.hm_laws.specs.Stands.{Standing}
+use Rattle.hm_laws.proofs.EachKept.{kept}
+use Rattle.hm_laws.proofs.FirstSound.{first_sound}
+use Rattle.hm_laws.proofs.Stable.{stable}
+use Rattle.hm_laws.proofs.AreaOrder.{order_kept}
+use Rattle.hm_laws.proofs.CpuKept.{cpu_kept}
+use Rattle.hm_laws.proofs.Dues.{OpOk, due_ok}
+
+-- the script's operations, one by one
+pub record Small (c : Program) : Type 0 where
+  pub ops : (a i : ℕ) (o : Op) → op_at c a i ≡ Some o → OpOk c o
+  pub few : (a i : ℕ) (o : Op) → op_at c a i ≡ Some o → a < 16
+
+each_passes : {X : Type 0} (t : X → Bool) (xs : List X) (i : ℕ) (x : X) → list_all t xs ≡ true → slice_get xs i ≡ Some x → t x ≡ true
+each_passes t [] i x h e = cc
+each_passes t (y ∷ xs) zero x h e = grind arith
+each_passes t (y ∷ xs) (suc i) x h e = each_passes t xs i x (rest (t y) h) e
+  where
+    rest : (b : Bool) → (b && list_all t xs) ≡ true → list_all t xs ≡ true
+    rest true k = k
+    rest false k = cc
+
+op_passes : (c : Program) (t : Op → Bool) (a i : ℕ) (o : Op) → list_all (list_all t) c.actors ≡ true → op_at c a i ≡ Some o → (t o ≡ true) × (a < length c.actors)
+op_passes c t a i o h e = by (slice_get c.actors a) refl e
+  where
+    by : (x : Option (List Op)) → slice_get c.actors a ≡ x → slice_get (elim x [ None ↦ [] | Some os ↦ os ]) i ≡ Some o → (t o ≡ true) × (a < length c.actors)
+    by None ex k = cc
+    by (Some os) ex k = (each_passes t os i o (each_passes (list_all t) c.actors a os h ex) k, slice_get_within c.actors a os ex)
+
+pub small : (c : Program) → IsScript c → IsBasic c → Small c
+small c sc ba = record {
+  ops = λ a i o e. ((op_passes c is_basic a i o ba.ops e).0, (op_passes c (op_fits (length c.devices)) a i o sc.ops e).0);
+  few = λ a i o e. omega (arith, (op_passes c is_basic a i o ba.ops e).1, sc.few_actors);
+}
+
+stable_all : (c : Program) (s : After) (t : Past) (a b : ℕ) → Sound c s t → (b ≡ a → ⊥) → (k : Kind) → Allowed c s t a k → (l : List Fact) → HoldsAll s t b l → HoldsAll (next s a k) (past_next t s.length a k) b l
+stable_all c s t a b so ne k ok [] h = tt
+stable_all c s t a b so ne k ok (x ∷ l) h = (stable c s t a b so ne k ok x h.0, stable_all c s t a b so ne k ok l h.1)
+
+-- an actor that is done with an operation knows what the next one's first phase says
+some_piece : (a n : ℕ) → nat_lt 0 (length (pieces a n)) ≡ true
+some_piece a n = by (first_len a n == n)
+  where
+    by : (b : Bool) → nat_lt 0 (length {A = ℕ × ℕ} (if b then (a, n) ∷ [] else ((a, first_len a n) ∷ (a + first_len a n, n - first_len a n) ∷ []))) ≡ true
+    by true = refl
+    by false = refl
+
+from_known : (c : Program) (s : After) (t : Past) (a i : ℕ) → Small c → HoldsAll s t a nothing_held → Knows c s t a (going_from c a i)
+from_known c s t a i sm h = by (op_at c a i) (sm.ops a i)
+  where
+    first : (o : Op) → is_basic o ≡ true → HoldsAll s t a (facts o (first_phase o ∷ []))
+    first (Op.Map p r w) k = (refl, h)
+    first (Op.Unmap p r) k = (refl, h)
+    first (Op.Protect p r w) k = (refl, h)
+    first (Op.Exit p) k = (refl, h)
+    first (Op.Fork p d) k = (refl, h)
+    first (Op.Load p at n) k = (some_piece at n, h)
+    first (Op.Store p at bs) k = (some_piece at (length bs), h)
+    first o k = cc
+
+    by : (x : Option Op) → ((o : Op) → x ≡ Some o → OpOk c o) → HoldsAll s t a (facts_of x (first_stack x))
+    by None f = h
+    by (Some o) f = first o (f o refl).0
+
+on_known : (c : Program) (s : After) (t : Past) (a i : ℕ) (o : Op) (xs : List Migrating) → Small c → op_at c a i ≡ Some o → (st : List Phase) → HoldsAll s t a (facts o st) → Knows c s t a (going_on c a i st xs)
+on_known c s t a i o xs sm e [] h = from_known c s t a (i + 1) sm h
+on_known c s t a i o xs sm e (x ∷ st) h = subst (λ y. HoldsAll s t a (facts_of y (x ∷ st))) (sym e) h
+
+on_empty : (c : Program) (a i : ℕ) (st : List Phase) (xs : List Migrating) → xs ≡ [] → (going_on c a i st xs).pages ≡ []
+on_empty c a i [] xs e = refl
+on_empty c a i (x ∷ st) xs e = e
+
+-- no phase that there is makes a record of a migration
+no_record : (s : After) (t : Past) (a : ℕ) (o : Op) (page : Option Migrating) (xs : List Migrating) (k : Kind) (top : Phase) (below : List Phase) → HoldsAll s t a (facts o (top ∷ below)) → recorded top page xs k ≡ xs
+no_record s t a o page xs k (Phase.Guard q r met told (Body.Replace over g)) below h = refl
+no_record s t a o page xs k (Phase.Guard q r met told Body.Nothing) below h = refl
+no_record s t a o page xs k (Phase.Guard q r met told (Body.Zap n)) below h = refl
+no_record s t a o page xs k (Phase.Guard q r met told (Body.Narrow n)) below h = refl
+no_record s t a o page xs k (Phase.Guard q r met told (Body.Fork n half)) below h = refl
+no_record s t a o page xs k (Phase.Guard q r met told x) below h = absurd h.0
+no_record s t a o page xs k (Phase.Moves step v) below h = absurd h.0
+no_record s t a o page xs k top below h = refl
+
+-- the turn of an actor at a phase
+pub record Turn (c : Program) (s : After) (t : Past) (a : ℕ) (k : Kind) (g : Going) : Type 0 where
+  pub allowed : Allowed c s t a k
+  pub fair : Fair c s k
+  pub knows : Knows c (next s a k) (past_next t s.length a k) a g
+  pub empty : g.pages ≡ []
+
+abbrev kind_of : Progress → Kind
+kind_of (Progress.Did e) = e.kind
+kind_of p = Kind.Refused 0
+
+did : (a : ℕ) (l k : Kind) → progress a (Do l) ≡ Progress.Did (record { actor = a; kind = k }) → l ≡ k
+did a l k h = ap kind_of h
+
+turn_top : (c : Program) (s : After) (t : Past) (a : ℕ) (g : Going) (k : Kind) → Small c → Sound c s t → CpuRules s → g.pages ≡ [] → (o : Op) → op_at c a g.index ≡ Some o → (st : List Phase) → g.stack ≡ st → HoldsAll s t a (facts o st) → due_top c s a (Some o) g.pages st ≡ Progress.Did (record { actor = a; kind = k }) →
+    Turn c s t a k (going_top c s a g o st k)
+turn_top c s t a g k sm so cpu no_pages o e [] es h d = cc
+turn_top c s t a g k sm so cpu no_pages o e (top ∷ below) es h d = by (due_phase c s a o g.pages top) (due_ok c s t a o g.pages (sm.ops a g.index o e) (sm.few a g.index o e) so cpu.core cpu.in_system top below h) d
+  where
+    by : (n : Next) → Good c s t a o g.pages top below n → progress a n ≡ Progress.Did (record { actor = a; kind = k }) → Turn c s t a k (going_top c s a g o (top ∷ below) k)
+    by (Wait y) good p = cc
+    by (Do l) good p = done (subst (λ i. Good c s t a o g.pages top below (Do i)) (did a l k p) good)
+      where
+        done : Allowed c s t a k × Fair c s k × Led s t a o g.pages top below k → Turn c s t a k (going_top c s a g o (top ∷ below) k)
+        done y = record {
+          allowed = y.0;
+          fair = y.1;
+          knows = subst (λ z. Knows c (next s a k) (past_next t s.length a k) a (going_on c a g.index (moved o z k (seen_at s o g.pages top k)) (recorded top (seen_at s o g.pages top k).page g.pages k))) (sym es) (on_known c (next s a k) (past_next t s.length a k) a g.index o _ sm e _ y.2);
+          empty = on_empty c a g.index _ _ (no_record s t a o (seen_at s o g.pages top k).page g.pages k top below h ∙ no_pages);
+        }
+
+turn_op : (c : Program) (s : After) (t : Past) (a : ℕ) (g : Going) (k : Kind) → Small c → Sound c s t → CpuRules s → g.pages ≡ [] → (x : Option Op) → op_at c a g.index ≡ x → HoldsAll s t a (facts_of x g.stack) → due_top c s a x g.pages g.stack ≡ Progress.Did (record { actor = a; kind = k }) →
+    Turn c s t a k (elim x as (λ y. Going) [ None ↦ g | Some o ↦ going_top c s a g o g.stack k ])
+turn_op c s t a g k sm so cpu no_pages None e h d = cc
+turn_op c s t a g k sm so cpu no_pages (Some o) e h d = turn_top c s t a g k sm so cpu no_pages o e g.stack refl h d
+
+pub turn_of : (c : Program) (u : State) (t : Past) (e : Entry) → Small c → Standing c u t → due_in c u e.actor ≡ Progress.Did e → Turn c u.after t e.actor e.kind (going_next c u.after e.actor (u.going e.actor) e.kind)
+turn_of c u t e sm st d = turn_op c u.after t e.actor (u.going e.actor) e.kind sm st.sound st.cpu (st.no_records e.actor) (op_at c e.actor (u.going e.actor).index) refl (st.known e.actor) d
+
+pub turn : (c : Program) (u : State) (t : Past) (e : Entry) → Small c → Standing c u t → due_in c u e.actor ≡ Progress.Did e → Standing c (state_next c u e) (past_next t u.after.length e.actor e.kind)
+turn c u t e sm st d = record {
+  sound = kept c u.after t e.actor e.kind st.sound ok.allowed;
+  order = order_kept c u.after t e.actor e.kind ok.allowed ok.fair st.order;
+  cpu = cpu_kept c u.after t e.actor e.kind st.sound ok.allowed ok.fair st.cpu;
+  known = λ b. knows b (cases_eq b e.actor);
+  no_records = λ b. none b (cases_eq b e.actor);
+}
+  where
+    ok : Turn c u.after t e.actor e.kind (going_next c u.after e.actor (u.going e.actor) e.kind)
+    ok = turn_of c u t e sm st d
+
+    knows : (b : ℕ) → (b ≡ e.actor) ⊎ (b ≡ e.actor → ⊥) → Knows c (after_entry u.after e) (past_next t u.after.length e.actor e.kind) b (with_at u.going e.actor (going_next c u.after e.actor (u.going e.actor) e.kind) b)
+    knows b (inl i) = subst (λ j. Knows c (after_entry u.after e) (past_next t u.after.length e.actor e.kind) j (with_at u.going e.actor (going_next c u.after e.actor (u.going e.actor) e.kind) j)) (sym i)
+        (subst (λ g. Knows c (after_entry u.after e) (past_next t u.after.length e.actor e.kind) e.actor g) (sym (here_at u.going e.actor (going_next c u.after e.actor (u.going e.actor) e.kind))) ok.knows)
+    knows b (inr ne) = subst (λ g. Knows c (after_entry u.after e) (past_next t u.after.length e.actor e.kind) b g) (sym (other_at u.going e.actor b (going_next c u.after e.actor (u.going e.actor) e.kind) ne))
+        (stable_all c u.after t e.actor b st.sound ne e.kind ok.allowed (facts_of (op_at c b (u.going b).index) (u.going b).stack) (st.known b))
+
+    none : (b : ℕ) → (b ≡ e.actor) ⊎ (b ≡ e.actor → ⊥) → (with_at u.going e.actor (going_next c u.after e.actor (u.going e.actor) e.kind) b).pages ≡ []
+    none b (inl i) = subst (λ j. (with_at u.going e.actor (going_next c u.after e.actor (u.going e.actor) e.kind) j).pages ≡ []) (sym i) (ap (λ g. g.pages) (here_at u.going e.actor (going_next c u.after e.actor (u.going e.actor) e.kind)) ∙ ok.empty)
+    none b (inr ne) = ap (λ g. g.pages) (other_at u.going e.actor b (going_next c u.after e.actor (u.going e.actor) e.kind) ne) ∙ st.no_records b
+
+pub at_start : (c : Program) → Small c → Standing c (state_start c) past_start
+at_start c sm = record {
+  sound = first_sound c;
+  order = record { few = λ p. omega arith; in_order = λ p. refl };
+  cpu = record { core = λ p v. refl; in_system = λ f h. cc; no_mirror = λ m. refl; still = λ p. refl };
+  known = λ a. from_known c after_nothing past_start a 0 sm (refl, (refl, ((λ f e. cc), tt)));
+  no_records = λ a. refl;
+}
+
+-- the states after a history are those with which actors go on
+after_of : (c : Program) (t : State) (h : List Entry) → (fold (state_next c) t h).after ≡ fold after_entry t.after h
+after_of c t [] = refl
+after_of c t (e ∷ h) = after_of c (state_next c t e) h
+
+pub after_is : (c : Program) (h : List Entry) → (state_of c h).after ≡ after h
+after_is c h = after_of c (state_start c) h
+
+pub standing_on : (c : Program) (h : List Entry) (e : Entry) (t : Past) → Small c → Standing c (state_of c h) t → due c h e.actor ≡ Progress.Did e → Standing c (state_of c (h ++ e ∷ [])) (past_next t (state_of c h).after.length e.actor e.kind)
+standing_on c h e t sm st d = subst (λ u. Standing c u (past_next t (state_of c h).after.length e.actor e.kind)) (sym (state_of-snoc c h e)) (turn c (state_of c h) t e sm st d)
+
+pub standing_after : (c : Program) (h es : List Entry) (t : Past) → Small c → Standing c (state_of c h) t → DueFrom c h es → (u : Past) × Standing c (state_of c (h ++ es)) u
+standing_after c h [] t sm st d = (t, rw append-nil st)
+standing_after c h (e ∷ es) t sm st d = subst (λ l. (u : Past) × Standing c (state_of c l) u) (append_assoc h (e ∷ []) es) (standing_after c (h ++ e ∷ []) es (past_next t (state_of c h).after.length e.actor e.kind) sm (standing_on c h e t sm st d.0) d.1)

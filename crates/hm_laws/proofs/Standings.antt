@@ -1,0 +1,116 @@
+-- What stands after each history.
+use Rattle.std.proofs.Common.{◌≡◌, ℕ, zero, suc, ◌+◌, ◌%◌, ◌≤◌, ◌⊎◌, inl, inr, Bool, true, false, ◌==◌, ◌&&◌, not, Option, Some, None, List, [], refl, ap, ◌∙◌, subst, arith, length}
+use Rattle.std.proofs.lemmas.Bool.Decides.{nat_tests}
+use Rattle.hm_base.specs.Program.{Program}
+use Rattle.hm_base.specs.declared.Place.{Place}
+use Rattle.hm_base.specs.declared.ops.Op.{Op}
+use Rattle.hm_history.specs.Words.{least, page_of}
+use Rattle.hm_history.specs.Locks.{lock_passes}
+use Rattle.hm_history.specs.Contents.{shown, shown_by}
+use Rattle.hm_history.specs.After.{After}
+use Rattle.hm_laws.specs.Stood.{lock_on}
+use Rattle.hm_laws.specs.Past.{Past}
+use Rattle.hm_laws.specs.Sound.{Sound}
+use Rattle.hm_laws.specs.Allowed.{shows}
+use Rattle.std.proofs.lemmas.Bool.{cases_eq}
+use Rattle.hm_laws.proofs.ContentsKept.{backing_is}
+use Rattle.hm_laws.specs.Facts.{facts_of, HoldsAll, Knows}
+use Rattle.std.proofs.Common.{slice_get, zero, suc}
+use Rattle.std.proofs.lemmas.Option.{slice_get_past}
+use Rattle.hm_history.specs.After.{after}
+use Rattle.hm_history.specs.Run.{run}
+use Rattle.hm_history.specs.Going.{Going, op_at, state_of}
+use Rattle.hm_history.specs.Laws.{DueFrom}
+use Rattle.hm_history.specs.declared.Entry.{Entry}
+use Rattle.hm_history.proofs.RunLemmas.{runs_due}
+use Rattle.hm_base.specs.Program.{IsScript}
+use Rattle.hm_laws.specs.Past.{past_start}
+use Rattle.hm_laws.specs.Basic.{IsBasic}
+use Rattle.hm_laws.specs.Laws.{RunIsLegal, HistoryIsLegal, ReadsRight, FramesRead, HistoryStands}
+use Rattle.hm_laws.specs.Stands.{Standing, MeetsNobody}
+use Rattle.hm_laws.specs.Cpu.{CpuRules, OrderRules}
+use Rattle.hm_laws.proofs.CpuKept.{no_interval, no_overlap, started_even, ended_even}
+use Rattle.hm_laws.proofs.History.{small, at_start, after_is, standing_after}
+use Rattle.hm_laws.proofs.Legality.{every_history}
+
+pub history_is_legal : HistoryIsLegal
+history_is_legal = every_history
+
+pub run_is_legal : RunIsLegal
+run_is_legal c sc ba = every_history c sc ba (run c) (runs_due c)
+
+standing_of : (c : Program) → IsScript c → IsBasic c → (h : List Entry) → DueFrom c [] h → (t : Past) × Standing c (state_of c h) t
+standing_of c sc ba h d = standing_after c [] h past_start (small c sc ba) (at_start c (small c sc ba)) d
+
+-- contents
+shown_is : (s : After) (x : Place) → shown s.places s.contents x ≡ shows s x
+shown_is s x = ap (shown_by s.contents) (backing_is s.places x)
+
+reads_right : (c : Program) (s : After) (t : Past) → Sound c s t → ReadsRight s
+reads_right c s t so = record {
+  placed = λ p a th e. ap (λ (f : ℕ → ℕ). f (a % 4096)) (shown_is s (s.places.place p (page_of a))) ∙ so.reads.reads p a th e;
+  untouched = λ p a th no_one e i. by p a no_one (so.untouched.untouched p a th e i);
+}
+  where
+    by : (p a : ℕ) → ((b : ℕ) → s.locks.map b ≡ lock_on p true → ⊥) → (s.plain.bytes p a ≡ 0) ⊎ ((b : ℕ) × (s.locks.map b ≡ lock_on p true)) → s.plain.bytes p a ≡ 0
+    by p a no_one (inl k) = k
+    by p a no_one (inr k) = absurd (no_one k.0 k.1)
+
+pub frames_read : FramesRead
+frames_read c sc ba h d = let st : (t : Past) × Standing c (state_of c h) t = standing_of c sc ba h d in subst ReadsRight (after_is c h) (reads_right c (state_of c h).after st.0 st.1.sound)
+
+-- an actor that the script has not holds nothing
+past_actors : (c : Program) (a i : ℕ) → length c.actors ≤ a → op_at c a i ≡ None
+past_actors c a i h = ap (λ x. slice_get (elim x as (λ y. List Op) [ None ↦ [] | Some os ↦ os ]) i) (slice_get_past c.actors a h)
+
+idle_lock : (c : Program) (s : After) (t : Past) (a : ℕ) (g : Going) → op_at c a g.index ≡ None → Knows c s t a g → s.locks.map a ≡ None
+idle_lock c s t a g e k = by (op_at c a g.index) e k
+  where
+    by : (x : Option Op) → x ≡ None → HoldsAll s t a (facts_of x g.stack) → s.locks.map a ≡ None
+    by None e k = k.0
+    by (Some o) e k = cc
+
+least_fails : (t : ℕ → Bool) (from n : ℕ) → ((j : ℕ) → t j ≡ false) → least t from n ≡ None
+least_fails t from zero h = refl
+least_fails t from (suc n) h = rw (h from, least) (least_fails t (from + 1) n h)
+
+meets_nobody : (s : After) → ((a : ℕ) → 1 ≤ a → s.locks.map a ≡ None) → MeetsNobody s
+meets_nobody s h = record {
+  no_holder = λ p. least_fails _ 0 16 (λ a. other p a (cases_eq a 0));
+  no_writer = λ p e. least_fails _ 0 16 (λ a. none p a e (cases_eq a 0));
+}
+  where
+    other : (p a : ℕ) → (a ≡ 0) ⊎ (a ≡ 0 → ⊥) → (not (a == 0) && lock_passes (λ x. x.proc == p) (s.locks.map a)) ≡ false
+    other p a (inl e) = grind (arith, nat_tests)
+    other p a (inr e) = grind (arith, nat_tests, h a (omega arith))
+
+    none : (p a : ℕ) → s.locks.map 0 ≡ None → (a ≡ 0) ⊎ (a ≡ 0 → ⊥) → lock_passes (λ x. (x.proc == p) && x.writes) (s.locks.map a) ≡ false
+    none p a z (inl e) = grind arith
+    none p a z (inr e) = grind (arith, h a (omega arith))
+
+pub history_stands : HistoryStands
+history_stands c sc ba h d = record {
+  past = st.0;
+  rules = subst (λ s. Sound c s st.0) (after_is c h) st.1.sound;
+  order = subst (λ s. OrderRules s.plain.areas) (after_is c h) st.1.order;
+  cpu = cpu;
+  known = known;
+  no_records = st.1.no_records;
+  same_after = after_is c h;
+  no_overlap = λ p r. no_overlap (after h).sequences p r none;
+  start_seq = λ p r. started_even (after h).sequences p r none (cpu.still p);
+  end_seq = λ p. ended_even (after h).sequences p (cpu.still p);
+  meets_nobody = λ few. meets_nobody (after h) (λ a l. idle_lock c (after h) st.0 a ((state_of c h).going a) (past_actors c a ((state_of c h).going a).index (omega arith)) (known a));
+}
+  where
+    st : (t : Past) × Standing c (state_of c h) t
+    st = standing_of c sc ba h d
+
+    cpu : CpuRules (after h)
+    cpu = subst CpuRules (after_is c h) st.1.cpu
+
+    none : (m : ℕ) → (after h).sequences.interval m ≡ None
+    none = no_interval c (after h) st.0 (subst (λ s. Sound c s st.0) (after_is c h) st.1.sound) cpu.no_mirror
+
+    known : (a : ℕ) → Knows c (after h) st.0 a ((state_of c h).going a)
+    known a = subst (λ s. Knows c s st.0 a ((state_of c h).going a)) (after_is c h) (st.1.known a)

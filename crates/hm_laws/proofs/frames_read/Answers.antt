@@ -1,0 +1,5 @@
+use Rattle.hm_laws.proofs.Standings.{frames_read}
+use Rattle.hm_laws.proofs.frames_read.Goals as goal
+
+pub returns : goal.returns
+returns c = frames_read

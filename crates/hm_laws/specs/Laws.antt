@@ -1,0 +1,31 @@
+-- The laws, as statements.
+use Rattle.std.specs.Prelude.{◌≡◌, ℕ, ◌%◌, false, true, Some, is_some, List, []}
+use Rattle.hm_base.specs.Program.{Program, IsScript}
+use Rattle.hm_history.specs.Words.{page_of, is_empty_place}
+use Rattle.hm_history.specs.Plain.{rights_of}
+use Rattle.hm_history.specs.Contents.{shown}
+use Rattle.hm_history.specs.After.{After, after}
+use Rattle.hm_history.specs.Legal.{Legal}
+use Rattle.hm_history.specs.Run.{run}
+use Rattle.hm_history.specs.Laws.{DueFrom}
+use Rattle.hm_history.specs.declared.Entry.{Entry}
+use Rattle.hm_laws.specs.Basic.{IsBasic}
+use Rattle.hm_laws.specs.Stands.{Stands}
+
+abbrev pub RunIsLegal : Type 0
+RunIsLegal = (c : Program) → IsScript c → IsBasic c → Legal c (run c)
+
+abbrev pub HistoryIsLegal : Type 0
+HistoryIsLegal = (c : Program) → IsScript c → IsBasic c → (h : List Entry) → DueFrom c [] h → Legal c h
+
+-- a page with a place shows its plain bytes, and one with an area and no place has zeros, unless somebody has the
+-- process's mmap lock for writing and is emptying it
+pub record ReadsRight (s : After) : Type 0 where
+  pub placed : (p a : ℕ) → s.plain.there p ≡ true → is_empty_place (s.places.place p (page_of a)) ≡ false → shown s.places s.contents (s.places.place p (page_of a)) (a % 4096) ≡ s.plain.bytes p a
+  pub untouched : (p a : ℕ) → s.plain.there p ≡ true → ((b : ℕ) → s.locks.map b ≡ Some (record { proc = p; writes = true }) → ⊥) → is_empty_place (s.places.place p (page_of a)) ≡ true → is_some (rights_of s.plain p (page_of a)) ≡ true → s.plain.bytes p a ≡ 0
+
+abbrev pub FramesRead : Type 0
+FramesRead = (c : Program) → IsScript c → IsBasic c → (h : List Entry) → DueFrom c [] h → ReadsRight (after h)
+
+abbrev pub HistoryStands : Type 0
+HistoryStands = (c : Program) → IsScript c → IsBasic c → (h : List Entry) → DueFrom c [] h → Stands c h

@@ -1,0 +1,9 @@
+pub mod Stood
+pub mod Past
+pub mod Sound
+pub mod Allowed
+pub mod Basic
+pub mod Facts
+pub mod Cpu
+pub mod Stands
+pub mod Laws

@@ -1,0 +1,25 @@
+// Laws of every history that a script can have, each the contract of a function with an empty body. They speak of
+// the definitions alone: a program that adds what is due has them for nothing.
+#![tactic(auto)]
+
+ghost use Rattle.hm_laws.specs.Laws.{RunIsLegal, HistoryIsLegal, FramesRead, HistoryStands};
+
+/// The run of a script's schedule is legal, whatever the turns.
+pub fn every_run_is_legal()
+    ensures { RunIsLegal }
+{}
+
+/// So is each history of entries that were due, be it the run of a schedule or not.
+pub fn every_history_is_legal()
+    ensures { HistoryIsLegal }
+{}
+
+/// Memory works: what a page shows is what its process wrote, whatever frame it has.
+pub fn frames_read()
+    ensures { FramesRead }
+{}
+
+/// What a program that keeps the state of a history may rest on.
+pub fn history_stands()
+    ensures { HistoryStands }
+{}
