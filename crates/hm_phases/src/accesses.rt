@@ -1,0 +1,225 @@
+// Accesses piece by piece, and the decisions of a fault.
+ghost use Rattle.std.specs.Prelude.{◌≡◌, length, slice_index};
+ghost use Rattle.hm_history.specs.Words.{pieces};
+ghost use Rattle.hm_history.specs.Operation.{op_pieces};
+ghost use Rattle.hm_history.specs.Moved as table;
+ghost use Rattle.hm_phases.specs.Items.{phases_of};
+
+use crate::guards::opened;
+use crate::items::Items;
+use hm_base::{Bytes, Frame, Op, Place, PoolId};
+use hm_history::Kind;
+use hm_history::phases::{Body, Phase, Seen, Touch};
+
+fn count_at(addr: u64, len: u64) -> u32
+    ensures { result ≡ length (pieces addr len) }
+{
+    if len <= 4096 - addr % 4096 { 1 } else { 2 }
+}
+
+fn piece_count(op: &Op) -> u32
+    ensures { result ≡ length (op_pieces op.now) }
+{
+    match op {
+        Op::Load { proc: _, addr, len } => count_at(*addr, u64::from(*len)),
+        Op::Store {
+            proc: _,
+            addr,
+            bytes,
+        } => count_at(*addr, bytes.len()),
+        Op::DeviceLoad {
+            mirror: _,
+            addr,
+            len,
+        } => count_at(*addr, u64::from(*len)),
+        Op::DeviceStore {
+            mirror: _,
+            addr,
+            bytes,
+        } => count_at(*addr, bytes.len()),
+        Op::Add { .. } => 1,
+        _ => 0,
+    }
+}
+
+fn piece_ends(op: &Op, piece: u32) -> Items
+    ensures { phases_of result ≡ table.piece_ends op.now piece }
+{
+    let count = piece_count(op);
+    if piece < count && piece + 1 < count {
+        Items::One(Phase::Piece { piece: piece + 1 })
+    } else {
+        Items::Zero
+    }
+}
+
+fn piece_of(touch: Touch) -> u32
+    ensures { result ≡ table.piece_of touch }
+{
+    match touch {
+        Touch::Cpu { piece } => piece,
+        Touch::Walk {
+            piece,
+            since: _,
+            seq: _,
+        } => piece,
+        Touch::Sole => 0,
+    }
+}
+
+pub fn first_touch(op: &Op, piece: u32) -> Touch
+    ensures { result ≡ table.first_touch op.now piece }
+{
+    match op {
+        Op::Add { .. } => Touch::Sole,
+        _ => Touch::Cpu { piece },
+    }
+}
+
+fn first_byte(bytes: &Bytes) -> u8
+    ensures { result ≡ slice_index bytes.now 0 }
+{
+    match bytes.get(0) {
+        Some(byte) => *byte,
+        None => 0,
+    }
+}
+
+pub fn moved_piece(op: &Op, piece: u32, touch: Touch, kind: &Kind, seen: Seen) -> Items
+    ensures { phases_of result ≡ table.moved_piece op.now piece touch kind.now seen }
+{
+    match kind {
+        Kind::Loaded(..) | Kind::Stored(..) | Kind::Failed(..) => piece_ends(op, piece),
+        Kind::Begin(_, seq) => Items::One(Phase::Begun {
+            piece,
+            since: seen.at,
+            seq: *seq,
+        }),
+        Kind::Fetched(_, _, bytes) => Items::One(Phase::Fetched {
+            old: first_byte(bytes),
+        }),
+        Kind::Rlock(_) => Items::One(Phase::Decide { touch }),
+        _ => Items::One(Phase::Piece { piece }),
+    }
+}
+
+fn is_added(kind: &Kind) -> bool
+    ensures { result ≡ table.is_added kind.now }
+{
+    match kind {
+        Kind::Added(..) => true,
+        _ => false,
+    }
+}
+
+pub fn moved_fetched(op: &Op, kind: &Kind, seen: Seen) -> Items
+    ensures { phases_of result ≡ table.moved_fetched op.now kind.now seen }
+{
+    if is_added(kind) {
+        Items::Zero
+    } else {
+        moved_piece(op, 0, Touch::Sole, kind, seen)
+    }
+}
+
+fn noted(touch: Touch, place: Place) -> Phase
+    ensures { result ≡ table.noted touch place }
+{
+    match touch {
+        Touch::Walk { piece, since, seq } => Phase::Noted {
+            piece,
+            since,
+            seq,
+            place,
+        },
+        _ => Phase::Piece {
+            piece: piece_of(touch),
+        },
+    }
+}
+
+fn taken(touch: Touch, by: Frame, over: Place) -> Phase
+    ensures { result ≡ table.taken touch by over }
+{
+    match over {
+        Place::Zero => Phase::Armed { touch, by, over },
+        _ => Phase::Taken { touch, by, over },
+    }
+}
+
+fn caught(place: Place) -> Body
+    ensures { result ≡ table.caught place }
+{
+    match place {
+        Place::Own {
+            dev,
+            number,
+            writable: _,
+        } => Body::Catch {
+            frame: Frame {
+                pool: PoolId::Device(dev),
+                number,
+            },
+        },
+        Place::Exclusive { .. } => Body::Restore,
+        Place::Sys {
+            number,
+            writable: _,
+        } => Body::Seize {
+            frame: Frame {
+                pool: PoolId::System,
+                number,
+            },
+        },
+        _ => Body::Nothing,
+    }
+}
+
+pub fn moved_decide(op: &Op, touch: Touch, kind: &Kind, seen: Seen) -> Items
+    ensures { phases_of result ≡ table.moved_decide op.now touch kind.now seen }
+{
+    match kind {
+        Kind::Failed(..) => piece_ends(op, piece_of(touch)),
+        Kind::Retry(_) => Items::One(Phase::Piece {
+            piece: piece_of(touch),
+        }),
+        Kind::Runlock(_) => Items::One(noted(touch, seen.place)),
+        Kind::Set(..) => Items::One(Phase::Answer),
+        Kind::Place(..) => Items::One(Phase::Decide { touch }),
+        Kind::Take(frame) => Items::One(taken(touch, *frame, seen.place)),
+        Kind::Start(..) => opened(
+            kind,
+            seen,
+            caught(seen.place),
+            Items::One(Phase::Decide { touch }),
+        ),
+        _ => Items::Zero,
+    }
+}
+
+pub fn moved_taken(touch: Touch, by: Frame, over: Place, kind: &Kind) -> Items
+    ensures { phases_of result ≡ table.moved_taken touch by over kind.now }
+{
+    match kind {
+        Kind::Copied(..) => Items::One(Phase::Armed { touch, by, over }),
+        _ => Items::One(Phase::Decide { touch }),
+    }
+}
+
+fn piece_of_given_up(touch: Option<Touch>) -> u32
+    ensures { result ≡ table.piece_of_given_up touch }
+{
+    match touch {
+        None => 0,
+        Some(touch) => piece_of(touch),
+    }
+}
+
+pub fn moved_give_up(op: &Op, touch: Option<Touch>, kind: &Kind) -> Items
+    ensures { phases_of result ≡ table.moved_give_up op.now touch kind.now }
+{
+    match kind {
+        Kind::Failed(..) => piece_ends(op, piece_of_given_up(touch)),
+        _ => Items::Zero,
+    }
+}

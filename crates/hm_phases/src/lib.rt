@@ -1,0 +1,116 @@
+// An actor's place within its operation: a stack of at most three phases. Each function has the contract that it is
+// the definition of the same name in hm_history's specs/Moved.
+#![tactic(auto)]
+
+ghost use Rattle.std.specs.Prelude.{◌≡◌, ℕ, ◌+◌, ◌≤◌, ◌<◌, [], ◌∷◌, length, IfOk, IsTrue, IsOk, option_copied, slice_get};
+ghost use Rattle.hm_history.specs.Moved.{first_phase, moved};
+ghost use Rattle.hm_phases.specs.Items.{below_takes_count};
+
+use hm_base::{NoMemory, Op};
+use hm_history::Kind;
+use std::alloc::Global;
+use std::marker::Model;
+
+mod accesses;
+mod frames;
+mod guards;
+mod items;
+mod migrations;
+mod moves;
+mod operations;
+
+pub use hm_history::phases::{Body, Migrating, Phase, Seen, Touch};
+use items::Items;
+
+/// An actor's phases within its operation; contracts see the list, the top first.
+#[derive(Drop)]
+pub struct Stack {
+    items: Items,
+}
+
+impl Model for Stack {
+    ghost use Rattle.std.specs.Prelude.{List};
+    ghost use Rattle.hm_history.specs.declared.phases.Phase.{Phase};
+
+    ghost Value = { List Phase };
+
+    ghost use Rattle.hm_phases.specs.Items.{phases_of};
+
+    ghost view = { λ s. phases_of s.items };
+}
+
+impl Stack {
+    /// An empty stack, with room for all that an operation puts on it.
+    pub fn new(alloc: Global) -> Result<Stack, NoMemory>
+        ensures ok { IsOk result }
+        ensures empty { IfOk result (λ s. s ≡ []) }
+    {
+        let _ = alloc;
+        Ok(Stack { items: Items::Zero })
+    }
+
+    /// Puts the operation's first phase.
+    pub fn begin(&mut self, op: &Op)
+        requires { self.old ≡ [] }
+        ensures { self.new ≡ first_phase op.now ∷ [] }
+    {
+        self.items = Items::One(operations::first_phase(op));
+    }
+
+    /// The phase that the actor is in, none between operations.
+    pub fn top(&self) -> Option<&Phase>
+        ensures { option_copied result ≡ slice_get self.now 0 }
+    {
+        match &self.items {
+            Items::Zero => None,
+            Items::One(top) => Some(top),
+            Items::Two(top, _) => Some(top),
+            Items::Three(top, _, _) => Some(top),
+        }
+    }
+
+    /// What the stack is after the actor's entry, given what the world showed just before it; empty where the entry
+    /// ends the operation.
+    pub fn moved(&mut self, op: &Op, kind: &Kind, seen: Seen)
+        requires room { length (moved op.now self.old kind.now seen) ≤ 3 }
+        requires counted { IsTrue (below_takes_count self.old) }
+        ensures { self.new ≡ moved op.now self.old kind.now seen }
+    {
+        self.items = moves::moved(op, self.items, kind, seen);
+    }
+}
+
+#[cfg(test)]
+mod tests {
+    use super::*;
+    use hm_base::{Page, Place, Proc, Rights, Span};
+    use std::test::Fail;
+
+    fn nothing_seen() -> Seen {
+        Seen {
+            at: 0,
+            overlapped: false,
+            place: Place::Empty,
+            orphan: None,
+            page: None,
+        }
+    }
+
+    #[test]
+    fn a_map_from_begin_to_end(rt: HostRuntime) -> Result<(), Fail> {
+        let op = Op::Map {
+            proc: Proc::new(0),
+            span: Span::new(Page::new(16), 1),
+            rights: Rights::Read,
+        };
+        let mut stack = Stack::new(rt.alloc())?;
+        assert!(rt; stack.top().is_none());
+        stack.begin(&op);
+        assert!(rt; stack.top() == Some(&Phase::Begin));
+        stack.moved(&op, &Kind::Wlock(Proc::new(0)), nothing_seen());
+        assert!(rt; stack.top() == Some(&Phase::Locked));
+        stack.moved(&op, &Kind::Refused(5), nothing_seen());
+        assert!(rt; stack.top().is_none());
+        Ok(())
+    }
+}
