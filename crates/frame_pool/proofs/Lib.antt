@@ -1,0 +1,4 @@
+pub mod Words
+pub mod Members
+pub mod Overwrites
+pub mod Free

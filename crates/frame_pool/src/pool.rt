@@ -1,0 +1,330 @@
+// The pool.
+ghost use Rattle.std.specs.Prelude.{◌≡◌, ◌≢◌, ℕ, ◌+◌, ◌*◌, ◌<◌, ◌≤◌, true, false, Some, None, is_some, length, replicate, IfOk, IfSome, MatchResult};
+ghost use Rattle.frame_pool.specs.Bits.{next_true};
+ghost use Rattle.frame_pool.specs.Frames.{IsFrames, IsPiece, fresh, is_held, locker, lowest_free, lowest_taken, taken, dropped, written, copied, part_of, locked, unlocked, piece_start, piece_len};
+
+use crate::bytes::{self, FRAME_BYTES};
+use crate::number_set::NumberSet;
+use hm_base::{Actor, NoMemory};
+use std::alloc::Global;
+use std::marker::Model;
+
+/// The bytes of one of the eight parts of a frame.
+const PART_BYTES: usize = 512;
+
+/// How much of a frame is copied: all of it, or the part of this number below 8, 512 bytes long.
+#[derive(Clone, Copy, PartialEq, Eq, Debug)]
+pub enum Piece {
+    All,
+    Part(u8),
+}
+
+/// The frame is locked, and by this actor (`folio_trylock` of include/linux/pagemap.h).
+#[derive(Clone, Copy, PartialEq, Eq, Debug)]
+pub struct Held(pub Actor);
+
+/// Frames of 4,096 bytes by their numbers, in one block of memory: the system's, or a device's own
+/// (`MEMORY_DEVICE_PRIVATE`, as `dmirror_devmem` of lib/test_hmm.c has them).
+#[derive(Drop)]
+pub struct Pool {
+    free: NumberSet,
+    held: NumberSet,
+    bytes: Vec<u8>,
+    locks: Vec<Option<Actor>>,
+    withdrawn: bool,
+}
+
+impl Model for Pool {
+    ghost use Rattle.frame_pool.specs.Frames.{Frames};
+
+    ghost Value = { Frames };
+
+    ghost use Rattle.frame_pool.specs.Pools.{frames_of, IsPool};
+
+    ghost view = { frames_of };
+
+    ghost invariant = { IsPool };
+}
+
+impl Pool {
+    /// A pool of so many frames, none of which is held. It takes all the memory that it will need.
+    pub fn new(alloc: Global, frames: u32) -> Result<Pool, NoMemory>
+        ensures { IfOk result (λ pool. pool ≡ fresh frames) }
+    {
+        let free = NumberSet::full(alloc, frames)?;
+        let held = NumberSet::empty(alloc, frames)?;
+        let bytes = zeros(alloc, frames as usize * FRAME_BYTES)?;
+        let locks = unlocked_frames(alloc, frames as usize)?;
+        Ok(Pool {
+            free,
+            held,
+            bytes,
+            locks,
+            withdrawn: false,
+        })
+    }
+
+    /// Gives how long the lists of a pool are where only its value is at hand; it does nothing.
+    pub fn fits(&self)
+        ensures { IsFrames self.now }
+    {
+        let _ = &self.withdrawn;
+    }
+
+    /// The frame that `take_lowest` would take.
+    pub fn lowest_free(&self) -> Option<u32>
+        ensures { result ≡ lowest_free self.now }
+    {
+        if self.withdrawn {
+            return None;
+        }
+        self.free.next_at_or_after(0)
+    }
+
+    /// Takes the lowest frame that is not held, and zeros it (`clear_highpage` of
+    /// include/linux/highmem.h).
+    pub fn take_lowest(&mut self) -> Option<u32>
+        ensures frame { result ≡ lowest_free self.old }
+        ensures pool { self.new ≡ lowest_taken self.old (lowest_free self.old) }
+    {
+        let number = self.lowest_free()?;
+        self.take(number);
+        Some(number)
+    }
+
+    fn take(&mut self, number: u32)
+        requires inside { number < length self.old.held }
+        requires free { is_held self.old number ≡ false }
+        ensures { self.new ≡ taken self.old number }
+    {
+        self.free.remove(number);
+        self.held.insert(number);
+        bytes::zero_frame(&mut self.bytes, number as usize * FRAME_BYTES);
+    }
+
+    /// Gives the frame back; it is then not locked.
+    pub fn drop_frame(&mut self, number: u32)
+        requires { is_held self.old number ≡ true }
+        ensures { self.new ≡ dropped self.old number }
+    {
+        self.held.remove(number);
+        self.free.insert(number);
+        self.locks[number as usize] = None;
+    }
+
+    /// Fills `into` with the frame's bytes from `offset` on.
+    pub fn read(&self, number: u32, offset: u32, into: &mut [u8])
+        requires held { is_held self.now number ≡ true }
+        requires lies { offset + length into.old ≤ 4096 }
+        ensures { into.new ≡ part_of self.now.bytes (number * 4096 + offset) (length into.old) }
+    {
+        let at = number as usize * FRAME_BYTES + offset as usize;
+        let end = at + into.len();
+        into.copy_from_slice(&self.bytes[at..end]);
+    }
+
+    /// Writes the bytes over the frame's from `offset` on.
+    pub fn write(&mut self, number: u32, offset: u32, from: &[u8])
+        requires held { is_held self.old number ≡ true }
+        requires lies { offset + length from.now ≤ 4096 }
+        ensures { self.new ≡ written self.old number offset from.now }
+    {
+        let at = number as usize * FRAME_BYTES + offset as usize;
+        bytes::overwrite(&mut self.bytes, at, from);
+    }
+
+    /// Copies the piece of one frame over that of another.
+    pub fn copy_within(&mut self, src: u32, dst: u32, piece: Piece)
+        requires src { is_held self.old src ≡ true }
+        requires dst { is_held self.old dst ≡ true }
+        requires differ { src ≢ dst }
+        requires piece { IsPiece piece }
+        ensures { self.new ≡ copied self.old src self.old dst piece }
+    {
+        let from = src as usize * FRAME_BYTES + piece.start();
+        let to = dst as usize * FRAME_BYTES + piece.start();
+        bytes::copy(&mut self.bytes, from, to, piece.len());
+    }
+
+    /// Locks the frame for the actor; `Held` names the actor that has it locked already.
+    pub fn try_lock(&mut self, number: u32, actor: Actor) -> Result<(), Held>
+        requires { is_held self.old number ≡ true }
+        ensures { MatchResult result
+            (λ _. (locker self.old number ≡ None) × (self.new ≡ locked self.old number actor))
+            (λ e. (locker self.old number ≡ Some e.0) × (self.new ≡ self.old)) }
+    {
+        if let Some(by) = self.holder(number) {
+            return Err(Held(by));
+        }
+        self.locks[number as usize] = Some(actor);
+        Ok(())
+    }
+
+    pub fn unlock(&mut self, number: u32)
+        requires { is_some (locker self.old number) ≡ true }
+        ensures { self.new ≡ unlocked self.old number }
+    {
+        self.locks[number as usize] = None;
+    }
+
+    /// The actor that has the frame locked.
+    pub fn holder(&self, number: u32) -> Option<Actor>
+        ensures { result ≡ locker self.now number }
+    {
+        match self.locks.get(number as usize) {
+            Some(lock) => *lock,
+            None => None,
+        }
+    }
+
+    /// The lowest held frame from this number on.
+    pub fn held_at_or_after(&self, number: u32) -> Option<u32>
+        ensures { result ≡ next_true self.now.held number }
+    {
+        self.held.next_at_or_after(number)
+    }
+
+    /// From now on no frame can be taken.
+    pub fn withdraw(&mut self)
+        ensures { self.new ≡ record self.old { withdrawn = true } }
+    {
+        self.withdrawn = true;
+    }
+}
+
+impl Piece {
+    fn start(self) -> usize
+        requires { IsPiece self }
+        ensures { result ≡ piece_start self }
+    {
+        match self {
+            Piece::All => 0,
+            Piece::Part(part) => part as usize * PART_BYTES,
+        }
+    }
+
+    fn len(self) -> usize
+        ensures { result ≡ piece_len self }
+    {
+        match self {
+            Piece::All => FRAME_BYTES,
+            Piece::Part(_) => PART_BYTES,
+        }
+    }
+}
+
+/// Copies the piece of a frame of one pool over that of a frame of another.
+pub fn copy_across(from: &Pool, src: u32, to: &mut Pool, dst: u32, piece: Piece)
+    requires src { is_held from.now src ≡ true }
+    requires dst { is_held to.old dst ≡ true }
+    requires piece { IsPiece piece }
+    ensures { to.new ≡ copied from.now src to.old dst piece }
+{
+    let at = src as usize * FRAME_BYTES + piece.start();
+    let bytes = &from.bytes[at..at + piece.len()];
+    bytes::overwrite(
+        &mut to.bytes,
+        dst as usize * FRAME_BYTES + piece.start(),
+        bytes,
+    );
+}
+
+/// So many bytes that are zero.
+fn zeros(alloc: Global, count: usize) -> Result<Vec<u8>, NoMemory>
+    ensures { IfOk result (λ bytes. bytes.items ≡ replicate count 0) }
+{
+    match vec![in alloc; 0; count] {
+        Ok(bytes) => Ok(bytes),
+        Err(_) => Err(NoMemory),
+    }
+}
+
+/// The locks of so many frames, which nobody has.
+fn unlocked_frames(alloc: Global, count: usize) -> Result<Vec<Option<Actor>>, NoMemory>
+    ensures { IfOk result (λ locks. locks.items ≡ replicate count None) }
+{
+    match vec![in alloc; None; count] {
+        Ok(locks) => Ok(locks),
+        Err(_) => Err(NoMemory),
+    }
+}
+
+#[cfg(test)]
+mod tests {
+    use super::*;
+    use std::test::Fail;
+
+    fn take(pool: &mut Pool) -> Option<u32>
+        ensures taken { IfSome result (λ number. is_held pool.new number ≡ true) }
+        ensures others { (k : ℕ) → is_held pool.old k ≡ true → is_held pool.new k ≡ true }
+    {
+        pool.take_lowest()
+    }
+
+    fn pool(rt: &HostRuntime, frames: u32) -> Result<Pool, Fail> {
+        Ok(Pool::new(rt.alloc(), frames).map_err(|_| "no memory")?)
+    }
+
+    #[test]
+    fn frames_are_taken_and_dropped(rt: HostRuntime) -> Result<(), Fail> {
+        let mut pool = pool(&rt, 2)?;
+        assert_eq!(rt; pool.lowest_free(), Some(0));
+        assert_eq!(rt; pool.held_at_or_after(0), None);
+        let first = take(&mut pool).ok_or("none")?;
+        let second = take(&mut pool).ok_or("none")?;
+        assert_eq!(rt; first, 0);
+        assert_eq!(rt; second, 1);
+        assert_eq!(rt; take(&mut pool), None);
+        assert_eq!(rt; pool.held_at_or_after(1), Some(1));
+        pool.drop_frame(first);
+        assert_eq!(rt; pool.held_at_or_after(0), Some(1));
+        assert_eq!(rt; pool.lowest_free(), Some(0));
+        pool.withdraw();
+        assert_eq!(rt; pool.lowest_free(), None);
+        assert_eq!(rt; take(&mut pool), None);
+        Ok(())
+    }
+
+    #[test]
+    fn bytes_are_copied(rt: HostRuntime) -> Result<(), Fail> {
+        let mut system = pool(&rt, 2)?;
+        let mut device = pool(&rt, 1)?;
+        let first = take(&mut system).ok_or("none")?;
+        let second = take(&mut system).ok_or("none")?;
+        let third = take(&mut device).ok_or("none")?;
+        assert!(rt; first != second);
+        system.write(first, 510, &[1, 2, 3, 4]);
+        system.copy_within(first, second, Piece::Part(1));
+        copy_across(&system, first, &mut device, third, Piece::All);
+        let mut into = [9; 6];
+        system.read(second, 509, &mut into);
+        assert_eq!(rt; into, [0, 0, 0, 3, 4, 0]);
+        device.read(third, 509, &mut into);
+        assert_eq!(rt; into, [0, 1, 2, 3, 4, 0]);
+        system.drop_frame(first);
+        let again = take(&mut system).ok_or("none")?;
+        system.read(again, 509, &mut into);
+        assert_eq!(rt; again, first);
+        assert_eq!(rt; into, [0; 6]);
+        Ok(())
+    }
+
+    #[test]
+    fn frames_are_locked(rt: HostRuntime) -> Result<(), Fail> {
+        let mut pool = pool(&rt, 1)?;
+        let frame = take(&mut pool).ok_or("none")?;
+        assert_eq!(rt; pool.holder(frame), None);
+        assert_eq!(rt; pool.try_lock(frame, Actor::new(3)), Ok(()));
+        assert_eq!(rt;
+            pool.try_lock(frame, Actor::new(4)),
+            Err(Held(Actor::new(3)))
+        );
+        assert_eq!(rt; pool.holder(frame), Some(Actor::new(3)));
+        if pool.holder(frame).is_some() {
+            pool.unlock(frame);
+        }
+        assert_eq!(rt; pool.holder(frame), None);
+        assert_eq!(rt; pool.holder(7), None);
+        Ok(())
+    }
+}
