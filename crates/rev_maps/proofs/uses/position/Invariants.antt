@@ -1,0 +1,7 @@
+use Rattle.std.proofs.Common.{◌≡◌, ℕ, ◌<◌, false, get_or}
+use Rattle.rev_maps.specs.declared.uses.Use.{Use}
+use Rattle.rev_maps.specs.Uses.{is_by}
+use Rattle.rev_maps.proofs.uses.position.Given as goal
+
+abbrev pub invariant-loop-at : goal.invariant-loop-at
+invariant-loop-at l = (k : ℕ) (d : Use) → k < l.at → is_by l.proc l.page (get_or l.uses k d) ≡ false

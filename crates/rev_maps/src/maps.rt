@@ -1,0 +1,165 @@
+// The uses of each frame of a pool.
+ghost use Rattle.std.specs.Prelude.{◌≡◌, ◌≢◌, ℕ, ◌^◌, ◌<◌, ◌≤◌, not, true, false, length, replicate, slice_set, OnOk, OnErr, IfOk};
+ghost use Rattle.rev_maps.specs.Uses.{uses_of, unused, has_use, with_moving, added, removed, first_use, is_rising};
+
+use crate::uses::{Use, UseList};
+use hm_base::{NoMemory, Page, Proc};
+use std::alloc::Global;
+use std::marker::Model;
+
+/// The uses of each frame of a pool, by the frame's number.
+#[derive(Drop)]
+pub struct RevMaps {
+    frames: Vec<UseList>,
+}
+
+impl Model for RevMaps {
+    ghost use Rattle.std.specs.Prelude.{List};
+    ghost use Rattle.rev_maps.specs.Uses.{Uses};
+
+    ghost Value = { List Uses };
+
+    ghost view = { λ a. a.frames.items };
+}
+
+impl RevMaps {
+    /// The maps of so many frames, none of which has a use.
+    pub fn new(alloc: Global, frames: u32) -> Result<RevMaps, NoMemory>
+        ensures { IfOk result (λ maps. maps ≡ replicate frames unused) }
+    {
+        let mut lists = match Vec::with_capacity(alloc, frames as usize) {
+            Ok(lists) => lists,
+            Err(_) => return Err(NoMemory),
+        };
+        for _frame in 0..frames {
+            if let Err(_) = lists.push(UseList::new(alloc)) {
+                return Err(NoMemory);
+            }
+        }
+        Ok(RevMaps { frames: lists })
+    }
+
+    /// Makes room for one more use of the frame.
+    pub fn reserve(&mut self, number: u32) -> Result<(), NoMemory>
+        requires { number < length self.old }
+        ensures frame { (uses_of self.new number).list ≡ (uses_of self.old number).list }
+        ensures more { (uses_of self.old number).room ≤ (uses_of self.new number).room }
+        ensures others { self.new ≡ slice_set self.old number (uses_of self.new number) }
+        ensures ok { OnOk result (1 ≤ (uses_of self.new number).room) }
+        ensures err { OnErr result (self.new ≡ self.old) }
+    {
+        let uses = &mut self.frames[number as usize];
+        uses.reserve()
+    }
+
+    /// Adds a use of the frame, for which there is room.
+    pub fn add_reserved(&mut self, number: u32, used: Use)
+        requires room { 1 ≤ (uses_of self.old number).room }
+        requires new { has_use used.proc used.page (uses_of self.old number).list ≡ false }
+        ensures { self.new ≡ slice_set self.old number (added used (uses_of self.old number)) }
+    {
+        let uses = &mut self.frames[number as usize];
+        uses.add_reserved(used);
+    }
+
+    /// Removes a use of the frame.
+    pub fn remove(&mut self, number: u32, proc: Proc, page: Page)
+        requires { has_use proc page (uses_of self.old number).list ≡ true }
+        ensures { self.new ≡ slice_set self.old number (removed proc page (uses_of self.old number)) }
+    {
+        let uses = &mut self.frames[number as usize];
+        uses.remove(proc, page);
+    }
+
+    /// Marks a use of the frame as a migration entry.
+    pub fn set_moving(&mut self, number: u32, proc: Proc, page: Page)
+        requires { has_use proc page (uses_of self.old number).list ≡ true }
+        ensures { let uses = uses_of self.old number in
+            self.new ≡ slice_set self.old number (record uses { list = with_moving proc page uses.list }) }
+    {
+        let uses = &mut self.frames[number as usize];
+        uses.set_moving(proc, page);
+    }
+
+    /// The lowest process and page that names the frame, and not by a migration entry.
+    pub fn lowest_direct(&self, number: u32) -> Option<(Proc, Page)>
+        ensures { result ≡ first_use (λ u. not u.moving) (uses_of self.now number).list }
+    {
+        let uses = self.frames.get(number as usize)?;
+        uses.lowest_direct()
+    }
+
+    /// The lowest process and page that names the frame by a migration entry.
+    pub fn lowest_moving(&self, number: u32) -> Option<(Proc, Page)>
+        ensures { result ≡ first_use (λ u. u.moving) (uses_of self.now number).list }
+    {
+        let uses = self.frames.get(number as usize)?;
+        uses.lowest_moving()
+    }
+
+    /// How many uses the frame has, migration entries included.
+    pub fn count(&self, number: u32) -> u64
+        ensures { result ≡ length (uses_of self.now number).list }
+    {
+        match self.frames.get(number as usize) {
+            Some(uses) => uses.count(),
+            None => 0,
+        }
+    }
+
+    /// Gives the order of the uses of a frame where only their value is at hand; it does nothing.
+    pub fn rising(&self, number: u32)
+        ensures { is_rising (uses_of self.now number).list ≡ true }
+    {
+        if let Some(uses) = self.frames.get(number as usize) {
+            uses.rising();
+        }
+    }
+}
+
+#[cfg(test)]
+mod tests {
+    use super::*;
+    use std::test::Fail;
+
+    fn used(proc: u32, page: u64) -> Use
+        requires proc { proc < 32 }
+        requires page { page < 2 ^ 36 }
+        ensures { result ≡ record { proc = proc; page = page; moving = false } }
+    {
+        Use {
+            proc: Proc::new(proc),
+            page: Page::new(page),
+            moving: false,
+        }
+    }
+
+    fn at(proc: u32, page: u64) -> (Proc, Page)
+        requires proc { proc < 32 }
+        requires page { page < 2 ^ 36 }
+    {
+        (Proc::new(proc), Page::new(page))
+    }
+
+    #[test]
+    fn uses_are_found_in_order(rt: HostRuntime) -> Result<(), Fail> {
+        let mut maps = RevMaps::new(rt.alloc(), 2).map_err(|_| "no memory")?;
+        assert_eq!(rt; maps.lowest_direct(1), None);
+        maps.reserve(1).map_err(|_| "no memory")?;
+        maps.add_reserved(1, used(3, 7));
+        maps.reserve(1).map_err(|_| "no memory")?;
+        maps.add_reserved(1, used(2, 9));
+        assert_eq!(rt; maps.lowest_direct(1), Some(at(2, 9)));
+        assert_eq!(rt; maps.lowest_moving(1), None);
+        assert_eq!(rt; maps.count(1), 2);
+        assert_eq!(rt; maps.count(0), 0);
+        maps.set_moving(1, Proc::new(2), Page::new(9));
+        assert_eq!(rt; maps.lowest_direct(1), Some(at(3, 7)));
+        assert_eq!(rt; maps.lowest_moving(1), Some(at(2, 9)));
+        maps.remove(1, Proc::new(2), Page::new(9));
+        assert_eq!(rt; maps.lowest_moving(1), None);
+        assert_eq!(rt; maps.count(1), 1);
+        assert_eq!(rt; maps.lowest_direct(7), None);
+        Ok(())
+    }
+}

@@ -1,0 +1,150 @@
+// The uses of one frame.
+ghost use Rattle.std.specs.Prelude.{◌≡◌, ℕ, ◌+◌, ◌-◌, ◌<◌, ◌≤◌, [], not, true, false, length, OnOk, OnErr};
+ghost use Rattle.std.specs.List.{position_or_len};
+ghost use Rattle.rev_maps.specs.Uses.{precedes, is_by, has_use, with_moving, added, removed, first_use, unused, is_rising};
+
+use hm_base::{NoMemory, Page, Proc};
+use std::alloc::Global;
+use std::marker::Model;
+
+/// A page of a process whose page table entry names the frame, as an `anon_vma` finds it
+/// (mm/rmap.c); a migration entry names it too.
+#[derive(Clone, Copy, PartialEq, Eq, Debug)]
+pub struct Use {
+    pub proc: Proc,
+    pub page: Page,
+    /// Whether the entry is a migration entry.
+    pub moving: bool,
+}
+
+/// The uses of a frame by rising process and page.
+#[derive(Drop)]
+pub struct UseList {
+    uses: Vec<Use>,
+}
+
+impl Model for UseList {
+    ghost use Rattle.std.specs.Prelude.{◌≡◌, ◌-◌, true, vec_len, vec_capacity};
+    ghost use Rattle.rev_maps.specs.Uses.{Uses, is_rising};
+
+    ghost Value = { Uses };
+
+    ghost view = { λ a. record { list = a.uses.items; room = vec_capacity a.uses - vec_len a.uses } };
+
+    ghost invariant = { λ a. is_rising a.uses.items ≡ true };
+}
+
+impl Use {
+    fn precedes(&self, other: &Use) -> bool
+        ensures { result ≡ precedes self.now other.now }
+    {
+        let (proc, other_proc) = (self.proc.number(), other.proc.number());
+        proc < other_proc || (proc == other_proc && self.page.number() < other.page.number())
+    }
+
+    fn is_by(&self, proc: Proc, page: Page) -> bool
+        ensures { result ≡ is_by proc page self.now }
+    {
+        self.proc.number() == proc.number() && self.page.number() == page.number()
+    }
+}
+
+impl UseList {
+    pub fn new(alloc: Global) -> UseList
+        ensures { result ≡ unused }
+    {
+        UseList {
+            uses: Vec::new(alloc),
+        }
+    }
+
+    /// Gives the order of the uses where only their value is at hand; it does nothing.
+    pub fn rising(&self)
+        ensures { is_rising self.now.list ≡ true }
+    {
+        let _ = &self.uses;
+    }
+
+    pub fn reserve(&mut self) -> Result<(), NoMemory>
+        ensures list { self.new.list ≡ self.old.list }
+        ensures more { self.old.room ≤ self.new.room }
+        ensures ok { OnOk result (1 ≤ self.new.room) }
+        ensures err { OnErr result (self.new ≡ self.old) }
+    {
+        match self.uses.reserve(1) {
+            Ok(()) => Ok(()),
+            Err(_) => Err(NoMemory),
+        }
+    }
+
+    pub fn add_reserved(&mut self, used: Use)
+        requires room { 1 ≤ self.old.room }
+        requires new { has_use used.proc used.page self.old.list ≡ false }
+        ensures { self.new ≡ added used self.old }
+    {
+        let at = place(&self.uses, &used);
+        let _ = self.uses.insert(at, used);
+    }
+
+    pub fn remove(&mut self, proc: Proc, page: Page)
+        requires { has_use proc page self.old.list ≡ true }
+        ensures { self.new ≡ removed proc page self.old }
+    {
+        let at = position(&self.uses, proc, page);
+        let _ = self.uses.remove(at);
+    }
+
+    pub fn set_moving(&mut self, proc: Proc, page: Page)
+        requires { has_use proc page self.old.list ≡ true }
+        ensures { self.new ≡ record self.old { list = with_moving proc page self.old.list } }
+    {
+        let at = position(&self.uses, proc, page);
+        self.uses[at].moving = true;
+    }
+
+    pub fn lowest_direct(&self) -> Option<(Proc, Page)>
+        ensures { result ≡ first_use (λ u. not u.moving) self.now.list }
+    {
+        let used = self.uses.iter().find(|used| !used.moving)?;
+        Some((used.proc, used.page))
+    }
+
+    pub fn lowest_moving(&self) -> Option<(Proc, Page)>
+        ensures { result ≡ first_use (λ u. u.moving) self.now.list }
+    {
+        let used = self.uses.iter().find(|used| used.moving)?;
+        Some((used.proc, used.page))
+    }
+
+    pub fn count(&self) -> u64
+        ensures { result ≡ length self.now.list }
+    {
+        self.uses.len() as u64
+    }
+}
+
+/// The place of a use that is not there.
+fn place(uses: &[Use], used: &Use) -> usize
+    ensures { result ≡ position_or_len (precedes used.now) uses.now }
+{
+    for (at, other) in uses.iter().enumerate() {
+        if used.precedes(other) {
+            return at;
+        }
+    }
+    uses.len()
+}
+
+/// The place of the use by that page of the process.
+fn position(uses: &[Use], proc: Proc, page: Page) -> usize
+    requires { has_use proc page uses.now ≡ true }
+    ensures place { result ≡ position_or_len (is_by proc page) uses.now }
+    ensures inside { result < length uses.now }
+{
+    for (at, other) in uses.iter().enumerate() {
+        if other.is_by(proc, page) {
+            return at;
+        }
+    }
+    uses.len()
+}
