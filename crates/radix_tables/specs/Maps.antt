@@ -1,0 +1,47 @@
+-- The map that a radix table is: its words with their pages, in rising order of the pages.
+use Rattle.std.specs.Prelude.{ℕ, ◌/◌, ◌^◌, Bool, not, ◌==◌, nat_le, Option, List, [], ◌∷◌, unwrap_or, find, if◌then◌else◌}
+use Rattle.std.specs.List.{filter, flat_map, list_any, range_with_len}
+use Rattle.std.specs.Ordering.{nat_cmp}
+use Rattle.std.specs.FinMap.Entries as sorted
+
+-- the words that are not 0, by page, and the blocks of 512 pages for whose words there is room
+pub record Map : Type 0 where
+  pub words : List (ℕ × ℕ)
+  pub blocks : List ℕ
+
+-- the word of a page, 0 where there is none
+abbrev pub word_at : Map → ℕ → ℕ
+word_at m page = unwrap_or (sorted.find nat_cmp page m.words) 0
+
+abbrev pub is_reserved : Map → ℕ → Bool
+is_reserved m page = list_any (λ b. b == page / 512) m.blocks
+
+abbrev pub with_word : Map → ℕ → ℕ → Map
+with_word m page word = record m { words = sorted.put nat_cmp page word m.words }
+
+abbrev pub without_word : Map → ℕ → Map
+without_word m page = record m { words = sorted.where_key nat_cmp (λ v. not (v == page)) m.words }
+
+-- the first page from there on that has a word, and its word
+abbrev pub next_word : Map → ℕ → Option (ℕ × ℕ)
+next_word m page = find (λ e. nat_le page e.0) m.words
+
+-- the pairs of these numbers and what a function has for them, where that is not 0
+abbrev pub pairs : (ℕ → ℕ) → List ℕ → List (ℕ × ℕ)
+pairs f ns = flat_map (λ n. if f n == 0 then [] else ((n, f n) ∷ [])) ns
+
+-- how many pages there are, and blocks
+unfoldable pub page_count : ℕ
+page_count = 2 ^ 36
+
+unfoldable pub block_count : ℕ
+block_count = 2 ^ 27
+
+abbrev pub pages : List ℕ
+pages = range_with_len 0 page_count
+
+abbrev pub blocks : List ℕ
+blocks = range_with_len 0 block_count
+
+abbrev pub map_of : (ℕ → ℕ) → (ℕ → ℕ) → Map
+map_of word table = record { words = pairs word pages; blocks = filter (λ b. not (table b == 0)) blocks }

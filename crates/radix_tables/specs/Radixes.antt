@@ -1,0 +1,10 @@
+-- How a radix table keeps its map.
+use Rattle.radix_tables.specs.Maps.{Map, map_of}
+use Rattle.radix_tables.specs.Levels.{IsLevels, table_of, word_of}
+use Rattle.radix_tables.specs.declared.radix.Radix.TheInside.{Inside}
+
+abbrev pub map_in : Inside → Map
+map_in a = map_of (word_of a.levels) (table_of a.levels)
+
+abbrev pub IsRadix : Inside → Type 0
+IsRadix a = IsLevels a.levels

@@ -1,0 +1,256 @@
+// The four levels, named as the kernel names them: page global directory, page upper directory, page
+// middle directory, and page table entries.
+ghost use Rattle.std.specs.Prelude.{◌≡◌, ◌≢◌, ℕ, ◌+◌, ◌*◌, ◌/◌, ◌%◌, ◌^◌, ◌<◌, ◌≤◌, ◌==◌, if◌then◌else◌, [], ◌++◌, length, replicate, slice_index, slice_set, is_ok, MatchOption, MatchResult, OnOk, OnErr, IfOk};
+ghost use Rattle.radix_tables.specs.Levels.{IsLevels, IsLonger, IsChild, IsStep, IsLeast, IsSame, IsMade, upper_of, middle_of, table_of, word_of};
+
+use hm_base::NoMemory;
+use std::alloc::Global;
+
+/// Entries of a table.
+const ENTRIES: u64 = 512;
+
+/// One more than the highest page.
+const PAGES: u64 = 1 << 36;
+
+/// The table of the highest level.
+const ROOT: u64 = 1;
+
+/// The tables of each level in a row, 512 entries each. An entry is the number of a table of the next
+/// level, and one of the last level is a word; 0 is none. Table 0 of a level stays empty.
+#[derive(Drop)]
+pub struct Levels {
+    pgd: Vec<u64>,
+    pud: Vec<u64>,
+    pmd: Vec<u64>,
+    pte: Vec<u64>,
+}
+
+/// What a walk to a page came to: its lowest table, or a gap that ends before this page.
+pub enum Step {
+    Table(u64),
+    Gap(u64),
+}
+
+impl Levels {
+    pub fn new(alloc: Global) -> Levels
+        ensures levels { IsLevels result }
+        ensures tables { (b : ℕ) → table_of result b ≡ 0 }
+        ensures words { (v : ℕ) → word_of result v ≡ 0 }
+    {
+        Levels {
+            pgd: Vec::new(alloc),
+            pud: Vec::new(alloc),
+            pmd: Vec::new(alloc),
+            pte: Vec::new(alloc),
+        }
+    }
+
+    /// The lowest table for a block of 512 pages.
+    fn table(&self, block: u64) -> u64
+        requires levels { IsLevels self.now }
+        requires block { block < 2 ^ 27 }
+        ensures { result ≡ table_of self.now block }
+    {
+        entry(&self.pmd, self.middle(block >> 9), block)
+    }
+
+    /// The table of the second level for a number of 9 bits.
+    fn upper(&self, number: u64) -> u64
+        requires { number < 512 }
+        ensures { result ≡ upper_of self.now number }
+    {
+        entry(&self.pgd, ROOT, number)
+    }
+
+    /// The table of the third level for a number of 18 bits.
+    fn middle(&self, number: u64) -> u64
+        requires levels { IsLevels self.now }
+        requires number { number < 2 ^ 18 }
+        ensures { result ≡ middle_of self.now number }
+    {
+        entry(&self.pud, self.upper(number >> 9), number)
+    }
+
+    pub fn word(&self, page: u64) -> u64
+        requires levels { IsLevels self.now }
+        requires page { page < 2 ^ 36 }
+        ensures { result ≡ word_of self.now page }
+    {
+        entry(&self.pte, self.table(page / ENTRIES), page)
+    }
+
+    /// Makes the tables down to the page.
+    pub fn make_tables(&mut self, page: u64) -> Result<(), NoMemory>
+        requires levels { IsLevels self.old }
+        requires page { page < 2 ^ 36 }
+        ensures { MatchResult result (λ _. IsMade self.old self.new (page / 512)) (λ _. IsSame self.old self.new) }
+    {
+        self.make_root()?;
+        self.make_upper(page >> 27)?;
+        self.make_middle(page >> 18)?;
+        self.make_lowest(page >> 9)
+    }
+
+    fn make_root(&mut self) -> Result<(), NoMemory>
+        requires { IsLevels self.old }
+        ensures same { IsSame self.old self.new }
+        ensures ok { OnOk result (1024 ≤ length self.new.pgd.items) }
+    {
+        if self.pgd.is_empty() {
+            add_table(&mut self.pgd)?;
+        }
+        Ok(())
+    }
+
+    fn make_upper(&mut self, number: u64) -> Result<(), NoMemory>
+        requires levels { IsLevels self.old }
+        requires root { 1024 ≤ length self.old.pgd.items }
+        requires number { number < 512 }
+        ensures same { IsSame self.old self.new }
+        ensures ok { OnOk result (upper_of self.new number ≢ 0) }
+    {
+        child(&mut self.pgd, place(ROOT, number), &mut self.pud)?;
+        Ok(())
+    }
+
+    fn make_middle(&mut self, number: u64) -> Result<(), NoMemory>
+        requires levels { IsLevels self.old }
+        requires number { number < 2 ^ 18 }
+        requires upper { upper_of self.old (number / 512) ≢ 0 }
+        ensures same { IsSame self.old self.new }
+        ensures ok { OnOk result (middle_of self.new number ≢ 0) }
+    {
+        let upper = self.upper(number >> 9);
+        child(&mut self.pud, place(upper, number), &mut self.pmd)?;
+        Ok(())
+    }
+
+    fn make_lowest(&mut self, number: u64) -> Result<(), NoMemory>
+        requires levels { IsLevels self.old }
+        requires number { number < 2 ^ 27 }
+        requires middle { middle_of self.old (number / 512) ≢ 0 }
+        ensures { MatchResult result (λ _. IsMade self.old self.new number) (λ _. IsSame self.old self.new) }
+    {
+        let middle = self.middle(number >> 9);
+        child(&mut self.pmd, place(middle, number), &mut self.pte)?;
+        Ok(())
+    }
+
+    /// Sets the word of a page whose tables are there.
+    pub fn set(&mut self, page: u64, word: u64)
+        requires levels { IsLevels self.old }
+        requires page { page < 2 ^ 36 }
+        requires table { table_of self.old (page / 512) ≢ 0 }
+        ensures levels { IsLevels self.new }
+        ensures words { (v : ℕ) → word_of self.new v ≡ (if v == page then word else word_of self.old v) }
+        ensures tables { (b : ℕ) → table_of self.new b ≡ table_of self.old b }
+    {
+        let at = place(self.table(page / ENTRIES), page);
+        self.pte[at] = word;
+    }
+
+    /// The least page from `page` on that has a word, and that word.
+    pub fn next(&self, page: u64) -> Option<(u64, u64)>
+        requires levels { IsLevels self.now }
+        requires page { page < 2 ^ 36 }
+        ensures { IsLeast (word_of self.now) page result }
+    {
+        let mut at = page;
+        while at < PAGES {
+            match self.step(at) {
+                Step::Gap(next) => at = next,
+                Step::Table(table) => {
+                    if let Some(found) = self.next_in_table(table, at) {
+                        return Some(found);
+                    }
+                    at = (at / ENTRIES + 1) * ENTRIES;
+                }
+            }
+        }
+        None
+    }
+
+    /// Goes down towards the page as far as there are tables.
+    fn step(&self, page: u64) -> Step
+        requires levels { IsLevels self.now }
+        requires page { page < 2 ^ 36 }
+        ensures { IsStep self.now page result }
+    {
+        let upper = entry(&self.pgd, ROOT, page >> 27);
+        if upper == 0 {
+            return Step::Gap(((page >> 27) + 1) << 27);
+        }
+        let middle = entry(&self.pud, upper, page >> 18);
+        if middle == 0 {
+            return Step::Gap(((page >> 18) + 1) << 18);
+        }
+        let table = entry(&self.pmd, middle, page >> 9);
+        if table == 0 {
+            return Step::Gap(((page >> 9) + 1) << 9);
+        }
+        Step::Table(table)
+    }
+
+    /// The least page of the table from `page` on that has a word, and that word.
+    fn next_in_table(&self, table: u64, page: u64) -> Option<(u64, u64)>
+        requires levels { IsLevels self.now }
+        requires page { page < 2 ^ 36 }
+        requires table { IsStep self.now page (Step.Table table) }
+        ensures { MatchOption result ((v : ℕ) → page ≤ v → v < (page / 512 + 1) * 512 → word_of self.now v ≡ 0)
+            (λ e. (page ≤ e.0) × (e.0 < 2 ^ 36) × (word_of self.now e.0 ≡ e.1) × (e.1 ≢ 0) × ((v : ℕ) → page ≤ v → v < e.0 → word_of self.now v ≡ 0)) }
+    {
+        for at in page..(page / ENTRIES + 1) * ENTRIES {
+            let word = entry(&self.pte, table, at);
+            if word != 0 {
+                return Some((at, word));
+            }
+        }
+        None
+    }
+}
+
+/// Where in a level the entry of a table for a number stands.
+fn place(table: u64, number: u64) -> usize
+    requires { table < 2 ^ 54 }
+    ensures { result ≡ table * 512 + number % 512 }
+{
+    (table * ENTRIES + number % ENTRIES) as usize
+}
+
+/// The entry of a table for a number.
+fn entry(entries: &[u64], table: u64, number: u64) -> u64
+    requires { table < 2 ^ 54 }
+    ensures { result ≡ slice_index entries.now (table * 512 + number % 512) }
+{
+    match entries.get(place(table, number)) {
+        Some(entry) => *entry,
+        None => 0,
+    }
+}
+
+/// Adds an empty table, and gives its number, which is not 0.
+fn add_table(entries: &mut Vec<u64>) -> Result<u64, NoMemory>
+    requires { length entries.old.items % 512 ≡ 0 }
+    ensures entries { MatchResult result (λ table. IsLonger entries.old.items entries.new.items) (λ _. entries.new.items ≡ entries.old.items) }
+    ensures number { IfOk result (λ table. (table ≢ 0) × (length entries.old.items ≤ table * 512) × (length entries.new.items ≡ table * 512 + 512)) }
+{
+    let tables = (entries.len() / ENTRIES as usize).max(1);
+    match entries.resize((tables + 1) * ENTRIES as usize, 0) {
+        Ok(()) => Ok(tables as u64),
+        Err(_) => Err(NoMemory),
+    }
+}
+
+/// The table that an entry names, which is made where it names none.
+fn child(entries: &mut Vec<u64>, at: usize, below: &mut Vec<u64>) -> Result<u64, NoMemory>
+    requires at { at < length entries.old.items }
+    requires below { length below.old.items % 512 ≡ 0 }
+    ensures { MatchResult result
+        (λ table. IsChild entries.old.items entries.new.items below.old.items below.new.items at table)
+        (λ _. (entries.new.items ≡ entries.old.items) × (below.new.items ≡ below.old.items)) }
+{
+    if entries[at] == 0 {
+        entries[at] = add_table(below)?;
+    }
+    Ok(entries[at])
+}
