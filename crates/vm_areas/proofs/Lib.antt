@@ -1,0 +1,3 @@
+pub mod Searched
+pub mod Added
+pub mod Cutting
