@@ -1,0 +1,5 @@
+pub mod Order
+pub mod Forks
+pub mod Least
+pub mod Index
+pub mod Next

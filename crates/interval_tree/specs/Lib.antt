@@ -1,0 +1,4 @@
+pub mod Items
+pub mod Shape
+pub mod Avl
+pub mod Intervals
