@@ -1,0 +1,108 @@
+// The interval of a mirror, and where it is.
+ghost use Rattle.std.specs.Prelude.{◌≡◌, Some};
+ghost use Rattle.notifier_seq.specs.Sequences.{settled, with_seq, with_standing};
+ghost use Rattle.notifier_seq.specs.Kept.{standing_of, due};
+ghost use Rattle.notifier_seq.specs.declared.interval.Interval.{Interval as AnyInterval};
+
+use hm_base::Span;
+
+/// Where an interval is.
+#[derive(Clone, Copy, PartialEq, Eq, Debug)]
+pub enum Stage {
+    InTree,
+    /// It comes into the tree when the sequence moves.
+    InsertDeferred,
+    /// It is still in the tree, and leaves it when the sequence moves.
+    RemoveDeferred,
+    Out,
+}
+
+/// The window of a mirror, the sequence with which it was last told, and where it is
+/// (`struct mmu_interval_notifier` of include/linux/mmu_notifier.h).
+#[derive(Clone, Copy, PartialEq, Eq, Debug)]
+pub struct Interval {
+    pub window: Span,
+    pub seq: u64,
+    pub standing: Stage,
+}
+
+// What is due of an interval when the sequence moves.
+#[derive(Clone, Copy)]
+pub enum Due {
+    Insert(Span),
+    Remove,
+    Nothing,
+}
+
+pub fn seq_of(interval: &Option<Interval>) -> u64
+    ensures { (x : AnyInterval) → interval.now ≡ Some x → result ≡ x.seq }
+{
+    match interval {
+        Some(interval) => interval.seq,
+        None => 0,
+    }
+}
+
+pub fn standing_of(interval: &Option<Interval>) -> Stage
+    ensures { result ≡ standing_of interval.now }
+{
+    match interval {
+        Some(interval) => interval.standing,
+        None => Stage::Out,
+    }
+}
+
+pub fn what_is_due(interval: &Option<Interval>) -> Due
+    ensures { result ≡ due interval.now }
+{
+    match interval {
+        Some(interval) => match interval.standing {
+            Stage::InTree | Stage::Out => Due::Nothing,
+            Stage::InsertDeferred => Due::Insert(interval.window),
+            Stage::RemoveDeferred => Due::Remove,
+        },
+        None => Due::Nothing,
+    }
+}
+
+pub fn settled(interval: &Option<Interval>) -> Option<Interval>
+    ensures { result ≡ settled interval.now }
+{
+    match interval {
+        Some(interval) => Some(Interval {
+            window: interval.window,
+            seq: interval.seq,
+            standing: match interval.standing {
+                Stage::InTree | Stage::InsertDeferred => Stage::InTree,
+                Stage::RemoveDeferred | Stage::Out => Stage::Out,
+            },
+        }),
+        None => None,
+    }
+}
+
+pub fn with_seq(interval: &Option<Interval>, seq: u64) -> Option<Interval>
+    ensures { result ≡ with_seq seq interval.now }
+{
+    match interval {
+        Some(interval) => Some(Interval {
+            window: interval.window,
+            seq,
+            standing: interval.standing,
+        }),
+        None => None,
+    }
+}
+
+pub fn with_standing(interval: &Option<Interval>, standing: Stage) -> Option<Interval>
+    ensures { result ≡ with_standing standing interval.now }
+{
+    match interval {
+        Some(interval) => Some(Interval {
+            window: interval.window,
+            seq: interval.seq,
+            standing,
+        }),
+        None => None,
+    }
+}

@@ -1,0 +1,296 @@
+// The invalidations, intervals and sequences of one process (mm/mmu_notifier.c): a look-up of a mirror
+// is good where the sequence of its interval has not moved since it began.
+#![tactic(auto)]
+
+ghost use Rattle.std.specs.Prelude.{◌≡◌, ◌==◌, ◌&&◌, ◌+◌, ◌^◌, ◌<◌, ◌≤◌, ◌-◌, nat_lt, not, IfOk, IsTrue, IsSome, None, false, option_map, if◌then◌else◌};
+ghost use Rattle.notifier_seq.specs.Sequences.{sequences_start, is_odd, in_tree, insert_deferred, is_leaving, is_present, interval_at, interval_seq, next_told, some_overlap, seq_started, started, seq_ended, ended, interval_inserted, inserted, told, removal_of, removed, begin_of};
+ghost use Rattle.notifier_seq.specs.declared.interval.Interval.{Interval as AnyInterval};
+
+use hm_base::{MirrorId, NoMemory, Span};
+use interval::{seq_of, standing_of, with_seq, with_standing};
+pub use interval::{Interval, Stage};
+use interval_tree::IntervalTree;
+use settling::settle_all;
+use std::alloc::Global;
+use std::marker::Model;
+
+mod interval;
+mod settling;
+#[cfg(test)]
+mod tests;
+
+/// What a start of an invalidation tells: the process's sequence afterwards, and whether an interval
+/// overlapped, so that mirrors are to be told.
+#[derive(Clone, Copy, PartialEq, Eq, Debug)]
+pub struct Started {
+    pub seq: u64,
+    pub overlapped: bool,
+}
+
+/// A look-up that may begin has its interval's sequence; one that has to wait has the sequence that
+/// it waits for to move.
+#[derive(Clone, Copy, PartialEq, Eq, Debug)]
+pub enum Begin {
+    Ready(u64),
+    Invalidating(u64),
+}
+
+/// An interval is removed at once, or when this sequence moves.
+#[derive(Clone, Copy, PartialEq, Eq, Debug)]
+pub enum Removal {
+    Removed,
+    WaitFor(u64),
+}
+
+/// The notifiers of one process (`mmu_notifier_subscriptions` of mm/mmu_notifier.c), with the interval
+/// of each mirror by its number. The sequence is odd while an invalidation that met an interval is
+/// under way.
+#[derive(Drop)]
+pub struct Notifiers {
+    seq: u64,
+    active: u64,
+    intervals: [Option<Interval>; 32],
+    tree: IntervalTree,
+    // Whether an insert or a remove may be deferred.
+    deferred: bool,
+}
+
+impl Model for Notifiers {
+    ghost use Rattle.notifier_seq.specs.Sequences.{Sequences};
+    ghost use Rattle.notifier_seq.specs.Kept.{IsKept};
+
+    ghost Value = { Sequences };
+
+    ghost view = { λ n. record { seq = n.seq; active = n.active; intervals = n.intervals } };
+
+    ghost invariant = { λ n. IsKept n.seq n.intervals n.tree.spans n.tree.spare n.deferred };
+}
+
+impl Notifiers {
+    /// The sequence 2, no invalidation, no interval, and room for 32.
+    pub fn new(alloc: Global) -> Result<Notifiers, NoMemory>
+        ensures { IfOk result (λ notifiers. notifiers ≡ sequences_start) }
+    {
+        let mut tree = IntervalTree::new(alloc);
+        match tree.reserve(32) {
+            Ok(()) => Ok(Notifiers {
+                seq: 2,
+                active: 0,
+                intervals: [None; 32],
+                tree,
+                deferred: false,
+            }),
+            Err(error) => Err(error),
+        }
+    }
+
+    /// An invalidation of the span begins (`mn_itree_invalidate` and its count of active ones).
+    pub fn start(&mut self, span: Span) -> Started
+        requires seq { self.old.seq < 2 ^ 63 }
+        requires active { self.old.active < 2 ^ 63 }
+        ensures result { result ≡ record { seq = seq_started self.old span; overlapped = some_overlap self.old span } }
+        ensures state { self.new ≡ started self.old span }
+    {
+        let overlapped = self.next_overlapping(span, None).is_some();
+        self.active += 1;
+        self.seq = seq_after_start(self.seq, overlapped);
+        Started {
+            seq: self.seq,
+            overlapped,
+        }
+    }
+
+    /// The least mirror above `after` whose interval is in the tree and overlaps the span.
+    pub fn next_overlapping(&self, span: Span, after: Option<MirrorId>) -> Option<MirrorId>
+        ensures { result ≡ next_told self.now span after }
+    {
+        self.tree.next_overlapping(span, after)
+    }
+
+    /// The interval was told: it gets this sequence (`mmu_interval_set_seq`).
+    pub fn set_seq(&mut self, id: MirrorId, seq: u64)
+        requires { IsSome (interval_at self.old id) }
+        ensures { self.new ≡ told self.old id seq }
+    {
+        let at = id.number() as usize;
+        self.intervals[at] = with_seq(&self.intervals[at], seq);
+    }
+
+    /// An invalidation ends, and the last one makes the deferred inserts and removes
+    /// (`mn_itree_finish_pass`, `mn_itree_inv_end`). It gives the process's sequence afterwards.
+    pub fn end(&mut self) -> u64
+        requires active { 1 ≤ self.old.active }
+        requires seq { self.old.seq < 2 ^ 63 }
+        ensures result { result ≡ seq_ended self.old }
+        ensures state { self.new ≡ ended self.old }
+    {
+        let moves_on = self.active == 1 && is_odd(self.seq);
+        self.active -= 1;
+        if moves_on {
+            self.seq += 1;
+            if self.deferred {
+                settle_all(&mut self.intervals, &mut self.tree);
+                self.deferred = false;
+            }
+        }
+        self.seq
+    }
+
+    /// The sequence that a look-up begins with, or the one to wait for (`mmu_interval_read_begin`).
+    pub fn read_begin(&self, id: MirrorId) -> Begin
+        requires { IsSome (interval_at self.now id) }
+        ensures { result ≡ begin_of self.now id }
+    {
+        let seq = seq_of(&self.intervals[id.number() as usize]);
+        if seq == self.seq {
+            Begin::Invalidating(seq)
+        } else {
+            Begin::Ready(seq)
+        }
+    }
+
+    /// Whether a look-up that began with this sequence has to be repeated (`mmu_interval_read_retry`).
+    pub fn retry(&self, id: MirrorId, seq: u64) -> bool
+        requires { IsSome (interval_at self.now id) }
+        ensures { result ≡ not (interval_seq self.now id == seq) }
+    {
+        seq_of(&self.intervals[id.number() as usize]) != seq
+    }
+
+    /// A mirror's interval comes, at once or deferred (`mmu_interval_notifier_insert`). It gives the
+    /// interval's sequence.
+    pub fn insert(&mut self, id: MirrorId, span: Span) -> u64
+        requires { interval_at self.old id ≡ None }
+        ensures result { result ≡ interval_inserted self.old }
+        ensures state { self.new ≡ inserted self.old id span }
+    {
+        let at = id.number() as usize;
+        if is_odd(self.seq) {
+            self.deferred = true;
+            self.intervals[at] = Some(Interval {
+                window: span,
+                seq: self.seq,
+                standing: Stage::InsertDeferred,
+            });
+            return self.seq;
+        }
+        let seq = seq_for_insert(self.seq, self.active);
+        self.seq += u64::from(self.active > 0);
+        self.tree.insert_reserved(id, span);
+        self.intervals[at] = Some(Interval {
+            window: span,
+            seq,
+            standing: Stage::InTree,
+        });
+        seq
+    }
+
+    /// A mirror's interval goes, at once or when the sequence moves
+    /// (`mmu_interval_notifier_remove`). An insert that is deferred is cancelled.
+    pub fn remove(&mut self, id: MirrorId) -> Removal
+        requires present { IsTrue (is_present self.old id) }
+        requires staying { is_leaving self.old id ≡ false }
+        ensures result { result ≡ removal_of self.old id }
+        ensures state { self.new ≡ removed self.old id }
+    {
+        let at = id.number() as usize;
+        match standing_of(&self.intervals[at]) {
+            Stage::InTree => {
+                if is_odd(self.seq) {
+                    self.deferred = true;
+                    self.intervals[at] = with_standing(&self.intervals[at], Stage::RemoveDeferred);
+                    Removal::WaitFor(self.seq)
+                } else {
+                    self.tree.remove(id);
+                    self.intervals[at] = with_standing(&self.intervals[at], Stage::Out);
+                    Removal::Removed
+                }
+            }
+            _ => {
+                self.intervals[at] = with_standing(&self.intervals[at], Stage::Out);
+                Removal::Removed
+            }
+        }
+    }
+
+    /// Whether the mirror's interval is in the tree, or its insert is deferred.
+    pub fn present(&self, id: MirrorId) -> bool
+        ensures { result ≡ is_present self.now id }
+    {
+        match &self.intervals[id.number() as usize] {
+            Some(interval) => !matches!(interval.standing, Stage::Out),
+            None => false,
+        }
+    }
+
+    /// The process's sequence.
+    pub fn seq(&self) -> u64
+        ensures { result ≡ self.now.seq }
+    {
+        self.seq
+    }
+
+    /// How many invalidations are under way.
+    pub fn active(&self) -> u64
+        ensures { result ≡ self.now.active }
+    {
+        self.active
+    }
+
+    /// The sequence of the mirror's interval, which is kept after its removal.
+    pub fn interval_seq(&self, id: MirrorId) -> Option<u64>
+        ensures { result ≡ option_map (λ (x : AnyInterval). x.seq) (interval_at self.now id) }
+    {
+        match &self.intervals[id.number() as usize] {
+            Some(interval) => Some(interval.seq),
+            None => None,
+        }
+    }
+
+    /// Whether the mirror's interval is in the tree; one whose removal is deferred is.
+    pub fn in_tree(&self, id: MirrorId) -> bool
+        ensures { result ≡ in_tree self.now id }
+    {
+        match &self.intervals[id.number() as usize] {
+            Some(interval) => matches!(interval.standing, Stage::InTree | Stage::RemoveDeferred),
+            None => false,
+        }
+    }
+
+    /// Whether the insert of the mirror's interval is still deferred.
+    pub fn deferred(&self, id: MirrorId) -> bool
+        ensures { result ≡ insert_deferred self.now id }
+    {
+        match &self.intervals[id.number() as usize] {
+            Some(interval) => matches!(interval.standing, Stage::InsertDeferred),
+            None => false,
+        }
+    }
+}
+
+fn is_odd(seq: u64) -> bool
+    ensures { result ≡ is_odd seq }
+{
+    seq % 2 == 1
+}
+
+// The process's sequence after a start.
+fn seq_after_start(seq: u64, overlapped: bool) -> u64
+    requires { seq < 2 ^ 63 }
+    ensures { result ≡ (if overlapped && not (is_odd seq) then seq + 1 else seq) }
+{
+    if overlapped && !is_odd(seq) {
+        seq + 1
+    } else {
+        seq
+    }
+}
+
+// The sequence of an interval that comes while the process's is even.
+fn seq_for_insert(seq: u64, active: u64) -> u64
+    requires even { is_odd seq ≡ false }
+    requires least { 2 ≤ seq }
+    ensures { result ≡ (if nat_lt 0 active then seq + 1 else (seq - 1)) }
+{
+    if active > 0 { seq + 1 } else { seq - 1 }
+}
