@@ -1,0 +1,33 @@
+-- The table of a mirror as contracts see it: the entries of its pages, in rising order of the pages.
+use Rattle.std.specs.Prelude.{◌≡◌, ℕ, ◌<◌, true, not, Option, List, map, length, slice_index}
+use Rattle.std.specs.Ordering.{nat_cmp}
+use Rattle.std.specs.FinMap.Entries as sorted
+use Rattle.hm_base.specs.Pages.{Pages, covers}
+use Rattle.mirror_tables.specs.declared.entry.MirrorEntry.{MirrorEntry}
+
+-- the window, the entries with their pages, and how many more there is room for
+pub record Table : Type 0 where
+  pub window : Pages
+  pub entries : List (ℕ × MirrorEntry)
+  pub room : ℕ
+
+abbrev pub entry_at : Table → ℕ → Option MirrorEntry
+entry_at t page = sorted.find nat_cmp page t.entries
+
+abbrev pub with_entry : Table → ℕ → MirrorEntry → List (ℕ × MirrorEntry)
+with_entry t page e = sorted.put nat_cmp page e t.entries
+
+abbrev pub without_span : Table → Pages → List (ℕ × MirrorEntry)
+without_span t s = sorted.where_key nat_cmp (λ v. not (covers s v)) t.entries
+
+-- the table with other entries, and room that may be another
+abbrev pub changed : Table → List (ℕ × MirrorEntry) → ℕ → Table
+changed t es room = record t { entries = es; room = room }
+
+abbrev pub keys : List (ℕ × MirrorEntry) → List ℕ
+keys es = map (λ e. e.0) es
+
+-- the pages rise, and lie in the window
+pub record IsTable (window : Pages) (es : List (ℕ × MirrorEntry)) : Type 0 where
+  pub rising : (i j : ℕ) → i < j → j < length es → slice_index (keys es) i < slice_index (keys es) j
+  pub inside : (i : ℕ) → i < length es → covers window (slice_index (keys es) i) ≡ true

@@ -1,0 +1,8 @@
+// The table of a mirror: what a device's page table has for the pages of a window of a process.
+#![tactic(auto)]
+
+mod entry;
+mod table;
+
+pub use entry::{MirrorEntry, Target};
+pub use table::MirrorTable;

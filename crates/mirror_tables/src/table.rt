@@ -1,0 +1,193 @@
+// The table.
+ghost use Rattle.std.specs.Prelude.{◌≡◌, ℕ, ◌+◌, ◌-◌, ◌^◌, ◌<◌, ◌≤◌, [], true, length, take, drop, ◌++◌, slice_index, nat_lt, ◌==◌, ◌&&◌, vec_len, vec_capacity, OnOk, OnErr};
+ghost use Rattle.hm_base.specs.Pages.{covers, IsSpan};
+ghost use Rattle.mirror_tables.specs.Entries.{IsTable, entry_at, with_entry, without_span, changed, keys};
+ghost use Rattle.mirror_tables.specs.Tables.{IsPlace};
+
+use crate::entry::MirrorEntry;
+use hm_base::{NoMemory, Page, Span};
+use std::alloc::Global;
+use std::marker::Model;
+
+/// The entries of the pages of a window (`pt` of `struct dmirror` in lib/test_hmm.c).
+#[derive(Drop)]
+pub struct MirrorTable {
+    window: Span,
+    entries: Vec<(Page, MirrorEntry)>,
+}
+
+impl Model for MirrorTable {
+    ghost use Rattle.std.specs.Prelude.{◌-◌, vec_len, vec_capacity};
+    ghost use Rattle.mirror_tables.specs.Entries.{Table, IsTable};
+
+    ghost Value = { Table };
+
+    ghost view = { λ a. record {
+      window = a.window;
+      entries = a.entries.items;
+      room = vec_capacity a.entries - vec_len a.entries;
+    } };
+
+    ghost invariant = { λ a. IsTable a.window a.entries.items };
+}
+
+impl MirrorTable {
+    /// A table of the window without an entry.
+    pub fn new(alloc: Global, window: Span) -> MirrorTable
+        ensures { result ≡ record { window = window; entries = []; room = 0 } }
+    {
+        MirrorTable {
+            window,
+            entries: Vec::new(alloc),
+        }
+    }
+
+    /// Gives the order of the entries where only their value is at hand; it does nothing.
+    pub fn fits(&self)
+        ensures { IsTable self.now.window self.now.entries }
+    {
+        let _ = &self.entries;
+    }
+
+    /// Makes room for the page's entry.
+    pub fn reserve(&mut self, _page: Page) -> Result<(), NoMemory>
+        ensures table { self.new ≡ changed self.old self.old.entries self.new.room }
+        ensures more { self.old.room ≤ self.new.room }
+        ensures ok { OnOk result (1 ≤ self.new.room) }
+        ensures err { OnErr result (self.new ≡ self.old) }
+    {
+        match self.entries.reserve(1) {
+            Ok(()) => Ok(()),
+            Err(_) => Err(NoMemory),
+        }
+    }
+
+    /// Sets the entry of a page of the window for which there is room.
+    pub fn set_reserved(&mut self, page: Page, entry: MirrorEntry)
+        requires room { 1 ≤ self.old.room }
+        requires window { covers self.old.window page ≡ true }
+        ensures table { self.new ≡ changed self.old (with_entry self.old page entry) self.new.room }
+        ensures room { self.old.room ≤ self.new.room + 1 }
+    {
+        let at = place(&self.entries, page.number());
+        if has_page(&self.entries, at, page.number()) {
+            self.entries[at] = (page, entry);
+        } else {
+            let _ = self.entries.insert(at, (page, entry));
+        }
+    }
+
+    /// The entry of the page, if it has one.
+    pub fn get(&self, page: Page) -> Option<MirrorEntry>
+        ensures { result ≡ entry_at self.now page }
+    {
+        let at = place(&self.entries, page.number());
+        if has_page(&self.entries, at, page.number()) {
+            Some(self.entries[at].1)
+        } else {
+            None
+        }
+    }
+
+    /// Takes away the entries of the span's pages (`dmirror_do_update` of lib/test_hmm.c).
+    pub fn erase(&mut self, span: Span)
+        ensures table { self.new ≡ changed self.old (without_span self.old span) self.new.room }
+        ensures room { self.old.room ≤ self.new.room }
+    {
+        let first = span.first().number();
+        let from = place(&self.entries, first);
+        let upto = place(&self.entries, first + span.count());
+        if from < upto {
+            cut(&mut self.entries, from, upto);
+        }
+    }
+}
+
+/// The place of a page among the entries, found by halving.
+fn place(entries: &[(Page, MirrorEntry)], page: u64) -> usize
+    requires { (i j : ℕ) → i < j → j < length entries.now → slice_index (keys entries.now) i < slice_index (keys entries.now) j }
+    ensures { IsPlace entries.now page result }
+{
+    let mut low = 0;
+    let mut high = entries.len();
+    while low < high {
+        let middle = low + (high - low) / 2;
+        if entries[middle].0.number() < page {
+            low = middle + 1;
+        } else {
+            high = middle;
+        }
+    }
+    low
+}
+
+/// Whether the entry at the place is the page's.
+fn has_page(entries: &[(Page, MirrorEntry)], at: usize, page: u64) -> bool
+    ensures { result ≡ (nat_lt at (length entries.now) && (slice_index (keys entries.now) at == page)) }
+{
+    at < entries.len() && entries[at].0.number() == page
+}
+
+/// Takes out the entries from one place up to another.
+fn cut(entries: &mut Vec<(Page, MirrorEntry)>, from: usize, upto: usize)
+    requires order { from ≤ upto }
+    requires inside { upto ≤ length entries.old.items }
+    ensures items { entries.new.items ≡ take from entries.old.items ++ drop upto entries.old.items }
+    ensures capacity { vec_capacity entries.new ≡ vec_capacity entries.old }
+{
+    let rest = entries.len() - upto;
+    entries.copy_within(upto.., from);
+    entries.truncate(from + rest);
+}
+
+#[cfg(test)]
+mod tests {
+    use super::*;
+    use crate::entry::Target;
+    use std::test::Fail;
+
+    fn entry(from: u64) -> MirrorEntry {
+        MirrorEntry {
+            target: Target::Sole(3),
+            writable: true,
+            from,
+        }
+    }
+
+    fn span(first: u64, count: u64) -> Span
+        requires { IsSpan (record { first = first; count = count }) }
+        ensures { result ≡ record { first = first; count = count } }
+    {
+        Span::new(Page::new(first), count)
+    }
+
+    fn set(table: &mut MirrorTable, page: u64) -> Result<(), Fail>
+        requires page { page < 2 ^ 36 }
+        requires window { covers table.old.window page ≡ true }
+        ensures { table.new.window ≡ table.old.window }
+    {
+        table.reserve(Page::new(page)).map_err(|_| "no memory")?;
+        table.set_reserved(Page::new(page), entry(page));
+        Ok(())
+    }
+
+    #[test]
+    fn entries_are_set_and_erased(rt: HostRuntime) -> Result<(), Fail> {
+        let mut table = MirrorTable::new(rt.alloc(), span(16, 8));
+        set(&mut table, 18)?;
+        set(&mut table, 16)?;
+        set(&mut table, 23)?;
+        set(&mut table, 17)?;
+        set(&mut table, 18)?;
+        assert_eq!(rt; table.get(Page::new(18)), Some(entry(18)));
+        assert_eq!(rt; table.get(Page::new(19)), None);
+        table.erase(span(17, 6));
+        assert_eq!(rt; table.get(Page::new(16)), Some(entry(16)));
+        assert_eq!(rt; table.get(Page::new(17)), None);
+        assert_eq!(rt; table.get(Page::new(18)), None);
+        assert_eq!(rt; table.get(Page::new(23)), Some(entry(23)));
+        table.erase(span(0, 68719476736));
+        assert_eq!(rt; table.get(Page::new(23)), None);
+        Ok(())
+    }
+}
