@@ -1,0 +1,4 @@
+pub mod Held
+pub mod Memory
+pub mod Plan
+pub mod Streams

@@ -1,0 +1,65 @@
+-- What the calls of sources and sinks do to the bytes that are told, and to the counts.
+use Rattle.std.specs.Prelude.{◌≡◌, ℕ, ◌+◌, ◌-◌, ◌^◌, ◌≤◌, min, List, [], ◌++◌, take, Option, Some, None}
+use Rattle.hm_io.specs.declared.Got.{Got}
+use Rattle.hm_io.specs.declared.Got.TheVariants as got
+use Rattle.hm_io.specs.declared.Put.{Put}
+use Rattle.hm_io.specs.declared.Put.TheVariants as put
+
+-- one more, up to the last value of a u64
+abbrev pub raised : ℕ → ℕ
+raised n = min (n + 1) (2 ^ 64 - 1)
+
+-- a count that was raised, or that stands at its last value
+abbrev pub Rose : ℕ → ℕ → Type 0
+Rose before now = raised before ≤ now
+
+-- how many bytes a call moved, of so many that it might have
+abbrev pub IsCount : ℕ → ℕ → Type 0
+IsCount n room = (1 ≤ n) × (n ≤ room)
+
+abbrev pub GotCount : Got → ℕ → Type 0
+GotCount (got.Bytes n) room = IsCount n room
+GotCount got.Ended room = Unit {0}
+GotCount got.Failed room = Unit {0}
+
+-- the front of what was left came, and the rest is left
+abbrev pub Reads : Option (List ℕ) → Option (List ℕ) → Got → List ℕ → Type 0
+Reads None after g into = after ≡ None
+Reads (Some left) after (got.Bytes n) into = (rest : List ℕ) × (left ≡ take n into ++ rest) × (after ≡ Some rest)
+Reads (Some left) after got.Ended into = (left ≡ []) × (after ≡ Some [])
+Reads (Some left) after got.Failed into = after ≡ Some left
+
+-- the count of faults rose at a failure, and stays otherwise
+abbrev pub ReadCause : ℕ → ℕ → Got → Type 0
+ReadCause before now (got.Bytes n) = now ≡ before
+ReadCause before now got.Ended = now ≡ before
+ReadCause before now got.Failed = (before ≤ now) × Rose before now
+
+abbrev pub PutCount : Put → ℕ → Type 0
+PutCount (put.Took n) room = IsCount n room
+PutCount put.Failed room = Unit {0}
+PutCount put.NoMemory room = Unit {0}
+
+-- these bytes were added to what is held
+abbrev pub Adds : Option (List ℕ) → Option (List ℕ) → List ℕ → Type 0
+Adds None after more = after ≡ None
+Adds (Some held) after more = after ≡ Some (held ++ more)
+
+-- a front of this text was added
+abbrev pub AddsFront : Option (List ℕ) → Option (List ℕ) → List ℕ → Type 0
+AddsFront before after text = (front rest : List ℕ) × (text ≡ front ++ rest) × Adds before after front
+
+abbrev pub Writes : Option (List ℕ) → Option (List ℕ) → Put → List ℕ → Type 0
+Writes before after (put.Took n) from = Adds before after (take n from)
+Writes before after put.Failed from = after ≡ before
+Writes before after put.NoMemory from = after ≡ before
+
+abbrev pub WriteCause : ℕ → ℕ → Put → Type 0
+WriteCause before now (put.Took n) = now ≡ before
+WriteCause before now put.Failed = (before ≤ now) × Rose before now
+WriteCause before now put.NoMemory = now ≡ before
+
+abbrev pub WantCause : ℕ → ℕ → Put → Type 0
+WantCause before now (put.Took n) = now ≡ before
+WantCause before now put.Failed = now ≡ before
+WantCause before now put.NoMemory = (before ≤ now) × Rose before now

@@ -1,0 +1,115 @@
+// A source and a sink in memory that never fail.
+ghost use Rattle.std.specs.Prelude.{◌≡◌, [], Some, IfOk};
+
+use crate::{Got, Put, Sink, Source};
+use hm_base::{Bytes, NoMemory, Text};
+use std::alloc::Global;
+use std::marker::Model;
+
+/// Bytes in memory that come without a fault.
+#[derive(Drop)]
+pub struct SureSource {
+    bytes: Bytes,
+    at: usize,
+}
+
+impl Model for SureSource {
+    ghost use Rattle.std.specs.Prelude.{ℕ, List, drop, length, ◌≤◌};
+
+    ghost Value = { List ℕ };
+
+    ghost view = { λ s. drop s.at s.bytes };
+
+    ghost invariant = { λ s. s.at ≤ length s.bytes };
+}
+
+impl SureSource {
+    pub fn new(alloc: Global, bytes: &[u8]) -> Result<SureSource, NoMemory>
+        ensures { IfOk result (λ source. source ≡ bytes.now) }
+    {
+        Ok(SureSource {
+            bytes: Bytes::from_slice(alloc, bytes)?,
+            at: 0,
+        })
+    }
+}
+
+impl Source for SureSource {
+    ghost left = { λ s. Some s };
+
+    ghost failures = { λ _. 0 };
+
+    fn read(&mut self, into: &mut [u8]) -> Got {
+        let left = &self.bytes.as_slice()[self.at..];
+        let count = into.len().min(left.len());
+        if count == 0 {
+            return Got::Ended;
+        }
+        into[..count].copy_from_slice(&left[..count]);
+        self.at += count;
+        Got::Bytes(count)
+    }
+
+    fn faults(&self) -> u64 {
+        0
+    }
+}
+
+/// A sink in memory that grows, and counts how often it wanted memory.
+#[derive(Drop)]
+pub struct SureSink {
+    text: Text,
+    wants: u64,
+}
+
+impl Model for SureSink {
+    ghost use Rattle.hm_io.specs.Held.{Held};
+
+    ghost Value = { Held };
+
+    ghost view = { λ s. record { bytes = s.text; wants = s.wants } };
+}
+
+impl SureSink {
+    pub fn new(alloc: Global) -> SureSink
+        ensures { result ≡ record { bytes = []; wants = 0 } }
+    {
+        SureSink {
+            text: Text::new(alloc),
+            wants: 0,
+        }
+    }
+
+    /// The bytes that it holds.
+    pub fn held(&self) -> &[u8]
+        ensures { result.now ≡ self.now.bytes }
+    {
+        self.text.as_slice()
+    }
+}
+
+impl Sink for SureSink {
+    ghost held = { λ s. Some s.bytes };
+
+    ghost failures = { λ _. 0 };
+
+    ghost wanted = { λ s. s.wants };
+
+    fn write(&mut self, from: &[u8]) -> Put {
+        match self.text.extend(from) {
+            Ok(_) => Put::Took(from.len()),
+            Err(_) => {
+                self.wants = self.wants.saturating_add(1);
+                Put::NoMemory
+            }
+        }
+    }
+
+    fn faults(&self) -> u64 {
+        0
+    }
+
+    fn wants(&self) -> u64 {
+        self.wants
+    }
+}
