@@ -1,0 +1,13 @@
+pub mod Gives
+pub mod Splitting
+pub mod Spelling
+pub mod Numerals
+pub mod Keywords
+pub mod Built
+pub mod Reading
+pub mod Automaton
+pub mod Reader
+pub mod BadLine
+pub mod Spaced
+pub mod Reasons
+pub mod Generator
