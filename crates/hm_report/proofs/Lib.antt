@@ -1,0 +1,12 @@
+pub mod Actors
+pub mod Areas
+pub mod Counting
+pub mod Emptied
+pub mod Ends
+pub mod Faults
+pub mod Fits
+pub mod Fronts
+pub mod Joins
+pub mod Lines
+pub mod Sending
+pub mod Whole

@@ -1,0 +1,41 @@
+-- How far actors are, from their entries alone.
+use Rattle.std.specs.Prelude.{ℕ, ◌+◌, nat_lt, true, false, Option, Some, None, List, length, fold, slice_get}
+use Rattle.hm_base.specs.Program.{Program}
+use Rattle.hm_base.specs.declared.ops.Op.{Op}
+use Rattle.hm_history.specs.Words.{with_at}
+use Rattle.hm_history.specs.Operation.{op_pieces}
+use Rattle.hm_history.specs.Going.{ops_of}
+use Rattle.hm_history.specs.declared.Kind.{Kind}
+use Rattle.hm_history.specs.declared.Entry.{Entry}
+use Rattle.hm_report.specs.Kinds.{is_answer, finishes}
+use Rattle.hm_report.specs.declared.ended.Ended.{Ended}
+
+abbrev pub next_operation : Ended → Ended
+next_operation n = record { operations = n.operations + 1; pieces = 0 }
+
+abbrev pub answered : Op → Ended → Ended
+answered o n = elim (nat_lt (n.pieces + 1) (length (op_pieces o))) [
+  | true ↦ record { operations = n.operations; pieces = n.pieces + 1 }
+  | false ↦ next_operation n
+]
+
+-- in this operation, after an entry of its actor
+abbrev pub ended_in : Op → Ended → Kind → Ended
+ended_in o n k = elim (is_answer k) [ true ↦ answered o n | false ↦ elim (finishes o k) [ true ↦ next_operation n | false ↦ n ] ]
+
+abbrev pub ended_at : Option Op → Ended → Kind → Ended
+ended_at None n k = n
+ended_at (Some o) n k = ended_in o n k
+
+abbrev pub ended_next : List Op → Ended → Kind → Ended
+ended_next ops n k = ended_at (slice_get ops n.operations) n k
+
+-- all actors after a history
+abbrev pub ended_start : Ended
+ended_start = record { operations = 0; pieces = 0 }
+
+abbrev pub all_next : Program → (ℕ → Ended) → Entry → ℕ → Ended
+all_next c f e = with_at f e.actor (ended_next (ops_of c e.actor) (f e.actor) e.kind)
+
+abbrev pub ended_after : Program → List Entry → ℕ → Ended
+ended_after c h = fold (all_next c) (λ a. ended_start) h

@@ -1,0 +1,33 @@
+-- Which entries end an operation, or a piece of one.
+use Rattle.std.specs.Prelude.{Bool, true, false, not, ◌==◌}
+use Rattle.hm_base.specs.declared.ops.Op.{Op}
+use Rattle.hm_history.specs.declared.Kind.{Kind}
+
+-- the answer to a piece of an access
+abbrev pub is_answer : Kind → Bool
+is_answer (Kind.Loaded x a bs) = true
+is_answer (Kind.Stored x a bs) = true
+is_answer (Kind.Failed x a n c) = true
+is_answer _ = false
+
+abbrev pub is_snap : Op → Bool
+is_snap (Op.Snap m r) = true
+is_snap _ = false
+
+-- the entry that ends the operation; no refusal has the number 0
+abbrev pub finishes : Op → Kind → Bool
+finishes o (Kind.Mapped p r w) = true
+finishes o (Kind.Unmapped p r) = true
+finishes o (Kind.Protected p r w) = true
+finishes o (Kind.Forked p c) = true
+finishes o (Kind.Exited p) = true
+finishes o (Kind.Attached m d p r q) = true
+finishes o (Kind.Detached m) = true
+finishes o (Kind.Migrated n) = true
+finishes o (Kind.Evicted n) = true
+finishes o (Kind.Removed d) = true
+finishes o (Kind.Excluded m v) = true
+finishes o (Kind.Added m a was now) = true
+finishes o (Kind.Refused n) = not (n == 0)
+finishes o (Kind.Runlock p) = is_snap o
+finishes o _ = false

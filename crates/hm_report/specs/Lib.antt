@@ -1,0 +1,9 @@
+pub mod Counted
+pub mod Ended
+pub mod Kinds
+pub mod Line
+pub mod Report
+pub mod Summary
+pub mod Told
+pub mod Words
+pub mod Written

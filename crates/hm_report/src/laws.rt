@@ -1,0 +1,9 @@
+// What holds of every history: a law in the contract of a function that does nothing.
+
+ghost use Rattle.hm_report.specs.Counted.{EndsOfDueAreCounted};
+
+/// Where each entry was due, and no eviction dropped a frame that it had come to, as many operations of each
+/// actor have ended as its entries tell.
+pub fn ends_are_counted()
+    ensures { EndsOfDueAreCounted }
+{}

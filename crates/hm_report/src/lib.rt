@@ -1,0 +1,20 @@
+// The texts that go out: the report of a script and a history, and its summary.
+#![tactic(auto)]
+
+mod buffer;
+mod ended;
+mod kinds;
+mod laws;
+mod numerals;
+mod outlet;
+mod report;
+#[cfg(test)]
+mod tests;
+mod totals;
+mod words;
+mod written;
+
+pub use laws::ends_are_counted;
+pub use report::{write_report, write_text};
+pub use totals::summary;
+pub use written::Written;

@@ -1,0 +1,208 @@
+// The report of a script and a history.
+ghost use Rattle.std.specs.Prelude.{◌≡◌, ◌+◌, ◌≤◌, ◌<◌, ◌++◌, [], length, slice_index, OnOk, IfErr};
+ghost use Rattle.hm_report.specs.Counted.{counted, EndsAreCounted};
+ghost use Rattle.hm_script.specs.Spelling.{text as script_text};
+ghost use Rattle.hm_report.specs.Words.{tail_text};
+ghost use Rattle.hm_report.specs.Report.{entry_line, entry_lines, history_line, unfinished_line, unfinished_lines, end_line, report_by, report};
+ghost use Rattle.hm_report.specs.Told.{told, Sends, GoesOn, Stops};
+ghost use Rattle.hm_report.specs.Written.{Writes, FaultCause, TextWants, ReportWants};
+
+use crate::buffer::{Buffer, PIECE, ROOM};
+use crate::ended::{op_count, operations_ended};
+use crate::kinds::put_front;
+use crate::numerals::put_decimal;
+use crate::outlet::{Stop, put_hex, put_text, settle, write_pieces};
+use crate::written::Written;
+use hm_base::{Script, Text};
+use hm_history::{Entry, History, Kind};
+use hm_io::Sink;
+use hm_script::print;
+use std::alloc::Global;
+
+/// Adds the bytes that an entry tells, where it tells some.
+fn put_tail<K: Sink>(out: &mut Buffer, sink: &mut K, kind: &Kind) -> Result<(), Stop>
+    requires { length out.old + 1 < ROOM }
+    ensures ok { OnOk result (GoesOn (told K.held K.failures K.wanted sink.old) (told K.held K.failures K.wanted sink.new) out.old out.new (tail_text kind.now)) }
+    ensures room { OnOk result (length out.new < ROOM) }
+    ensures err { IfErr result (Stops (told K.held K.failures K.wanted sink.old) (told K.held K.failures K.wanted sink.new) (out.old ++ tail_text kind.now)) }
+{
+    match kind {
+        Kind::Loaded(_, _, bytes) => put_hex(out, sink, bytes.as_slice()),
+        Kind::Stored(_, _, bytes) => put_hex(out, sink, bytes.as_slice()),
+        Kind::Fetched(_, _, bytes) => put_hex(out, sink, bytes.as_slice()),
+        _ => Ok(()),
+    }
+}
+
+/// Adds the line of an entry.
+fn put_entry<K: Sink>(out: &mut Buffer, sink: &mut K, at: u64, entry: &Entry) -> Result<(), Stop>
+    requires { length out.old ≤ 5000 }
+    ensures ok { OnOk result (GoesOn (told K.held K.failures K.wanted sink.old) (told K.held K.failures K.wanted sink.new) out.old out.new (entry_line at entry.now)) }
+    ensures room { OnOk result (length out.new ≤ 5000) }
+    ensures err { IfErr result (Stops (told K.held K.failures K.wanted sink.old) (told K.held K.failures K.wanted sink.new) (out.old ++ entry_line at entry.now)) }
+{
+    put_front(out, at, entry);
+    put_tail(out, sink, &entry.kind)?;
+    out.push(b'\n');
+    settle(out, sink)
+}
+
+/// Adds the lines of the entries, from position 0 on.
+fn put_entries<K: Sink>(out: &mut Buffer, sink: &mut K, entries: &[Entry]) -> Result<(), Stop>
+    requires { length out.old ≤ 5000 }
+    ensures ok { OnOk result (GoesOn (told K.held K.failures K.wanted sink.old) (told K.held K.failures K.wanted sink.new) out.old out.new (entry_lines 0 entries.now)) }
+    ensures room { OnOk result (length out.new ≤ 5000) }
+    ensures err { IfErr result (Stops (told K.held K.failures K.wanted sink.old) (told K.held K.failures K.wanted sink.new) (out.old ++ entry_lines 0 entries.now)) }
+{
+    for (at, entry) in entries.iter().enumerate() {
+        put_entry(out, sink, at as u64, entry)?;
+    }
+    Ok(())
+}
+
+/// Adds the line of an actor with an operation that has not ended.
+#[tactic(auto, using(std::proofs::Common::append_assoc))]
+fn put_unfinished_line(out: &mut Buffer, actor: u64, index: u64, count: u64)
+    requires { length out.old ≤ 5000 }
+    ensures text { out.new ≡ out.old ++ unfinished_line actor index count }
+    ensures room { length out.new ≤ length out.old + 200 }
+{
+    if index != count {
+        put_decimal(out, b"unfinished a", actor);
+        put_decimal(out, b" ", index);
+        out.push(b'\n');
+    }
+}
+
+/// Adds the lines of the actors with an operation that has not ended, from how many have ended.
+fn put_unfinished<K: Sink>(
+    out: &mut Buffer,
+    sink: &mut K,
+    script: &Script,
+    ended: &[u64],
+) -> Result<(), Stop>
+    requires room { length out.old ≤ 5000 }
+    requires ended { length script.now.actors ≤ length ended.now }
+    ensures ok { OnOk result (GoesOn (told K.held K.failures K.wanted sink.old) (told K.held K.failures K.wanted sink.new) out.old out.new (unfinished_lines script.now (λ a. slice_index ended.now a))) }
+    ensures room { OnOk result (length out.new ≤ 5000) }
+    ensures err { IfErr result (Stops (told K.held K.failures K.wanted sink.old) (told K.held K.failures K.wanted sink.new) (out.old ++ unfinished_lines script.now (λ a. slice_index ended.now a))) }
+{
+    for actor in 0..script.actors.len() {
+        let count = op_count(script, actor);
+        put_unfinished_line(out, actor, ended[actor as usize], count);
+        settle(out, sink)?;
+    }
+    Ok(())
+}
+
+/// Adds the script's text and the lines of the entries.
+fn put_lines<K: Sink>(
+    out: &mut Buffer,
+    sink: &mut K,
+    text: &[u8],
+    entries: &[Entry],
+) -> Result<(), Stop>
+    requires { length out.old ≤ PIECE }
+    ensures ok { OnOk result (GoesOn (told K.held K.failures K.wanted sink.old) (told K.held K.failures K.wanted sink.new) out.old out.new (text.now ++ (history_line ++ entry_lines 0 entries.now))) }
+    ensures room { OnOk result (length out.new ≤ 5000) }
+    ensures err { IfErr result (Stops (told K.held K.failures K.wanted sink.old) (told K.held K.failures K.wanted sink.new) (out.old ++ (text.now ++ (history_line ++ entry_lines 0 entries.now)))) }
+{
+    put_text(out, sink, text)?;
+    out.put(b"history\n");
+    put_entries(out, sink, entries)
+}
+
+/// Adds the last line.
+#[tactic(auto, using(std::proofs::Common::append_assoc))]
+fn put_end(out: &mut Buffer, count: u64)
+    requires { length out.old ≤ 5000 }
+    ensures { out.new ≡ out.old ++ end_line count }
+{
+    put_decimal(out, b"end ", count);
+    out.push(b'\n');
+}
+
+/// Writes what is in the buffer and the last line.
+fn write_end<K: Sink>(out: &mut Buffer, sink: &mut K, count: u64) -> Result<(), Stop>
+    requires { length out.old ≤ 5000 }
+    ensures ok { OnOk result (Sends (told K.held K.failures K.wanted sink.old) (told K.held K.failures K.wanted sink.new) (out.old ++ end_line count)) }
+    ensures err { IfErr result (Stops (told K.held K.failures K.wanted sink.old) (told K.held K.failures K.wanted sink.new) (out.old ++ end_line count)) }
+{
+    put_end(out, count);
+    write_pieces(sink, out.as_slice())
+}
+
+/// Writes all lines, by way of an empty buffer.
+fn write_lines<K: Sink>(
+    out: &mut Buffer,
+    sink: &mut K,
+    text: &[u8],
+    script: &Script,
+    history: &History,
+) -> Result<(), Stop>
+    requires empty { out.old ≡ [] }
+    requires text { text.now ≡ script_text script.now }
+    ensures ok { OnOk result (Sends (told K.held K.failures K.wanted sink.old) (told K.held K.failures K.wanted sink.new) (report_by script.now history.now.entries (counted script.now history.now.entries))) }
+    ensures err { IfErr result (Stops (told K.held K.failures K.wanted sink.old) (told K.held K.failures K.wanted sink.new) (report_by script.now history.now.entries (counted script.now history.now.entries))) }
+{
+    script.fits();
+    let entries = history.as_slice();
+    put_lines(out, sink, text, entries)?;
+    let ended = operations_ended(script, history);
+    put_unfinished(out, sink, script, &ended)?;
+    let count = history.len();
+    write_end(out, sink, count)
+}
+
+/// Writes the report, where the ends of operations are counted.
+pub fn write_counted<K: Sink>(
+    alloc: Global,
+    script: &Script,
+    history: &History,
+    sink: &mut K,
+) -> Written
+    ensures text { Writes (K.held sink.old) (K.held sink.new) (report_by script.now history.now.entries (counted script.now history.now.entries)) result }
+    ensures faults { FaultCause (K.failures sink.old) (K.failures sink.new) result }
+    ensures wants { ReportWants (told K.held K.failures K.wanted sink.old) (told K.held K.failures K.wanted sink.new) result }
+{
+    let Ok(text) = print(alloc, script) else {
+        return Written::NoMemory;
+    };
+    let Ok(mut out) = Buffer::new(alloc) else {
+        return Written::NoMemory;
+    };
+    match write_lines(&mut out, sink, text.as_slice(), script, history) {
+        Ok(_) => Written::Done,
+        Err(Stop::Fault) => Written::Fault,
+        Err(Stop::NoMemory) => Written::NoMemory,
+    }
+}
+
+/// Writes the report in pieces of 4,096 bytes, the last one shorter or whole. What it allocates is taken
+/// before anything is written.
+pub fn write_report<K: Sink>(
+    alloc: Global,
+    script: &Script,
+    history: &History,
+    sink: &mut K,
+) -> Written
+    requires counted { EndsAreCounted script.now history.now.entries }
+    ensures text { Writes (K.held sink.old) (K.held sink.new) (report script.now history.now.entries) result }
+    ensures faults { FaultCause (K.failures sink.old) (K.failures sink.new) result }
+    ensures wants { ReportWants (told K.held K.failures K.wanted sink.old) (told K.held K.failures K.wanted sink.new) result }
+{
+    write_counted(alloc, script, history, sink)
+}
+
+/// Writes the text in pieces of 4,096 bytes, the last one shorter or whole. It takes no memory itself.
+pub fn write_text<K: Sink>(_alloc: Global, text: &Text, sink: &mut K) -> Written
+    ensures text { Writes (K.held sink.old) (K.held sink.new) text.now result }
+    ensures faults { FaultCause (K.failures sink.old) (K.failures sink.new) result }
+    ensures wants { TextWants (K.wanted sink.old) (K.wanted sink.new) result }
+{
+    match write_pieces(sink, text.as_slice()) {
+        Ok(_) => Written::Done,
+        Err(Stop::Fault) => Written::Fault,
+        Err(Stop::NoMemory) => Written::NoMemory,
+    }
+}
