@@ -1,0 +1,6 @@
+pub mod Touching
+pub mod Stepping
+pub mod Sights
+pub mod Ruled
+pub mod Held
+pub mod Seats
