@@ -1,0 +1,138 @@
+// The workers, one for each actor.
+ghost use Rattle.std.specs.Prelude.{◌≡◌, ℕ, ◌<◌, ◌≤◌, length, vec_len, slice_index_or, IfOk};
+ghost use Rattle.hm_turns.specs.Sights.{Sight};
+ghost use Rattle.hm_workers.specs.Working.{Works, Tries, AllWork, AreOf, numbered, IsJobOf, DoesJob};
+ghost use Rattle.hm_workers.specs.declared.workers.Job.{Job};
+
+use crate::gate::Gate;
+use crate::passes::Passes;
+use hm_base::{Actor, NoMemory};
+use hm_history::Progress;
+use hm_turns::{Pass, Stepped, Turn, Turns};
+use std::alloc::{AllocError, Global};
+use std::sync::Wait;
+use std::thread;
+use std::thread::Threads;
+
+// What comes after a try.
+#[derive(Drop)]
+enum Next {
+    // An entry was added.
+    Added,
+    // Nothing was, and there is more to do.
+    Again,
+    // The actor has no operation left, or a halt was told.
+    Done,
+}
+
+fn step_once<S: Stepped>(turns: &Turns<S>, pass: &mut Pass, actor: Actor) -> Next
+    requires own { pass.old.desk ≡ turns.now }
+    requires actor { actor < length turns.now.script.actors }
+    ensures { Tries S.due actor pass.old result pass.new }
+{
+    match turns.try_turn(pass, actor) {
+        Turn::Did(Progress::Did(_)) => Next::Added,
+        Turn::Did(Progress::Waiting(_)) => Next::Again,
+        Turn::Did(Progress::Idle) => Next::Done,
+        Turn::Busy => Next::Again,
+        Turn::Stopped(_) => Next::Done,
+        Turn::Halted => Next::Done,
+    }
+}
+
+// Makes turns of the actor until it has no operation left or a halt is told.
+fn work<R: Wait, S: Stepped, G: Gate>(
+    rt: &R,
+    turns: &Turns<S>,
+    mut pass: Pass,
+    actor: Actor,
+    gate: &G,
+) -> Pass
+    requires own { pass.desk ≡ turns.now }
+    requires actor { actor < length turns.now.script.actors }
+    ensures { Works S.due actor pass result }
+{
+    let mut added = 0u64;
+    for _ in rt.forever() {
+        if gate.admits(actor, added) {
+            match step_once(turns, &mut pass, actor) {
+                Next::Added => added = added.saturating_add(1),
+                Next::Again => thread::yield_now(),
+                Next::Done => return pass,
+            }
+        } else {
+            thread::yield_now();
+        }
+    }
+    unreachable!()
+}
+
+// A pass with its actor.
+#[derive(Drop)]
+struct Job {
+    actor: Actor,
+    pass: Pass,
+}
+
+fn jobs_of(alloc: Global, passes: Vec<Pass>) -> Result<Vec<Job>, NoMemory>
+    requires { vec_len passes ≤ 16 }
+    ensures { IfOk result (λ jobs. jobs.items ≡ numbered 0 passes.items) }
+{
+    let mut jobs = Vec::new(alloc);
+    let mut next = 0;
+    for pass in passes {
+        let actor = Actor::new(next);
+        if jobs.push(Job { actor, pass }).is_err() {
+            return Err(NoMemory);
+        }
+        next += 1;
+    }
+    Ok(jobs)
+}
+
+// Does each job in a thread of its own; where none can be started the calling thread does the work.
+fn run_jobs<R: Threads + Wait + Sync, S: Stepped + Send, G: Gate + Sync>(
+    rt: &R,
+    turns: &Turns<S>,
+    jobs: Vec<Job>,
+    gate: &G,
+) -> Result<Vec<Pass>, AllocError>
+    requires { (i : ℕ) (j : Job) → i < length jobs.items → j ≡ slice_index_or jobs.items i j → IsJobOf turns.now j }
+    ensures len { IfOk result (λ done. length done.items ≡ length jobs.items) }
+    ensures each { IfOk result (λ done. (i : ℕ) (p : Sight) (j : Job) → i < length jobs.items → DoesJob S.due (slice_index_or jobs.items i j) (slice_index_or done.items i p)) }
+{
+    let worker = |job: Job| -> Pass
+        requires { IsJobOf turns.now job }
+        ensures { DoesJob S.due job result }
+    {
+        let Job { actor, pass } = job;
+        work(rt, turns, pass, actor, gate)
+    };
+    match thread::map_vec(rt, jobs, &worker) {
+        Ok(done) => Ok(done),
+        Err(failed) => Err(failed),
+    }
+}
+
+/// Runs each actor in a worker of its own, with the pass in its place, until the actor has no operation left or its
+/// pass is told of a halt. A worker that finds the turn held, its actor waiting or the gate closed tries again. At
+/// an `Err` the passes are gone, and the value stays where it is.
+pub fn run_actors<R: Threads + Wait + Sync, S: Stepped + Send, G: Gate + Sync>(
+    rt: &R,
+    alloc: Global,
+    turns: &Turns<S>,
+    passes: Passes,
+    gate: &G,
+) -> Result<Passes, NoMemory>
+    requires own { AreOf turns.now passes }
+    requires count { length passes ≡ length turns.now.script.actors }
+    ensures { IfOk result (λ done. AllWork S.due passes done) }
+{
+    turns.fits();
+    let Passes { items } = passes;
+    let jobs = jobs_of(alloc, items)?;
+    match run_jobs(rt, turns, jobs, gate) {
+        Ok(items) => Ok(Passes { items }),
+        Err(_) => Err(NoMemory),
+    }
+}
