@@ -1,0 +1,5 @@
+pub mod OneActor
+pub mod Shows
+pub mod Streams
+pub mod Replay
+pub mod Messages
