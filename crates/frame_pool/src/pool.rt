@@ -190,6 +190,12 @@ impl Pool {
     {
         self.withdrawn = true;
     }
+
+    pub fn is_withdrawn(&self) -> bool
+        ensures { result ≡ self.now.withdrawn }
+    {
+        self.withdrawn
+    }
 }
 
 impl Piece {
