@@ -1,11 +1,14 @@
 // The uses of each frame of a pool.
-ghost use Rattle.std.specs.Prelude.{◌≡◌, ◌≢◌, ℕ, ◌^◌, ◌<◌, ◌≤◌, not, true, false, length, replicate, slice_set, OnOk, OnErr, IfOk};
+ghost use Rattle.std.specs.Prelude.{◌≡◌, ◌≢◌, ℕ, ◌<◌, ◌≤◌, not, true, false, length, replicate, slice_set, OnOk, OnErr, IfOk};
 ghost use Rattle.rev_maps.specs.Uses.{uses_of, unused, has_use, with_moving, added, removed, first_use, is_rising};
 
 use crate::uses::{Use, UseList};
 use hm_base::{NoMemory, Page, Proc};
 use std::alloc::Global;
 use std::marker::Model;
+
+#[cfg(test)]
+mod tests;
 
 /// The uses of each frame of a pool, by the frame's number.
 #[derive(Drop)]
@@ -97,6 +100,14 @@ impl RevMaps {
         uses.lowest_moving()
     }
 
+    /// The lowest process and page that names the frame, migration entries included.
+    pub fn lowest_named(&self, number: u32) -> Option<(Proc, Page)>
+        ensures { result ≡ first_use (λ u. true) (uses_of self.now number).list }
+    {
+        let uses = self.frames.get(number as usize)?;
+        uses.lowest_named()
+    }
+
     /// How many uses the frame has, migration entries included.
     pub fn count(&self, number: u32) -> u64
         ensures { result ≡ length (uses_of self.now number).list }
@@ -114,52 +125,5 @@ impl RevMaps {
         if let Some(uses) = self.frames.get(number as usize) {
             uses.rising();
         }
-    }
-}
-
-#[cfg(test)]
-mod tests {
-    use super::*;
-    use std::test::Fail;
-
-    fn used(proc: u32, page: u64) -> Use
-        requires proc { proc < 32 }
-        requires page { page < 2 ^ 36 }
-        ensures { result ≡ record { proc = proc; page = page; moving = false } }
-    {
-        Use {
-            proc: Proc::new(proc),
-            page: Page::new(page),
-            moving: false,
-        }
-    }
-
-    fn at(proc: u32, page: u64) -> (Proc, Page)
-        requires proc { proc < 32 }
-        requires page { page < 2 ^ 36 }
-    {
-        (Proc::new(proc), Page::new(page))
-    }
-
-    #[test]
-    fn uses_are_found_in_order(rt: HostRuntime) -> Result<(), Fail> {
-        let mut maps = RevMaps::new(rt.alloc(), 2).map_err(|_| "no memory")?;
-        assert_eq!(rt; maps.lowest_direct(1), None);
-        maps.reserve(1).map_err(|_| "no memory")?;
-        maps.add_reserved(1, used(3, 7));
-        maps.reserve(1).map_err(|_| "no memory")?;
-        maps.add_reserved(1, used(2, 9));
-        assert_eq!(rt; maps.lowest_direct(1), Some(at(2, 9)));
-        assert_eq!(rt; maps.lowest_moving(1), None);
-        assert_eq!(rt; maps.count(1), 2);
-        assert_eq!(rt; maps.count(0), 0);
-        maps.set_moving(1, Proc::new(2), Page::new(9));
-        assert_eq!(rt; maps.lowest_direct(1), Some(at(3, 7)));
-        assert_eq!(rt; maps.lowest_moving(1), Some(at(2, 9)));
-        maps.remove(1, Proc::new(2), Page::new(9));
-        assert_eq!(rt; maps.lowest_moving(1), None);
-        assert_eq!(rt; maps.count(1), 1);
-        assert_eq!(rt; maps.lowest_direct(7), None);
-        Ok(())
     }
 }

@@ -116,6 +116,13 @@ impl UseList {
         Some((used.proc, used.page))
     }
 
+    pub fn lowest_named(&self) -> Option<(Proc, Page)>
+        ensures { result ≡ first_use (λ u. true) self.now.list }
+    {
+        let used = self.uses.iter().find(|_used| true)?;
+        Some((used.proc, used.page))
+    }
+
     pub fn count(&self) -> u64
         ensures { result ≡ length self.now.list }
     {
@@ -147,4 +154,12 @@ fn position(uses: &[Use], proc: Proc, page: Page) -> usize
         }
     }
     uses.len()
+}
+
+/// Whether the page of the process has a use.
+#[cfg(test)]
+pub fn has(list: &UseList, proc: Proc, page: Page) -> bool
+    ensures { result ≡ has_use proc page list.now.list }
+{
+    list.uses.iter().any(|used| used.is_by(proc, page))
 }
