@@ -77,7 +77,8 @@ pub fn decode(word: u64) -> Result<Place, BadWord>
     }
 }
 
-fn place_at(word: u64) -> Option<Place>
+/// The place that the fields of this word make, if they go together.
+pub fn place_at(word: u64) -> Option<Place>
     ensures { result ≡ place_at word }
 {
     match word {
