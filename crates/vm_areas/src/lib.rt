@@ -179,6 +179,13 @@ impl Areas {
         }
     }
 
+    /// No area is left (`exit_mmap` of mm/mmap.c).
+    pub fn clear(&mut self)
+        ensures { self.new ≡ [] }
+    {
+        self.areas.clear();
+    }
+
     fn add(&mut self, span: Span, rights: Rights)
         requires { insert_refusal span self.old ≡ None }
         ensures { self.new ≡ with_area (record { span = span; rights = rights }) self.old }
