@@ -1,6 +1,6 @@
 // The table.
-ghost use Rattle.std.specs.Prelude.{◌≡◌, ℕ, ◌+◌, ◌-◌, ◌^◌, ◌<◌, ◌≤◌, [], true, length, take, drop, ◌++◌, slice_index, nat_lt, ◌==◌, ◌&&◌, vec_len, vec_capacity, OnOk, OnErr};
-ghost use Rattle.hm_base.specs.Pages.{covers, IsSpan};
+ghost use Rattle.std.specs.Prelude.{◌≡◌, ℕ, ◌+◌, ◌-◌, ◌<◌, ◌≤◌, [], true, length, take, drop, ◌++◌, slice_index, nat_lt, ◌==◌, ◌&&◌, vec_len, vec_capacity, OnOk, OnErr};
+ghost use Rattle.hm_base.specs.Pages.{covers};
 ghost use Rattle.mirror_tables.specs.Entries.{IsTable, entry_at, with_entry, without_span, changed, keys};
 ghost use Rattle.mirror_tables.specs.Tables.{IsPlace};
 
@@ -8,6 +8,9 @@ use crate::entry::MirrorEntry;
 use hm_base::{NoMemory, Page, Span};
 use std::alloc::Global;
 use std::marker::Model;
+
+#[cfg(test)]
+mod tests;
 
 /// The entries of the pages of a window (`pt` of `struct dmirror` in lib/test_hmm.c).
 #[derive(Drop)]
@@ -138,56 +141,4 @@ fn cut(entries: &mut Vec<(Page, MirrorEntry)>, from: usize, upto: usize)
     let rest = entries.len() - upto;
     entries.copy_within(upto.., from);
     entries.truncate(from + rest);
-}
-
-#[cfg(test)]
-mod tests {
-    use super::*;
-    use crate::entry::Target;
-    use std::test::Fail;
-
-    fn entry(from: u64) -> MirrorEntry {
-        MirrorEntry {
-            target: Target::Sole(3),
-            writable: true,
-            from,
-        }
-    }
-
-    fn span(first: u64, count: u64) -> Span
-        requires { IsSpan (record { first = first; count = count }) }
-        ensures { result ≡ record { first = first; count = count } }
-    {
-        Span::new(Page::new(first), count)
-    }
-
-    fn set(table: &mut MirrorTable, page: u64) -> Result<(), Fail>
-        requires page { page < 2 ^ 36 }
-        requires window { covers table.old.window page ≡ true }
-        ensures { table.new.window ≡ table.old.window }
-    {
-        table.reserve(Page::new(page)).map_err(|_| "no memory")?;
-        table.set_reserved(Page::new(page), entry(page));
-        Ok(())
-    }
-
-    #[test]
-    fn entries_are_set_and_erased(rt: HostRuntime) -> Result<(), Fail> {
-        let mut table = MirrorTable::new(rt.alloc(), span(16, 8));
-        set(&mut table, 18)?;
-        set(&mut table, 16)?;
-        set(&mut table, 23)?;
-        set(&mut table, 17)?;
-        set(&mut table, 18)?;
-        assert_eq!(rt; table.get(Page::new(18)), Some(entry(18)));
-        assert_eq!(rt; table.get(Page::new(19)), None);
-        table.erase(span(17, 6));
-        assert_eq!(rt; table.get(Page::new(16)), Some(entry(16)));
-        assert_eq!(rt; table.get(Page::new(17)), None);
-        assert_eq!(rt; table.get(Page::new(18)), None);
-        assert_eq!(rt; table.get(Page::new(23)), Some(entry(23)));
-        table.erase(span(0, 68719476736));
-        assert_eq!(rt; table.get(Page::new(23)), None);
-        Ok(())
-    }
 }
