@@ -10,6 +10,8 @@ use Rattle.hm_base.specs.declared.ops.Rights.{Rights}
 use Rattle.hm_base.specs.declared.ops.Op.{Op}
 use Rattle.hm_history.specs.Words.{with_at}
 use Rattle.hm_history.specs.Plain.{Plain, area_refusal}
+use Rattle.hm_history.specs.declared.phases.Migrating.{Migrating}
+use Rattle.hm_history.specs.declared.phases.Phase.{Phase}
 use Rattle.hm_history.specs.After.{After}
 use Rattle.hm_history.specs.declared.Kind.{Kind}
 use Rattle.hm_laws.specs.Past.{Past}
@@ -17,7 +19,7 @@ use Rattle.hm_laws.specs.Allowed.{next, Allowed}
 use Rattle.hm_history.specs.Plain.{all_mapped}
 use Rattle.hm_laws.proofs.DueWords.{Fair}
 use Rattle.std.proofs.Common.{min, max, suc}
-use Rattle.hm_laws.specs.Cpu.{rising, OrderRules}
+use Rattle.hm_laws.specs.Order.{rising, OrderRules}
 use Rattle.hm_laws.proofs.AreaCuts.{no_meet}
 use Rattle.hm_laws.proofs.Updates.{both, both_of}
 
@@ -130,11 +132,11 @@ protected_areas s p r w h = by (all_mapped r (s.areas p)) h
     by true k = fits_areas (length (with_rights r w (s.areas p))) k
     by false k = cc
 
-pub order_kept : (c : Program) (s : After) (t : Past) (a : ℕ) (k : Kind) → Allowed c s t a k → Fair c s k → OrderRules s.plain.areas → OrderRules (next s a k).plain.areas
-order_kept c s t a (Kind.Mapped p r w) ok fair h = each_area s.plain.areas p _ h (omega (arith, length_with_area (record { span = r; rights = w }) (s.plain.areas p), mapped_areas s.plain p r w (refused_not s.plain p (Op.Map p r w) ok.2)))
+pub order_kept : (c : Program) (s : After) (t : Past) (a : ℕ) (o : Op) (xs : List Migrating) (top : Phase) (k : Kind) → Allowed c s t a k → Fair c s a o xs k top → OrderRules s.plain.areas → OrderRules (next s a k).plain.areas
+order_kept c s t a o xs top (Kind.Mapped p r w) ok fair h = each_area s.plain.areas p _ h (omega (arith, length_with_area (record { span = r; rights = w }) (s.plain.areas p), mapped_areas s.plain p r w (refused_not s.plain p (Op.Map p r w) ok.2)))
     (rising_with_area (record { span = r; rights = w }) 0 (s.plain.areas p) (omega arith) fair ok.3 (no_meet s.plain p r w ok.2) (h.in_order p))
-order_kept c s t a (Kind.Unmapped p r) ok fair h = each_area s.plain.areas p _ h (fits_areas (length (without r (s.plain.areas p))) (refused_not s.plain p (Op.Unmap p r) ok.3)) (rising_without r 0 (s.plain.areas p) (h.in_order p))
-order_kept c s t a (Kind.Protected p r w) ok fair h = each_area s.plain.areas p _ h (protected_areas s.plain p r w (refused_not s.plain p (Op.Protect p r w) ok.3)) (rising_with r w 0 (s.plain.areas p) (h.in_order p))
-order_kept c s t a (Kind.Forked p d) ok fair h = each_area s.plain.areas d _ h (h.few p) (h.in_order p)
-order_kept c s t a (Kind.Exited p) ok fair h = each_area s.plain.areas p [] h (omega arith) refl
-order_kept c s t a k ok fair h = h
+order_kept c s t a o xs top (Kind.Unmapped p r) ok fair h = each_area s.plain.areas p _ h (fits_areas (length (without r (s.plain.areas p))) (refused_not s.plain p (Op.Unmap p r) ok.3)) (rising_without r 0 (s.plain.areas p) (h.in_order p))
+order_kept c s t a o xs top (Kind.Protected p r w) ok fair h = each_area s.plain.areas p _ h (protected_areas s.plain p r w (refused_not s.plain p (Op.Protect p r w) ok.3)) (rising_with r w 0 (s.plain.areas p) (h.in_order p))
+order_kept c s t a o xs top (Kind.Forked p d) ok fair h = each_area s.plain.areas d _ h (h.few p) (h.in_order p)
+order_kept c s t a o xs top (Kind.Exited p) ok fair h = each_area s.plain.areas p [] h (omega arith) refl
+order_kept c s t a o xs top k ok fair h = h

@@ -7,7 +7,7 @@ use Rattle.hm_base.specs.Program.{Program}
 use Rattle.hm_base.specs.declared.Frame.{Frame}
 use Rattle.hm_base.specs.declared.Place.{Place}
 use Rattle.hm_base.specs.declared.ops.Op.{Op}
-use Rattle.hm_history.specs.Words.{names, moving_frame, writable, is_empty_place, page_of}
+use Rattle.hm_history.specs.Words.{names, writable, is_empty_place, page_of}
 use Rattle.hm_history.specs.Places.{with_place}
 use Rattle.hm_history.specs.Sequences.{seq_started, seq_ended, all_told}
 use Rattle.hm_history.specs.Contents.{shown_by}
@@ -29,15 +29,14 @@ use Rattle.hm_history.specs.declared.phases.Migrating.{Migrating}
 use Rattle.hm_history.specs.declared.phases.Body.{Body}
 use Rattle.hm_history.specs.declared.phases.Phase.{Phase}
 use Rattle.hm_history.specs.declared.phases.Next.TheVariants.{Do}
-use Rattle.hm_laws.specs.Facts.{is_core}
-use Rattle.hm_laws.proofs.DueWords.{Good, Core, either, release_clean, not_short}
+use Rattle.hm_laws.proofs.DueWords.{Good, Unshared, either, release_clean, not_short}
 use Rattle.hm_laws.proofs.LeftFrames.{orphan_at, no_left, none_left}
 use Rattle.hm_laws.proofs.DuePlaces.{narrowed_ok, child_ok}
 use Rattle.hm_laws.proofs.Guards.{started, number_is, start_takes, is_covered, end_takes, guard_ok}
 use Rattle.hm_laws.proofs.NextPage.{NextSays, next_says, none_says}
-use Rattle.hm_laws.proofs.DueAccess.{still_none}
+use Rattle.hm_laws.proofs.DueDecide.{still_none}
 use Rattle.hm_laws.proofs.DueAreas.{locked}
-use Rattle.hm_laws.proofs.DueSpans.{no_empty_used, unused_empty, in_span, other_pages, this_page, narrowed_stays, narrow_clean, narrowed_core, goes_on}
+use Rattle.hm_laws.proofs.DueSpans.{no_empty_used, unused_empty, in_span, other_pages, this_page, narrowed_stays, narrow_clean, never_exclusive, narrow_locks, goes_on}
 
 -- the name is given
 pub fork_name_ok : (c : Program) (s : After) (t : Past) (a p d : ℕ) (xs : List Migrating) → Sound c s t → HoldsAll s t a (locked (Op.Fork p d)) → Good c s t a (Op.Fork p d) xs Phase.Locked [] (Do (due_areas s (Op.Fork p d)))
@@ -210,13 +209,13 @@ forked_answer : (p d : ℕ) (s : After) (t : Past) (a : ℕ) → Holds s t a (Fo
 forked_answer p d s t a h = (refl, ((h.0, λ i. absurd (true_false false i refl)), (h, tt)))
 
 -- the child's place
-pub fork_child_ok : (c : Program) (s : After) (t : Past) (a p d : ℕ) (xs : List Migrating) (met : Bool) (told : Option ℕ) (n u : ℕ) (half : Bool) → Sound c s t → Core s → Guarding s.sequences.guard a p all_pages met told → Holds s t a (Locks_only []) → Holds s t a (Forking p d n) → n ≤ u → ((w : ℕ) → n ≤ w → w < u → is_empty_place (s.places.place p w) ≡ true) →
+pub fork_child_ok : (c : Program) (s : After) (t : Past) (a p d : ℕ) (xs : List Migrating) (met : Bool) (told : Option ℕ) (n u : ℕ) (half : Bool) → Sound c s t → Unshared s → Guarding s.sequences.guard a p all_pages met told → Holds s t a (Locks_only []) → Holds s t a (Forking p d n) → n ≤ u → ((w : ℕ) → n ≤ w → w < u → is_empty_place (s.places.place p w) ≡ true) →
     is_empty_place (s.places.place p u) ≡ false → writable (s.places.place p u) ≡ false → Good c s t a (Op.Fork p d) xs (Phase.Guard p all_pages met told (Body.Fork n half)) (Phase.Answer ∷ []) (Do (Kind.Place d u (s.places.place p u)))
 fork_child_ok c s t a p d xs met told n u half so core g l f le between st nw = (
   ok,
   core p u,
   goes_on s t a (Op.Fork p d) (Kind.Place d u (s.places.place p u)) d u (s.places.place p u) _ left
-      (child_body (next s a (Kind.Place d u (s.places.place p u))) t a (Op.Fork p d) p all_pages met told u (d == p) (differ (d == p) refl) (g, (still_none s t a d u (s.places.place p u) (frozen (s.places.place p u) (core p u)) left l, ((refl, refl), (refl, ((f.0, λ i. absurd (true_false false i refl)), (child_placed c s t a p d n u so ne f le between st nw, tt)))))))
+      (child_body (next s a (Kind.Place d u (s.places.place p u))) t a (Op.Fork p d) p all_pages met told u (d == p) (differ (d == p) refl) (g, (still_none s t a d u (s.places.place p u) (λ f e. so.frames.moving_locked p u f e) left l, ((refl, refl), (refl, ((f.0, λ i. absurd (true_false false i refl)), (child_placed c s t a p d n u so ne f le between st nw, tt)))))))
       (orphan_at s d u (s.places.place p u)) refl,
 )
   where
@@ -226,9 +225,6 @@ fork_child_ok c s t a p d xs met told n u half so core g l f le between st nw = 
     differ : (b : Bool) → (d == p) ≡ b → b ≡ false
     differ true e = absurd (ne (equal_numbers d p e))
     differ false e = refl
-
-    frozen : (x : Place) → is_core x ≡ true → moving_frame x ≡ None
-    frozen x co = grind arith
 
     empty : is_empty_place (s.places.place d u) ≡ true
     empty = f.4 u le
@@ -242,14 +238,14 @@ fork_child_ok c s t a p d xs met told n u half so core g l f le between st nw = 
     left : (i : Frame) → orphan_at s d u (s.places.place p u) ≡ Some i → ⊥
     left i e = no_left s d u (s.places.place p u) i (nothing (s.places.place d u) empty) e
 
-pub fork_ok : (c : Program) (s : After) (t : Past) (a p d : ℕ) (xs : List Migrating) (met : Bool) (told : Option ℕ) (n : ℕ) (half : Bool) → Sound c s t → Core s → HoldsAll s t a (fork_guard (Op.Fork p d) p all_pages met told n half) →
+pub fork_ok : (c : Program) (s : After) (t : Past) (a p d : ℕ) (xs : List Migrating) (met : Bool) (told : Option ℕ) (n : ℕ) (half : Bool) → Sound c s t → Unshared s → HoldsAll s t a (fork_guard (Op.Fork p d) p all_pages met told n half) →
     Good c s t a (Op.Fork p d) xs (Phase.Guard p all_pages met told (Body.Fork n half)) (Phase.Answer ∷ []) (Do (due_guard s a (Op.Fork p d) p all_pages met told (Body.Fork n half)))
-fork_ok c s t a p d xs met told n true so core h = guard_ok c s t a (Op.Fork p d) xs p all_pages met told (Body.Fork n true) (Phase.Answer ∷ []) so h.0 (λ m i. (i, (h.1.0, (h.1.1.0, (h.1.1.1.0, (h.1.1.1.1.0, ((h.1.1.1.1.1.0.0, h.1.1.1.1.1.0.1, h.1.1.1.1.1.0.2, (λ u l. alike_told s a m all_pages (s.sequences.seq p) p d u (h.1.1.1.1.1.0.3 u l)), h.1.1.1.1.1.0.4), tt)))))))
+fork_ok c s t a p d xs met told n true so core h = guard_ok c s t a (Op.Fork p d) xs p all_pages met told (Body.Fork n true) (Phase.Answer ∷ []) so h.0 (λ m tk i. (i, (h.1.0, (h.1.1.0, (h.1.1.1.0, (h.1.1.1.1.0, ((h.1.1.1.1.1.0.0, h.1.1.1.1.1.0.1, h.1.1.1.1.1.0.2, (λ u l. alike_told s a m all_pages (s.sequences.seq p) p d u (h.1.1.1.1.1.0.3 u l)), h.1.1.1.1.1.0.4), tt)))))))
     (λ al. fork_child_ok c s t a p d xs met told n n true so core h.0 h.1.0 h.1.1.1.1.1.0 (omega arith) (λ w l m. absurd (none w l m)) (h.1.1.1.1.0.1 refl).1 (h.1.1.1.1.0.1 refl).0)
   where
     none : (w : ℕ) → n ≤ w → w < n → ⊥
     none w l m = omega (arith, l, m)
-fork_ok c s t a p d xs met told n false so core h = guard_ok c s t a (Op.Fork p d) xs p all_pages met told (Body.Fork n false) (Phase.Answer ∷ []) so h.0 (λ m i. (i, (h.1.0, (h.1.1.0, (h.1.1.1.0, (h.1.1.1.1.0, ((h.1.1.1.1.1.0.0, h.1.1.1.1.1.0.1, h.1.1.1.1.1.0.2, (λ u l. alike_told s a m all_pages (s.sequences.seq p) p d u (h.1.1.1.1.1.0.3 u l)), h.1.1.1.1.1.0.4), tt)))))))
+fork_ok c s t a p d xs met told n false so core h = guard_ok c s t a (Op.Fork p d) xs p all_pages met told (Body.Fork n false) (Phase.Answer ∷ []) so h.0 (λ m tk i. (i, (h.1.0, (h.1.1.0, (h.1.1.1.0, (h.1.1.1.1.0, ((h.1.1.1.1.1.0.0, h.1.1.1.1.1.0.1, h.1.1.1.1.1.0.2, (λ u l. alike_told s a m all_pages (s.sequences.seq p) p d u (h.1.1.1.1.1.0.3 u l)), h.1.1.1.1.1.0.4), tt)))))))
     (λ al. by al (next_page s.places is_used p n) refl)
   where
     P : Option Kind → Type 0
@@ -296,13 +292,12 @@ fork_ok c s t a p d xs met told n false so core h = guard_ok c s t a (Op.Fork p 
         (λ l. either (λ k. P (Some k)) (writable (s.places.place p u)) (Kind.Place p u (narrowed (s.places.place p u))) (Kind.Place d u (s.places.place p u))
         (λ w. let cv : covers all_pages u ≡ true = in_span all_pages n u (from_first n) says.above l in
         let ok : PlaceOk s t a p u (narrowed (s.places.place p u)) = narrowed_ok c s t a p u so f.0 h.1.0 w (is_covered s a p u all_pages met told h.0 al cv) in
-        let co : (is_core (narrowed (s.places.place p u)) ≡ true) × (moving_frame (narrowed (s.places.place p u)) ≡ None) = narrowed_core (s.places.place p u) (core p u) in
         let st : (is_empty_place (narrowed (s.places.place p u)) ≡ false) × (writable (narrowed (s.places.place p u)) ≡ false) = narrowed_stays (s.places.place p u) w in (
           ok,
-          co.0,
+          never_exclusive (s.places.place p u),
           goes_on s t a (Op.Fork p d) (Kind.Place p u (narrowed (s.places.place p u))) p u (narrowed (s.places.place p u)) _ (stays ok)
               (parent_body (next s a (Kind.Place p u (narrowed (s.places.place p u)))) t a (Op.Fork p d) p all_pages met told u (p == p) (number_is p p refl)
-              (h.0, (still_none s t a p u (narrowed (s.places.place p u)) co.1 (stays ok) h.1.0, ((refl, refl), (refl, ((f.0, λ i. (ap writable (this_page s.places.place p u (narrowed (s.places.place p u))) ∙ st.1, ap is_empty_place (this_page s.places.place p u (narrowed (s.places.place p u))) ∙ st.0)), (parent_narrowed c s t a p d n u (narrowed (s.places.place p u)) ne f says.above (λ w i j. unused_empty (s.places.place p w) (says.between w i j)) st.0, tt)))))))
+              (h.0, (still_none s t a p u (narrowed (s.places.place p u)) (narrow_locks c s t p u so) (stays ok) h.1.0, ((refl, refl), (refl, ((f.0, λ i. (ap writable (this_page s.places.place p u (narrowed (s.places.place p u))) ∙ st.1, ap is_empty_place (this_page s.places.place p u (narrowed (s.places.place p u))) ∙ st.0)), (parent_narrowed c s t a p d n u (narrowed (s.places.place p u)) ne f says.above (λ w i j. unused_empty (s.places.place p w) (says.between w i j)) st.0, tt)))))))
               (orphan_at s p u (narrowed (s.places.place p u))) refl,
         ))
         (λ w. fork_child_ok c s t a p d xs met told n u false so core h.0 h.1.0 f says.above (λ w i j. unused_empty (s.places.place p w) (says.between w i j)) (used (s.places.place p u) says.passes) w))

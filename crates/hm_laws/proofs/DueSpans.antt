@@ -33,13 +33,14 @@ use Rattle.hm_history.specs.declared.phases.Migrating.{Migrating}
 use Rattle.hm_history.specs.declared.phases.Body.{Body}
 use Rattle.hm_history.specs.declared.phases.Phase.{Phase}
 use Rattle.hm_history.specs.declared.phases.Next.TheVariants.{Do}
-use Rattle.hm_laws.specs.Facts.{is_core}
-use Rattle.hm_laws.proofs.DueWords.{Good, Core, either}
+use Rattle.hm_history.specs.Places.{is_exclusive}
+use Rattle.hm_laws.proofs.LeftFrames.{LocksNothing, unfrozen}
+use Rattle.hm_laws.proofs.DueWords.{Good, either}
 use Rattle.hm_laws.proofs.LeftFrames.{orphan_at, gains_own, left_owned, none_left}
 use Rattle.hm_laws.proofs.DuePlaces.{narrowed_ok, empty_ok}
 use Rattle.hm_laws.proofs.Guards.{number_is, is_covered, end_takes, guard_ok}
 use Rattle.hm_laws.proofs.NextPage.{NextSays, next_says, none_says}
-use Rattle.hm_laws.proofs.DueAccess.{empty_locks, still_none}
+use Rattle.hm_laws.proofs.DueDecide.{empty_locks, still_none}
 use Rattle.hm_laws.proofs.DueFaults.{dropped_locks}
 
 -- pages emptied
@@ -97,7 +98,7 @@ not_covered r u v h k e = true_false (covers r u) h (ap (covers r) (sym e) ∙ k
 
 -- a place of an actor that had nothing locked: what it left behind, if anything, is locked now
 pub left_locks : (s : After) (t : Past) (a p v : ℕ) (x : Place) → moving_frame x ≡ None → Holds s t a (Locks_only []) → (f : Frame) → (next s a (Kind.Place p v x)).locks.frame f ≡ Some a → orphan_at s p v x ≡ Some f
-left_locks s t a p v x nm h f e = by (gains_own s a p v x nm f e)
+left_locks s t a p v x nm h f e = by (gains_own s a p v x (unfrozen s x nm) f e)
   where
     by : (orphan_at s p v x ≡ Some f) ⊎ ((s.locks.frame f ≡ Some a) × (frame_placed s.locks (s.places.place p v) a x f ≡ Some a)) → orphan_at s p v x ≡ Some f
     by (inl k) = k
@@ -137,7 +138,7 @@ zapped_facts c s t a o p r met told u m so ok l g h (Some f) e = (left_owned c s
 
 pub zap_ok : (c : Program) (s : After) (t : Past) (a : ℕ) (o : Op) (xs : List Migrating) (met : Bool) (told : Option ℕ) (n : ℕ) → Sound c s t → HoldsAll s t a (zap_guard o (proc_of_op o) (op_span o) met told n) →
     Good c s t a o xs (Phase.Guard (proc_of_op o) (op_span o) met told (Body.Zap n)) (Phase.Answer ∷ []) (Do (due_guard s a o (proc_of_op o) (op_span o) met told (Body.Zap n)))
-zap_ok c s t a o xs met told n so h = guard_ok c s t a o xs p r met told (Body.Zap n) (Phase.Answer ∷ []) so h.0 (λ m i. (i, h.1))
+zap_ok c s t a o xs met told n so h = guard_ok c s t a o xs p r met told (Body.Zap n) (Phase.Answer ∷ []) so h.0 (λ m tk i. (i, h.1))
     (λ al. by al (next_page s.places is_used p n) refl)
   where
     p : ℕ
@@ -211,17 +212,23 @@ narrow_below s p r u x n f w cv l = by (w == u) refl
     by true e = ap (λ i. writable (with_place s.places.place p u x p i)) (equal_numbers w u e) ∙ ap writable (this_page s.places.place p u x) ∙ n
     by false e = ap writable (other_pages s.places.place p u x w (λ k. absurd (true_false (w == u) (number_is w u k) e))) ∙ f w cv (less e)
 
-pub narrowed_core : (y : Place) → is_core y ≡ true → (is_core (narrowed y) ≡ true) × (moving_frame (narrowed y) ≡ None)
-narrowed_core y co = (grind arith, grind arith)
+pub narrow_locks : (c : Program) (s : After) (t : Past) (p u : ℕ) → Sound c s t → LocksNothing s (narrowed (s.places.place p u))
+narrow_locks c s t p u so f e = so.frames.moving_locked p u f (was (s.places.place p u) e)
+  where
+    was : (y : Place) → moving_frame (narrowed y) ≡ Some f → moving_frame y ≡ Some f
+    was y i = grind arith
+
+pub never_exclusive : (y : Place) → is_exclusive (narrowed y) ≡ false
+never_exclusive y = grind arith
 
 -- nothing is left behind, so that the actor goes on
 pub goes_on : (s : After) (t : Past) (a : ℕ) (o : Op) (k : Kind) (p v : ℕ) (x : Place) (st : List Phase) → ((f : Frame) → orphan_at s p v x ≡ Some f → ⊥) → HoldsAll (next s a k) t a (facts o st) → (y : Option Frame) → orphan_at s p v x ≡ y → HoldsAll (next s a k) t a (facts o (dropping y st))
 goes_on s t a o k p v x st n h None e = h
 goes_on s t a o k p v x st n h (Some f) e = absurd (n f e)
 
-pub narrow_ok : (c : Program) (s : After) (t : Past) (a : ℕ) (o : Op) (xs : List Migrating) (met : Bool) (told : Option ℕ) (n : ℕ) → Sound c s t → Core s → HoldsAll s t a (narrow_guard o (proc_of_op o) (op_span o) met told n) →
+pub narrow_ok : (c : Program) (s : After) (t : Past) (a : ℕ) (o : Op) (xs : List Migrating) (met : Bool) (told : Option ℕ) (n : ℕ) → Sound c s t → HoldsAll s t a (narrow_guard o (proc_of_op o) (op_span o) met told n) →
     Good c s t a o xs (Phase.Guard (proc_of_op o) (op_span o) met told (Body.Narrow n)) (Phase.Answer ∷ []) (Do (due_guard s a o (proc_of_op o) (op_span o) met told (Body.Narrow n)))
-narrow_ok c s t a o xs met told n so core h = guard_ok c s t a o xs (proc_of_op o) (op_span o) met told (Body.Narrow n) (Phase.Answer ∷ []) so h.0 (λ m i. (i, h.1))
+narrow_ok c s t a o xs met told n so h = guard_ok c s t a o xs (proc_of_op o) (op_span o) met told (Body.Narrow n) (Phase.Answer ∷ []) so h.0 (λ m tk i. (i, h.1))
     (λ al. by al (next_page s.places writable (proc_of_op o) n) refl)
   where
     P : Option Kind → Type 0
@@ -252,12 +259,11 @@ narrow_ok c s t a o xs met told n so core h = guard_ok c s t a o xs (proc_of_op 
     by al (Some u) e = either P (nat_lt u (last_of (op_span o))) (Some (Kind.Place (proc_of_op o) u (narrowed (s.places.place (proc_of_op o) u)))) None
         (λ l. let cv : covers (op_span o) u ≡ true = in_span (op_span o) n u h.1.1.1.1.0 says.above l in
         let ok : PlaceOk s t a (proc_of_op o) u (narrowed (s.places.place (proc_of_op o) u)) = narrowed_ok c s t a (proc_of_op o) u so nr.0 h.1.0 says.passes (is_covered s a (proc_of_op o) u (op_span o) met told h.0 al cv) in
-        let co : (is_core (narrowed (s.places.place (proc_of_op o) u)) ≡ true) × (moving_frame (narrowed (s.places.place (proc_of_op o) u)) ≡ None) = narrowed_core (s.places.place (proc_of_op o) u) (core (proc_of_op o) u) in
         let st : (is_empty_place (narrowed (s.places.place (proc_of_op o) u)) ≡ false) × (writable (narrowed (s.places.place (proc_of_op o) u)) ≡ false) = narrowed_stays (s.places.place (proc_of_op o) u) says.passes in (
           ok,
-          co.0,
+          never_exclusive (s.places.place (proc_of_op o) u),
           goes_on s t a o (Kind.Place (proc_of_op o) u (narrowed (s.places.place (proc_of_op o) u))) (proc_of_op o) u (narrowed (s.places.place (proc_of_op o) u)) (Phase.Guard (proc_of_op o) (op_span o) met told (Body.Narrow (u + 1)) ∷ Phase.Answer ∷ []) (stays u ok)
-              (h.0, (still_none s t a (proc_of_op o) u (narrowed (s.places.place (proc_of_op o) u)) co.1 (stays u ok) h.1.0, (h.1.1.0, (h.1.1.1.0, (more_first (op_span o).first n u h.1.1.1.1.0 says.above, (h.1.1.1.1.1.0, ((nr.0, narrow_clean s (proc_of_op o) u (narrowed (s.places.place (proc_of_op o) u)) nr.1 st.0, narrow_below s (proc_of_op o) (op_span o) u (narrowed (s.places.place (proc_of_op o) u)) st.1 (narrow_to u says.between)), tt)))))))
+              (h.0, (still_none s t a (proc_of_op o) u (narrowed (s.places.place (proc_of_op o) u)) (narrow_locks c s t (proc_of_op o) u so) (stays u ok) h.1.0, (h.1.1.0, (h.1.1.1.0, (more_first (op_span o).first n u h.1.1.1.1.0 says.above, (h.1.1.1.1.1.0, ((nr.0, narrow_clean s (proc_of_op o) u (narrowed (s.places.place (proc_of_op o) u)) nr.1 st.0, narrow_below s (proc_of_op o) (op_span o) u (narrowed (s.places.place (proc_of_op o) u)) st.1 (narrow_to u says.between)), tt)))))))
               (orphan_at s (proc_of_op o) u (narrowed (s.places.place (proc_of_op o) u))) refl,
         ))
         (λ l. ends al (narrow_to (last_of (op_span o)) (λ w k m. says.between w k (before w m l))))
@@ -279,5 +285,5 @@ narrow_ok c s t a o xs met told n so core h = guard_ok c s t a o xs (proc_of_op 
 
 pub widen_ok : (c : Program) (s : After) (t : Past) (a : ℕ) (o : Op) (xs : List Migrating) (p : ℕ) (r : Pages) (met : Bool) (told : Option ℕ) → Sound c s t → HoldsAll s t a (In_guard p r met told ∷ Locks_only [] ∷ Over p r (proc_of_op o) (op_span o) ∷ widening o) →
     Good c s t a o xs (Phase.Guard p r met told Body.Nothing) (Phase.Answer ∷ []) (Do (due_guard s a o p r met told Body.Nothing))
-widen_ok c s t a o xs p r met told so h = guard_ok c s t a o xs p r met told Body.Nothing (Phase.Answer ∷ []) so h.0 (λ m i. (i, h.1))
+widen_ok c s t a o xs p r met told so h = guard_ok c s t a o xs p r met told Body.Nothing (Phase.Answer ∷ []) so h.0 (λ m tk i. (i, h.1))
     (λ al. (end_takes s a p r met told h.0 al, tt, (here_at s.sequences.guard a None, (h.1.0, widened_answer (next s a (Kind.End p r (seq_ended s.sequences p))) t a o h.1.1.1))))

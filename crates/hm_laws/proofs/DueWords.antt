@@ -9,7 +9,7 @@ use Rattle.hm_base.specs.declared.ops.Rights.{Rights}
 use Rattle.hm_base.specs.declared.ops.Op.{Op}
 use Rattle.hm_history.specs.Words.{is_empty_place, same_place, page_of}
 use Rattle.hm_history.specs.Plain.{Plain, rights_of, is_read_write, is_read_only}
-use Rattle.hm_history.specs.Places.{lowest_free}
+use Rattle.hm_history.specs.Places.{lowest_free, is_exclusive}
 use Rattle.hm_history.specs.Locks.{lock_passes}
 use Rattle.hm_history.specs.After.{After}
 use Rattle.hm_history.specs.declared.locks.MapLock.{MapLock}
@@ -22,11 +22,13 @@ use Rattle.hm_laws.specs.Allowed.{next, shows, Clean, MayRelease, ReadsThere, Wr
 use Rattle.std.specs.Prelude.{⊤}
 use Rattle.hm_laws.proofs.Search.{least_none}
 use Rattle.hm_laws.proofs.Updates.{here_at, some_none, true_false}
-use Rattle.hm_laws.specs.Facts.{Is, Reads, No_guard, Locks_only, takes_lock, has_piece, nothing_held, facts, HoldsAll}
+use Rattle.hm_laws.specs.Facts.{Is, takes_lock, has_piece, nothing_held, facts, HoldsAll}
 use Rattle.hm_history.specs.Due.{proc_of_op}
-use Rattle.hm_history.specs.Plain.{may_fail}
+use Rattle.hm_history.specs.Plain.{may_fail, in_window, outside_cause, proc_of, mirror_proc}
+use Rattle.hm_base.specs.Pages.{one_page}
 use Rattle.hm_history.specs.Locks.{writer, lowest_other}
-use Rattle.hm_history.specs.Operation.{op_pieces}
+use Rattle.hm_history.specs.Operation.{op_pieces, op_mirror}
+use Rattle.hm_history.specs.Legal.{kept_for}
 use Rattle.hm_history.specs.Moved.{moved, piece_ends}
 use Rattle.hm_history.specs.Going.{seen_at}
 use Rattle.hm_history.specs.Due.{rlock, wlock}
@@ -34,27 +36,27 @@ use Rattle.hm_history.specs.declared.phases.Migrating.{Migrating}
 use Rattle.hm_history.specs.declared.phases.Phase.{Phase}
 use Rattle.hm_history.specs.declared.phases.Next.{Next}
 use Rattle.hm_history.specs.declared.phases.Next.TheVariants.{Do, Wait}
+use Rattle.hm_laws.specs.Stood.{IsNamed}
 use Rattle.hm_laws.specs.Facts.{is_core}
 
 -- no system frame is free, where the cause says so
 abbrev pub IsShort : Program → After → ℕ → Type 0
 IsShort c s k = k ≡ 3 → lowest_free c s.places PoolId.System ≡ None
 
--- what an entry of these operations is, beyond what makes it allowed
-abbrev pub Fair : Program → After → Kind → Type 0
-Fair c s (Kind.Failed (Who.Cpu p) at n k) = IsShort c s k
-Fair c s (Kind.Failed x at n k) = ⊥
-Fair c s (Kind.Refused n) = IsShort c s n
-Fair c s (Kind.Place p v x) = is_core x ≡ true
-Fair c s (Kind.Mapped p r w) = 1 ≤ r.count
-Fair c s (Kind.Take f) = f.pool ≡ PoolId.System
-Fair c s (Kind.Kept at why) = ⊥
-Fair c s (Kind.Attached m d p r q) = ⊥
-Fair c s (Kind.Loaded (Who.Mirror m) at bs) = ⊥
-Fair c s (Kind.Stored (Who.Mirror m) at bs) = ⊥
-Fair c s (Kind.Fetched m at bs) = ⊥
-Fair c s (Kind.Added m at was now) = ⊥
-Fair c s k = ⊤
+-- what an entry of these operations is, beyond what makes it allowed; at the giving up of a fault the frame was missing before
+abbrev pub Fair : Program → After → ℕ → Op → List Migrating → Kind → Phase → Type 0
+Fair c s a o xs (Kind.Failed x at n k) (Phase.GiveUp y) = ⊤
+Fair c s a o xs (Kind.Failed x at n k) top = IsShort c s k
+Fair c s a o xs (Kind.Refused n) (Phase.GiveUp y) = ⊤
+Fair c s a o xs (Kind.Refused n) top = IsShort c s n
+Fair c s a o xs (Kind.Place p v x) top = is_exclusive x ≡ false
+Fair c s a o xs (Kind.Mapped p r w) top = 1 ≤ r.count
+Fair c s a o xs (Kind.Copied f g None) top = IsNamed s.places.place f
+Fair c s a o xs (Kind.Copied f g (Some k)) top = (s.places.held f ≡ true) × (f ≡ g → ⊥) × (k < 8)
+Fair c s a o xs (Kind.Kept at why) top = kept_for c s a o xs (mirror_proc s.plain (op_mirror o)) at why ≡ true
+Fair c s a o xs (Kind.Fetched m at bs) top = ⊥
+Fair c s a o xs (Kind.Added m at was now) top = ⊥
+Fair c s a o xs k top = ⊤
 
 -- the facts of the stack to which an entry leads
 abbrev pub Led : After → Past → ℕ → Op → List Migrating → Phase → List Phase → Kind → Type 0
@@ -62,11 +64,11 @@ Led s t a o xs top below k = HoldsAll (next s a k) (past_next t s.length a k) a 
 
 -- it is allowed, and its actor then knows what its next phases say
 abbrev pub Good : Program → After → Past → ℕ → Op → List Migrating → Phase → List Phase → Next → Type 0
-Good c s t a o xs top below (Do k) = Allowed c s t a k × Fair c s k × Led s t a o xs top below k
+Good c s t a o xs top below (Do k) = Allowed c s t a k × Fair c s a o xs k top × Led s t a o xs top below k
 Good c s t a o xs top below (Wait w) = ⊤
 
-abbrev pub Core : After → Type 0
-Core s = (p v : ℕ) → is_core (s.places.place p v) ≡ true
+abbrev pub Unshared : After → Type 0
+Unshared s = (p v : ℕ) → is_exclusive (s.places.place p v) ≡ false
 
 pub either : {X : Type 0} (P : X → Type 0) (b : Bool) (x y : X) → (b ≡ true → P x) → (b ≡ false → P y) → P (elim b [ true ↦ x | false ↦ y ])
 either P true x y f g = f refl
@@ -88,7 +90,7 @@ abbrev lock_proc : Option MapLock → ℕ
 lock_proc None = 0
 lock_proc (Some l) = l.proc
 
-one_right : (p q : ℕ) → lock_on p false ≡ lock_on q true → ⊥
+pub one_right : (p q : ℕ) → lock_on p false ≡ lock_on q true → ⊥
 one_right p q h = true_false true refl (sym (ap lock_writes h))
 
 one_proc : (p q : ℕ) → lock_on p true ≡ lock_on q true → p ≡ q
@@ -109,15 +111,15 @@ clean_read c s t a p so h x e i = by (so.untouched.untouched p x h.1 e i)
     by (inr k) = absurd (one_right p p (sym h.0 ∙ ap s.locks.map (sym (so.locks.one_writer p k.0 a false k.1 h.0)) ∙ k.1))
 
 -- locks of processes
-no_writer : (s : After) (p : ℕ) → LockRules s.locks.map → writer s.locks p ≡ None → (b : ℕ) → s.locks.map b ≡ lock_on p true → ⊥
+pub no_writer : (s : After) (p : ℕ) → LockRules s.locks.map → writer s.locks p ≡ None → (b : ℕ) → s.locks.map b ≡ lock_on p true → ⊥
 no_writer s p so h b m = grind (arith, nat_tests, least_none (λ d. lock_passes (λ x. (x.proc == p) && x.writes) (s.locks.map d)) 0 16 b h, so.free_above b)
 
 no_holder : (s : After) (p a : ℕ) → LockRules s.locks.map → s.locks.map a ≡ None → lowest_other s.locks p a ≡ None → (b : ℕ) (w : Bool) → s.locks.map b ≡ lock_on p w → ⊥
 no_holder s p a so n h b w m = grind (arith, nat_tests, least_none (λ d. not (d == a) && lock_passes (λ x. x.proc == p) (s.locks.map d)) 0 16 b h, so.free_above b)
 
-pub rlock_ok : (c : Program) (s : After) (t : Past) (a : ℕ) (o : Op) (xs : List Migrating) (k p : ℕ) → a < 16 → Sound c s t → HoldsAll s t a (Is (has_piece o k) ∷ nothing_held) → s.plain.there p ≡ true →
-    facts o (moved o (Phase.Piece k ∷ []) (Kind.Rlock p) (seen_at s o xs (Phase.Piece k) (Kind.Rlock p))) ≡ Is (has_piece o k) ∷ Reads p ∷ No_guard ∷ Locks_only [] ∷ [] → Good c s t a o xs (Phase.Piece k) [] (rlock s p)
-rlock_ok c s t a o xs k p few so h th e = either_option (Good c s t a o xs (Phase.Piece k) []) (writer s.locks p) _ _ (λ n. ((few, h.1.0, no_writer s p so.locks n), tt, rw e (h.0, ((here_at s.locks.map a _, th), h.1.1)))) (λ b n. tt)
+pub rlock_ok : (c : Program) (s : After) (t : Past) (a : ℕ) (o : Op) (xs : List Migrating) (top : Phase) (p : ℕ) → a < 16 → Sound c s t → s.locks.map a ≡ None →
+    HoldsAll (next s a (Kind.Rlock p)) t a (facts o (moved o (top ∷ []) (Kind.Rlock p) (seen_at s o xs top (Kind.Rlock p)))) → Good c s t a o xs top [] (rlock s p)
+rlock_ok c s t a o xs top p few so h led = either_option (Good c s t a o xs top []) (writer s.locks p) _ _ (λ n. ((few, h, no_writer s p so.locks n), tt, led)) (λ b n. tt)
 
 clean_alone : (c : Program) (s : After) (t : Past) (p : ℕ) → Sound c s t → s.plain.there p ≡ true → ((b : ℕ) → s.locks.map b ≡ lock_on p true → ⊥) → Clean s p
 clean_alone c s t p so th no_one x e i = by (so.untouched.untouched p x th e i)
@@ -155,14 +157,17 @@ some_write x h = grind arith
 pub not_there : (s : Plain) (p v : ℕ) → s.there p ≡ false → may_fail s (Who.Cpu p) v 1 ≡ true
 not_there s p v e = grind (arith, nat_tests)
 
-pub no_area : (s : Plain) (p v : ℕ) → is_none (rights_of s p v) ≡ true → may_fail s (Who.Cpu p) v 1 ≡ true
-no_area s p v e = grind (arith, nat_tests)
+pub outside : (s : Plain) (m v : ℕ) → in_window s m (one_page v) ≡ false → may_fail s (Who.Mirror m) v 4 ≡ true
+outside s m v h = grind (arith, nat_tests)
 
-pub no_frame : (s : Plain) (p v : ℕ) → s.there p ≡ true → is_some (rights_of s p v) ≡ true → may_fail s (Who.Cpu p) v 3 ≡ true
-no_frame s p v t r = grind (arith, nat_tests)
+pub no_area : (s : Plain) (x : Who) (v : ℕ) → outside_cause s x v ≡ false → is_none (rights_of s (proc_of s x) v) ≡ true → may_fail s x v 1 ≡ true
+no_area s x v i e = grind (arith, nat_tests)
 
-pub read_only : (s : Plain) (p v : ℕ) → s.there p ≡ true → is_none (rights_of s p v) ≡ false → is_read_only (rights_of s p v) ≡ true → may_fail s (Who.Cpu p) v 2 ≡ true
-read_only s p v t n r = grind (arith, nat_tests)
+pub no_frame : (s : Plain) (x : Who) (v : ℕ) → s.there (proc_of s x) ≡ true → is_some (rights_of s (proc_of s x) v) ≡ true → may_fail s x v 3 ≡ true
+no_frame s x v t r = grind (arith, nat_tests)
+
+pub read_only : (s : Plain) (x : Who) (v : ℕ) → outside_cause s x v ≡ false → s.there (proc_of s x) ≡ true → is_none (rights_of s (proc_of s x) v) ≡ false → is_read_only (rights_of s (proc_of s x) v) ≡ true → may_fail s x v 2 ≡ true
+read_only s x v i t n r = grind (arith, nat_tests)
 
 pub not_short : (c : Program) (s : After) (n : ℕ) → (n == 3) ≡ false → IsShort c s n
 not_short c s n h e = grind (arith, nat_tests)

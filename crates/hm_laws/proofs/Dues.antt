@@ -1,10 +1,9 @@
 -- What is due at each stack of phases is good.
-use Rattle.std.proofs.Common.{◌≡◌, ℕ, ◌^◌, ◌<◌, ◌≤◌, Bool, true, false, nat_lt, not, Option, None, List, [], ◌∷◌, refl, sym, ap, ◌∙◌, subst, arith, length}
+use Rattle.std.proofs.Common.{◌≡◌, ℕ, ◌^◌, ◌<◌, ◌≤◌, Bool, true, false, nat_lt, not, ◌&&◌, Option, Some, None, List, [], ◌∷◌, refl, sym, ap, ◌∙◌, subst, arith, length}
 use Rattle.std.proofs.lemmas.Bool.Decides.{nat_tests}
 use Rattle.hm_base.specs.Pages.{Pages, covers}
 use Rattle.hm_base.specs.Areas.{last_of}
 use Rattle.hm_base.specs.Program.{Program}
-use Rattle.hm_base.specs.declared.Frame.{Frame}
 use Rattle.hm_base.specs.declared.Place.{Place}
 use Rattle.hm_base.specs.declared.ops.Rights.{Rights}
 use Rattle.hm_base.specs.declared.ops.Op.{Op}
@@ -16,7 +15,10 @@ use Rattle.hm_laws.specs.Past.{Past, past_next}
 use Rattle.hm_laws.specs.Sound.{Sound}
 use Rattle.hm_laws.specs.Allowed.{next, HasChild, Alike}
 use Rattle.hm_laws.proofs.Updates.{here_at, some_none, true_false, both_of}
-use Rattle.hm_laws.specs.Facts.{Fact, Is, Writes, Emptying, Narrowing, Forking, No_guard, Over, Locks_only, Zeroed, Copy_of, EmptyBelow, Holds, takes_lock, op_span, cpu_proc, at_page, has_piece, is_zero_place, nothing_held, deciding, forking, answering, facts, HoldsAll}
+use Rattle.hm_history.specs.Operation.{op_mirror}
+use Rattle.hm_history.specs.declared.Who.{Who}
+use Rattle.hm_laws.proofs.DueMirrors.{attach_ok, detach_ok, detaching_ok, snap_begin_ok, snap_ok}
+use Rattle.hm_laws.specs.Facts.{Fact, Is, Read_locked, Leaving, begins, is_detach, is_snap, Writes, Emptying, Narrowing, Forking, No_guard, Over, Locks_only, EmptyBelow, Holds, op_span, Touching, Noted, at_page, has_piece, nothing_held, deciding, forking, answering, facts, HoldsAll}
 use Rattle.hm_history.specs.Due.{proc_of_op}
 use Rattle.hm_base.specs.Program.{op_fits}
 use Rattle.hm_base.specs.Pages.{all_pages}
@@ -27,27 +29,55 @@ use Rattle.hm_history.specs.declared.phases.Body.{Body}
 use Rattle.hm_history.specs.declared.phases.Phase.{Phase}
 use Rattle.hm_history.specs.declared.phases.Next.TheVariants.{Do}
 use Rattle.hm_laws.specs.Basic.{is_basic}
-use Rattle.hm_laws.specs.Facts.{is_core}
-use Rattle.hm_laws.proofs.DueWords.{Good, Core}
-use Rattle.hm_laws.proofs.Pieces.{few_bytes}
-use Rattle.hm_laws.proofs.DueAccess.{load_piece_ok, store_piece_ok, load_fault_ok, store_fault_ok}
+use Rattle.hm_laws.proofs.DueWords.{Good, Unshared}
+use Rattle.hm_laws.proofs.Pieces.{few_bytes, few_device_bytes, device_store_in_page}
+use Rattle.hm_laws.proofs.DueAccess.{load_piece_ok, store_piece_ok}
+use Rattle.hm_laws.proofs.DueCpu.{load_fault_ok, store_fault_ok}
+use Rattle.hm_laws.proofs.DueMirrorPieces.{load_mirror_ok, store_mirror_ok}
+use Rattle.hm_laws.proofs.DueFreezes.{catch_ok, freezing_ok, frozen_end_ok}
+use Rattle.hm_laws.proofs.DueEmpties.{alone_ok, copy_ok, copied_ok}
+use Rattle.hm_laws.proofs.DueReturns.{settle_ok, return_to_ok, give_back_ok}
+use Rattle.hm_laws.proofs.DueFrames.{give_up_ok, refuse_ok, evict_ok, remove_ok}
+use Rattle.hm_laws.specs.Facts.{Clearing, Emptied, under, is_cpu, is_device_access}
+use Rattle.hm_history.specs.Operation.{is_evicting, is_remove, is_to_device}
+use Rattle.hm_laws.proofs.DueLookups.{begun_ok, load_walk_ok, store_walk_ok, noted_ok}
 use Rattle.hm_laws.proofs.DueAreas.{begin_ok, locked, locked_ok, map_ok, unmap_ok, protect_ok, exit_ok}
 use Rattle.hm_laws.proofs.DueSpans.{zap_guard, zap_ok, zap_drop, narrow_guard, narrow_ok, widen_ok}
 use Rattle.hm_laws.proofs.DueFork.{fork_name_ok, fork_ready, fork_guard, fork_ok}
-use Rattle.hm_laws.proofs.DueFaults.{AllSystem, taking, taken_ok, armed_ok, replace_at, nothing_at, drop_in_guard, drop_ok}
+use Rattle.hm_laws.proofs.DueFaults.{taken_ok, armed_ok, replace_at, nothing_at, drop_in_guard, drop_ok}
 use Rattle.hm_laws.proofs.DueAreas.{is_none_of}
+
+no_test : {X : Type 0} → false ≡ true → X
+no_test h = absurd (true_false true refl (sym h))
 
 -- the operation is one of those, and its numbers are in range
 abbrev pub OpOk : Program → Op → Type 0
 OpOk c o = (is_basic o ≡ true) × (op_fits (length c.devices) o ≡ true)
 
-begin_at : (c : Program) (s : After) (t : Past) (a : ℕ) (o : Op) (xs : List Migrating) → a < 16 → Sound c s t → HoldsAll s t a (Is (takes_lock o) ∷ nothing_held) → Good c s t a o xs Phase.Begin [] (due_phase c s a o xs Phase.Begin)
-begin_at c s t a (Op.Map p r w) xs few so h = begin_ok c s t a (Op.Map p r w) xs few so h
-begin_at c s t a (Op.Unmap p r) xs few so h = begin_ok c s t a (Op.Unmap p r) xs few so h
-begin_at c s t a (Op.Protect p r w) xs few so h = begin_ok c s t a (Op.Protect p r w) xs few so h
-begin_at c s t a (Op.Exit p) xs few so h = begin_ok c s t a (Op.Exit p) xs few so h
-begin_at c s t a (Op.Fork p d) xs few so h = begin_ok c s t a (Op.Fork p d) xs few so h
-begin_at c s t a o xs few so h = cc
+begin_at : (c : Program) (s : After) (t : Past) (a : ℕ) (o : Op) (xs : List Migrating) → OpOk c o → a < 16 → Sound c s t → HoldsAll s t a (Is (begins o) ∷ nothing_held) → Good c s t a o xs Phase.Begin [] (due_phase c s a o xs Phase.Begin)
+begin_at c s t a (Op.Map p r w) xs sm few so h = begin_ok c s t a (Op.Map p r w) xs few so h
+begin_at c s t a (Op.Unmap p r) xs sm few so h = begin_ok c s t a (Op.Unmap p r) xs few so h
+begin_at c s t a (Op.Protect p r w) xs sm few so h = begin_ok c s t a (Op.Protect p r w) xs few so h
+begin_at c s t a (Op.Exit p) xs sm few so h = begin_ok c s t a (Op.Exit p) xs few so h
+begin_at c s t a (Op.Fork p d) xs sm few so h = begin_ok c s t a (Op.Fork p d) xs few so h
+begin_at c s t a (Op.Attach m d p r) xs sm few so h = attach_ok c s t a (length c.devices) m d p r xs sm.1 h.1
+begin_at c s t a (Op.Detach m) xs sm few so h = detach_ok c s t a m xs so h.1
+begin_at c s t a (Op.Snap m r) xs sm few so h = snap_begin_ok c s t a m r xs few so h.1
+begin_at c s t a (Op.Load p at n) xs sm few so h = no_test h.0
+begin_at c s t a (Op.Store p at bs) xs sm few so h = no_test h.0
+begin_at c s t a (Op.Evict d) xs sm few so h = no_test h.0
+begin_at c s t a (Op.Remove d) xs sm few so h = no_test h.0
+begin_at c s t a (Op.DeviceLoad m at n) xs sm few so h = no_test h.0
+begin_at c s t a (Op.DeviceStore m at bs) xs sm few so h = no_test h.0
+begin_at c s t a o xs sm few so h = no_test sm.0
+
+detaching_at : (c : Program) (s : After) (t : Past) (a : ℕ) (o : Op) (xs : List Migrating) (q : ℕ) → Sound c s t → HoldsAll s t a (Is (is_detach o) ∷ Leaving (op_mirror o) ∷ nothing_held) → Good c s t a o xs (Phase.Detaching q) [] (due_phase c s a o xs (Phase.Detaching q))
+detaching_at c s t a (Op.Detach m) xs q so h = detaching_ok c s t a m q xs so h
+detaching_at c s t a o xs q so h = no_test h.0
+
+pages_at : (c : Program) (s : After) (t : Past) (a : ℕ) (o : Op) (xs : List Migrating) (v : ℕ) → HoldsAll s t a (Is (is_snap o) ∷ Read_locked (Who.Mirror (op_mirror o)) ∷ No_guard ∷ Locks_only [] ∷ []) → Good c s t a o xs (Phase.Pages v) [] (due_phase c s a o xs (Phase.Pages v))
+pages_at c s t a (Op.Snap m r) xs v h = snap_ok c s t a m v r xs h
+pages_at c s t a o xs v h = no_test h.0
 
 map_span : (n p : ℕ) (r : Pages) (w : Rights) → op_fits n (Op.Map p r w) ≡ true → (1 ≤ r.count) × (last_of r ≤ 2 ^ 36)
 map_span n p r w h = (grind (arith, nat_tests), grind (arith, nat_tests))
@@ -143,7 +173,14 @@ answer_at c s t a (Op.Fork p d) xs ba so h = ((e.0, e.1, e.2, all_alike c s t p 
 answer_at c s t a (Op.Map p r w) xs ba so h = absurd h.1.1.0
 answer_at c s t a (Op.Load p at n) xs ba so h = absurd h.1.1.0
 answer_at c s t a (Op.Store p at bs) xs ba so h = absurd h.1.1.0
-answer_at c s t a o xs ba so h = cc
+answer_at c s t a (Op.Attach m d p r) xs ba so h = absurd h.1.1.0
+answer_at c s t a (Op.Detach m) xs ba so h = absurd h.1.1.0
+answer_at c s t a (Op.Snap m r) xs ba so h = absurd h.1.1.0
+answer_at c s t a (Op.DeviceLoad m at n) xs ba so h = absurd h.1.1.0
+answer_at c s t a (Op.DeviceStore m at bs) xs ba so h = absurd h.1.1.0
+answer_at c s t a (Op.Evict d) xs ba so h = absurd h.1.1.0
+answer_at c s t a (Op.Remove d) xs ba so h = absurd h.1.1.0
+answer_at c s t a o xs ba so h = no_test ba
 
 -- accesses
 no_piece : (k : ℕ) → nat_lt k 0 ≡ true → ⊥
@@ -152,47 +189,83 @@ no_piece k h = grind (arith, nat_tests)
 piece_at_ok : (c : Program) (s : After) (t : Past) (a : ℕ) (o : Op) (xs : List Migrating) (k : ℕ) → OpOk c o → a < 16 → Sound c s t → HoldsAll s t a (Is (has_piece o k) ∷ nothing_held) → Good c s t a o xs (Phase.Piece k) [] (due_phase c s a o xs (Phase.Piece k))
 piece_at_ok c s t a (Op.Load p at n) xs k sm few so h = load_piece_ok c s t a p at n k xs few so h
 piece_at_ok c s t a (Op.Store p at bs) xs k sm few so h = store_piece_ok c s t a p at bs k xs few (few_bytes (length c.devices) p at bs sm.1) so h
+piece_at_ok c s t a (Op.DeviceLoad m at n) xs k sm few so h = load_mirror_ok c s t a m at n k xs so h
+piece_at_ok c s t a (Op.DeviceStore m at bs) xs k sm few so h = store_mirror_ok c s t a m at bs k xs (device_store_in_page m at bs k (few_device_bytes (length c.devices) m at bs sm.1)) so h
 piece_at_ok c s t a (Op.Map p r w) xs k sm few so h = absurd (no_piece k h.0)
 piece_at_ok c s t a (Op.Unmap p r) xs k sm few so h = absurd (no_piece k h.0)
 piece_at_ok c s t a (Op.Protect p r w) xs k sm few so h = absurd (no_piece k h.0)
 piece_at_ok c s t a (Op.Fork p d) xs k sm few so h = absurd (no_piece k h.0)
 piece_at_ok c s t a (Op.Exit p) xs k sm few so h = absurd (no_piece k h.0)
-piece_at_ok c s t a o xs k sm few so h = cc
+piece_at_ok c s t a (Op.Attach m d p r) xs k sm few so h = absurd (no_piece k h.0)
+piece_at_ok c s t a (Op.Detach m) xs k sm few so h = absurd (no_piece k h.0)
+piece_at_ok c s t a (Op.Snap m r) xs k sm few so h = absurd (no_piece k h.0)
+piece_at_ok c s t a (Op.Evict d) xs k sm few so h = absurd (no_piece k h.0)
+piece_at_ok c s t a (Op.Remove d) xs k sm few so h = absurd (no_piece k h.0)
+piece_at_ok c s t a o xs k sm few so h = no_test sm.0
 
-decide_at : (c : Program) (s : After) (t : Past) (a : ℕ) (o : Op) (xs : List Migrating) (k : ℕ) → OpOk c o → Sound c s t → Core s → HoldsAll s t a (deciding o k) → Good c s t a o xs (Phase.Decide (Touch.Cpu k)) [] (due_phase c s a o xs (Phase.Decide (Touch.Cpu k)))
-decide_at c s t a (Op.Load p at n) xs k sm so co h = load_fault_ok c s t a p at n k xs so co h
-decide_at c s t a (Op.Store p at bs) xs k sm so co h = store_fault_ok c s t a p at bs k xs so co h
-decide_at c s t a (Op.Map p r w) xs k sm so co h = absurd (no_piece k h.0)
-decide_at c s t a (Op.Unmap p r) xs k sm so co h = absurd (no_piece k h.0)
-decide_at c s t a (Op.Protect p r w) xs k sm so co h = absurd (no_piece k h.0)
-decide_at c s t a (Op.Fork p d) xs k sm so co h = absurd (no_piece k h.0)
-decide_at c s t a (Op.Exit p) xs k sm so co h = absurd (no_piece k h.0)
-decide_at c s t a o xs k sm so co h = cc
+decide_at : (c : Program) (s : After) (t : Past) (a : ℕ) (o : Op) (xs : List Migrating) (touch : Touch) → a < 16 → Sound c s t → Unshared s → HoldsAll s t a (deciding o touch) → Good c s t a o xs (Phase.Decide touch) [] (due_phase c s a o xs (Phase.Decide touch))
+decide_at c s t a (Op.Load p at n) xs (Touch.Cpu k) few so co h = load_fault_ok c s t a p at n k xs few so co h
+decide_at c s t a (Op.Store p at bs) xs (Touch.Cpu k) few so co h = store_fault_ok c s t a p at bs k xs few so co h
+decide_at c s t a o xs (Touch.Cpu k) few so co h = no_test h.0
+decide_at c s t a (Op.DeviceLoad m at n) xs (Touch.Walk k i q) few so co h = load_walk_ok c s t a m at n k i q xs few so co h
+decide_at c s t a (Op.DeviceStore m at bs) xs (Touch.Walk k i q) few so co h = store_walk_ok c s t a m at bs k i q xs few so co h
+decide_at c s t a o xs (Touch.Walk k i q) few so co h = no_test h.0.0
+decide_at c s t a o xs Touch.Sole few so co h = absurd h.0
 
--- an operation that has a piece is an access
-access_only : (P : Op → Type 0) (o : Op) (k : ℕ) → is_basic o ≡ true → has_piece o k ≡ true → ((p at n : ℕ) → P (Op.Load p at n)) → ((p at : ℕ) (bs : List ℕ) → P (Op.Store p at bs)) → P o
-access_only P (Op.Load p at n) k ba h f g = f p at n
-access_only P (Op.Store p at bs) k ba h f g = g p at bs
-access_only P (Op.Map p r w) k ba h f g = absurd (no_piece k h)
-access_only P (Op.Unmap p r) k ba h f g = absurd (no_piece k h)
-access_only P (Op.Protect p r w) k ba h f g = absurd (no_piece k h)
-access_only P (Op.Fork p d) k ba h f g = absurd (no_piece k h)
-access_only P (Op.Exit p) k ba h f g = absurd (no_piece k h)
-access_only P o k ba h f g = cc
+-- look-ups
+begun_at : (c : Program) (s : After) (t : Past) (a : ℕ) (o : Op) (xs : List Migrating) (k i q : ℕ) → a < 16 → Sound c s t → HoldsAll s t a (Touching o (Touch.Walk k i q) ∷ nothing_held) → Good c s t a o xs (Phase.Begun k i q) [] (due_phase c s a o xs (Phase.Begun k i q))
+begun_at c s t a (Op.DeviceLoad m at n) xs k i q few so h = begun_ok c s t a (Op.DeviceLoad m at n) xs k i q few so refl h
+begun_at c s t a (Op.DeviceStore m at bs) xs k i q few so h = begun_ok c s t a (Op.DeviceStore m at bs) xs k i q few so refl h
+begun_at c s t a o xs k i q few so h = no_test h.0.0
 
-taken_at : (c : Program) (s : After) (t : Past) (a : ℕ) (o : Op) (xs : List Migrating) (k : ℕ) (g : Frame) (over : Place) → OpOk c o → Sound c s t → AllSystem s → is_zero_place over ≡ false →
-    HoldsAll s t a (taking o k g (Zeroed g ∷ Is (is_core over) ∷ Is (not (writable over)) ∷ [])) → Good c s t a o xs (Phase.Taken (Touch.Cpu k) g over) [] (due_phase c s a o xs (Phase.Taken (Touch.Cpu k) g over))
-taken_at c s t a o xs k g over sm so sys nz h = access_only (λ o. HoldsAll s t a (taking o k g (Zeroed g ∷ Is (is_core over) ∷ Is (not (writable over)) ∷ [])) → Good c s t a o xs (Phase.Taken (Touch.Cpu k) g over) [] (due_phase c s a o xs (Phase.Taken (Touch.Cpu k) g over))) o k sm.0 h.0
-    (λ p at n i. taken_ok c s t a (Op.Load p at n) xs k g over so sys nz i)
-    (λ p at bs i. taken_ok c s t a (Op.Store p at bs) xs k g over so sys nz i)
-    h
+noted_at : (c : Program) (s : After) (t : Past) (a : ℕ) (o : Op) (xs : List Migrating) (k i q : ℕ) (x : Place) → Sound c s t → HoldsAll s t a (Touching o (Touch.Walk k i q) ∷ Noted (op_mirror o) (at_page o k) q x ∷ nothing_held) → Good c s t a o xs (Phase.Noted k i q x) [] (due_phase c s a o xs (Phase.Noted k i q x))
+noted_at c s t a (Op.DeviceLoad m at n) xs k i q x so h = noted_ok c s t a (Op.DeviceLoad m at n) xs k i q x so h.0.0 refl h
+noted_at c s t a (Op.DeviceStore m at bs) xs k i q x so h = noted_ok c s t a (Op.DeviceStore m at bs) xs k i q x so h.0.0 refl h
+noted_at c s t a o xs k i q x so h = no_test h.0.0
 
-armed_at : (c : Program) (s : After) (t : Past) (a : ℕ) (o : Op) (xs : List Migrating) (k : ℕ) (g : Frame) (over : Place) → OpOk c o → a < 16 →
-    HoldsAll s t a (taking o k g (Copy_of g (cpu_proc o) (at_page o k) ∷ Is (is_core over) ∷ Is (not (writable over)) ∷ [])) → Good c s t a o xs (Phase.Armed (Touch.Cpu k) g over) [] (due_phase c s a o xs (Phase.Armed (Touch.Cpu k) g over))
-armed_at c s t a o xs k g over sm few h = access_only (λ o. HoldsAll s t a (taking o k g (Copy_of g (cpu_proc o) (at_page o k) ∷ Is (is_core over) ∷ Is (not (writable over)) ∷ [])) → Good c s t a o xs (Phase.Armed (Touch.Cpu k) g over) [] (due_phase c s a o xs (Phase.Armed (Touch.Cpu k) g over))) o k sm.0 h.0
-    (λ p at n i. armed_ok c s t a (Op.Load p at n) xs k g over few i)
-    (λ p at bs i. armed_ok c s t a (Op.Store p at bs) xs k g over few i)
-    h
+-- frames emptied
+no_device : (o : Op) (b : Bool) → (is_cpu o && b) ≡ true → is_to_device o ≡ false
+no_device (Op.ToDevice m r) b h = no_test h
+no_device o b h = refl
+
+no_device_walk : (o : Op) (b : Bool) → (is_device_access o && b) ≡ true → is_to_device o ≡ false
+no_device_walk (Op.ToDevice m r) b h = no_test h
+no_device_walk o b h = refl
+
+no_device_evict : (o : Op) → is_evicting o ≡ true → is_to_device o ≡ false
+no_device_evict (Op.ToDevice m r) h = no_test h
+no_device_evict o h = refl
+
+no_device_remove : (o : Op) → is_remove o ≡ true → is_to_device o ≡ false
+no_device_remove (Op.ToDevice m r) h = no_test h
+no_device_remove o h = refl
+
+touch_device : (s : After) (t : Past) (a : ℕ) (o : Op) (touch : Touch) → Holds s t a (Touching o touch) → is_to_device o ≡ false
+touch_device s t a o (Touch.Cpu k) h = no_device o (has_piece o k) h
+touch_device s t a o (Touch.Walk k i q) h = no_device_walk o (has_piece o k) h.0
+touch_device s t a o Touch.Sole h = absurd h
+
+to_system : (s : After) (t : Past) (a : ℕ) (o : Op) (below : List Phase) → HoldsAll s t a (under o below) → is_to_device o ≡ false
+to_system s t a o (Phase.Decide touch ∷ []) h = touch_device s t a o touch h.0
+to_system s t a o (Phase.GiveUp (Some touch) ∷ []) h = touch_device s t a o touch h.0
+to_system s t a o (Phase.GiveUp None ∷ []) h = no_device_remove o h.0
+to_system s t a o (Phase.Frames v n ∷ []) h = no_device_evict o h.0
+to_system s t a o below h = absurd h.0
+
+give_up_at : (c : Program) (s : After) (t : Past) (a : ℕ) (o : Op) (xs : List Migrating) (touch : Option Touch) → HoldsAll s t a (No_guard ∷ Locks_only [] ∷ under o (Phase.GiveUp touch ∷ [])) → Good c s t a o xs (Phase.GiveUp touch) [] (due_phase c s a o xs (Phase.GiveUp touch))
+give_up_at c s t a o xs None h = refuse_ok c s t a o xs h
+give_up_at c s t a (Op.Load p at n) xs (Some (Touch.Cpu k)) h = give_up_ok c s t a (Op.Load p at n) xs (Touch.Cpu k) refl h
+give_up_at c s t a (Op.Store p at bs) xs (Some (Touch.Cpu k)) h = give_up_ok c s t a (Op.Store p at bs) xs (Touch.Cpu k) refl h
+give_up_at c s t a o xs (Some (Touch.Cpu k)) h = no_test h.1.1.0
+give_up_at c s t a (Op.DeviceLoad m at n) xs (Some (Touch.Walk k i q)) h = give_up_ok c s t a (Op.DeviceLoad m at n) xs (Touch.Walk k i q) refl h
+give_up_at c s t a (Op.DeviceStore m at bs) xs (Some (Touch.Walk k i q)) h = give_up_ok c s t a (Op.DeviceStore m at bs) xs (Touch.Walk k i q) refl h
+give_up_at c s t a o xs (Some (Touch.Walk k i q)) h = no_test h.1.1.0.0
+give_up_at c s t a o xs (Some Touch.Sole) h = absurd h.1.1.0
+
+frames_at : (c : Program) (s : After) (t : Past) (a : ℕ) (o : Op) (xs : List Migrating) (v n : ℕ) → OpOk c o → a < 16 → Sound c s t → HoldsAll s t a (Is (is_evicting o) ∷ Clearing o v ∷ Emptied n ∷ nothing_held) → Good c s t a o xs (Phase.Frames v n) [] (due_phase c s a o xs (Phase.Frames v n))
+frames_at c s t a (Op.Evict d) xs v n sm few so h = evict_ok c s t a d v n xs few so h
+frames_at c s t a (Op.Remove d) xs v n sm few so h = remove_ok c s t a d v n xs few so h
+frames_at c s t a o xs v n sm few so h = no_test h.0
 
 -- guards, of the operation's process and span
 over_op : (c : Program) (s : After) (t : Past) (a : ℕ) (o : Op) (xs : List Migrating) (q : ℕ) (r : Pages) (met : Bool) (told : Option ℕ) (body : Body) (l : ℕ → Pages → List Fact) → Holds s t a (Over q r (proc_of_op o) (op_span o)) →
@@ -202,28 +275,43 @@ over_op c s t a o xs q r met told body l e go h =
     subst (λ z. HoldsAll s t a (l z r) → Good c s t a o xs (Phase.Guard z r met told body) (Phase.Answer ∷ []) (Do (due_guard s a o z r met told body))) (sym e.0)
     (subst (λ z. HoldsAll s t a (l (proc_of_op o) z) → Good c s t a o xs (Phase.Guard (proc_of_op o) z met told body) (Phase.Answer ∷ []) (Do (due_guard s a o (proc_of_op o) z met told body))) (sym e.1) go) h
 
-fork_at : (c : Program) (s : After) (t : Past) (a : ℕ) (o : Op) (xs : List Migrating) (met : Bool) (told : Option ℕ) (n : ℕ) (half : Bool) → Sound c s t → Core s → HoldsAll s t a (fork_guard o (proc_of_op o) (op_span o) met told n half) →
+fork_at : (c : Program) (s : After) (t : Past) (a : ℕ) (o : Op) (xs : List Migrating) (met : Bool) (told : Option ℕ) (n : ℕ) (half : Bool) → Sound c s t → Unshared s → HoldsAll s t a (fork_guard o (proc_of_op o) (op_span o) met told n half) →
     Good c s t a o xs (Phase.Guard (proc_of_op o) (op_span o) met told (Body.Fork n half)) (Phase.Answer ∷ []) (Do (due_guard s a o (proc_of_op o) (op_span o) met told (Body.Fork n half)))
 fork_at c s t a (Op.Fork p d) xs met told n half so co h = fork_ok c s t a p d xs met told n half so co h
 fork_at c s t a o xs met told n half so co h = cc
 
-pub due_ok : (c : Program) (s : After) (t : Past) (a : ℕ) (o : Op) (xs : List Migrating) → OpOk c o → a < 16 → Sound c s t → Core s → AllSystem s → (top : Phase) (below : List Phase) → HoldsAll s t a (facts o (top ∷ below)) → Good c s t a o xs top below (due_phase c s a o xs top)
-due_ok c s t a o xs sm few so co sys Phase.Begin [] h = begin_at c s t a o xs few so h
-due_ok c s t a o xs sm few so co sys Phase.Locked [] h = locked_at c s t a o xs sm few so h
-due_ok c s t a o xs sm few so co sys Phase.Ready [] h = ready_at c s t a o xs few h
-due_ok c s t a o xs sm few so co sys Phase.Answer [] h = answer_at c s t a o xs sm.0 so h
-due_ok c s t a o xs sm few so co sys (Phase.Guard q r met told (Body.Zap n)) (Phase.Answer ∷ []) h = over_op c s t a o xs q r met told (Body.Zap n) (λ z w. zap_guard o z w met told n) h.1.1.0 (zap_ok c s t a o xs met told n so) h
-due_ok c s t a o xs sm few so co sys (Phase.Drop f) (Phase.Guard q r met told (Body.Zap n) ∷ Phase.Answer ∷ []) h = zap_drop c s t a o xs f q r met told n h
-due_ok c s t a o xs sm few so co sys (Phase.Guard q r met told (Body.Narrow n)) (Phase.Answer ∷ []) h = over_op c s t a o xs q r met told (Body.Narrow n) (λ z w. narrow_guard o z w met told n) h.1.1.0 (narrow_ok c s t a o xs met told n so co) h
-due_ok c s t a o xs sm few so co sys (Phase.Guard q r met told (Body.Fork n half)) (Phase.Answer ∷ []) h = over_op c s t a o xs q r met told (Body.Fork n half) (λ z w. fork_guard o z w met told n half) h.1.1.0 (fork_at c s t a o xs met told n half so co) h
-due_ok c s t a o xs sm few so co sys (Phase.Guard q r met told Body.Nothing) (Phase.Answer ∷ []) h = widen_ok c s t a o xs q r met told so h
-due_ok c s t a o xs sm few so co sys (Phase.Piece k) [] h = piece_at_ok c s t a o xs k sm few so h
-due_ok c s t a o xs sm few so co sys (Phase.Decide (Touch.Cpu k)) [] h = decide_at c s t a o xs k sm so co h
-due_ok c s t a o xs sm few so co sys (Phase.Taken (Touch.Cpu k) g Place.Zero) [] h = absurd h.0
-due_ok c s t a o xs sm few so co sys (Phase.Taken (Touch.Cpu k) g over) [] h = taken_at c s t a o xs k g over sm so sys refl h
-due_ok c s t a o xs sm few so co sys (Phase.Armed (Touch.Cpu k) g over) [] h = armed_at c s t a o xs k g over sm few h
-due_ok c s t a o xs sm few so co sys (Phase.Guard q r met told (Body.Replace over g)) (Phase.Decide (Touch.Cpu k) ∷ []) h = replace_at c s t a o xs k g over met told q r so sys h
-due_ok c s t a o xs sm few so co sys (Phase.Guard q r met told Body.Nothing) (Phase.Decide (Touch.Cpu k) ∷ []) h = nothing_at c s t a o xs k q r met told so h
-due_ok c s t a o xs sm few so co sys (Phase.Drop f) (Phase.Guard q r met told Body.Nothing ∷ Phase.Decide (Touch.Cpu k) ∷ []) h = drop_in_guard c s t a o xs f q r met told k h
-due_ok c s t a o xs sm few so co sys (Phase.Drop f) (Phase.Decide (Touch.Cpu k) ∷ []) h = drop_ok c s t a o xs f k h
-due_ok c s t a o xs sm few so co sys top below h = absurd h.0
+pub due_ok : (c : Program) (s : After) (t : Past) (a : ℕ) (o : Op) (xs : List Migrating) → OpOk c o → a < 16 → Sound c s t → Unshared s → (top : Phase) (below : List Phase) → HoldsAll s t a (facts o (top ∷ below)) → Good c s t a o xs top below (due_phase c s a o xs top)
+due_ok c s t a o xs sm few so co Phase.Begin [] h = begin_at c s t a o xs sm few so h
+due_ok c s t a o xs sm few so co (Phase.Detaching q) [] h = detaching_at c s t a o xs q so h
+due_ok c s t a o xs sm few so co (Phase.Pages v) [] h = pages_at c s t a o xs v h
+due_ok c s t a o xs sm few so co Phase.Locked [] h = locked_at c s t a o xs sm few so h
+due_ok c s t a o xs sm few so co Phase.Ready [] h = ready_at c s t a o xs few h
+due_ok c s t a o xs sm few so co Phase.Answer [] h = answer_at c s t a o xs sm.0 so h
+due_ok c s t a o xs sm few so co (Phase.Guard q r met told (Body.Zap n)) (Phase.Answer ∷ []) h = over_op c s t a o xs q r met told (Body.Zap n) (λ z w. zap_guard o z w met told n) h.1.1.0 (zap_ok c s t a o xs met told n so) h
+due_ok c s t a o xs sm few so co (Phase.Drop f) (Phase.Guard q r met told (Body.Zap n) ∷ Phase.Answer ∷ []) h = zap_drop c s t a o xs f q r met told n h
+due_ok c s t a o xs sm few so co (Phase.Guard q r met told (Body.Narrow n)) (Phase.Answer ∷ []) h = over_op c s t a o xs q r met told (Body.Narrow n) (λ z w. narrow_guard o z w met told n) h.1.1.0 (narrow_ok c s t a o xs met told n so) h
+due_ok c s t a o xs sm few so co (Phase.Guard q r met told (Body.Fork n half)) (Phase.Answer ∷ []) h = over_op c s t a o xs q r met told (Body.Fork n half) (λ z w. fork_guard o z w met told n half) h.1.1.0 (fork_at c s t a o xs met told n half so co) h
+due_ok c s t a o xs sm few so co (Phase.Guard q r met told Body.Nothing) (Phase.Answer ∷ []) h = widen_ok c s t a o xs q r met told so h
+due_ok c s t a o xs sm few so co (Phase.Piece k) [] h = piece_at_ok c s t a o xs k sm few so h
+due_ok c s t a o xs sm few so co (Phase.Begun k i q) [] h = begun_at c s t a o xs k i q few so h
+due_ok c s t a o xs sm few so co (Phase.Noted k i q x) [] h = noted_at c s t a o xs k i q x so h
+due_ok c s t a o xs sm few so co (Phase.Decide touch) [] h = decide_at c s t a o xs touch few so co h
+due_ok c s t a o xs sm few so co (Phase.Taken touch g Place.Zero) [] h = absurd h.0
+due_ok c s t a o xs sm few so co (Phase.Taken touch g over) [] h = taken_ok c s t a o xs touch g over so refl h
+due_ok c s t a o xs sm few so co (Phase.Armed touch g over) [] h = armed_ok c s t a o xs touch g over few so h
+due_ok c s t a o xs sm few so co (Phase.Guard q r met told (Body.Replace over g)) (Phase.Decide touch ∷ []) h = replace_at c s t a o xs touch g over met told q r so h
+due_ok c s t a o xs sm few so co (Phase.Guard q r met told Body.Nothing) (Phase.Decide touch ∷ []) h = nothing_at c s t a o xs touch q r met told so h
+due_ok c s t a o xs sm few so co (Phase.Drop f) (Phase.Guard q r met told Body.Nothing ∷ Phase.Decide touch ∷ []) h = drop_in_guard c s t a o xs f q r met told touch so h
+due_ok c s t a o xs sm few so co (Phase.Drop f) (Phase.Decide touch ∷ []) h = drop_ok c s t a o xs f touch so h
+due_ok c s t a o xs sm few so co (Phase.Guard q r met told (Body.Catch f)) below h = catch_ok c s t a o xs q r met told f below so h
+due_ok c s t a o xs sm few so co (Phase.Guard q r met told (Body.Freeze f)) (Phase.Alone g at ∷ below) h = freezing_ok c s t a o xs q r met told f g at below so h
+due_ok c s t a o xs sm few so co (Phase.Guard q r met told Body.Nothing) (Phase.Alone f at ∷ below) h = frozen_end_ok c s t a o xs q r met told f at below so h
+due_ok c s t a o xs sm few so co (Phase.Alone f at) below h = alone_ok c s t a o xs f at below few so (to_system s t a o below h.1.1.1) h
+due_ok c s t a o xs sm few so co (Phase.Copy f g k) (Phase.Copied i j ∷ below) h = copy_ok c s t a o xs f g i j k below so h
+due_ok c s t a o xs sm few so co (Phase.Copied f g) below h = copied_ok c s t a o xs f g below so h
+due_ok c s t a o xs sm few so co (Phase.Finish f None) below h = give_back_ok c s t a o xs f below so h
+due_ok c s t a o xs sm few so co (Phase.Finish f (Some g)) below h = return_to_ok c s t a o xs f g below so h
+due_ok c s t a o xs sm few so co (Phase.Settle g) below h = settle_ok c s t a o xs g below so h
+due_ok c s t a o xs sm few so co (Phase.GiveUp touch) [] h = give_up_at c s t a o xs touch h
+due_ok c s t a o xs sm few so co (Phase.Frames v n) [] h = frames_at c s t a o xs v n sm few so h
+due_ok c s t a o xs sm few so co top below h = absurd h.0

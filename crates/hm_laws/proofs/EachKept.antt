@@ -12,7 +12,7 @@ use Rattle.hm_laws.proofs.AreasKept.{areas_kept, places_kept}
 use Rattle.hm_laws.proofs.ContentsKept.{reads_kept}
 use Rattle.hm_laws.proofs.UntouchedKept.{untouched_kept}
 use Rattle.hm_laws.proofs.FramesKept.{frames_kept}
-use Rattle.hm_laws.proofs.MirrorsKept.{mirrors_kept, past_kept, untold_kept}
+use Rattle.hm_laws.proofs.MirrorsKept.{mirrors_kept, arrivals_kept, past_kept, untold_kept}
 use Rattle.hm_laws.proofs.TablesKept.{tables_kept}
 use Rattle.hm_laws.proofs.AttachKept.{sequences_kept}
 use Rattle.hm_laws.proofs.GuardsKept.{guards_kept}
@@ -28,6 +28,7 @@ kept c s t a k so ok = record {
   reads = reads_kept c s t a so k ok;
   untouched = untouched_kept c s t a so k ok;
   mirrors = mirrors_kept c s t a so k ok;
+  arrivals = arrivals_kept c s t a so k ok;
   sequences = sequences_kept c s t a so k ok;
   guards = guards_kept c s t a so k ok;
   tables = tables_kept c s t a so k ok;

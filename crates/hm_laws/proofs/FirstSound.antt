@@ -38,6 +38,7 @@ first_sound c = record {
   reads = record { reads = λ p a h i. cc };
   untouched = record { untouched = λ p a h i j. cc };
   mirrors = record { paired = λ m. tt };
+  arrivals = record { of_been = λ m x h. cc };
   sequences = record {
     few = λ m y h. cc;
     not_above = λ m y h. cc;

@@ -10,7 +10,7 @@ use Rattle.hm_history.specs.Sequences.{overlaps, overlapping, next_told, some_ov
 use Rattle.hm_history.specs.Lookups.{is_guarded}
 use Rattle.hm_history.specs.After.{After}
 use Rattle.hm_history.specs.declared.Kind.{Kind}
-use Rattle.hm_laws.specs.Past.{Past}
+use Rattle.hm_laws.specs.Past.{Past, past_next}
 use Rattle.hm_laws.specs.Sound.{Sound}
 use Rattle.hm_laws.specs.Allowed.{next, SequencesOk}
 use Rattle.hm_laws.proofs.Updates.{here_at, true_false, both, both_of, negated, equal_numbers}
@@ -217,12 +217,12 @@ told_on c s t a p r told m q so h e = record {
 
 -- what is due in a guard: the next mirror is told, and when all are its body goes on
 pub guard_ok : (c : Program) (s : After) (t : Past) (a : ℕ) (o : Op) (xs : List Migrating) (p : ℕ) (r : Pages) (met : Bool) (told : Option ℕ) (body : Body) (below : List Phase) → Sound c s t → (g : Guarding s.sequences.guard a p r met told) →
-    ((m : ℕ) → Guarding (next s a (Kind.Told m r (s.sequences.seq p))).sequences.guard a p r met (Some m) → HoldsAll (next s a (Kind.Told m r (s.sequences.seq p))) t a (facts o (Phase.Guard p r met (Some m) body ∷ below))) →
+    ((m : ℕ) → SequencesOk s a (Kind.Told m r (s.sequences.seq p)) → Guarding (next s a (Kind.Told m r (s.sequences.seq p))).sequences.guard a p r met (Some m) → HoldsAll (next s a (Kind.Told m r (s.sequences.seq p))) (past_next t s.length a (Kind.Told m r (s.sequences.seq p))) a (facts o (Phase.Guard p r met (Some m) body ∷ below))) →
     (all_told g.given ≡ true → Good c s t a o xs (Phase.Guard p r met told body) below (Do (body_or_end s p r (due_body s a o p r (s.places.place p r.first) body)))) →
     Good c s t a o xs (Phase.Guard p r met told body) below (Do (due_guard s a o p r met told body))
 guard_ok c s t a o xs p r true told body below so g tell go = by (next_told s.sequences p r told) refl
   where
     by : (x : Option ℕ) → next_told s.sequences p r told ≡ x → Good c s t a o xs (Phase.Guard p r true told body) below (Do (elim x [ Some m ↦ Kind.Told m r (s.sequences.seq p) | None ↦ body_or_end s p r (due_body s a o p r (s.places.place p r.first) body) ]))
     by None e = go (told_all c s t a p r true told so g e)
-    by (Some m) e = (tell_takes c s t a p r told m so g e, tt, tell m (told_on c s t a p r told m (s.sequences.seq p) so g e))
+    by (Some m) e = (tell_takes c s t a p r told m so g e, tt, tell m (tell_takes c s t a p r told m so g e) (told_on c s t a p r told m (s.sequences.seq p) so g e))
 guard_ok c s t a o xs p r false told body below so g tell go = go (told_all c s t a p r false told so g refl)

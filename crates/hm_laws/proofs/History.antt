@@ -1,5 +1,5 @@
 -- Each history of entries that were due keeps the rules, and each actor what it knows.
-use Rattle.std.proofs.Common.{◌≡◌, ℕ, zero, suc, ◌+◌, ◌-◌, ◌<◌, ◌⊎◌, inl, inr, Bool, true, false, ◌==◌, ◌&&◌, nat_lt, if◌then◌else◌, Option, Some, None, List, [], ◌∷◌, ◌++◌, refl, sym, ap, ◌∙◌, subst, arith, length, fold}
+use Rattle.std.proofs.Common.{◌≡◌, ℕ, zero, suc, ◌+◌, ◌-◌, ◌<◌, ◌≤◌, ◌⊎◌, inl, inr, Bool, true, false, ◌==◌, ◌&&◌, nat_lt, if◌then◌else◌, Option, Some, None, List, [], ◌∷◌, ◌++◌, refl, sym, ap, ◌∙◌, subst, arith, length, fold}
 use Rattle.std.specs.List.{list_all}
 use Rattle.hm_base.specs.Program.{Program}
 use Rattle.hm_base.specs.declared.ops.Op.{Op}
@@ -36,13 +36,13 @@ use Rattle.hm_history.specs.declared.Progress.{Progress}
 use Rattle.hm_base.specs.Program.{IsScript}
 use Rattle.hm_laws.specs.Past.{past_start}
 use Rattle.hm_laws.specs.Basic.{IsBasic}
-use Rattle.hm_laws.specs.Cpu.{CpuRules}
+use Rattle.hm_laws.specs.Shared.{SharedRules}
 use Rattle.hm_laws.specs.Stands.{Standing}
 use Rattle.hm_laws.proofs.EachKept.{kept}
 use Rattle.hm_laws.proofs.FirstSound.{first_sound}
 use Rattle.hm_laws.proofs.Stable.{stable}
 use Rattle.hm_laws.proofs.AreaOrder.{order_kept}
-use Rattle.hm_laws.proofs.CpuKept.{cpu_kept}
+use Rattle.hm_laws.proofs.SharedKept.{shared_kept}
 use Rattle.hm_laws.proofs.Dues.{OpOk, due_ok}
 
 -- the script's operations, one by one
@@ -84,6 +84,12 @@ some_piece a n = by (first_len a n == n)
     by true = refl
     by false = refl
 
+none_less : (i : ℕ) → i < 0 → ⊥
+none_less i l = omega (arith, l)
+
+least_count : (n : ℕ) → 0 ≤ n
+least_count n = omega arith
+
 from_known : (c : Program) (s : After) (t : Past) (a i : ℕ) → Small c → HoldsAll s t a nothing_held → Knows c s t a (going_from c a i)
 from_known c s t a i sm h = by (op_at c a i) (sm.ops a i)
   where
@@ -93,6 +99,13 @@ from_known c s t a i sm h = by (op_at c a i) (sm.ops a i)
     first (Op.Protect p r w) k = (refl, h)
     first (Op.Exit p) k = (refl, h)
     first (Op.Fork p d) k = (refl, h)
+    first (Op.Attach m d p r) k = (refl, h)
+    first (Op.Detach m) k = (refl, h)
+    first (Op.Snap m r) k = (refl, h)
+    first (Op.Evict d) k = (refl, (tt, (least_count s.length, h)))
+    first (Op.Remove d) k = (refl, ((λ i l. absurd (none_less i l)), (least_count s.length, h)))
+    first (Op.DeviceLoad m at n) k = (some_piece at n, h)
+    first (Op.DeviceStore m at bs) k = (some_piece at (length bs), h)
     first (Op.Load p at n) k = (some_piece at n, h)
     first (Op.Store p at bs) k = (some_piece at (length bs), h)
     first o k = cc
@@ -116,14 +129,23 @@ no_record s t a o page xs k (Phase.Guard q r met told Body.Nothing) below h = re
 no_record s t a o page xs k (Phase.Guard q r met told (Body.Zap n)) below h = refl
 no_record s t a o page xs k (Phase.Guard q r met told (Body.Narrow n)) below h = refl
 no_record s t a o page xs k (Phase.Guard q r met told (Body.Fork n half)) below h = refl
+no_record s t a o page xs k (Phase.Guard q r met told (Body.Catch f)) below h = refl
+no_record s t a o page xs k (Phase.Guard q r met told (Body.Freeze f)) below h = refl
 no_record s t a o page xs k (Phase.Guard q r met told x) below h = absurd h.0
 no_record s t a o page xs k (Phase.Moves step v) below h = absurd h.0
 no_record s t a o page xs k top below h = refl
 
 -- the turn of an actor at a phase
-pub record Turn (c : Program) (s : After) (t : Past) (a : ℕ) (k : Kind) (g : Going) : Type 0 where
+pub record Turn (c : Program) (s : After) (t : Past) (a : ℕ) (k : Kind) (was g : Going) : Type 0 where
+  pub op : Op
+  pub top : Phase
+  pub below : List Phase
+  pub is_op : op_at c a was.index ≡ Some op
+  pub is_stack : was.stack ≡ top ∷ below
+  pub known : HoldsAll s t a (facts op (top ∷ below))
+  pub is_due : due_phase c s a op was.pages top ≡ Do k
   pub allowed : Allowed c s t a k
-  pub fair : Fair c s k
+  pub fair : Fair c s a op was.pages k top
   pub knows : Knows c (next s a k) (past_next t s.length a k) a g
   pub empty : g.pages ≡ []
 
@@ -134,41 +156,48 @@ kind_of p = Kind.Refused 0
 did : (a : ℕ) (l k : Kind) → progress a (Do l) ≡ Progress.Did (record { actor = a; kind = k }) → l ≡ k
 did a l k h = ap kind_of h
 
-turn_top : (c : Program) (s : After) (t : Past) (a : ℕ) (g : Going) (k : Kind) → Small c → Sound c s t → CpuRules s → g.pages ≡ [] → (o : Op) → op_at c a g.index ≡ Some o → (st : List Phase) → g.stack ≡ st → HoldsAll s t a (facts o st) → due_top c s a (Some o) g.pages st ≡ Progress.Did (record { actor = a; kind = k }) →
-    Turn c s t a k (going_top c s a g o st k)
-turn_top c s t a g k sm so cpu no_pages o e [] es h d = cc
-turn_top c s t a g k sm so cpu no_pages o e (top ∷ below) es h d = by (due_phase c s a o g.pages top) (due_ok c s t a o g.pages (sm.ops a g.index o e) (sm.few a g.index o e) so cpu.core cpu.in_system top below h) d
+turn_top : (c : Program) (s : After) (t : Past) (a : ℕ) (g : Going) (k : Kind) → Small c → Sound c s t → SharedRules s → g.pages ≡ [] → (o : Op) → op_at c a g.index ≡ Some o → (st : List Phase) → g.stack ≡ st → HoldsAll s t a (facts o st) → due_top c s a (Some o) g.pages st ≡ Progress.Did (record { actor = a; kind = k }) →
+    Turn c s t a k g (going_top c s a g o st k)
+turn_top c s t a g k sm so sys no_pages o e [] es h d = cc
+turn_top c s t a g k sm so sys no_pages o e (top ∷ below) es h d = by (due_phase c s a o g.pages top) refl (due_ok c s t a o g.pages (sm.ops a g.index o e) (sm.few a g.index o e) so sys.unshared top below h) d
   where
-    by : (n : Next) → Good c s t a o g.pages top below n → progress a n ≡ Progress.Did (record { actor = a; kind = k }) → Turn c s t a k (going_top c s a g o (top ∷ below) k)
-    by (Wait y) good p = cc
-    by (Do l) good p = done (subst (λ i. Good c s t a o g.pages top below (Do i)) (did a l k p) good)
+    by : (n : Next) → due_phase c s a o g.pages top ≡ n → Good c s t a o g.pages top below n → progress a n ≡ Progress.Did (record { actor = a; kind = k }) → Turn c s t a k g (going_top c s a g o (top ∷ below) k)
+    by (Wait y) en good p = cc
+    by (Do l) en good p = done (subst (λ i. Good c s t a o g.pages top below (Do i)) (did a l k p) good)
       where
-        done : Allowed c s t a k × Fair c s k × Led s t a o g.pages top below k → Turn c s t a k (going_top c s a g o (top ∷ below) k)
+        done : Allowed c s t a k × Fair c s a o g.pages k top × Led s t a o g.pages top below k → Turn c s t a k g (going_top c s a g o (top ∷ below) k)
         done y = record {
+          op = o;
+          top = top;
+          below = below;
+          is_op = e;
+          is_stack = es;
+          known = h;
+          is_due = en ∙ ap Do (did a l k p);
           allowed = y.0;
           fair = y.1;
           knows = subst (λ z. Knows c (next s a k) (past_next t s.length a k) a (going_on c a g.index (moved o z k (seen_at s o g.pages top k)) (recorded top (seen_at s o g.pages top k).page g.pages k))) (sym es) (on_known c (next s a k) (past_next t s.length a k) a g.index o _ sm e _ y.2);
           empty = on_empty c a g.index _ _ (no_record s t a o (seen_at s o g.pages top k).page g.pages k top below h ∙ no_pages);
         }
 
-turn_op : (c : Program) (s : After) (t : Past) (a : ℕ) (g : Going) (k : Kind) → Small c → Sound c s t → CpuRules s → g.pages ≡ [] → (x : Option Op) → op_at c a g.index ≡ x → HoldsAll s t a (facts_of x g.stack) → due_top c s a x g.pages g.stack ≡ Progress.Did (record { actor = a; kind = k }) →
-    Turn c s t a k (elim x as (λ y. Going) [ None ↦ g | Some o ↦ going_top c s a g o g.stack k ])
-turn_op c s t a g k sm so cpu no_pages None e h d = cc
-turn_op c s t a g k sm so cpu no_pages (Some o) e h d = turn_top c s t a g k sm so cpu no_pages o e g.stack refl h d
+turn_op : (c : Program) (s : After) (t : Past) (a : ℕ) (g : Going) (k : Kind) → Small c → Sound c s t → SharedRules s → g.pages ≡ [] → (x : Option Op) → op_at c a g.index ≡ x → HoldsAll s t a (facts_of x g.stack) → due_top c s a x g.pages g.stack ≡ Progress.Did (record { actor = a; kind = k }) →
+    Turn c s t a k g (elim x as (λ y. Going) [ None ↦ g | Some o ↦ going_top c s a g o g.stack k ])
+turn_op c s t a g k sm so sys no_pages None e h d = cc
+turn_op c s t a g k sm so sys no_pages (Some o) e h d = turn_top c s t a g k sm so sys no_pages o e g.stack refl h d
 
-pub turn_of : (c : Program) (u : State) (t : Past) (e : Entry) → Small c → Standing c u t → due_in c u e.actor ≡ Progress.Did e → Turn c u.after t e.actor e.kind (going_next c u.after e.actor (u.going e.actor) e.kind)
-turn_of c u t e sm st d = turn_op c u.after t e.actor (u.going e.actor) e.kind sm st.sound st.cpu (st.no_records e.actor) (op_at c e.actor (u.going e.actor).index) refl (st.known e.actor) d
+pub turn_of : (c : Program) (u : State) (t : Past) (e : Entry) → Small c → Standing c u t → due_in c u e.actor ≡ Progress.Did e → Turn c u.after t e.actor e.kind (u.going e.actor) (going_next c u.after e.actor (u.going e.actor) e.kind)
+turn_of c u t e sm st d = turn_op c u.after t e.actor (u.going e.actor) e.kind sm st.sound st.shared (st.no_records e.actor) (op_at c e.actor (u.going e.actor).index) refl (st.known e.actor) d
 
 pub turn : (c : Program) (u : State) (t : Past) (e : Entry) → Small c → Standing c u t → due_in c u e.actor ≡ Progress.Did e → Standing c (state_next c u e) (past_next t u.after.length e.actor e.kind)
 turn c u t e sm st d = record {
   sound = kept c u.after t e.actor e.kind st.sound ok.allowed;
-  order = order_kept c u.after t e.actor e.kind ok.allowed ok.fair st.order;
-  cpu = cpu_kept c u.after t e.actor e.kind st.sound ok.allowed ok.fair st.cpu;
+  order = order_kept c u.after t e.actor ok.op (u.going e.actor).pages ok.top e.kind ok.allowed ok.fair st.order;
+  shared = shared_kept c u.after t e.actor ok.op (u.going e.actor).pages ok.top e.kind ok.allowed ok.fair st.shared;
   known = λ b. knows b (cases_eq b e.actor);
   no_records = λ b. none b (cases_eq b e.actor);
 }
   where
-    ok : Turn c u.after t e.actor e.kind (going_next c u.after e.actor (u.going e.actor) e.kind)
+    ok : Turn c u.after t e.actor e.kind (u.going e.actor) (going_next c u.after e.actor (u.going e.actor) e.kind)
     ok = turn_of c u t e sm st d
 
     knows : (b : ℕ) → (b ≡ e.actor) ⊎ (b ≡ e.actor → ⊥) → Knows c (after_entry u.after e) (past_next t u.after.length e.actor e.kind) b (with_at u.going e.actor (going_next c u.after e.actor (u.going e.actor) e.kind) b)
@@ -185,7 +214,7 @@ pub at_start : (c : Program) → Small c → Standing c (state_start c) past_sta
 at_start c sm = record {
   sound = first_sound c;
   order = record { few = λ p. omega arith; in_order = λ p. refl };
-  cpu = record { core = λ p v. refl; in_system = λ f h. cc; no_mirror = λ m. refl; still = λ p. refl };
+  shared = record { unshared = λ p v. refl };
   known = λ a. from_known c after_nothing past_start a 0 sm (refl, (refl, ((λ f e. cc), tt)));
   no_records = λ a. refl;
 }

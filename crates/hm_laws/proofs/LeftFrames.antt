@@ -23,9 +23,16 @@ use Rattle.hm_laws.proofs.PlaceLocks.{PlacedMove, Same, Unlocks, Locks_it, place
 abbrev pub orphan_at : After → ℕ → ℕ → Place → Option Frame
 orphan_at s p v x = orphan s.locks s.places (Kind.Place p v x)
 
+-- a place that freezes nothing, or only what is frozen already
+abbrev pub LocksNothing : After → Place → Type 0
+LocksNothing s x = (f : Frame) → moving_frame x ≡ Some f → is_some (s.locks.frame f) ≡ true
+
+pub unfrozen : (s : After) (x : Place) → moving_frame x ≡ None → LocksNothing s x
+unfrozen s x n f e = absurd (some_none (moving_frame x) f e n)
+
 -- the frames that an actor has locked after a place of its own: what was left behind, and what it had locked and
 -- has not just given its place
-pub gains_own : (s : After) (a p v : ℕ) (x : Place) → moving_frame x ≡ None → (f : Frame) → (next s a (Kind.Place p v x)).locks.frame f ≡ Some a →
+pub gains_own : (s : After) (a p v : ℕ) (x : Place) → LocksNothing s x → (f : Frame) → (next s a (Kind.Place p v x)).locks.frame f ≡ Some a →
     (orphan_at s p v x ≡ Some f) ⊎ ((s.locks.frame f ≡ Some a) × (frame_placed s.locks (s.places.place p v) a x f ≡ Some a))
 gains_own s a p v x nm f h = by (orphan_at s p v x) (frame_tells f) h
   where
@@ -35,7 +42,7 @@ gains_own s a p v x nm f h = by (orphan_at s p v x) (frame_tells f) h
         at : (l : Option ℕ) → l ≡ Some a → PlacedMove s.locks.frame (s.places.place p v) a x f l → s.locks.frame f ≡ Some a
         at l e (Same i z) = sym i ∙ e
         at l e (Unlocks n w i j o m k) = m
-        at l e (Locks_it i m k) = absurd (some_none (moving_frame x) f i nm)
+        at l e (Locks_it i m k) = absurd (true_false (is_some (s.locks.frame f)) (nm f i) (ap is_some m))
 
     by : (o : Option Frame) → ((g : Frame) → ((same_frame f g ≡ true) × (f ≡ g)) ⊎ ((same_frame f g ≡ false) × (f ≢ g))) → with_lock (frame_placed s.locks (s.places.place p v) a x) o (Some a) f ≡ Some a →
         (o ≡ Some f) ⊎ ((s.locks.frame f ≡ Some a) × (frame_placed s.locks (s.places.place p v) a x f ≡ Some a))
@@ -71,7 +78,7 @@ left_unnamed c s t a p v x so ok f e q u n = true_false (is_frame (names (with_p
     rules = places_kept c s t a so (Kind.Place p v x) ok
 
 -- a frame that is not locked is stood for only where it is named
-unlocked_stands : (c : Program) (s : After) (t : Past) → Sound c s t → (f : Frame) → s.locks.frame f ≡ None → (y : Place) → (is_moving y ≡ true → stood s.places.moved_to y ≡ Some f → is_some (s.locks.frame f) ≡ true) → stood s.places.moved_to y ≡ Some f → names y ≡ Some f
+pub unlocked_stands : (c : Program) (s : After) (t : Past) → Sound c s t → (f : Frame) → s.locks.frame f ≡ None → (y : Place) → (is_moving y ≡ true → stood s.places.moved_to y ≡ Some f → is_some (s.locks.frame f) ≡ true) → stood s.places.moved_to y ≡ Some f → names y ≡ Some f
 unlocked_stands c s t so f h Place.Empty g n = cc
 unlocked_stands c s t so f h Place.Zero g n = cc
 unlocked_stands c s t so f h (Place.Sys i w) g n = n

@@ -1,9 +1,9 @@
 -- An entry that is due may follow.
-use Rattle.std.proofs.Common.{◌≡◌, ℕ, Bool, true, false, ◌==◌, ◌||◌, is_none, None, List, [], ◌∷◌, ◌++◌, refl, ap, subst, arith}
+use Rattle.std.proofs.Common.{◌≡◌, ℕ, Bool, true, false, ◌==◌, ◌||◌, is_none, Some, None, List, [], ◌∷◌, ◌++◌, refl, sym, ap, ◌∙◌, subst, arith}
 use Rattle.hm_base.specs.Program.{Program}
 use Rattle.hm_base.specs.declared.PoolId.{PoolId}
 use Rattle.hm_history.specs.Plain.{plain_takes, mirror_proc}
-use Rattle.hm_history.specs.Places.{lowest_free, places_take}
+use Rattle.hm_history.specs.Places.{TableEntry, lowest_free, places_take, entry_passes, table_reads}
 use Rattle.hm_history.specs.Sequences.{sequences_take}
 use Rattle.hm_history.specs.Lookups.{narrows_guarded}
 use Rattle.hm_history.specs.After.{After}
@@ -11,14 +11,23 @@ use Rattle.hm_history.specs.declared.Who.{Who}
 use Rattle.hm_history.specs.declared.Kind.{Kind}
 use Rattle.hm_laws.specs.Past.{Past, past_next}
 use Rattle.hm_laws.specs.Allowed.{Allowed}
-use Rattle.hm_laws.proofs.Updates.{equal_numbers}
+use Rattle.hm_laws.specs.Sound.{Sound}
+use Rattle.hm_laws.proofs.Updates.{both, equal_numbers}
+use Rattle.hm_laws.proofs.Tables.{entry_of}
+use Rattle.hm_laws.proofs.Shortness.{is_given, gives}
+use Rattle.hm_laws.proofs.ShortOn.{ShortIs, short_start, short_on}
+use Rattle.hm_laws.proofs.Telling.{PastIs, past_is_start, past_is_step, untold_entry}
 use Rattle.hm_laws.proofs.DueWords.{Fair}
 use Rattle.hm_history.specs.After.{after}
-use Rattle.hm_history.specs.Lookups.{uses_untold}
-use Rattle.hm_history.specs.Going.{State, state_of}
+use Rattle.hm_history.specs.Lookups.{is_untold, uses_untold}
+use Rattle.hm_history.specs.Words.{page_of}
+use Rattle.hm_base.specs.declared.ops.Op.{Op}
+use Rattle.hm_history.specs.declared.phases.Migrating.{Migrating}
+use Rattle.hm_history.specs.declared.phases.Phase.{Phase}
+use Rattle.hm_history.specs.Going.{State, op_at, going_next, state_start, state_of, state_of-snoc}
 use Rattle.hm_history.specs.Due.{due}
 use Rattle.hm_history.specs.Laws.{DueFrom}
-use Rattle.hm_history.specs.Legal.{MayFollow, LegalFrom, Legal, fails_rightly, kept_rightly, system_is_full, was_short}
+use Rattle.hm_history.specs.Legal.{kept_op, MayFollow, LegalFrom, Legal, fails_rightly, kept_rightly, system_is_full, was_short}
 use Rattle.hm_history.specs.declared.Entry.{Entry}
 use Rattle.hm_history.specs.declared.Progress.{Progress}
 use Rattle.hm_base.specs.Program.{IsScript}
@@ -26,9 +35,22 @@ use Rattle.hm_laws.specs.Past.{past_start}
 use Rattle.hm_laws.specs.Basic.{IsBasic}
 use Rattle.hm_laws.specs.Stands.{Standing}
 use Rattle.hm_laws.proofs.LawsOf.{answers_of, sequences_of, guarded_of, places_of}
-use Rattle.hm_laws.proofs.History.{Small, small, turn_of, at_start, after_is, standing_on}
+use Rattle.hm_laws.proofs.History.{Turn, Small, small, turn_of, at_start, after_is, standing_on}
 
 -- no frame was free
+abbrev gives_up : Phase → Bool
+gives_up top = is_given top
+
+gives_top : (u : State) (a : ℕ) (top : Phase) (below : List Phase) → (u.going a).stack ≡ top ∷ below → is_given top ≡ true → gives (u.going a).stack ≡ true
+gives_top u a top below e g = ap gives e ∙ ap (λ b. b || gives below) g
+
+short_is : (c : Program) (h : List Entry) (a : ℕ) (b : Bool) → was_short c h a ≡ true → elim b [ false ↦ true | true ↦ system_is_full c h || was_short c h a ] ≡ true
+short_is c h a false e = refl
+short_is c h a true e = by (system_is_full c h) (was_short c h a) e
+  where
+    by : (x y : Bool) → y ≡ true → (x || y) ≡ true
+    by x y i = grind arith
+
 full_is : (c : Program) (h : List Entry) (a : ℕ) (b : Bool) → (b ≡ true → lowest_free c (after h).places PoolId.System ≡ None) → elim b [ false ↦ true | true ↦ system_is_full c h || was_short c h a ] ≡ true
 full_is c h a false f = refl
 full_is c h a true f = by (system_is_full c h) (ap is_none (f refl))
@@ -36,48 +58,62 @@ full_is c h a true f = by (system_is_full c h) (ap is_none (f refl))
     by : (b : Bool) → b ≡ true → (b || was_short c h a) ≡ true
     by b e = grind arith
 
-frames_of : (c : Program) (h : List Entry) (a : ℕ) (k : Kind) → Fair c (after h) k → fails_rightly c h (record { actor = a; kind = k }) ≡ true
-frames_of c h a (Kind.Failed (Who.Cpu p) at n k) fair = full_is c h a (k == 3) (λ e. fair (equal_numbers k 3 e))
-frames_of c h a (Kind.Failed (Who.Mirror m) at n k) fair = absurd fair
-frames_of c h a (Kind.Refused n) fair = full_is c h a (n == 3) (λ e. fair (equal_numbers n 3 e))
-frames_of c h a k fair = refl
+frames_of : (c : Program) (h : List Entry) (a : ℕ) (o : Op) (xs : List Migrating) (k : Kind) (top : Phase) → (gives_up top ≡ true → was_short c h a ≡ true) → Fair c (after h) a o xs k top → fails_rightly c h (record { actor = a; kind = k }) ≡ true
+frames_of c h a o xs (Kind.Failed x at n k) (Phase.GiveUp y) short fair = short_is c h a (k == 3) (short refl)
+frames_of c h a o xs (Kind.Failed x at n k) top short fair = full_is c h a (k == 3) (λ e. fair (equal_numbers k 3 e))
+frames_of c h a o xs (Kind.Refused n) (Phase.GiveUp y) short fair = short_is c h a (n == 3) (short refl)
+frames_of c h a o xs (Kind.Refused n) top short fair = full_is c h a (n == 3) (λ e. fair (equal_numbers n 3 e))
+frames_of c h a o xs k top short fair = refl
 
 -- no use of a told table entry
-untold_of : (c : Program) (h : List Entry) (s : After) (k : Kind) → Fair c s k → uses_untold h k ≡ true
-untold_of c h s (Kind.Loaded (Who.Mirror m) at bs) fair = absurd fair
-untold_of c h s (Kind.Stored (Who.Mirror m) at bs) fair = absurd fair
-untold_of c h s (Kind.Fetched m at bs) fair = absurd fair
-untold_of c h s (Kind.Added m at was now) fair = absurd fair
-untold_of c h s (Kind.Loaded (Who.Cpu p) at bs) fair = refl
-untold_of c h s (Kind.Stored (Who.Cpu p) at bs) fair = refl
-untold_of c h s k fair = refl
+abbrev Untold : List Entry → After → Past → Type 0
+Untold h s past = PastIs h s.length past s.places.table
+
+entry_untold : (c : Program) (h : List Entry) (s : After) (past : Past) (m v : ℕ) → Sound c s past → Untold h s past → (test : TableEntry → Bool) → entry_passes test (s.places.table m v) ≡ true → is_untold h m v ≡ true
+entry_untold c h s past m v so pa test e = let x = entry_of test (s.places.table m v) e in
+    untold_entry h s.length past s.places.table pa m v x.0 x.1 (so.untold.untold m v x.0 x.1) (so.untold.set_rightly m v x.0 x.1)
+
+untold_of : (c : Program) (h : List Entry) (s : After) (past : Past) (a : ℕ) (k : Kind) → Sound c s past → Untold h s past → Allowed c s past a k → uses_untold h k ≡ true
+untold_of c h s past a (Kind.Loaded (Who.Cpu p) at bs) so pa ok = refl
+untold_of c h s past a (Kind.Stored (Who.Cpu p) at bs) so pa ok = refl
+untold_of c h s past a (Kind.Loaded (Who.Mirror m) at bs) so pa ok = entry_untold c h s past m (page_of at) so pa _ ok.2
+untold_of c h s past a (Kind.Stored (Who.Mirror m) at bs) so pa ok = entry_untold c h s past m (page_of at) so pa _ (both (table_reads s.places m (mirror_proc s.plain m) (page_of at)) _ ok.2).0
+untold_of c h s past a (Kind.Fetched m at bs) so pa ok = entry_untold c h s past m (page_of at) so pa _ ok.1
+untold_of c h s past a (Kind.Added m at was now) so pa ok = entry_untold c h s past m (page_of at) so pa _ ok.1
+untold_of c h s past a k so pa ok = refl
 
 -- reasons
-kept_of : (c : Program) (t : State) (s : After) (a : ℕ) (k : Kind) → Fair c s k → kept_rightly c t (record { actor = a; kind = k }) ≡ true
-kept_of c t s a (Kind.Kept at why) fair = absurd fair
-kept_of c t s a k fair = refl
+kept_of : (c : Program) (u : State) (a : ℕ) (o : Op) (k : Kind) (top : Phase) → op_at c a (u.going a).index ≡ Some o → Fair c u.after a o (u.going a).pages k top → kept_rightly c u (record { actor = a; kind = k }) ≡ true
+kept_of c u a o (Kind.Kept at why) top e fair = ap (λ x. kept_op c u.after a x (u.going a).pages at why) e ∙ fair
+kept_of c u a o k top e fair = refl
 
-pub may_follow : (c : Program) (h : List Entry) (e : Entry) (t : Past) → Small c → Standing c (state_of c h) t → due c h e.actor ≡ Progress.Did e → MayFollow c h e
-may_follow c h e t sm st d = record {
+pub may_follow : (c : Program) (h : List Entry) (e : Entry) (t : Past) → Small c → Standing c (state_of c h) t → Untold h (state_of c h).after t → ShortIs c h (state_of c h) → due c h e.actor ≡ Progress.Did e → MayFollow c h e
+may_follow c h e t sm st pa short d = record {
   is_due = d;
   answers = subst (λ s. plain_takes s.plain e.kind ≡ true) (after_is c h) (answers_of c (state_of c h).after t e.actor e.kind ok);
   places = subst (λ s. places_take c (mirror_proc s.plain) s.places e.actor e.kind ≡ true) (after_is c h) (places_of c (state_of c h).after t e.actor e.kind st.sound ok);
-  frames = frames_of c h e.actor e.kind (subst (λ s. Fair c s e.kind) (after_is c h) fair);
+  frames = frames_of c h e.actor ok_turn.op (u.going e.actor).pages e.kind ok_turn.top (λ g. (short e.actor (gives_top (state_of c h) e.actor ok_turn.top ok_turn.below ok_turn.is_stack g)).1) (subst (λ s. Fair c s e.actor ok_turn.op (u.going e.actor).pages e.kind ok_turn.top) (after_is c h) ok_turn.fair);
   sequences = subst (λ s. sequences_take s.sequences e.actor e.kind ≡ true) (after_is c h) (sequences_of c (state_of c h).after t e.actor e.kind ok);
-  untold = untold_of c h (state_of c h).after e.kind fair;
+  untold = untold_of c h (state_of c h).after t e.actor e.kind st.sound pa ok;
   guarded = subst (λ s. narrows_guarded s.sequences s.places.place e.actor e.kind ≡ true) (after_is c h) (guarded_of c (state_of c h).after t e.actor e.kind ok);
-  kept = kept_of c (state_of c h) (state_of c h).after e.actor e.kind fair;
+  kept = kept_of c (state_of c h) e.actor ok_turn.op e.kind ok_turn.top ok_turn.is_op ok_turn.fair;
 }
   where
+    u : State
+    u = state_of c h
+
+    ok_turn : Turn c (state_of c h).after t e.actor e.kind ((state_of c h).going e.actor) (going_next c (state_of c h).after e.actor ((state_of c h).going e.actor) e.kind)
+    ok_turn = turn_of c (state_of c h) t e sm st d
+
     ok : Allowed c (state_of c h).after t e.actor e.kind
-    ok = (turn_of c (state_of c h) t e sm st d).allowed
+    ok = ok_turn.allowed
 
-    fair : Fair c (state_of c h).after e.kind
-    fair = (turn_of c (state_of c h) t e sm st d).fair
+untold_on : (c : Program) (h : List Entry) (e : Entry) (t : Past) → Untold h (state_of c h).after t → Untold (h ++ e ∷ []) (state_of c (h ++ e ∷ [])).after (past_next t (state_of c h).after.length e.actor e.kind)
+untold_on c h e t pa = subst (λ (u : State). Untold (h ++ e ∷ []) u.after (past_next t (state_of c h).after.length e.actor e.kind)) (sym (state_of-snoc c h e)) (past_is_step h (state_of c h).after.places t (state_of c h).after.length e pa)
 
-legal_from : (c : Program) (h es : List Entry) (t : Past) → Small c → Standing c (state_of c h) t → DueFrom c h es → LegalFrom c h es
-legal_from c h [] t sm st d = tt
-legal_from c h (e ∷ es) t sm st d = (may_follow c h e t sm st d.0, legal_from c (h ++ e ∷ []) es (past_next t (state_of c h).after.length e.actor e.kind) sm (standing_on c h e t sm st d.0) d.1)
+legal_from : (c : Program) (h es : List Entry) (t : Past) → Small c → Standing c (state_of c h) t → Untold h (state_of c h).after t → ShortIs c h (state_of c h) → DueFrom c h es → LegalFrom c h es
+legal_from c h [] t sm st pa short d = tt
+legal_from c h (e ∷ es) t sm st pa short d = (may_follow c h e t sm st pa short d.0, legal_from c (h ++ e ∷ []) es (past_next t (state_of c h).after.length e.actor e.kind) sm (standing_on c h e t sm st d.0) (untold_on c h e t pa) (short_on c h e t sm st short d.0) d.1)
 
 pub every_history : (c : Program) → IsScript c → IsBasic c → (h : List Entry) → DueFrom c [] h → Legal c h
-every_history c sc ba h d = legal_from c [] h past_start (small c sc ba) (at_start c (small c sc ba)) d
+every_history c sc ba h d = legal_from c [] h past_start (small c sc ba) (at_start c (small c sc ba)) (past_is_start (state_start c).after.places.table (λ m v. refl)) (short_start c) d

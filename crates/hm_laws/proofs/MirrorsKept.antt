@@ -1,5 +1,5 @@
 -- Mirrors and their intervals, and the past, after an entry.
-use Rattle.std.proofs.Common.{◌≡◌, ℕ, ◌+◌, ◌<◌, ◌≤◌, Bool, true, false, ◌==◌, ◌&&◌, if◌then◌else◌, Option, Some, None, refl, sym, ap, ◌∙◌, subst, arith}
+use Rattle.std.proofs.Common.{◌≡◌, ℕ, ◌+◌, ◌<◌, ◌≤◌, ◌⊎◌, inl, inr, is_none, Bool, true, false, ◌==◌, ◌&&◌, if◌then◌else◌, Option, Some, None, refl, sym, ap, ◌∙◌, subst, arith}
 use Rattle.std.proofs.lemmas.Bool.Decides.{nat_tests}
 use Rattle.hm_base.specs.Program.{Program}
 use Rattle.hm_history.specs.Words.{with_at}
@@ -9,11 +9,11 @@ use Rattle.hm_history.specs.Sequences.{Interval, Stage, is_odd, interval_proc, m
 use Rattle.hm_history.specs.After.{After}
 use Rattle.hm_history.specs.declared.Kind.{Kind}
 use Rattle.hm_laws.specs.Past.{Past, past_next}
-use Rattle.hm_laws.specs.Sound.{stands_so, Pairing, Paired, MirrorRules, listens, PastRules, UntoldRules, Sound}
+use Rattle.hm_laws.specs.Sound.{stands_so, Pairing, Paired, MirrorRules, listens, ArrivalRules, PastRules, UntoldRules, Sound}
 use Rattle.hm_laws.specs.Allowed.{next, Allowed}
 use Rattle.hm_history.specs.Plain.{Attached, Detaching, Gone}
 use Rattle.hm_history.specs.Sequences.{InTree, InsertDeferred, RemoveDeferred, Removed, Out}
-use Rattle.hm_laws.proofs.Updates.{other_at, here_at, with_case, equal_numbers}
+use Rattle.hm_laws.proofs.Updates.{other_at, here_at, at_cases, with_case, both, equal_numbers}
 
 -- the mirror of an interval, and the interval of a mirror
 pub interval_of : (mirrors : ℕ → Option MirrorState) (interval : ℕ → Option Interval) (device : ℕ → ℕ) → MirrorRules mirrors interval device → (m : ℕ) (x : MirrorState) → mirrors m ≡ Some x → (y : Interval) × (interval m ≡ Some y) × Pairing x y (device m)
@@ -130,6 +130,37 @@ mirrors_kept c s t a so (Kind.End p r q) ok = record { paired = λ k. by k (move
     by k false = so.mirrors.paired k
 mirrors_kept c s t a so k ok = so.mirrors
 
+standing_been : (t : Attachment) (been : ℕ → Bool) (mirrors : ℕ → Option MirrorState) (m k : ℕ) (x : MirrorState) → ArrivalRules been mirrors → with_at mirrors m (with_standing t (mirrors m)) k ≡ Some x → been x.proc ≡ true
+standing_been t been mirrors m k x h e = by (at_cases mirrors m k (with_standing t (mirrors m)) x e)
+  where
+    proc : (y : Option MirrorState) → with_standing t y ≡ Some x → (z : MirrorState) × (y ≡ Some z) × (z.proc ≡ x.proc)
+    proc None i = cc
+    proc (Some z) i = (z, refl, ap (λ (j : Option MirrorState). elim j [ None ↦ 0 | Some w ↦ w.proc ]) i)
+
+    by : ((k ≡ m) × (with_standing t (mirrors m) ≡ Some x)) ⊎ ((k ≡ m → ⊥) × (mirrors k ≡ Some x)) → been x.proc ≡ true
+    by (inl i) = at (proc (mirrors m) i.1)
+      where
+        at : (z : MirrorState) × (mirrors m ≡ Some z) × (z.proc ≡ x.proc) → been x.proc ≡ true
+        at z = ap been (sym z.2) ∙ h.of_been m z.0 z.1
+    by (inr i) = h.of_been k x i.1
+
+pub arrivals_kept : (c : Program) (s : After) (t : Past) (a : ℕ) → Sound c s t → (k : Kind) → Allowed c s t a k → ArrivalRules (next s a k).plain.been (next s a k).plain.mirrors
+arrivals_kept c s t a so (Kind.Forked p d) ok = record { of_been = λ m x e. grind (arith, nat_tests, so.arrivals.of_been m x) }
+arrivals_kept c s t a so (Kind.Attached m d p r q) ok = record { of_been = λ k x e. by k x (at_cases s.plain.mirrors m k (Some new) x e) }
+  where
+    new : MirrorState
+    new = record { dev = d; proc = p; window = r; standing = Attached }
+
+    same : (x : MirrorState) → Some new ≡ Some x → p ≡ x.proc
+    same x h = ap (λ (z : Option MirrorState). elim z [ None ↦ 0 | Some i ↦ i.proc ]) h
+
+    by : (k : ℕ) (x : MirrorState) → ((k ≡ m) × (Some new ≡ Some x)) ⊎ ((k ≡ m → ⊥) × (s.plain.mirrors k ≡ Some x)) → s.plain.been x.proc ≡ true
+    by k x (inl h) = ap s.plain.been (sym (same x h.1)) ∙ so.processes.there_been p (both (s.plain.there p) (is_none (s.plain.mirrors m)) ok.1).0
+    by k x (inr h) = so.arrivals.of_been k x h.1
+arrivals_kept c s t a so (Kind.Detaching m q) ok = record { of_been = λ k x e. standing_been Detaching s.plain.been s.plain.mirrors m k x so.arrivals e }
+arrivals_kept c s t a so (Kind.Detached m) ok = record { of_been = λ k x e. standing_been Gone s.plain.been s.plain.mirrors m k x so.arrivals e }
+arrivals_kept c s t a so k ok = so.arrivals
+
 -- the past
 older : (n : ℕ) (t : Past) → PastRules n t → PastRules (n + 1) t
 older n t h = record {
@@ -139,6 +170,10 @@ older n t h = record {
 
 pub past_kept : (c : Program) (s : After) (t : Past) (a : ℕ) → Sound c s t → (k : Kind) → Allowed c s t a k → PastRules (next s a k).length (past_next t s.length a k)
 past_kept c s t a so (Kind.Named p d) ok = record {
+  told_below = (older s.length t so.past).told_below;
+  begun_below = (older s.length t so.past).begun_below;
+}
+past_kept c s t a so (Kind.Detaching m q) ok = record {
   told_below = (older s.length t so.past).told_below;
   begun_below = (older s.length t so.past).begun_below;
 }

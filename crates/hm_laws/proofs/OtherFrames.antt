@@ -31,13 +31,13 @@ pub some_is : {X : Type 0} (x y : X) → Some x ≡ Some y → x ≡ y
 some_is x y h = cc
 
 -- two actors have not one frame locked
-not_one : (s : After) (a b : ℕ) (f g : Frame) → (b ≡ a → ⊥) → s.locks.frame f ≡ Some b → s.locks.frame g ≡ Some a → f ≡ g → ⊥
+pub not_one : (s : After) (a b : ℕ) (f g : Frame) → (b ≡ a → ⊥) → s.locks.frame f ≡ Some b → s.locks.frame g ≡ Some a → f ≡ g → ⊥
 not_one s a b f g ne h k e = ne (some_is b a (sym h ∙ ap s.locks.frame e ∙ k))
 
-not_free : (c : Program) (s : After) (t : Past) (b : ℕ) (f g : Frame) → Sound c s t → s.locks.frame f ≡ Some b → lowest_free c s.places g.pool ≡ Some g → f ≡ g → ⊥
+pub not_free : (c : Program) (s : After) (t : Past) (b : ℕ) (f g : Frame) → Sound c s t → s.locks.frame f ≡ Some b → lowest_free c s.places g.pool ≡ Some g → f ≡ g → ⊥
 not_free c s t b f g so h k e = true_false (s.places.held g) (ap s.places.held (sym e) ∙ so.frames.locked_held f b h) (free_says c s.places g.pool g k).1
 
-move_of : (c : Program) (s : After) (t : Past) (a p v : ℕ) (x : Place) → Sound c s t → Allowed c s t a (Kind.Place p v x) → (f : Frame) → LockMove s.places.place s.locks.frame a p v x f ((next s a (Kind.Place p v x)).locks.frame f)
+pub move_of : (c : Program) (s : After) (t : Past) (a p v : ℕ) (x : Place) → Sound c s t → Allowed c s t a (Kind.Place p v x) → (f : Frame) → LockMove s.places.place s.locks.frame a p v x f ((next s a (Kind.Place p v x)).locks.frame f)
 move_of c s t a p v x so ok f = lock_move s.locks s.places a p v x f (places_kept c s t a so (Kind.Place p v x) ok)
 
 pub lock_keeps : (c : Program) (s : After) (t : Past) (a b : ℕ) → Sound c s t → (b ≡ a → ⊥) → (k : Kind) → Allowed c s t a k → (f : Frame) → s.locks.frame f ≡ Some b → (next s a k).locks.frame f ≡ Some b
@@ -111,7 +111,7 @@ unused_other c s t a b so ne k ok f h = record {
   unstood = unstood_other c s t a b so ne k ok f h;
 }
 
-fresh_other : (c : Program) (s : After) (t : Past) (a b : ℕ) → Sound c s t → (b ≡ a → ⊥) → (k : Kind) → Allowed c s t a k → (f : Frame) → s.locks.frame f ≡ Some b → s.places.moved_to f ≡ None → (next s a k).places.moved_to f ≡ None
+pub fresh_other : (c : Program) (s : After) (t : Past) (a b : ℕ) → Sound c s t → (b ≡ a → ⊥) → (k : Kind) → Allowed c s t a k → (f : Frame) → s.locks.frame f ≡ Some b → s.places.moved_to f ≡ None → (next s a k).places.moved_to f ≡ None
 fresh_other c s t a b so ne (Kind.Take g) ok f h e = grind (arith, frame_tells f g)
 fresh_other c s t a b so ne (Kind.Committed i g) ok f h e = frame_else s.places.moved_to i f (Some g) (not_one s a b f i ne h ok.0.0.mine) ∙ e
 fresh_other c s t a b so ne k ok f h e = e
@@ -120,7 +120,7 @@ pub owns_other : (c : Program) (s : After) (t : Past) (a b : ℕ) → Sound c s 
 owns_other c s t a b so ne k ok f h = (unused_other c s t a b so ne k ok f h.0, fresh_other c s t a b so ne k ok f h.0.mine h.1)
 
 -- its contents
-stored_else : (s : After) (p v at : ℕ) (bs : List ℕ) (f : Frame) → (stood s.places.moved_to (s.places.place p v) ≡ Some f → ⊥) → stored_in s.contents (backing s.places (s.places.place p v)) at bs f ≡ s.contents f
+pub stored_else : (s : After) (p v at : ℕ) (bs : List ℕ) (f : Frame) → (stood s.places.moved_to (s.places.place p v) ≡ Some f → ⊥) → stored_in s.contents (backing s.places (s.places.place p v)) at bs f ≡ s.contents f
 stored_else s p v at bs f n = rw (backing_is s.places (s.places.place p v)) (by (stood s.places.moved_to (s.places.place p v)) n)
   where
     by : (y : Option Frame) → (y ≡ Some f → ⊥) → stored_in s.contents y at bs f ≡ s.contents f

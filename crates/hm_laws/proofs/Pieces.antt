@@ -61,6 +61,12 @@ store_in_page p a bs k few = by (op_piece (Op.Store p a bs) k) (piece_in_page a 
     by : (x : ℕ × ℕ) → InPage x.0 x.1 → InPage x.0 (length (take x.1 (drop (x.0 - a) bs)))
     by x h = omega (arith, take_short x.1 (drop (x.0 - a) bs))
 
+pub device_store_in_page : (m a : ℕ) (bs : List ℕ) (k : ℕ) → length bs ≤ 256 → InPage (op_piece (Op.DeviceStore m a bs) k).0 (length (op_bytes (Op.DeviceStore m a bs) (op_piece (Op.DeviceStore m a bs) k)))
+device_store_in_page m a bs k few = store_in_page m a bs k few
+
+pub few_device_bytes : (n m a : ℕ) (bs : List ℕ) → op_fits n (Op.DeviceStore m a bs) ≡ true → length bs ≤ 256
+few_device_bytes n m a bs h = grind (arith, nat_tests)
+
 pub few_bytes : (n p a : ℕ) (bs : List ℕ) → op_fits n (Op.Store p a bs) ≡ true → length bs ≤ 256
 few_bytes n p a bs h = grind (arith, nat_tests)
 

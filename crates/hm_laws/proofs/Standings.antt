@@ -11,7 +11,7 @@ use Rattle.hm_history.specs.After.{After}
 use Rattle.hm_laws.specs.Stood.{lock_on}
 use Rattle.hm_laws.specs.Past.{Past}
 use Rattle.hm_laws.specs.Sound.{Sound}
-use Rattle.hm_laws.specs.Allowed.{shows}
+use Rattle.hm_laws.specs.Allowed.{shows, Allowed}
 use Rattle.std.proofs.lemmas.Bool.{cases_eq}
 use Rattle.hm_laws.proofs.ContentsKept.{backing_is}
 use Rattle.hm_laws.specs.Facts.{facts_of, HoldsAll, Knows}
@@ -19,18 +19,24 @@ use Rattle.std.proofs.Common.{slice_get, zero, suc}
 use Rattle.std.proofs.lemmas.Option.{slice_get_past}
 use Rattle.hm_history.specs.After.{after}
 use Rattle.hm_history.specs.Run.{run}
-use Rattle.hm_history.specs.Going.{Going, op_at, state_of}
+use Rattle.hm_history.specs.Going.{Going, going_next, op_at, state_of}
 use Rattle.hm_history.specs.Laws.{DueFrom}
+use Rattle.hm_history.specs.declared.Kind.{Kind}
+use Rattle.hm_history.specs.declared.phases.Migrating.{Migrating}
+use Rattle.hm_history.specs.declared.phases.Phase.{Phase}
 use Rattle.hm_history.specs.declared.Entry.{Entry}
 use Rattle.hm_history.proofs.RunLemmas.{runs_due}
 use Rattle.hm_base.specs.Program.{IsScript}
 use Rattle.hm_laws.specs.Past.{past_start}
 use Rattle.hm_laws.specs.Basic.{IsBasic}
-use Rattle.hm_laws.specs.Laws.{RunIsLegal, HistoryIsLegal, ReadsRight, FramesRead, HistoryStands}
-use Rattle.hm_laws.specs.Stands.{Standing, MeetsNobody}
-use Rattle.hm_laws.specs.Cpu.{CpuRules, OrderRules}
-use Rattle.hm_laws.proofs.CpuKept.{no_interval, no_overlap, started_even, ended_even}
-use Rattle.hm_laws.proofs.History.{small, at_start, after_is, standing_after}
+use Rattle.hm_laws.specs.Laws.{RunIsLegal, HistoryIsLegal, ReadsRight, FramesRead, RulesAreKept, AllowedMayStand, HistoryStands}
+use Rattle.hm_laws.proofs.EachKept.{kept}
+use Rattle.hm_laws.proofs.LawsOf.{answers_of, sequences_of, guarded_of, places_of}
+use Rattle.hm_laws.specs.Stands.{CopiesRightly, Standing, MeetsNobody}
+use Rattle.hm_laws.specs.Order.{OrderRules}
+use Rattle.hm_laws.specs.Shared.{SharedRules}
+use Rattle.hm_laws.proofs.DueWords.{Fair}
+use Rattle.hm_laws.proofs.History.{Turn, small, turn_of, at_start, after_is, standing_after}
 use Rattle.hm_laws.proofs.Legality.{every_history}
 
 pub history_is_legal : HistoryIsLegal
@@ -88,29 +94,42 @@ meets_nobody s h = record {
     none p a z (inl e) = grind arith
     none p a z (inr e) = grind (arith, h a (omega arith))
 
+-- one entry
+pub rules_kept : RulesAreKept
+rules_kept = kept
+
+pub allowed_may_stand : AllowedMayStand
+allowed_may_stand c s t a k so ok = record {
+  answers = answers_of c s t a k ok;
+  places = places_of c s t a k so ok;
+  sequences = sequences_of c s t a k ok;
+  guarded = guarded_of c s t a k ok;
+}
+
+fair_copies : (c : Program) (s : After) (a : ℕ) (o : Op) (xs : List Migrating) (k : Kind) (top : Phase) → Fair c s a o xs k top → CopiesRightly s k
+fair_copies c s a o xs (Kind.Copied f g None) top h = h
+fair_copies c s a o xs (Kind.Copied f g (Some part)) top h = h
+fair_copies c s a o xs k top h = tt
+
 pub history_stands : HistoryStands
 history_stands c sc ba h d = record {
   past = st.0;
   rules = subst (λ s. Sound c s st.0) (after_is c h) st.1.sound;
   order = subst (λ s. OrderRules s.plain.areas) (after_is c h) st.1.order;
-  cpu = cpu;
+  shared = subst SharedRules (after_is c h) st.1.shared;
   known = known;
   no_records = st.1.no_records;
   same_after = after_is c h;
-  no_overlap = λ p r. no_overlap (after h).sequences p r none;
-  start_seq = λ p r. started_even (after h).sequences p r none (cpu.still p);
-  end_seq = λ p. ended_even (after h).sequences p (cpu.still p);
+  allows = λ e d. subst (λ s. Allowed c s st.0 e.actor e.kind) (after_is c h) (turn_of c (state_of c h) st.0 e (small c sc ba) st.1 d).allowed;
+  copies = λ e d. subst (λ s. CopiesRightly s e.kind) (after_is c h) (turn_copies e (turn_of c (state_of c h) st.0 e (small c sc ba) st.1 d));
   meets_nobody = λ few. meets_nobody (after h) (λ a l. idle_lock c (after h) st.0 a ((state_of c h).going a) (past_actors c a ((state_of c h).going a).index (omega arith)) (known a));
 }
   where
     st : (t : Past) × Standing c (state_of c h) t
     st = standing_of c sc ba h d
 
-    cpu : CpuRules (after h)
-    cpu = subst CpuRules (after_is c h) st.1.cpu
-
-    none : (m : ℕ) → (after h).sequences.interval m ≡ None
-    none = no_interval c (after h) st.0 (subst (λ s. Sound c s st.0) (after_is c h) st.1.sound) cpu.no_mirror
+    turn_copies : (e : Entry) → Turn c (state_of c h).after st.0 e.actor e.kind ((state_of c h).going e.actor) (going_next c (state_of c h).after e.actor ((state_of c h).going e.actor) e.kind) → CopiesRightly (state_of c h).after e.kind
+    turn_copies e w = fair_copies c (state_of c h).after e.actor w.op ((state_of c h).going e.actor).pages e.kind w.top w.fair
 
     known : (a : ℕ) → Knows c (after h) st.0 a ((state_of c h).going a)
     known a = subst (λ s. Knows c s st.0 a ((state_of c h).going a)) (after_is c h) (st.1.known a)

@@ -8,7 +8,7 @@ use Rattle.hm_base.specs.declared.Place.{Place}
 use Rattle.hm_base.specs.declared.Place.TheVariants.{Sys, Own}
 use Rattle.hm_base.specs.declared.ops.Rights.TheVariants.{Read}
 use Rattle.hm_history.specs.Words.{page_of, sys_frame, dev_frame, names, names_directly, moving_frame, writable, is_empty_place}
-use Rattle.hm_history.specs.Plain.{MirrorState, rights_of, is_read_write, is_attached_state, plain_takes, mirror_proc}
+use Rattle.hm_history.specs.Plain.{MirrorState, rights_of, is_read_write, is_attached_state, is_attached, plain_takes, mirror_proc}
 use Rattle.hm_history.specs.Places.{is_exclusive, lowest_free, places_take}
 use Rattle.hm_history.specs.Sequences.{interval_seq, sequences_take}
 use Rattle.hm_history.specs.Lookups.{loses, is_guarded}
@@ -175,7 +175,7 @@ Allowed c s t a (Kind.Forked p d) = WritesThere s a p × Clean s p × HasChild s
 Allowed c s t a (Kind.Exited p) = WritesThere s a p × ((v : ℕ) → is_empty_place (s.places.place p v) ≡ true) × PlainOk s (Kind.Exited p)
 Allowed c s t a (Kind.Attached m d p r q) = (m < 32) × PlainOk s (Kind.Attached m d p r q) × SequencesOk s a (Kind.Attached m d p r q)
 Allowed c s t a (Kind.Detaching m q) = PlainOk s (Kind.Detaching m q) × SequencesOk s a (Kind.Detaching m q)
-Allowed c s t a (Kind.Detached m) = PlainOk s (Kind.Detached m) × SequencesOk s a (Kind.Detached m)
+Allowed c s t a (Kind.Detached m) = PlainOk s (Kind.Detached m) × SequencesOk s a (Kind.Detached m) × ((is_attached s.plain m ≡ true) ⊎ (t.leaver m ≡ Some a))
 Allowed c s t a (Kind.Refused n) = MayRelease s a
 Allowed c s t a (Kind.Migrated n) = MayRelease s a
 Allowed c s t a (Kind.Seen m v k) = ⊤

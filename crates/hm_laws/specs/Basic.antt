@@ -12,6 +12,13 @@ is_basic (Op.Load p a n) = true
 is_basic (Op.Store p a bs) = true
 is_basic (Op.Fork p c) = true
 is_basic (Op.Exit p) = true
+is_basic (Op.Attach m d p r) = true
+is_basic (Op.Detach m) = true
+is_basic (Op.Snap m r) = true
+is_basic (Op.DeviceLoad m a n) = true
+is_basic (Op.DeviceStore m a bs) = true
+is_basic (Op.Evict d) = true
+is_basic (Op.Remove d) = true
 is_basic o = false
 
 -- each operation is one of those

@@ -1,14 +1,21 @@
 -- The laws, as statements.
-use Rattle.std.specs.Prelude.{◌≡◌, ℕ, ◌%◌, false, true, Some, is_some, List, []}
+use Rattle.std.specs.Prelude.{◌≡◌, ℕ, ◌%◌, false, true, Some, is_some, List, [], IsTrue}
 use Rattle.hm_base.specs.Program.{Program, IsScript}
 use Rattle.hm_history.specs.Words.{page_of, is_empty_place}
-use Rattle.hm_history.specs.Plain.{rights_of}
+use Rattle.hm_history.specs.Plain.{rights_of, plain_takes, mirror_proc}
+use Rattle.hm_history.specs.Places.{places_take}
+use Rattle.hm_history.specs.Sequences.{sequences_take}
+use Rattle.hm_history.specs.Lookups.{narrows_guarded}
 use Rattle.hm_history.specs.Contents.{shown}
 use Rattle.hm_history.specs.After.{After, after}
 use Rattle.hm_history.specs.Legal.{Legal}
 use Rattle.hm_history.specs.Run.{run}
 use Rattle.hm_history.specs.Laws.{DueFrom}
 use Rattle.hm_history.specs.declared.Entry.{Entry}
+use Rattle.hm_history.specs.declared.Kind.{Kind}
+use Rattle.hm_laws.specs.Past.{Past, past_next}
+use Rattle.hm_laws.specs.Sound.{Sound}
+use Rattle.hm_laws.specs.Allowed.{next, Allowed}
 use Rattle.hm_laws.specs.Basic.{IsBasic}
 use Rattle.hm_laws.specs.Stands.{Stands}
 
@@ -26,6 +33,20 @@ pub record ReadsRight (s : After) : Type 0 where
 
 abbrev pub FramesRead : Type 0
 FramesRead = (c : Program) → IsScript c → IsBasic c → (h : List Entry) → DueFrom c [] h → ReadsRight (after h)
+
+-- an allowed entry of any kind keeps the rules
+abbrev pub RulesAreKept : Type 0
+RulesAreKept = (c : Program) (s : After) (t : Past) (a : ℕ) (k : Kind) → Sound c s t → Allowed c s t a k → Sound c (next s a k) (past_next t s.length a k)
+
+-- the entry passes the tests that legality makes of a state
+pub record MayStand (c : Program) (s : After) (a : ℕ) (k : Kind) : Type 0 where
+  pub answers : IsTrue (plain_takes s.plain k)
+  pub places : IsTrue (places_take c (mirror_proc s.plain) s.places a k)
+  pub sequences : IsTrue (sequences_take s.sequences a k)
+  pub guarded : IsTrue (narrows_guarded s.sequences s.places.place a k)
+
+abbrev pub AllowedMayStand : Type 0
+AllowedMayStand = (c : Program) (s : After) (t : Past) (a : ℕ) (k : Kind) → Sound c s t → Allowed c s t a k → MayStand c s a k
 
 abbrev pub HistoryStands : Type 0
 HistoryStands = (c : Program) → IsScript c → IsBasic c → (h : List Entry) → DueFrom c [] h → Stands c h

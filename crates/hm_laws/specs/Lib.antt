@@ -3,7 +3,10 @@ pub mod Past
 pub mod Sound
 pub mod Allowed
 pub mod Basic
+pub mod Moves
+pub mod Shapes
 pub mod Facts
-pub mod Cpu
+pub mod Order
+pub mod Shared
 pub mod Stands
 pub mod Laws

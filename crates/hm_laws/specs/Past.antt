@@ -4,16 +4,18 @@ use Rattle.hm_base.specs.Pages.{Pages, covers}
 use Rattle.hm_history.specs.Words.{with_at}
 use Rattle.hm_history.specs.declared.Kind.{Kind}
 
--- who gave a process its number; the first position from which a mirror has not been told of a page; where an actor
--- last began a look-up of a mirror; whether a table entry was set from there, or from its own position
+-- who gave a process its number; who detaches a mirror; the first position from which a mirror has not been told of a
+-- page; where an actor last began a look-up of a mirror; whether a table entry was set from there, or from its own
+-- position
 pub record Past : Type 0 where
   pub namer : ℕ → Option ℕ
+  pub leaver : ℕ → Option ℕ
   pub told : ℕ → ℕ → ℕ
   pub begun : ℕ → ℕ → Option ℕ
   pub rightly : ℕ → ℕ → Bool
 
 abbrev pub past_start : Past
-past_start = record { namer = λ c. None; told = λ m v. 0; begun = λ a m. None; rightly = λ m v. false }
+past_start = record { namer = λ c. None; leaver = λ m. None; told = λ m v. 0; begun = λ a m. None; rightly = λ m v. false }
 
 abbrev pub is_position : Option ℕ → ℕ → Bool
 is_position None i = false
@@ -28,6 +30,7 @@ with_pair f m v x k u = if (k == m) && (u == v) then x else f k u
 -- the past after an entry at position n
 abbrev pub past_next : Past → ℕ → ℕ → Kind → Past
 past_next t n a (Kind.Named p c) = record t { namer = with_at t.namer c (Some a) }
+past_next t n a (Kind.Detaching m q) = record t { leaver = with_at t.leaver m (Some a) }
 past_next t n a (Kind.Told m r q) = record t { told = told_next t.told m r (n + 1) }
 past_next t n a (Kind.Begin m q) = record t { begun = with_pair t.begun a m (Some n) }
 past_next t n a (Kind.Set m v f w from) = record t { rightly = with_pair t.rightly m v ((from == n) || is_position (t.begun a m) from) }

@@ -94,6 +94,10 @@ Paired x y d = ⊥
 pub record MirrorRules (mirrors : ℕ → Option MirrorState) (interval : ℕ → Option Interval) (device : ℕ → ℕ) : Type 0 where
   pub paired : (m : ℕ) → Paired (mirrors m) (interval m) (device m)
 
+-- a mirror's process was there when it came
+pub record ArrivalRules (been : ℕ → Bool) (mirrors : ℕ → Option MirrorState) : Type 0 where
+  pub of_been : (m : ℕ) (x : MirrorState) → mirrors m ≡ Some x → been x.proc ≡ true
+
 -- intervals and their sequences, and the guards under way
 abbrev pub is_leaving : Stage → Bool
 is_leaving RemoveDeferred = true
@@ -171,6 +175,7 @@ pub record Sound (c : Program) (s : After) (t : Past) : Type 0 where
   pub reads : ContentsRules s.plain.there s.plain.bytes s.places.place s.places.moved_to s.contents
   pub untouched : UntouchedRules s.plain.there s.plain.areas s.plain.bytes s.places.place s.locks.map
   pub mirrors : MirrorRules s.plain.mirrors s.sequences.interval s.places.device
+  pub arrivals : ArrivalRules s.plain.been s.plain.mirrors
   pub sequences : SequenceRules s.sequences
   pub guards : GuardRules s.sequences s.places.table
   pub tables : TableRules s.plain.mirrors s.places.table s.places.place s.places.moved_to

@@ -1,22 +1,26 @@
 -- What stands after each history of entries that were due, for a program that keeps a state of it.
-use Rattle.std.specs.Prelude.{◌≡◌, ℕ, ◌≤◌, None, List, [], length}
-use Rattle.hm_base.specs.Pages.{Pages}
+use Rattle.std.specs.Prelude.{◌≡◌, ℕ, ◌<◌, ◌≤◌, true, Some, None, List, [], length, ⊤}
 use Rattle.hm_base.specs.Program.{Program}
-use Rattle.hm_history.specs.Sequences.{overlapping, seq_started, seq_ended}
 use Rattle.hm_history.specs.Locks.{writer, lowest_other}
 use Rattle.hm_history.specs.Going.{State, state_of}
 use Rattle.hm_history.specs.After.{After, after}
+use Rattle.hm_history.specs.Due.{due}
+use Rattle.hm_history.specs.declared.Kind.{Kind}
 use Rattle.hm_history.specs.declared.Entry.{Entry}
+use Rattle.hm_history.specs.declared.Progress.{Progress}
 use Rattle.hm_laws.specs.Past.{Past}
+use Rattle.hm_laws.specs.Stood.{IsNamed}
 use Rattle.hm_laws.specs.Sound.{Sound}
+use Rattle.hm_laws.specs.Allowed.{Allowed}
 use Rattle.hm_laws.specs.Facts.{Knows}
-use Rattle.hm_laws.specs.Cpu.{OrderRules, CpuRules}
+use Rattle.hm_laws.specs.Order.{OrderRules}
+use Rattle.hm_laws.specs.Shared.{SharedRules}
 
 -- the rules hold, each actor knows what its stack says, and no migration has records
 pub record Standing (c : Program) (t : State) (past : Past) : Type 0 where
   pub sound : Sound c t.after past
   pub order : OrderRules t.after.plain.areas
-  pub cpu : CpuRules t.after
+  pub shared : SharedRules t.after
   pub known : (a : ℕ) → Knows c t.after past a (t.going a)
   pub no_records : (a : ℕ) → (t.going a).pages ≡ []
 
@@ -25,15 +29,20 @@ pub record MeetsNobody (s : After) : Type 0 where
   pub no_holder : (p : ℕ) → lowest_other s.locks p 0 ≡ None
   pub no_writer : (p : ℕ) → s.locks.map 0 ≡ None → writer s.locks p ≡ None
 
+-- a frame is copied whole, and some page names it; or, a held one, by one of eight parts into another
+abbrev pub CopiesRightly : After → Kind → Type 0
+CopiesRightly s (Kind.Copied f g None) = IsNamed s.places.place f
+CopiesRightly s (Kind.Copied f g (Some part)) = (s.places.held f ≡ true) × (f ≡ g → ⊥) × (part < 8)
+CopiesRightly s k = ⊤
+
 pub record Stands (c : Program) (h : List Entry) : Type 0 where
   pub past : Past
   pub rules : Sound c (after h) past
   pub order : OrderRules (after h).plain.areas
-  pub cpu : CpuRules (after h)
+  pub shared : SharedRules (after h)
   pub known : (a : ℕ) → Knows c (after h) past a ((state_of c h).going a)
   pub no_records : (a : ℕ) → ((state_of c h).going a).pages ≡ []
   pub same_after : (state_of c h).after ≡ after h
-  pub no_overlap : (p : ℕ) (r : Pages) → overlapping (after h).sequences p r ≡ []
-  pub start_seq : (p : ℕ) (r : Pages) → seq_started (after h).sequences p r ≡ 2
-  pub end_seq : (p : ℕ) → seq_ended (after h).sequences p ≡ 2
+  pub allows : (e : Entry) → due c h e.actor ≡ Progress.Did e → Allowed c (after h) past e.actor e.kind  -- so what is due may be added
+  pub copies : (e : Entry) → due c h e.actor ≡ Progress.Did e → CopiesRightly (after h) e.kind
   pub meets_nobody : length c.actors ≤ 1 → MeetsNobody (after h)

@@ -2,7 +2,7 @@
 // the definitions alone: a program that adds what is due has them for nothing.
 #![tactic(auto)]
 
-ghost use Rattle.hm_laws.specs.Laws.{RunIsLegal, HistoryIsLegal, FramesRead, HistoryStands};
+ghost use Rattle.hm_laws.specs.Laws.{RunIsLegal, HistoryIsLegal, FramesRead, RulesAreKept, AllowedMayStand, HistoryStands};
 
 /// The run of a script's schedule is legal, whatever the turns.
 pub fn every_run_is_legal()
@@ -17,6 +17,16 @@ pub fn every_history_is_legal()
 /// Memory works: what a page shows is what its process wrote, whatever frame it has.
 pub fn frames_read()
     ensures { FramesRead }
+{}
+
+/// The rules of states are kept by each entry that is allowed, of every kind, whoever adds it.
+pub fn rules_kept()
+    ensures { RulesAreKept }
+{}
+
+/// An entry that is allowed obeys the laws on answers, places, sequences and narrowing.
+pub fn allowed_may_stand()
+    ensures { AllowedMayStand }
 {}
 
 /// What a program that keeps the state of a history may rest on.

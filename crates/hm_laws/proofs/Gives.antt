@@ -1,0 +1,182 @@
+-- A stack comes to the giving up of a fault or a removal only where no frame was free for an emptied one.
+use Rattle.std.proofs.Common.{◌≡◌, ℕ, ◌+◌, ◌⊎◌, inl, inr, Bool, true, false, ◌||◌, nat_lt, if◌then◌else◌, Option, Some, None, List, [], ◌∷◌, refl, sym, ap, ◌∙◌, length}
+use Rattle.hm_base.specs.Pages.{Pages}
+use Rattle.hm_base.specs.declared.Frame.{Frame}
+use Rattle.hm_base.specs.declared.Place.{Place}
+use Rattle.hm_base.specs.declared.ops.Op.{Op}
+use Rattle.hm_history.specs.After.{After}
+use Rattle.hm_history.specs.Operation.{op_pieces, is_evicting}
+use Rattle.hm_history.specs.Moved.{read_locked, opened, piece_ends, noted, taken, below_next, frames_past, dropping, ended, guard_goes_on, is_end, told_mirror, body_next, counted, moved, moved_begin, moved_locked, moved_ready, moved_answer, moved_pages, moved_piece, moved_decide, moved_taken, moved_guard, moved_copy, moved_finish, moved_give_up, moved_frames}
+use Rattle.hm_history.specs.declared.KeptAt.{KeptAt}
+use Rattle.hm_history.specs.declared.Kind.{Kind}
+use Rattle.hm_history.specs.declared.phases.Seen.{Seen}
+use Rattle.hm_history.specs.declared.phases.Touch.{Touch}
+use Rattle.hm_history.specs.declared.phases.Body.{Body}
+use Rattle.hm_history.specs.declared.phases.Phase.{Phase}
+use Rattle.hm_laws.specs.Past.{Past}
+use Rattle.hm_laws.specs.Facts.{facts, HoldsAll}
+use Rattle.hm_laws.proofs.Updates.{true_false}
+use Rattle.hm_laws.proofs.Shortness.{is_given, gives}
+
+opens : (k : Kind) (seen : Seen) (body : Body) (st : List Phase) → gives (opened k seen body st) ≡ gives st
+opens (Kind.Start p r q) seen body st = refl
+opens k seen body st = refl
+
+ends : (o : Op) (k : ℕ) → gives (piece_ends o k) ≡ false
+ends o k = by (nat_lt (k + 1) (length (op_pieces o)))
+  where
+    by : (b : Bool) → gives (if b then Phase.Piece (k + 1) ∷ [] else []) ≡ false
+    by true = refl
+    by false = refl
+
+locks_read : (o : Op) → is_given (read_locked o) ≡ false
+locks_read (Op.Snap m r) = refl
+locks_read (Op.Exclusive m v) = refl
+locks_read o = refl
+
+begin : (o : Op) (k : Kind) → gives (moved_begin o k) ≡ false
+begin o (Kind.Wlock p) = refl
+begin o (Kind.Rlock p) = ap (λ b. b || false) (locks_read o)
+begin o (Kind.Detaching m q) = refl
+begin o k = refl
+
+locked : (o : Op) (k : Kind) (seen : Seen) → gives (moved_locked o k seen) ≡ false
+locked o (Kind.Named p c) seen = refl
+locked o (Kind.Start p r q) seen = refl
+locked o k seen = refl
+
+ready : (o : Op) (k : Kind) (seen : Seen) → gives (moved_ready o k seen) ≡ false
+ready (Op.Fork p c) k seen = opens k seen (Body.Fork 0 false) (Phase.Answer ∷ [])
+ready (Op.ToDevice m r) k seen = opens k seen (Body.Select r.first) (Phase.Moves 3 r.first ∷ [])
+ready (Op.ToSystem m r) k seen = opens k seen (Body.Select r.first) (Phase.Moves 3 r.first ∷ [])
+ready o k seen = refl
+
+answer : (k : Kind) → gives (moved_answer k) ≡ false
+answer (Kind.Runlock p) = refl
+answer k = refl
+
+pages : (k : Kind) → gives (moved_pages k) ≡ false
+pages (Kind.Seen m v c) = refl
+pages k = refl
+
+piece : (o : Op) (n : ℕ) (touch : Touch) (k : Kind) (seen : Seen) → gives (moved_piece o n touch k seen) ≡ false
+piece o n touch (Kind.Loaded x a bs) seen = ends o n
+piece o n touch (Kind.Stored x a bs) seen = ends o n
+piece o n touch (Kind.Failed x a m c) seen = ends o n
+piece o n touch (Kind.Begin m q) seen = refl
+piece o n touch (Kind.Fetched m a bs) seen = refl
+piece o n touch (Kind.Rlock p) seen = refl
+piece o n touch k seen = refl
+
+notes : (touch : Touch) (x : Place) → is_given (noted touch x) ≡ false
+notes (Touch.Walk k at q) x = refl
+notes touch x = refl
+
+takes : (touch : Touch) (g : Frame) (x : Place) → is_given (taken touch g x) ≡ false
+takes touch g Place.Zero = refl
+takes touch g x = refl
+
+decide : (o : Op) (touch : Touch) (k : Kind) (seen : Seen) → gives (moved_decide o touch k seen) ≡ false
+decide o touch (Kind.Failed x a n c) seen = ends o _
+decide o touch (Kind.Retry m) seen = refl
+decide o touch (Kind.Runlock p) seen = ap (λ b. b || false) (notes touch seen.place)
+decide o touch (Kind.Set m v f w from) seen = refl
+decide o touch (Kind.Place p v x) seen = refl
+decide o touch (Kind.Take g) seen = ap (λ b. b || false) (takes touch g seen.place)
+decide o touch (Kind.Start p r q) seen = refl
+decide o touch k seen = refl
+
+takes_on : (touch : Touch) (g : Frame) (over : Place) (k : Kind) → gives (moved_taken touch g over k) ≡ false
+takes_on touch g over (Kind.Copied f h n) = refl
+takes_on touch g over k = refl
+
+past : (f : Frame) (below : List Phase) → gives (frames_past f below) ≡ gives below
+past f (Phase.Frames v n ∷ below) = refl
+past f below = refl
+
+counts : (below : List Phase) → gives (counted below) ≡ gives below
+counts (Phase.Frames v n ∷ below) = refl
+counts below = refl
+
+drops : (x : Option Frame) (st : List Phase) → gives (dropping x st) ≡ gives st
+drops None st = refl
+drops (Some f) st = refl
+
+belows : (o : Op) (body : Body) (r : Pages) (below : List Phase) → gives (below_next o body r below) ≡ gives below
+belows o (Body.Catch f) r below = by (is_evicting o)
+  where
+    by : (b : Bool) → gives (if b then Phase.Alone f (KeptAt.Frame f) ∷ frames_past f below else (Phase.Alone f (KeptAt.Page r.first) ∷ below)) ≡ gives below
+    by true = past f below
+    by false = refl
+belows o body r below = refl
+
+ended_gives : (body : Body) (r : Pages) (below : List Phase) → gives (ended body r below) ≡ gives below
+ended_gives (Body.Replace over g) r below = refl
+ended_gives (Body.Fresh g) r below = refl
+ended_gives body r below = refl
+
+guard : (o : Op) (p : ℕ) (r : Pages) (met : Bool) (told : Option ℕ) (body : Body) (below : List Phase) (k : Kind) (seen : Seen) → gives (moved_guard o p r met told body below k seen) ≡ gives below
+guard o p r met told body below k seen = by (told_mirror k)
+  where
+    goes : (b : Bool) → gives (if b then ended body r below else guard_goes_on o p r met told body below k seen) ≡ gives below
+    goes true = ended_gives body r below
+    goes false = drops seen.orphan (Phase.Guard p r met told (body_next body p k) ∷ below_next o body r below) ∙ belows o body r below
+
+    by : (x : Option ℕ) → gives (elim x [ Some m ↦ Phase.Guard p r met (Some m) body ∷ below | None ↦ if is_end k then ended body r below else guard_goes_on o p r met told body below k seen ]) ≡ gives below
+    by None = goes (is_end k)
+    by (Some m) = refl
+
+copies : (f g : Frame) (k : ℕ) (below : List Phase) → gives (moved_copy f g k below) ≡ gives below
+copies f g k below = by (nat_lt k 7)
+  where
+    by : (b : Bool) → gives (if b then Phase.Copy f g (k + 1) ∷ below else below) ≡ gives below
+    by true = refl
+    by false = refl
+
+finishes : (f : Frame) (to : Option Frame) (below : List Phase) (k : Kind) → gives (moved_finish f to below k) ≡ gives below
+finishes f to below (Kind.Place p v x) = refl
+finishes f (Some g) below (Kind.Drop h) = refl
+finishes f to below k = refl
+
+given : (o : Op) (touch : Option Touch) (k : Kind) → gives (moved_give_up o touch k) ≡ false
+given o touch (Kind.Failed x a n c) = ends o _
+given o touch k = refl
+
+frames : (v n : ℕ) (k : Kind) (seen : Seen) → gives (moved_frames v n k seen) ≡ false
+frames v n (Kind.Start p r q) seen = refl
+frames v n (Kind.Kept (KeptAt.Frame f) why) seen = refl
+frames v n (Kind.Withdrawn d) seen = refl
+frames v n k seen = refl
+
+abbrev pub is_alone_phase : Phase → Bool
+is_alone_phase (Phase.Alone f at) = true
+is_alone_phase top = false
+
+never : {X : Type 0} (b : Bool) → b ≡ false → b ≡ true → X
+never b h k = absurd (true_false b k h)
+
+pub moved_gives : (s : After) (t : Past) (a : ℕ) (o : Op) (top : Phase) (below : List Phase) (k : Kind) (seen : Seen) → HoldsAll s t a (facts o (top ∷ below)) → gives (moved o (top ∷ below) k seen) ≡ true → (gives below ≡ true) ⊎ (is_alone_phase top ≡ true)
+moved_gives s t a o Phase.Begin below k seen h g = never _ (begin o k) g
+moved_gives s t a o Phase.Locked below k seen h g = never _ (locked o k seen) g
+moved_gives s t a o Phase.Ready below k seen h g = never _ (ready o k seen) g
+moved_gives s t a o Phase.Answer below k seen h g = never _ (answer k) g
+moved_gives s t a o (Phase.Detaching q) below k seen h g = cc
+moved_gives s t a o (Phase.Pages v) below k seen h g = never _ (pages k) g
+moved_gives s t a o (Phase.Piece n) below k seen h g = never _ (piece o n _ k seen) g
+moved_gives s t a o (Phase.Fetched old) below k seen h g = absurd h.0
+moved_gives s t a o (Phase.Begun n at q) below k seen h g = never _ (piece o n _ k seen) g
+moved_gives s t a o (Phase.Decide touch) below k seen h g = never _ (decide o touch k seen) g
+moved_gives s t a o (Phase.Noted n at q x) below k seen h g = cc
+moved_gives s t a o (Phase.Taken touch f x) below k seen h g = never _ (takes_on touch f x k) g
+moved_gives s t a o (Phase.Armed touch f x) below k seen h g = never _ (opens k seen (Body.Replace x f) (Phase.Decide touch ∷ [])) g
+moved_gives s t a o (Phase.Guard p r met told body) below k seen h g = inl (sym (guard o p r met told body below k seen) ∙ g)
+moved_gives s t a o (Phase.Drop f) below k seen h g = inl g
+moved_gives s t a o (Phase.Alone f at) below k seen h g = inr refl
+moved_gives s t a o (Phase.Copy f i n) below k seen h g = inl (sym (copies f i n below) ∙ g)
+moved_gives s t a o (Phase.Copied f i) below k seen h g = inl (sym (counts below) ∙ g)
+moved_gives s t a o (Phase.Finish f to) below k seen h g = inl (sym (finishes f to below k) ∙ g)
+moved_gives s t a o (Phase.Settle i) below k seen h g = inl g
+moved_gives s t a o (Phase.GiveUp touch) below k seen h g = never _ (given o touch k) g
+moved_gives s t a o (Phase.Frames v n) below k seen h g = never _ (frames v n k seen) g
+moved_gives s t a o (Phase.Moves step v) below k seen h g = absurd h.0
+moved_gives s t a o (Phase.Lost v f) below k seen h g = absurd h.0

@@ -1,0 +1,5 @@
+use Rattle.hm_laws.proofs.Standings.{allowed_may_stand}
+use Rattle.hm_laws.proofs.allowed_may_stand.Goals as goal
+
+pub returns : goal.returns
+returns c = allowed_may_stand

@@ -1,0 +1,5 @@
+use Rattle.hm_laws.proofs.Standings.{rules_kept}
+use Rattle.hm_laws.proofs.rules_kept.Goals as goal
+
+pub returns : goal.returns
+returns c = rules_kept
