@@ -1,0 +1,65 @@
+// Fork by copy on write: mm/memory.c, `copy_page_range` with `copy_present_pte` and `copy_nonpresent_pte`, which
+// kernel/fork.c, `dup_mmap`, calls under the write lock.
+#![tactic(auto)]
+
+ghost use Rattle.std.specs.Prelude.{◌≡◌, true, IsTrue};
+ghost use Rattle.hm_history.specs.Places.{is_used, next_page};
+ghost use Rattle.hm_history.specs.Due as table;
+ghost use Rattle.hm_base.specs.declared.ops.Op as op;
+ghost use Rattle.hm_history.specs.declared.Kind as kind;
+ghost use Rattle.hm_reads.specs.Ranges.{body_in_range};
+ghost use Rattle.hm_history.specs.declared.phases.Body as body;
+
+use hm_base::{Page, Proc, Span};
+use hm_history::Kind;
+use hm_reads::Reads;
+use hm_reads::guards::is_before_end;
+
+/// What is due to a fork once it has the write lock: a refusal, or the child's number is given away.
+pub fn step_fork<W: Reads>(world: &W, proc: Proc, child: Proc) -> Kind
+    ensures { result ≡ table.due_locked (W.state world.now).after (op.Op.Fork proc child) }
+{
+    if !world.there(proc) {
+        Kind::Refused(8)
+    } else if child.number() == 0 || world.named(child) {
+        Kind::Refused(7)
+    } else {
+        Kind::Named(proc, child)
+    }
+}
+
+fn fork_page<W: Reads>(world: &W, proc: Proc, child: Proc, page: Page) -> Kind
+    ensures { result ≡ table.fork_page (W.state world.now).after proc child page }
+{
+    let place = &world.place(proc, page);
+    if place.writable() {
+        Kind::Place(proc, page, place.narrowed())
+    } else {
+        Kind::Place(child, page, *place)
+    }
+}
+
+/// The body of a fork: the parent's page loses its write right, and the child gets the parent's place.
+pub fn copy<W: Reads>(world: &W, proc: Proc, child: Proc, span: Span, next: u64) -> Option<Kind>
+    ensures { result ≡ table.within span (next_page (W.state world.now).after.places is_used proc next) (table.fork_page (W.state world.now).after proc child) }
+{
+    match world.next_used(proc, next) {
+        None => None,
+        Some(page) => {
+            if is_before_end(span, page.number()) {
+                Some(fork_page(world, proc, child, page))
+            } else {
+                None
+            }
+        }
+    }
+}
+
+/// The other half of a page whose write right the parent has lost: the child gets the parent's place.
+pub fn give<W: Reads>(world: &W, proc: Proc, child: Proc, next: u64) -> Kind
+    requires { IsTrue (body_in_range (body.Body.Fork next true)) }
+    ensures { result ≡ kind.Kind.Place child next ((W.state world.now).after.places.place proc next) }
+{
+    let page = Page::new(next);
+    Kind::Place(child, page, world.place(proc, page))
+}

@@ -1,0 +1,7 @@
+-- The operations whose turn under the write lock this crate has.
+use Rattle.std.specs.Prelude.{Bool, true, false}
+use Rattle.hm_base.specs.declared.ops.Op.{Op}
+
+abbrev pub is_fork : Op → Bool
+is_fork (Op.Fork p c) = true
+is_fork _ = false
