@@ -1,0 +1,42 @@
+// Destinations and copies of a migration: lib/test_hmm.c, `dmirror_migrate_alloc_and_copy`, between the setup and
+// `migrate_vma_pages` of mm/migrate_device.c.
+#![tactic(auto)]
+
+ghost use Rattle.std.specs.Prelude.{◌≡◌};
+ghost use Rattle.hm_history.specs.Due as table;
+
+use hm_base::{Op, Page, PoolId};
+use hm_history::{KeptAt, KeptWhy, Kind};
+use hm_reads::Reads;
+use hm_reads::operations::{is_to_device, op_mirror};
+
+fn skips<W: Reads>(world: &W, op: &Op, page: Page) -> bool
+    ensures { result ≡ table.skips (W.program world.now) op.now page }
+{
+    let skip = world.script().skip;
+    is_to_device(op) && skip != 0 && page.number() % skip == 0
+}
+
+fn pool_of<W: Reads>(world: &W, op: &Op) -> PoolId
+    ensures { result ≡ table.pool_of (W.state world.now).after op.now }
+{
+    if is_to_device(op) {
+        PoolId::Device(world.mirror_dev(op_mirror(op)))
+    } else {
+        PoolId::System
+    }
+}
+
+/// A page gets its destination, or stays: its driver skips it, or no frame is free.
+pub fn step_copy<W: Reads>(world: &W, op: &Op, page: Page) -> Kind
+    ensures { result ≡ table.fetch_page (W.program world.now) (W.state world.now).after op.now page }
+{
+    if skips(world, op, page) {
+        Kind::Kept(KeptAt::Page(page), KeptWhy::Skipped)
+    } else {
+        match world.lowest_free(pool_of(world, op)) {
+            Some(frame) => Kind::Take(frame),
+            None => Kind::Kept(KeptAt::Page(page), KeptWhy::NoFrame),
+        }
+    }
+}
