@@ -1,0 +1,44 @@
+// What is due to an actor, by the crates of the steps.
+#![tactic(auto)]
+
+ghost use Rattle.std.specs.Prelude.{◌≡◌, IfOk};
+ghost use Rattle.hm_history.specs.Due as table;
+
+mod bodies;
+mod moves;
+mod operations;
+mod phases;
+
+use hm_base::{Actor, NoMemory};
+use hm_history::phases::Next;
+use hm_history::{Entry, Progress};
+use hm_reads::Reads;
+use phases::due_phase;
+use std::alloc::Global;
+
+fn told(actor: Actor, next: Next) -> Progress
+    ensures { result ≡ table.progress actor next }
+{
+    match next {
+        Next::Do(kind) => Progress::Did(Entry { actor, kind }),
+        Next::Wait(why) => Progress::Waiting(why),
+    }
+}
+
+/// What is due to the actor in the world: the entry that its next step adds, or why it waits; idle where it has no
+/// operation left. Memory is taken for the bytes of an answer alone.
+pub fn due<W: Reads>(world: &W, alloc: Global, actor: Actor) -> Result<Progress, NoMemory>
+    ensures { IfOk result (λ progress. progress ≡ table.due_in (W.program world.now) (W.state world.now) actor) }
+{
+    world.script().fits();
+    match world.op(actor) {
+        None => Ok(Progress::Idle),
+        Some(op) => match world.phase(actor) {
+            None => Ok(Progress::Idle),
+            Some(top) => {
+                let next = due_phase(world, alloc, actor, op, top)?;
+                Ok(told(actor, next))
+            }
+        },
+    }
+}

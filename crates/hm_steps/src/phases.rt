@@ -1,0 +1,162 @@
+// What is due at each phase.
+ghost use Rattle.std.specs.Prelude.{◌≡◌, ◌≤◌, IsTrue, IfOk};
+ghost use Rattle.hm_base.specs.Pages.{one_page};
+ghost use Rattle.hm_base.specs.Program.{op_in_range};
+ghost use Rattle.hm_history.specs.Plain.{mirror_proc};
+ghost use Rattle.hm_history.specs.Operation.{op_mirror};
+ghost use Rattle.hm_history.specs.Going.{touch_page, touch_proc};
+ghost use Rattle.hm_history.specs.Moved.{piece_of};
+ghost use Rattle.hm_history.specs.Due as table;
+ghost use Rattle.hm_reads.specs.Ranges.{phase_in_range};
+ghost use Rattle.hm_steps.specs.Groups.{group};
+
+use crate::bodies::due_guard;
+use crate::moves::due_moves;
+use crate::operations::{due_answer, due_begin, due_locked, due_pages, due_piece, due_ready};
+use device_evict::step_evict;
+use exclusive_ops::{fetched, step_exclusive};
+use fault_home::{give_up, step_home};
+use hm_base::{Actor, Frame, NoMemory, Op, Place};
+use hm_history::phases::{Next, Phase, Touch};
+use hm_history::{KeptAt, KeptWhy, Kind};
+use hm_reads::Reads;
+use hm_reads::decisions::{rlock_mirror, start_page};
+use hm_reads::faults::Wanted;
+use hm_reads::operations::{op_mirror, piece_of, touch_page, touch_proc};
+use mig_finish::{settle, step_finish};
+use mirror_ops::leave;
+use range_walk::noted;
+use std::alloc::Global;
+
+fn wanted<W: Reads>(world: &W, op: &Op, touch: &Touch) -> Wanted
+    requires { IsTrue (op_in_range op.now) }
+    ensures piece { result.piece ≡ piece_of touch.now }
+    ensures proc { result.proc ≡ touch_proc (W.state world.now).after op.now }
+    ensures page { result.page ≡ touch_page op.now touch.now }
+{
+    Wanted {
+        piece: piece_of(*touch),
+        proc: touch_proc(world, op),
+        page: touch_page(op, *touch),
+    }
+}
+
+fn decide_at<W: Reads>(world: &W, actor: Actor, op: &Op, touch: &Touch, at: &Wanted) -> Next
+    requires range { IsTrue (op_in_range op.now) }
+    requires piece { at.now.piece ≡ piece_of touch.now }
+    ensures { result ≡ table.due_decide (W.program world.now) (W.state world.now).after actor op.now touch.now at.now.proc at.now.page }
+{
+    match touch {
+        Touch::Cpu { .. } => anon_fault::decide(world, actor, op, at),
+        Touch::Walk {
+            piece: _,
+            since,
+            seq,
+        } => range_walk::decide(world, actor, op, at, *since, *seq),
+        Touch::Sole => step_exclusive(world, actor, op, at),
+    }
+}
+
+fn due_decide<W: Reads>(world: &W, actor: Actor, op: &Op, touch: &Touch) -> Next
+    requires { IsTrue (op_in_range op.now) }
+    ensures { result ≡ table.due_decide (W.program world.now) (W.state world.now).after actor op.now touch.now (touch_proc (W.state world.now).after op.now) (touch_page op.now touch.now) }
+{
+    let at = wanted(world, op, touch);
+    decide_at(world, actor, op, touch, &at)
+}
+
+fn due_taken<W: Reads>(world: &W, op: &Op, touch: &Touch, by: &Frame, over: &Place) -> Next
+    requires { IsTrue (op_in_range op.now) }
+    ensures { result ≡ table.due_taken (W.state world.now).after by.now over.now (touch_proc (W.state world.now).after op.now) (touch_page op.now touch.now) }
+{
+    let at = wanted(world, op, touch);
+    anon_fault::taken(world, &at, by, over)
+}
+
+fn due_armed<W: Reads>(world: &W, op: &Op, touch: &Touch) -> Kind
+    requires { IsTrue (op_in_range op.now) }
+    ensures { result ≡ table.start (W.state world.now).after (touch_proc (W.state world.now).after op.now) (one_page (touch_page op.now touch.now)) }
+{
+    let at = wanted(world, op, touch);
+    start_page(world, at.proc, at.page)
+}
+
+fn due_begun<W: Reads>(world: &W, op: &Op) -> Next
+    ensures { result ≡ table.rlock (W.state world.now).after (mirror_proc (W.state world.now).after.plain (op_mirror op.now)) }
+{
+    rlock_mirror(world, op_mirror(op))
+}
+
+fn due_frame<W: Reads>(world: &W, actor: Actor, op: &Op, top: &Phase) -> Next
+    requires op { IsTrue (op_in_range op.now) }
+    requires top { IsTrue (phase_in_range top.now) }
+    requires group { 2 ≤ group top.now }
+    ensures { result ≡ table.due_phase (W.program world.now) (W.state world.now).after actor op.now ((W.state world.now).going actor).pages top.now }
+{
+    match top {
+        Phase::Guard {
+            proc,
+            span,
+            overlapped,
+            told,
+            body,
+        } => Next::Do(due_guard(world, actor, op, *proc, *span, *overlapped, *told, body)),
+        Phase::Drop { frame } => Next::Do(Kind::Drop(*frame)),
+        Phase::Alone { frame, at } => Next::Do(step_home(world, frame, *at)),
+        Phase::Copy { from, to, part } => Next::Do(Kind::Copied(*from, *to, Some(*part))),
+        Phase::Copied { from, to } => Next::Do(Kind::Committed(*from, *to)),
+        Phase::Finish { from, to } => Next::Do(step_finish(world, from, *to)),
+        Phase::Settle { frame } => Next::Do(settle(world, frame)),
+        Phase::GiveUp { touch } => Next::Do(give_up(op, touch)),
+        Phase::Frames { next, moved } => step_evict(world, actor, op, *next, *moved),
+        Phase::Moves { step, next } => Next::Do(due_moves(world, actor, op, *step, *next)),
+        Phase::Lost { page, .. } => Next::Do(Kind::Kept(KeptAt::Page(*page), KeptWhy::Lost)),
+        _ => Next::Do(Kind::Refused(0)),
+    }
+}
+
+fn due_fault<W: Reads>(world: &W, actor: Actor, op: &Op, top: &Phase) -> Next
+    requires op { IsTrue (op_in_range op.now) }
+    requires top { IsTrue (phase_in_range top.now) }
+    requires group { 1 ≤ group top.now }
+    ensures { result ≡ table.due_phase (W.program world.now) (W.state world.now).after actor op.now ((W.state world.now).going actor).pages top.now }
+{
+    match top {
+        Phase::Begin => due_begin(world, actor, op),
+        Phase::Locked => Next::Do(due_locked(world, op)),
+        Phase::Ready => Next::Do(due_ready(world, op)),
+        Phase::Answer => Next::Do(due_answer(world, op)),
+        Phase::Detaching { seq } => leave(world, op_mirror(op), *seq),
+        Phase::Pages { next } => Next::Do(due_pages(world, op, *next)),
+        Phase::Begun { .. } => due_begun(world, op),
+        Phase::Decide { touch } => due_decide(world, actor, op, touch),
+        Phase::Noted {
+            piece,
+            since,
+            seq,
+            place,
+        } => noted(world, op, *piece, *since, *seq, place),
+        Phase::Taken { touch, by, over } => due_taken(world, op, touch, by, over),
+        Phase::Armed { touch, .. } => Next::Do(due_armed(world, op, touch)),
+        _ => due_frame(world, actor, op, top),
+    }
+}
+
+/// The turn at a phase. Only the answers of accesses take memory.
+pub fn due_phase<W: Reads>(
+    world: &W,
+    alloc: Global,
+    actor: Actor,
+    op: &Op,
+    top: &Phase,
+) -> Result<Next, NoMemory>
+    requires op { IsTrue (op_in_range op.now) }
+    requires top { IsTrue (phase_in_range top.now) }
+    ensures { IfOk result (λ next. next ≡ table.due_phase (W.program world.now) (W.state world.now).after actor op.now ((W.state world.now).going actor).pages top.now) }
+{
+    match top {
+        Phase::Piece { piece } => due_piece(world, alloc, actor, op, *piece),
+        Phase::Fetched { old } => fetched(world, alloc, actor, op, *old),
+        _ => Ok(due_fault(world, actor, op, top)),
+    }
+}
