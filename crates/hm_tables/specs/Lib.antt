@@ -1,0 +1,5 @@
+pub mod Values
+pub mod Sound
+pub mod Shown
+pub mod Steps
+pub mod Reads
