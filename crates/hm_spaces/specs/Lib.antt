@@ -1,0 +1,3 @@
+pub mod Holders
+pub mod Refusals
+pub mod Spaces

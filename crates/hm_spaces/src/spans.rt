@@ -1,0 +1,98 @@
+// The areas of each process.
+ghost use Rattle.std.specs.Prelude.{◌≡◌, ◌<◌, ◌≤◌, [], length, replicate, IfOk};
+ghost use Rattle.std.specs.Option.{option_map};
+ghost use Rattle.hm_history.specs.Plain.{area_refusal};
+ghost use Rattle.hm_history.specs.Due.{proc_of_op};
+ghost use Rattle.hm_spaces.specs.Spaces.{areas_next, SpacesFit, HasParent};
+ghost use Rattle.hm_spaces.specs.Refusals.{plain_with, refusal_code};
+
+use hm_base::{NoMemory, Op};
+use hm_history::Kind;
+use std::alloc::Global;
+use std::mem;
+use vm_areas::{AreaRefusal, Areas};
+
+pub fn nothing_mapped(alloc: Global) -> Result<Vec<Areas>, NoMemory>
+    ensures { IfOk result (λ x. x.items ≡ replicate 32 []) }
+{
+    let mut areas = Vec::new(alloc);
+    for _at in 0..32u32 {
+        match areas.push(Areas::new(alloc)?) {
+            Ok(()) => (),
+            Err(_) => return Err(NoMemory),
+        }
+    }
+    Ok(areas)
+}
+
+pub fn step(areas: &mut Vec<Areas>, spare: &mut Areas, kind: &Kind)
+    requires len { length areas.old.items ≡ 32 }
+    requires fits { SpacesFit (plain_with areas.old.items) kind.now }
+    ensures next { areas.new.items ≡ areas_next kind.now areas.old.items }
+    ensures parent { HasParent kind.now }
+{
+    match kind {
+        Kind::Mapped(proc, span, rights) => {
+            let of_proc = &mut areas[proc.number() as usize];
+            let _ = of_proc.insert(*span, *rights);
+        }
+        Kind::Unmapped(proc, span) => {
+            let of_proc = &mut areas[proc.number() as usize];
+            let _ = of_proc.remove(*span);
+        }
+        Kind::Protected(proc, span, rights) => {
+            let of_proc = &mut areas[proc.number() as usize];
+            let _ = of_proc.protect(*span, *rights);
+        }
+        Kind::Forked(parent, child) => {
+            spare.copy_from(&areas[parent.number() as usize]);
+            let of_child = &mut areas[child.number() as usize];
+            mem::swap(of_child, spare);
+        }
+        Kind::Exited(proc) => {
+            let of_proc = &mut areas[proc.number() as usize];
+            of_proc.clear();
+        }
+        _ => (),
+    }
+}
+
+fn code(refusal: Option<AreaRefusal>) -> Option<u32>
+    ensures { result ≡ option_map refusal_code refusal }
+{
+    match refusal {
+        None => None,
+        Some(AreaRefusal::Overlap) => Some(5),
+        Some(AreaRefusal::TooMany) => Some(6),
+        Some(AreaRefusal::Unmapped) => Some(1),
+    }
+}
+
+pub fn refusal(areas: &Vec<Areas>, op: &Op) -> Option<u32>
+    requires len { length areas.now.items ≡ 32 }
+    ensures refusal { result ≡ area_refusal (plain_with areas.now.items) op.now }
+    ensures proc { proc_of_op op.now < 32 }
+{
+    match op {
+        Op::Map {
+            proc,
+            span,
+            rights: _,
+        } => code(areas[proc.number() as usize].insert_refusal(*span)),
+        Op::Unmap { proc, span } => code(areas[proc.number() as usize].remove_refusal(*span)),
+        Op::Protect {
+            proc,
+            span,
+            rights: _,
+        } => code(areas[proc.number() as usize].protect_refusal(*span)),
+        Op::Fork { proc, child: _ } => {
+            let _ = proc.number();
+            None
+        }
+        Op::Exit { proc } => {
+            let _ = proc.number();
+            None
+        }
+        _ => None,
+    }
+}
