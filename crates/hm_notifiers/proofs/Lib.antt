@@ -1,0 +1,7 @@
+pub mod Start
+pub mod Updates
+pub mod Intervals
+pub mod Changes
+pub mod Kept
+pub mod Fits
+pub mod Readings
