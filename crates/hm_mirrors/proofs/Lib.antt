@@ -1,0 +1,5 @@
+pub mod Updates
+pub mod Tables
+pub mod Kept
+pub mod Fits
+pub mod Readings

@@ -1,0 +1,137 @@
+-- The mirrors with their tables, by number, as contracts see them.
+use Rattle.std.specs.Prelude.{◌≡◌, ℕ, ◌<◌, ◌≤◌, Bool, true, false, ◌&&◌, Option, Some, None, option_map, List, [], replicate, slice_index_or, slice_set, ⊤}
+use Rattle.hm_base.specs.Pages.{Pages, covers, lies_in}
+use Rattle.hm_history.specs.Places.{TableEntry}
+use Rattle.hm_history.specs.declared.Kind.{Kind}
+use Rattle.hm_history.specs.declared.Who.{Who}
+use Rattle.mirror_tables.specs.Entries.{Table, entry_at, with_entry, without_span, changed}
+use Rattle.mirror_tables.specs.declared.entry.MirrorEntry.{MirrorEntry}
+use Rattle.hm_mirrors.specs.Entries.{entry_for, shown_entry}
+use Rattle.hm_mirrors.specs.declared.info.Standing.{Standing}
+use Rattle.hm_mirrors.specs.declared.info.MirrorInfo.{MirrorInfo}
+use Rattle.hm_mirrors.specs.declared.info.Mirror.{Mirror}
+
+abbrev pub mirrors_start : List (Option Mirror)
+mirrors_start = replicate 32 None
+
+abbrev pub mirror_at : List (Option Mirror) → ℕ → Option Mirror
+mirror_at xs m = slice_index_or xs m None
+
+-- what is read
+abbrev pub info_of : List (Option Mirror) → ℕ → Option MirrorInfo
+info_of xs m = option_map (λ x. x.info) (mirror_at xs m)
+
+abbrev pub info_passes : (MirrorInfo → Bool) → Option MirrorInfo → Bool
+info_passes test None = false
+info_passes test (Some x) = test x
+
+abbrev pub stands_attached : Standing → Bool
+stands_attached Standing.Attached = true
+stands_attached Standing.Detaching = false
+stands_attached Standing.Gone = false
+
+abbrev pub is_attached_of : List (Option Mirror) → ℕ → Bool
+is_attached_of xs m = info_passes (λ x. stands_attached x.standing) (info_of xs m)
+
+abbrev pub in_window_of : List (Option Mirror) → ℕ → Pages → Bool
+in_window_of xs m r = info_passes (λ x. stands_attached x.standing && lies_in r x.window) (info_of xs m)
+
+abbrev pub proc_of : List (Option Mirror) → ℕ → ℕ
+proc_of xs m = elim (info_of xs m) [ None ↦ 0 | Some x ↦ x.process ]
+
+abbrev pub device_of : List (Option Mirror) → ℕ → ℕ
+device_of xs m = elim (info_of xs m) [ None ↦ 0 | Some x ↦ x.device ]
+
+-- whose memory an access is of
+abbrev pub accessed_proc : List (Option Mirror) → Who → ℕ
+accessed_proc xs (Who.Cpu p) = p
+accessed_proc xs (Who.Mirror m) = proc_of xs m
+
+abbrev pub entry_in : ℕ → Option Mirror → Option MirrorEntry
+entry_in v None = None
+entry_in v (Some x) = entry_at x.table v
+
+abbrev pub entry_of : List (Option Mirror) → ℕ → ℕ → Option MirrorEntry
+entry_of xs m v = entry_in v (mirror_at xs m)
+
+-- as a history has it
+abbrev pub table_of : List (Option Mirror) → ℕ → ℕ → Option TableEntry
+table_of xs m v = option_map shown_entry (entry_of xs m v)
+
+-- what an entry leaves
+abbrev pub with_mirror : List (Option Mirror) → ℕ → Option Mirror → List (Option Mirror)
+with_mirror xs m x = slice_set xs m x
+
+-- a mirror with another table, or with an empty one
+abbrev pub with_table : Mirror → Table → Mirror
+with_table x t = record x { table = t }
+
+abbrev pub empty_table : Pages → Table
+empty_table r = record { window = r; entries = []; room = 0 }
+
+abbrev pub standing_as : Standing → Mirror → Mirror
+standing_as t x = record { info = record x.info { standing = t }; table = empty_table x.info.window }
+
+abbrev pub attached : ℕ → ℕ → Pages → Mirror
+attached d p r = record { info = record { device = d; process = p; window = r; standing = Standing.Attached }; table = empty_table r }
+
+-- the room that a table has after a change is left open
+abbrev pub set_in : ℕ → ℕ → MirrorEntry → Mirror → Mirror
+set_in room v e x = with_table x (changed x.table (with_entry x.table v e) room)
+
+abbrev pub erased_in : ℕ → Pages → Mirror → Mirror
+erased_in room r x = with_table x (changed x.table (without_span x.table r) room)
+
+abbrev pub room_in : Option Mirror → ℕ
+room_in None = 0
+room_in (Some x) = x.table.room
+
+abbrev pub room_of : List (Option Mirror) → ℕ → ℕ
+room_of xs m = room_in (mirror_at xs m)
+
+abbrev pub changed_mirror : (Mirror → Mirror) → List (Option Mirror) → ℕ → List (Option Mirror)
+changed_mirror f xs m = with_mirror xs m (option_map f (mirror_at xs m))
+
+-- the mirrors after an entry; `room` is that of its mirror's table then
+abbrev pub mirrors_next : ℕ → Kind → List (Option Mirror) → List (Option Mirror)
+mirrors_next room (Kind.Attached m d p r q) xs = with_mirror xs m (Some (attached d p r))
+mirrors_next room (Kind.Detaching m q) xs = changed_mirror (standing_as Standing.Detaching) xs m
+mirrors_next room (Kind.Detached m) xs = changed_mirror (standing_as Standing.Gone) xs m
+mirrors_next room (Kind.Told m r q) xs = changed_mirror (erased_in room r) xs m
+mirrors_next room (Kind.Set m v f w from) xs = changed_mirror (set_in room v (entry_for f w from)) xs m
+mirrors_next room k xs = xs
+
+-- the mirror of an entry, whose table's room it may change
+abbrev pub mirror_of : Kind → Option ℕ
+mirror_of (Kind.Told m r q) = Some m
+mirror_of (Kind.Set m v f w from) = Some m
+mirror_of k = None
+
+abbrev pub room_for : Kind → List (Option Mirror) → ℕ
+room_for k xs = elim (mirror_of k) [ None ↦ 0 | Some m ↦ room_of xs m ]
+
+-- the mirrors with other room in the table of the entry's mirror
+abbrev pub with_room : ℕ → Mirror → Mirror
+with_room room x = with_table x (changed x.table x.table.entries room)
+
+abbrev pub reserved : ℕ → Kind → List (Option Mirror) → List (Option Mirror)
+reserved room (Kind.Set m v f w from) xs = changed_mirror (with_room room) xs m
+reserved room k xs = xs
+
+-- there is room for the entry
+abbrev pub HasRoom : Option Mirror → Type 0
+HasRoom None = ⊤
+HasRoom (Some x) = 1 ≤ x.table.room
+
+abbrev pub MirrorsRoom : Kind → List (Option Mirror) → Type 0
+MirrorsRoom (Kind.Set m v f w from) xs = HasRoom (mirror_at xs m)
+MirrorsRoom k xs = ⊤
+
+-- what a change asks for: an entry that is set lies in its table's window
+abbrev pub InTable : ℕ → Option Mirror → Type 0
+InTable v None = ⊤
+InTable v (Some x) = covers x.table.window v ≡ true
+
+abbrev pub CanStep : Kind → List (Option Mirror) → Type 0
+CanStep (Kind.Set m v f w from) xs = m < 32 → InTable v (mirror_at xs m)
+CanStep k xs = ⊤

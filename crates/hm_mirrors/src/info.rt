@@ -1,0 +1,27 @@
+// What a mirror is, and its table.
+use hm_base::{Dev, Proc, Span};
+use mirror_tables::MirrorTable;
+
+/// Whether a mirror is attached, or its interval waits to leave, or it is gone for good.
+#[derive(Clone, Copy, PartialEq, Eq, Debug)]
+pub enum Standing {
+    Attached,
+    Detaching,
+    Gone,
+}
+
+/// A mirror of a window of a process's memory in a device (`struct dmirror` of lib/test_hmm.c).
+#[derive(Clone, Copy, PartialEq, Eq, Debug)]
+pub struct MirrorInfo {
+    pub device: Dev,
+    pub process: Proc,
+    pub window: Span,
+    pub standing: Standing,
+}
+
+/// A mirror with its table, which is empty but while it is attached.
+#[derive(Drop)]
+pub struct Mirror {
+    pub info: MirrorInfo,
+    pub table: MirrorTable,
+}
