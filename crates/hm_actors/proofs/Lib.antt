@@ -1,0 +1,3 @@
+pub mod ActorsKept
+pub mod Comings
+pub mod TaskKept

@@ -1,0 +1,105 @@
+-- How far each actor is: its operation's number, the stack of phases and the records of a migration, with the room that
+-- was made for more records.
+use Rattle.std.specs.Prelude.{◌≡◌, ℕ, zero, suc, ◌-◌, ◌<◌, ◌≤◌, Bool, true, false, if◌then◌else◌, Some, None, List, [], ◌∷◌, ◌++◌, length, map, slice_set, slice_index_or, IsTrue}
+use Rattle.hm_base.specs.Program.{Program}
+use Rattle.hm_base.specs.declared.ops.Op.{Op}
+use Rattle.hm_history.specs.After.{After}
+use Rattle.hm_history.specs.Moved.{moved}
+use Rattle.hm_history.specs.Going.{Going, going_from, going_seen, op_at, seen_at}
+use Rattle.hm_history.specs.declared.Kind.{Kind}
+use Rattle.hm_history.specs.declared.phases.Migrating.{Migrating}
+use Rattle.hm_history.specs.declared.phases.Seen.{Seen}
+use Rattle.hm_history.specs.declared.phases.Body.{Body}
+use Rattle.hm_history.specs.declared.phases.Phase.{Phase}
+use Rattle.hm_phases.specs.Items.{below_takes_count}
+
+-- the records, and the room for more
+pub record RecordsValue : Type 0 where
+  pub items : List Migrating
+  pub spare : ℕ
+
+pub record TaskValue : Type 0 where
+  pub going : Going
+  pub spare : ℕ
+
+-- what is read where there is no such actor
+abbrev pub nobody : TaskValue
+nobody = record { going = record { index = 0; stack = []; pages = [] }; spare = 0 }
+
+abbrev pub task_of : List TaskValue → ℕ → TaskValue
+task_of x a = slice_index_or x a nobody
+
+abbrev pub going_of : List TaskValue → ℕ → Going
+going_of x a = (task_of x a).going
+
+-- it is what the function gives below so many actors
+pub record ActorsShown (n : ℕ) (going : ℕ → Going) (x : List TaskValue) : Type 0 where
+  pub len : length x ≡ n
+  pub at : (a : ℕ) → a < n → going_of x a ≡ going a
+
+-- the same without the room
+abbrev pub goings : List TaskValue → List Going
+goings x = map (λ d. d.going) x
+
+-- at the start each actor is at its first operation
+abbrev pub task_start : Program → ℕ → TaskValue
+task_start c a = record { going = going_from c a 0; spare = 0 }
+
+abbrev pub first_tasks : Program → ℕ → List TaskValue
+first_tasks c zero = []
+first_tasks c (suc n) = first_tasks c n ++ (task_start c n ∷ [])
+
+abbrev pub actors_start : Program → List TaskValue
+actors_start c = first_tasks c (length c.actors)
+
+-- an entry that can add a record to a migration, and that does
+abbrev pub is_found : Kind → Bool
+is_found (Kind.Fresh p v) = true
+is_found (Kind.Place p v x) = true
+is_found k = false
+
+abbrev pub adds_to : Body → Kind → Bool
+adds_to (Body.Select v) (Kind.Fresh p u) = true
+adds_to (Body.Select v) (Kind.Place p u x) = true
+adds_to b k = false
+
+abbrev pub adds_at : Phase → Kind → Bool
+adds_at (Phase.Guard p r met told body) k = adds_to body k
+adds_at top k = false
+
+abbrev pub adds_record : List Phase → Kind → Bool
+adds_record [] k = false
+adds_record (top ∷ below) k = adds_at top k
+
+abbrev pub spare_next : Phase → Kind → ℕ → ℕ
+spare_next top k n = if adds_at top k then n - 1 else n
+
+-- an actor after its entry
+abbrev pub task_seen : Program → ℕ → TaskValue → Op → Phase → Kind → Seen → TaskValue
+task_seen c a d o top k seen = record { going = going_seen c a d.going o top k seen; spare = spare_next top k d.spare }
+
+abbrev pub task_top : Program → ℕ → TaskValue → Op → List Phase → Kind → Seen → TaskValue
+task_top c a d o [] k seen = d
+task_top c a d o (top ∷ below) k seen = task_seen c a d o top k seen
+
+abbrev pub task_next : Program → ℕ → TaskValue → Kind → Seen → TaskValue
+task_next c a d k seen = elim (op_at c a d.going.index) [ None ↦ d | Some o ↦ task_top c a d o d.going.stack k seen ]
+
+abbrev pub actors_next : Program → ℕ → Kind → Seen → List TaskValue → List TaskValue
+actors_next c a k seen x = slice_set x a (task_next c a (task_of x a) k seen)
+
+-- what was seen is what the state has, for an actor in an operation
+abbrev pub IsSeen : Program → After → ℕ → Going → Kind → Seen → Type 0
+IsSeen c s a g k seen = (o : Op) (top : Phase) (below : List Phase) → op_at c a g.index ≡ Some o → g.stack ≡ top ∷ below → seen ≡ seen_at s o g.pages top k
+
+-- what a step asks: the stack has room for what the entry puts on it, and a count of frames for one more
+pub record StackFits (o : Op) (st : List Phase) (k : Kind) (seen : Seen) : Type 0 where
+  pub few : length (moved o st k seen) ≤ 3
+  pub counted : IsTrue (below_takes_count st)
+
+abbrev pub ActorsFit : Program → ℕ → Going → Kind → Seen → Type 0
+ActorsFit c a g k seen = (o : Op) → op_at c a g.index ≡ Some o → StackFits o g.stack k seen
+
+-- room for the entry's record
+abbrev pub ActorsRoom : ℕ → Kind → List TaskValue → Type 0
+ActorsRoom a k x = adds_record (going_of x a).stack k ≡ true → 1 ≤ (task_of x a).spare

@@ -1,0 +1,141 @@
+// All actors of a script.
+ghost use Rattle.std.specs.Prelude.{◌≡◌, ◌<◌, ◌≤◌, [], true, is_none, count_by, length, OnOk, OnErr, IfOk, option_copied, slice_get};
+ghost use Rattle.hm_history.specs.Going.{op_at};
+ghost use Rattle.hm_actors.specs.Actors.{actors_start, actors_next, going_of, goings, is_found, ActorsFit, ActorsRoom};
+
+use crate::tasks::{Task, op_at};
+use hm_base::{Actor, NoMemory, Op, Script};
+use hm_history::Kind;
+use hm_history::phases::{Migrating, Phase, Seen};
+use std::alloc::Global;
+use std::marker::Model;
+
+/// How far each actor of a script is.
+#[derive(Drop)]
+pub struct Actors {
+    tasks: Vec<Task>,
+}
+
+impl Model for Actors {
+    ghost use Rattle.std.specs.Prelude.{List};
+    ghost use Rattle.hm_actors.specs.Actors.{TaskValue};
+
+    ghost Value = { List TaskValue };
+
+    ghost view = { λ x. x.tasks.items };
+}
+
+impl Actors {
+    /// Each actor at its first operation.
+    pub fn new(alloc: Global, script: &Script) -> Result<Actors, NoMemory>
+        ensures { IfOk result (λ x. x ≡ actors_start script.now) }
+    {
+        script.fits();
+        let count = script.actors.len() as u32;
+        let mut tasks = Vec::new(alloc);
+        for at in 0..count {
+            match tasks.push(Task::start(alloc, script, Actor::new(at))?) {
+                Ok(()) => (),
+                Err(_) => return Err(NoMemory),
+            }
+        }
+        Ok(Actors { tasks })
+    }
+
+    /// Makes room for the record that the actor's entry adds, if it adds one; all else stays.
+    pub fn reserve(&mut self, actor: Actor, kind: &Kind) -> Result<(), NoMemory>
+        ensures room { OnOk result (ActorsRoom actor kind.now self.new) }
+        ensures same { goings self.new ≡ goings self.old }
+        ensures err { OnErr result (self.new ≡ self.old) }
+    {
+        let at = actor.number() as usize;
+        if !is_found(kind) {
+            return Ok(());
+        }
+        if self.tasks.len() <= at {
+            return Ok(());
+        }
+        let task = &mut self.tasks[at];
+        task.reserve()
+    }
+
+    /// The actors after an entry of one of them, with what the state showed just before it.
+    pub fn step(&mut self, script: &Script, actor: Actor, kind: &Kind, seen: Seen)
+        requires fits { ActorsFit script.now actor (going_of self.old actor) kind.now seen }
+        requires room { ActorsRoom actor kind.now self.old }
+        ensures { self.new ≡ actors_next script.now actor kind.now seen self.old }
+    {
+        let at = actor.number() as usize;
+        if at < self.tasks.len() {
+            let task = &mut self.tasks[at];
+            task.step(script, actor, kind, seen);
+        }
+    }
+
+    /// The number of the actor's operation; 0 where there is no such actor.
+    pub fn index(&self, actor: Actor) -> u64
+        ensures { result ≡ (going_of self.now actor).index }
+    {
+        match self.tasks.get(actor.number() as usize) {
+            Some(task) => task.index(),
+            None => 0,
+        }
+    }
+
+    /// The operation that the actor is at.
+    pub fn op<'a>(&self, script: &'a Script, actor: Actor) -> Option<&'a Op>
+        ensures { option_copied result ≡ op_at script.now actor (going_of self.now actor).index }
+    {
+        op_at(script, actor, self.index(actor))
+    }
+
+    /// Whether the actor has no operation left.
+    pub fn has_ended(&self, script: &Script, actor: Actor) -> bool
+        ensures { result ≡ is_none (op_at script.now actor (going_of self.now actor).index) }
+    {
+        self.op(script, actor).is_none()
+    }
+
+    /// The phase that the actor is in.
+    pub fn top(&self, actor: Actor) -> Option<&Phase>
+        ensures { option_copied result ≡ slice_get (going_of self.now actor).stack 0 }
+    {
+        match self.tasks.get(actor.number() as usize) {
+            Some(task) => task.top(),
+            None => None,
+        }
+    }
+
+    /// The records of the actor's migration.
+    pub fn records(&self, actor: Actor) -> &[Migrating]
+        ensures { result.now ≡ (going_of self.now actor).pages }
+    {
+        match self.tasks.get(actor.number() as usize) {
+            Some(task) => task.records(),
+            None => &[],
+        }
+    }
+
+    /// How many pages the actor's migration has moved.
+    pub fn moved_pages(&self, actor: Actor) -> u64
+        ensures { result ≡ count_by (λ x. x.moved) (going_of self.now actor).pages }
+    {
+        moved_count(self.records(actor))
+    }
+}
+
+fn moved_count(records: &[Migrating]) -> u64
+    ensures { result ≡ count_by (λ x. x.moved) records.now }
+{
+    records.iter().filter(|x| x.moved).count() as u64
+}
+
+// Whether an entry can add a record.
+fn is_found(kind: &Kind) -> bool
+    ensures { result ≡ is_found kind.now }
+{
+    match kind {
+        Kind::Fresh(..) | Kind::Place(..) => true,
+        _ => false,
+    }
+}

@@ -1,0 +1,170 @@
+// The records of a migration, with room kept ahead.
+ghost use Rattle.std.specs.Prelude.{◌≡◌, ℕ, ◌+◌, ◌-◌, ◌≤◌, [], ◌∷◌, ◌++◌, ◌==◌, true, false, None, length, map, OnOk, OnErr, if◌then◌else◌};
+ghost use Rattle.hm_history.specs.Going.{with_record, found, recorded_at, recorded_body, recorded};
+ghost use Rattle.hm_actors.specs.Actors.{adds_to, adds_at, spare_next};
+
+use hm_base::{Frame, NoMemory, Page, Place};
+use hm_history::Kind;
+use hm_history::phases::{Body, Migrating, Phase};
+use std::alloc::Global;
+use std::marker::Model;
+
+/// The pages that a migration has found so far.
+#[derive(Drop)]
+pub struct Records {
+    items: Vec<Migrating>,
+    room: u64,
+}
+
+impl Model for Records {
+    ghost use Rattle.std.specs.Prelude.{◌+◌, ◌≤◌, vec_len, vec_capacity};
+    ghost use Rattle.hm_actors.specs.Actors.{RecordsValue};
+
+    ghost Value = { RecordsValue };
+
+    ghost view = { λ x. record { items = x.items.items; spare = x.room } };
+
+    ghost invariant = { λ x. x.room + vec_len x.items ≤ vec_capacity x.items };
+}
+
+fn frame_found(place: &Place) -> Option<Frame>
+    ensures { (v : ℕ) → result ≡ found v place.now }
+{
+    match place {
+        Place::Moving { frame, writable: _ } => Some(*frame),
+        _ => None,
+    }
+}
+
+// The new record where it is of the same page.
+fn renewed(old: &Migrating, new: &Migrating) -> Migrating
+    ensures { result ≡ (if old.now.page == new.now.page then new.now else old.now) }
+{
+    if old.page == new.page { *new } else { *old }
+}
+
+fn put(records: &mut [Migrating], migrating: &Migrating)
+    ensures { records.new ≡ with_record migrating.now records.old }
+{
+    for at in 0..records.len() {
+        records[at] = renewed(&records[at], migrating);
+    }
+}
+
+impl Records {
+    pub fn new(alloc: Global) -> Records
+        ensures { result ≡ record { items = []; spare = 0 } }
+    {
+        Records {
+            items: Vec::new(alloc),
+            room: 0,
+        }
+    }
+
+    pub fn as_slice(&self) -> &[Migrating]
+        ensures { result.now ≡ self.now.items }
+    {
+        self.items.as_slice()
+    }
+
+    pub fn clear(&mut self)
+        ensures { self.new ≡ record { items = []; spare = self.old.spare } }
+    {
+        self.items.clear();
+    }
+
+    /// Makes room for one record more; a failure leaves the room as it was.
+    pub fn reserve(&mut self) -> Result<(), NoMemory>
+        ensures room { OnOk result (1 ≤ self.new.spare) }
+        ensures same { self.new.items ≡ self.old.items }
+        ensures err { OnErr result (self.new ≡ self.old) }
+    {
+        if self.room == 0 {
+            match self.items.try_reserve(1) {
+                Ok(_) => (),
+                Err(_) => return Err(NoMemory),
+            }
+            self.room = 1;
+        }
+        Ok(())
+    }
+
+    fn push(&mut self, page: Page, source: Option<Frame>)
+        requires { 1 ≤ self.old.spare }
+        ensures { self.new ≡ record { items = self.old.items ++ record { page = page; source = source; dest = None; moved = false } ∷ []; spare = self.old.spare - 1 } }
+    {
+        self.room -= 1;
+        match self.items.push(Migrating {
+            page,
+            source,
+            dest: None,
+            moved: false,
+        }) {
+            Ok(_) => (),
+            Err(_) => unreachable!(),
+        }
+    }
+
+    // In place of what there is of its page.
+    fn put(&mut self, migrating: Migrating)
+        ensures { self.new ≡ record { items = with_record migrating self.old.items; spare = self.old.spare } }
+    {
+        put(&mut self.items, &migrating);
+    }
+
+    fn step_moves(&mut self, page: Option<Migrating>, kind: &Kind)
+        ensures { self.new ≡ record { items = recorded_at page self.old.items kind.now; spare = self.old.spare } }
+    {
+        if let Some(mut migrating) = page {
+            match kind {
+                Kind::Take(frame) => {
+                    migrating.dest = Some(*frame);
+                    self.put(migrating);
+                }
+                Kind::Committed(..) => {
+                    migrating.moved = true;
+                    self.put(migrating);
+                }
+                _ => (),
+            }
+        }
+    }
+
+    fn step_body(&mut self, body: &Body, kind: &Kind)
+        requires { adds_to body.now kind.now ≡ true → 1 ≤ self.old.spare }
+        ensures { self.new ≡ record { items = recorded_body body.now self.old.items kind.now; spare = if adds_to body.now kind.now then self.old.spare - 1 else self.old.spare } }
+    {
+        match (body, kind) {
+            (Body::Select { .. }, Kind::Fresh(_, page)) => self.push(*page, None),
+            (Body::Select { .. }, Kind::Place(_, page, place)) => self.push(
+                *page,
+                frame_found(place),
+            ),
+            (Body::Fresh { by }, Kind::Place(_, page, _)) => self.put(Migrating {
+                page: *page,
+                source: None,
+                dest: Some(*by),
+                moved: true,
+            }),
+            _ => (),
+        }
+    }
+
+    /// The records after an entry at this phase, where the migration has come to this record.
+    pub fn step(&mut self, top: &Phase, page: Option<Migrating>, kind: &Kind)
+        requires room { adds_at top.now kind.now ≡ true → 1 ≤ self.old.spare }
+        ensures { self.new ≡ record { items = recorded top.now page self.old.items kind.now; spare = spare_next top.now kind.now self.old.spare } }
+    {
+        match top {
+            Phase::Guard {
+                proc: _,
+                span: _,
+                overlapped: _,
+                told: _,
+                body,
+            } => self.step_body(body, kind),
+            Phase::Moves { .. } => self.step_moves(page, kind),
+            _ => (),
+        }
+    }
+}
