@@ -1,0 +1,12 @@
+pub mod Depth
+pub mod FitsOf
+pub mod Growing
+pub mod Shown
+pub mod Standing
+pub mod Ranged
+pub mod PastEnd
+pub mod Pages
+pub mod Halting
+pub mod Noting
+pub mod Beginning
+pub mod Adding

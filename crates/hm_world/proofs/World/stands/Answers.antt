@@ -1,0 +1,7 @@
+use Rattle.std.proofs.Common.{refl}
+use Rattle.hm_world.specs.Told.{now}
+use Rattle.hm_world.proofs.World.stands.Goals as goal
+
+pub returns-clause-now : goal.returns-clause-now
+unfolding now
+returns-clause-now c = refl

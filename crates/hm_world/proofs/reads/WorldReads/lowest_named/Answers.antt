@@ -1,0 +1,8 @@
+use Rattle.std.proofs.Common.{◌∙◌}
+use Rattle.hm_tables.proofs.ReadsShown.{lowest_named_shown}
+use Rattle.hm_world.specs.Told.{now}
+use Rattle.hm_world.proofs.Shown.{shown}
+use Rattle.hm_world.proofs.reads.WorldReads.lowest_named.Goals as goal
+
+pub returns : goal.returns
+returns c = c.lowest_named.ensures ∙ lowest_named_shown _ (now c.args.self.now).after.places _ (shown _ _ c.self.view_is _ c.self.invariant).tables c.args.frame.now

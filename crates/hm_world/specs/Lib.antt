@@ -1,0 +1,4 @@
+pub mod Told
+pub mod Stands
+pub mod Fits
+pub mod Mirrored

@@ -1,0 +1,67 @@
+// Where a migration has come to: the page that its step is about.
+ghost use Rattle.std.specs.Prelude.{◌≡◌, ℕ, ◌≤◌};
+ghost use Rattle.hm_history.specs.Going.{is_direct, sets_now, concerns, coming};
+ghost use Rattle.hm_history.specs.declared.phases.Phase as phase;
+ghost use Rattle.hm_world.specs.Told.{now};
+
+use crate::World;
+use hm_actors::{Concerns, come_to};
+use hm_base::{Actor, Frame, MirrorId, Op};
+use hm_history::phases::Migrating;
+use hm_reads::Reads;
+use hm_reads::operations::{is_to_device, op_mirror};
+
+/// What tells of a migration's pages whether a step is about them.
+#[derive(Drop)]
+struct Asking<'a> {
+    world: &'a World,
+    op: &'a Op,
+}
+
+impl<'a> Concerns for Asking<'a> {
+    ghost concerns = { λ q step x. concerns (now q.world.now).after q.op.now step x };
+
+    fn concerns(&self, step: u8, migrating: &Migrating) -> bool {
+        match step {
+            3 => self.world.is_direct(&migrating.source),
+            4 => true,
+            5 => migrating.dest.is_some(),
+            6 => is_to_device(self.op)
+                && migrating.moved
+                && self.world.sets_now(op_mirror(self.op)),
+            _ => migrating.source.is_some() || migrating.moved,
+        }
+    }
+}
+
+impl World {
+    fn is_direct(&self, frame: &Option<Frame>) -> bool
+        ensures { result ≡ is_direct (now self.now).after frame.now }
+    {
+        match frame {
+            Some(frame) => self.lowest_direct(frame).is_some(),
+            None => false,
+        }
+    }
+
+    fn sets_now(&self, mirror: MirrorId) -> bool
+        ensures { result ≡ sets_now (now self.now).after mirror }
+    {
+        self.is_attached(mirror)
+            && self.interval_seq(mirror) != self.process_seq(self.mirror_proc(mirror))
+    }
+
+    pub(crate) fn come_to(
+        &self,
+        actor: Actor,
+        op: &Op,
+        step: u8,
+        next: u64,
+    ) -> (u8, Option<Migrating>)
+        requires { step ≤ 8 }
+        ensures { result ≡ coming (now self.now).after op.now ((now self.now).going actor).pages (phase.Phase.Moves step next) }
+    {
+        let asking = Asking { world: self, op };
+        come_to(self.actors.records(actor), &asking, step, next)
+    }
+}

@@ -1,0 +1,125 @@
+// What is read of a world before an entry changes it: the place that the entry is about, the frame that it leaves
+// unnamed, and what the stack of phases notes.
+ghost use Rattle.std.specs.Prelude.{◌≡◌, ◌+◌, ◌<◌, Some, is_some, IsTrue};
+ghost use Rattle.hm_base.specs.Program.{op_in_range};
+ghost use Rattle.hm_history.specs.Words.{page_of};
+ghost use Rattle.hm_history.specs.Plain.{proc_of};
+ghost use Rattle.hm_history.specs.Locks.{orphan};
+ghost use Rattle.hm_history.specs.Sequences.{some_overlap};
+ghost use Rattle.hm_history.specs.Going.{seen_overlap, seen_place, coming, op_at, seen_at};
+ghost use Rattle.hm_frames.specs.Shown.{entry_place};
+ghost use Rattle.hm_actors.specs.Actors.{IsSeen};
+ghost use Rattle.hm_base.specs.PlaceWords.{names};
+ghost use Rattle.hm_base.specs.declared.Frame.{Frame as AnyFrame};
+ghost use Rattle.hm_world.specs.Told.{now};
+
+use crate::World;
+use hm_base::{Actor, Frame, Op, Page, Place, Proc, Span};
+use hm_history::phases::{Migrating, Phase, Seen};
+use hm_history::{Kind, Who};
+use hm_reads::Reads;
+use hm_reads::operations::{page_of, touch_page, touch_proc};
+
+impl World {
+    fn accessed_place(&self, who: Who, addr: u64) -> Place
+        ensures { result ≡ (now self.now).after.places.place (proc_of (now self.now).after.plain who) (page_of addr) }
+    {
+        if addr < 1 << 48 {
+            self.tables.place(self.mirrors.proc_of(who), page_of(addr))
+        } else {
+            Place::Empty
+        }
+    }
+
+    /// The place that an entry is about.
+    pub(crate) fn place_before(&self, kind: &Kind) -> Place
+        ensures { result ≡ entry_place (now self.now).after.plain (now self.now).after.places kind.now }
+    {
+        match kind {
+            Kind::Place(proc, page, _) => self.place(*proc, *page),
+            Kind::Stored(who, addr, _) => self.accessed_place(*who, *addr),
+            Kind::Added(mirror, addr, _, _) => self.accessed_place(Who::Mirror(*mirror), *addr),
+            _ => Place::Empty,
+        }
+    }
+
+    /// The frame that the entry leaves unnamed, and that nobody has locked.
+    pub(crate) fn left_behind(&self, kind: &Kind) -> Option<Frame>
+        ensures { result ≡ orphan (now self.now).after.locks (now self.now).after.places kind.now }
+    {
+        match kind {
+            Kind::Place(proc, page, place) => {
+                let is_locked = self.is_locked(&self.place(*proc, *page));
+                self.tables.orphan(*proc, *page, place, is_locked)
+            }
+            _ => None,
+        }
+    }
+
+    fn is_locked(&self, place: &Place) -> bool
+        ensures { (f : AnyFrame) → names place.now ≡ Some f → result ≡ is_some ((now self.now).after.locks.frame f) }
+    {
+        match hm_reads::words::names(place) {
+            Some(frame) => self.frames.locker(&frame).is_some(),
+            None => false,
+        }
+    }
+
+    fn overlaps_span(&self, proc: Proc, span: Span) -> bool
+        ensures { result ≡ some_overlap (now self.now).after.sequences proc span }
+    {
+        self.notifiers.some_overlap(proc, span)
+    }
+
+    fn overlaps(&self, kind: &Kind) -> bool
+        ensures { result ≡ seen_overlap (now self.now).after kind.now }
+    {
+        match kind {
+            Kind::Start(proc, span, _) => self.overlaps_span(*proc, *span),
+            _ => false,
+        }
+    }
+
+    fn step_place(&self, op: &Op, top: &Phase, kind: &Kind) -> Place
+        requires { IsTrue (op_in_range op.now) }
+        ensures { result ≡ seen_place (now self.now).after op.now top.now kind.now }
+    {
+        match kind {
+            Kind::Start(proc, span, _) => self.place(*proc, span.first()),
+            Kind::Place(proc, page, _) => self.place(*proc, *page),
+            _ => match top {
+                Phase::Decide { touch } => self.place(touch_proc(self, op), touch_page(op, *touch)),
+                _ => Place::Empty,
+            },
+        }
+    }
+
+    fn page_come_to(&self, actor: Actor, op: &Op, top: &Phase) -> Option<Migrating>
+        ensures { result ≡ (coming (now self.now).after op.now ((now self.now).going actor).pages top.now).1 }
+    {
+        match top {
+            Phase::Moves { step, next } if *step <= 8 => self.coming(actor, op, *step, *next).1,
+            _ => None,
+        }
+    }
+
+    /// What the stack of phases notes of the entry.
+    pub(crate) fn seen(&self, actor: Actor, kind: &Kind) -> Seen
+        ensures { IsSeen self.now.script (now self.now).after actor ((now self.now).going actor) kind.now result }
+    {
+        let mut seen = Seen {
+            at: self.history.len(),
+            overlapped: self.overlaps(kind),
+            place: Place::Empty,
+            orphan: self.left_behind(kind),
+            page: None,
+        };
+        if let Some(op) = self.op(actor) {
+            if let Some(top) = self.phase(actor) {
+                seen.place = self.step_place(op, top, kind);
+                seen.page = self.page_come_to(actor, op, top);
+            }
+        }
+        seen
+    }
+}
