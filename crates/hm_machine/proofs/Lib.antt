@@ -1,0 +1,4 @@
+pub mod Fullness
+pub mod Steps
+pub mod Turns
+pub mod Lines

@@ -1,0 +1,186 @@
+// The machine of a script: a world, and the turns of its actors.
+#![tactic(auto)]
+
+ghost use Rattle.std.specs.Prelude.{◌≡◌, ◌<◌, length, slice_get, IfOk, None, Some, true};
+ghost use Rattle.std.specs.List.{list_all};
+ghost use Rattle.hm_history.specs.Due.{due};
+ghost use Rattle.hm_history.specs.Run.{run, turns, line_run};
+ghost use Rattle.hm_history.specs.declared.Progress.{Progress};
+ghost use Rattle.hm_laws.specs.Basic.{IsBasic};
+ghost use Rattle.hm_world.specs.Told.{opening, halted_by, MayHalt};
+ghost use Rattle.hm_machine.specs.Overrun.{overruns, overruns_line, overruns_turns};
+ghost use Rattle.hm_machine.specs.Turning.{Turned, TurnsTo, Adds, CameTo, is_turns};
+
+use hm_base::{Actor, NoMemory, ScheduleLine, Script};
+use hm_history::{Entry, History, Progress, StepError, Why};
+use hm_reads::Reads;
+use hm_world::World;
+use std::alloc::Global;
+use std::marker::Model;
+
+/// As many entries as a history has at most.
+const MOST_ENTRIES: u64 = 2_000_000;
+
+/// What a turn came to.
+#[derive(Clone, Copy, PartialEq, Eq, Debug)]
+pub enum Turn {
+    /// It added an entry, which is the history's last.
+    Did,
+    /// It added none, and why.
+    Waiting(Why),
+    /// The actor has no operation left.
+    Idle,
+}
+
+/// A script with its world, which takes one step at each turn. An error halts it for good.
+#[derive(Drop)]
+pub struct Machine {
+    world: World,
+    alloc: Global,
+}
+
+impl Model for Machine {
+    ghost use Rattle.hm_world.specs.Told.{Told};
+
+    ghost Value = { Told };
+
+    ghost view = { λ m. m.world };
+}
+
+impl Machine {
+    /// The machine before the first turn.
+    pub fn new(alloc: Global, script: Script) -> Result<Machine, NoMemory>
+        requires { IsBasic script }
+        ensures { IfOk result (λ machine. machine ≡ opening script) }
+    {
+        Ok(Machine {
+            world: World::new(alloc, script)?,
+            alloc,
+        })
+    }
+
+    pub fn world(&self) -> &World
+        ensures { result.now ≡ self.now }
+    {
+        &self.world
+    }
+
+    /// Gives the script and the history up, and drops the rest. It takes no memory.
+    pub fn into_parts(self) -> (Script, History)
+        ensures script { result.0 ≡ self.script }
+        ensures history { result.1.entries ≡ self.history }
+    {
+        self.world.into_parts()
+    }
+
+    fn halt(&mut self, error: StepError) -> StepError
+        requires running { self.old.halted ≡ None }
+        requires may { MayHalt self.old.script self.old.history error }
+        ensures same { result ≡ error }
+        ensures halted { self.new ≡ halted_by self.old error }
+    {
+        self.world.halt(error);
+        error
+    }
+
+    /// Adds an entry that is due.
+    fn add(&mut self, entry: Entry) -> Result<Turn, StepError>
+        requires running { self.old.halted ≡ None }
+        requires due { due self.old.script self.old.history entry.actor ≡ Progress.Did entry }
+        ensures { TurnsTo self.old (Progress.Did entry) result self.new }
+    {
+        self.world.stands();
+        if self.world.history().len() == MOST_ENTRIES {
+            return Err(self.halt(StepError::Full(MOST_ENTRIES)));
+        }
+        match self.world.add(entry.actor, entry.kind) {
+            Ok(()) => Ok(Turn::Did),
+            Err(NoMemory) => Err(self.halt(StepError::NoMemory)),
+        }
+    }
+
+    /// One turn of the actor: what is due to it.
+    pub fn step(&mut self, actor: Actor) -> Result<Turn, StepError>
+        ensures { Turned self.old actor result self.new }
+    {
+        if let Some(error) = self.world.halted() {
+            return Err(error);
+        }
+        self.world.stands();
+        match hm_steps::due(&self.world, self.alloc, actor) {
+            Ok(Progress::Did(entry)) => self.add(entry),
+            Ok(Progress::Waiting(why)) => Ok(Turn::Waiting(why)),
+            Ok(Progress::Idle) => Ok(Turn::Idle),
+            Err(NoMemory) => Err(self.halt(StepError::NoMemory)),
+        }
+    }
+
+    /// One turn of the actor, and whether it added an entry.
+    fn adds(&mut self, actor: Actor) -> Result<bool, StepError>
+        requires { self.old.halted ≡ None }
+        ensures { Adds self.old actor result self.new }
+    {
+        match self.step(actor) {
+            Ok(Turn::Did) => Ok(true),
+            Ok(Turn::Waiting(_)) => Ok(false),
+            Ok(Turn::Idle) => Ok(false),
+            Err(error) => Err(error),
+        }
+    }
+
+    /// So many turns of one actor. After a wait none of them can add an entry, so they are not made.
+    fn turns(&mut self, actor: Actor, count: u32) -> Result<(), StepError>
+        requires { self.old.halted ≡ None }
+        ensures { CameTo self.old (turns self.old.script self.old.history actor count) (overruns_turns self.old.script self.old.history actor count) result self.new }
+    {
+        for made in 0..count {
+            if !self.adds(actor)? {
+                return Ok(());
+            }
+        }
+        Ok(())
+    }
+
+    fn lines(&self) -> u64
+        ensures { result ≡ length self.now.script.schedule }
+    {
+        self.world.script().schedule.len()
+    }
+
+    fn line(&self, at: u64) -> ScheduleLine
+        requires { at < length self.now.script.schedule }
+        ensures { slice_get self.now.script.schedule at ≡ Some result }
+    {
+        match self.world.script().schedule.get(at) {
+            Some(line) => *line,
+            None => unreachable!(),
+        }
+    }
+
+    fn run_line(&mut self, line: ScheduleLine) -> Result<(), StepError>
+        requires running { self.old.halted ≡ None }
+        requires turns { is_turns line ≡ true }
+        ensures { CameTo self.old (line_run self.old.script self.old.history line) (overruns_line self.old.script self.old.history line) result self.new }
+    {
+        match line {
+            ScheduleLine::Run { actor, count } => self.turns(actor, count),
+            ScheduleLine::Drain => unreachable!(),
+        }
+    }
+
+    /// The turns of the script's schedule, in order.
+    pub fn replay(&mut self) -> Result<(), StepError>
+        requires opening { self.old ≡ opening self.old.script }
+        requires turns { list_all is_turns self.old.script.schedule ≡ true }
+        ensures { CameTo self.old (run self.old.script) (overruns self.old.script) result self.new }
+    {
+        for at in 0..self.lines() {
+            let line = self.line(at);
+            self.run_line(line)?;
+        }
+        Ok(())
+    }
+}
+
+#[cfg(test)]
+mod tests;
