@@ -25,7 +25,11 @@ message_text status refused =
                         | false ↦
                             elim (status == 6) [
                               | true ↦ codes "out of memory"
-                              | false ↦ elim (status == 8) [ true ↦ codes "script too long" | false ↦ [] ]
+                              | false ↦
+                                  elim (status == 7) [
+                                    | true ↦ codes "history full"
+                                    | false ↦ elim (status == 8) [ true ↦ codes "script too long" | false ↦ [] ]
+                                  ]
                             ]
                       ]
                 ]

@@ -1,9 +1,11 @@
 -- What a replay reads, runs and writes, by the script in its answer.
-use Rattle.std.specs.Prelude.{◌≡◌, ℕ, ◌⊎◌, List, [], Option, Some, None, Err}
+use Rattle.std.specs.Prelude.{◌≡◌, ℕ, ◌⊎◌, Bool, true, false, List, [], length, Option, Some, None, Err}
 use Rattle.hm_base.specs.Program.{Program, IsScript}
 use Rattle.hm_history.specs.Legal.{Legal}
 use Rattle.hm_history.specs.Run.{run}
 use Rattle.hm_history.specs.declared.Entry.{Entry}
+use Rattle.hm_history.specs.declared.StepError.{StepError}
+use Rattle.hm_machine.specs.Overrun.{overruns}
 use Rattle.hm_report.specs.Report.{report}
 use Rattle.hm_script.specs.Automaton.{reading}
 use Rattle.hm_script.specs.BadLine.{IsFirstBad}
@@ -11,6 +13,7 @@ use Rattle.hm_script.specs.Built.{IsBuilt}
 use Rattle.hm_script.specs.Spelling.{text}
 use Rattle.hm_script.specs.declared.reason.Refused.{Refused}
 use Rattle.hm_script.specs.declared.words.Words.{Words}
+use Rattle.hm_world.specs.Told.{Told, HasDue}
 
 -- the bytes are the text of the script in the answer
 abbrev pub IsTextOf : Option Program → List ℕ → Type 0
@@ -41,14 +44,35 @@ abbrev pub report_for : Option Program → List Entry → List ℕ
 report_for None h = []
 report_for (Some s) h = report s h
 
+-- the history is full, and some actor has an entry due; a turn of the schedule found one so
+abbrev pub IsFullFor : Option Program → List Entry → Type 0
+IsFullFor None h = ⊥
+IsFullFor (Some s) h = (length h ≡ 2000000) × HasDue s h × (overruns s ≡ true)
+
+-- no turn of the schedule found an entry due and the history full
+abbrev pub IsWithin : Option Program → Type 0
+IsWithin None = ⊥
+IsWithin (Some s) = overruns s ≡ false
+
+-- a machine after its schedule's turns, and whether one of them found an entry due and the history full
+pub record Replayed (before after : Told) (full : Bool) : Type 0 where
+  pub script : after.script ≡ before.script
+  pub history : after.history ≡ run before.script
+  pub beyond : overruns before.script ≡ full
+  pub halted : full ≡ true → after.halted ≡ Some (StepError.Full 2000000)
+
+-- the statuses at which a script's report went out whole
+abbrev pub HasReported : ℕ → Type 0
+HasReported status = (status ≡ 0) ⊎ (status ≡ 7)
+
 -- the statuses at which a script's report goes out, whole or in part
 abbrev pub HasRun : ℕ → Type 0
-HasRun status = (status ≡ 0) ⊎ (status ≡ 5)
+HasRun status = (status ≡ 0) ⊎ ((status ≡ 5) ⊎ (status ≡ 7))
 
 -- the statuses at which the source was read to its end
 abbrev pub HasEnded : ℕ → Type 0
-HasEnded status = (status ≡ 0) ⊎ ((status ≡ 3) ⊎ (status ≡ 5))
+HasEnded status = (status ≡ 0) ⊎ ((status ≡ 3) ⊎ ((status ≡ 5) ⊎ (status ≡ 7)))
 
 -- the statuses that a call ends with
 abbrev pub IsStatus : ℕ → Type 0
-IsStatus status = (status ≡ 0) ⊎ ((status ≡ 2) ⊎ ((status ≡ 3) ⊎ ((status ≡ 4) ⊎ ((status ≡ 5) ⊎ ((status ≡ 6) ⊎ (status ≡ 8))))))
+IsStatus status = (status ≡ 0) ⊎ ((status ≡ 2) ⊎ ((status ≡ 3) ⊎ ((status ≡ 4) ⊎ ((status ≡ 5) ⊎ ((status ≡ 6) ⊎ ((status ≡ 7) ⊎ (status ≡ 8)))))))

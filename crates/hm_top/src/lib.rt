@@ -1,11 +1,8 @@
 // The top call: a script is read, run and reported.
 #![tactic(auto)]
 
-mod accesses;
 mod input;
-mod machine;
 mod messages;
-mod pages;
 mod top;
 
 pub use messages::message;
@@ -13,3 +10,5 @@ pub use top::{Ended, run};
 
 #[cfg(test)]
 mod tests;
+#[cfg(test)]
+mod worked;

@@ -32,6 +32,7 @@ pub fn message(alloc: Global, ended: &Ended) -> Result<Text, NoMemory>
         4 => "read fault",
         5 => "write fault",
         6 => "out of memory",
+        7 => "history full",
         8 => "script too long",
         _ => "",
     };

@@ -1,160 +1,16 @@
-// Worked scripts, run through the top call; their reports were written by hand from the rules.
+// Worked scripts, run through the top call.
+use crate::worked::{
+    EMPTY_SCRIPT, EMPTY_SCRIPT_REPORT, LARGEST_PAGE, LARGEST_PAGE_REPORT, MAP_WAITS,
+    MAP_WAITS_REPORT, PLAINEST_RUN, PLAINEST_RUN_REPORT, POOL_FULL, POOL_FULL_REPORT, TWO_ACTORS,
+    TWO_ACTORS_REPORT, TWO_PIECES, TWO_PIECES_REPORT, UNTOUCHED_PAGE, UNTOUCHED_PAGE_REPORT,
+    ZERO_PAGE_THEN_STORE, ZERO_PAGE_THEN_STORE_REPORT,
+};
 use crate::{Ended, message, run};
 use hm_io::{MemorySink, MemorySource, SureSink, SureSource};
 use hm_script::Reason;
 use std::alloc::Global;
 use std::process::Abort;
 use std::test::Fail;
-
-const PLAINEST_RUN: &[&str] = &[
-    "hmm 1",
-    "frames 4",
-    "actor 0",
-    "map 0 16 1 rw",
-    "store 0 0x10000 41",
-    "load 0 0x10000 2",
-    "turns 0 20",
-];
-
-const PLAINEST_RUN_REPORT: &[&str] = &[
-    "history",
-    "0 a0 wlock p0",
-    "1 a0 mapped p0 16 1 rw",
-    "2 a0 rlock p0",
-    "3 a0 take s0",
-    "4 a0 place p0 16 sys s0 w",
-    "5 a0 runlock p0",
-    "6 a0 stored p0 0x10000 41",
-    "7 a0 loaded p0 0x10000 4100",
-    "end 8",
-];
-
-const EMPTY_SCRIPT: &[&str] = &["hmm 1", "frames 0"];
-
-const EMPTY_SCRIPT_REPORT: &[&str] = &["history", "end 0"];
-
-const UNTOUCHED_PAGE: &[&str] = &[
-    "hmm 1",
-    "frames 0",
-    "actor 0",
-    "map 0 16 1 rw",
-    "load 0 0x10000 1",
-    "turns 0 9",
-];
-
-const UNTOUCHED_PAGE_REPORT: &[&str] = &[
-    "history",
-    "0 a0 wlock p0",
-    "1 a0 mapped p0 16 1 rw",
-    "2 a0 rlock p0",
-    "3 a0 place p0 16 zero",
-    "4 a0 runlock p0",
-    "5 a0 loaded p0 0x10000 00",
-    "end 6",
-];
-
-const POOL_FULL: &[&str] = &[
-    "hmm 1",
-    "frames 1",
-    "actor 0",
-    "map 0 16 2 rw",
-    "store 0 0x10000 41",
-    "store 0 0x11000 42",
-    "load 0 0x11000 1",
-    "turns 0 99",
-];
-
-const POOL_FULL_REPORT: &[&str] = &[
-    "history",
-    "0 a0 wlock p0",
-    "1 a0 mapped p0 16 2 rw",
-    "2 a0 rlock p0",
-    "3 a0 take s0",
-    "4 a0 place p0 16 sys s0 w",
-    "5 a0 runlock p0",
-    "6 a0 stored p0 0x10000 41",
-    "7 a0 rlock p0",
-    "8 a0 failed p0 0x11000 1 3",
-    "9 a0 rlock p0",
-    "10 a0 place p0 17 zero",
-    "11 a0 runlock p0",
-    "12 a0 loaded p0 0x11000 00",
-    "end 13",
-];
-
-const TWO_PIECES: &[&str] = &[
-    "hmm 1",
-    "frames 4",
-    "actor 0",
-    "map 0 16 1 rw",
-    "map 0 17 1 r",
-    "store 0 0x10ffe 01020304",
-    "turns 0 99",
-];
-
-const TWO_PIECES_REPORT: &[&str] = &[
-    "history",
-    "0 a0 wlock p0",
-    "1 a0 mapped p0 16 1 rw",
-    "2 a0 wlock p0",
-    "3 a0 mapped p0 17 1 r",
-    "4 a0 rlock p0",
-    "5 a0 take s0",
-    "6 a0 place p0 16 sys s0 w",
-    "7 a0 runlock p0",
-    "8 a0 stored p0 0x10ffe 0102",
-    "9 a0 rlock p0",
-    "10 a0 failed p0 0x11000 2 2",
-    "end 11",
-];
-
-const LARGEST_PAGE: &[&str] = &[
-    "hmm 1",
-    "frames 0",
-    "actor 0",
-    "map 0 68719476735 1 r",
-    "load 0 0xfffffffff000 1",
-    "turns 0 9",
-];
-
-const LARGEST_PAGE_REPORT: &[&str] = &[
-    "history",
-    "0 a0 wlock p0",
-    "1 a0 mapped p0 68719476735 1 r",
-    "2 a0 rlock p0",
-    "3 a0 place p0 68719476735 zero",
-    "4 a0 runlock p0",
-    "5 a0 loaded p0 0xfffffffff000 00",
-    "end 6",
-];
-
-const ZERO_PAGE_THEN_STORE: &[&str] = &[
-    "hmm 1",
-    "frames 4",
-    "actor 0",
-    "map 0 16 1 rw",
-    "load 0 0x10000 1",
-    "store 0 0x10000 41",
-    "turns 0 99",
-];
-
-const ZERO_PAGE_THEN_STORE_REPORT: &[&str] = &[
-    "history",
-    "0 a0 wlock p0",
-    "1 a0 mapped p0 16 1 rw",
-    "2 a0 rlock p0",
-    "3 a0 place p0 16 zero",
-    "4 a0 runlock p0",
-    "5 a0 loaded p0 0x10000 00",
-    "6 a0 rlock p0",
-    "7 a0 take s0",
-    "8 a0 start p0 16 1 2",
-    "9 a0 place p0 16 sys s0 w",
-    "10 a0 end p0 16 1 2",
-    "11 a0 runlock p0",
-    "12 a0 stored p0 0x10000 41",
-    "end 13",
-];
 
 fn words(alloc: Global, text: &str) -> Result<Vec<String>, Fail> {
     let mut words = Vec::new(alloc);
@@ -211,6 +67,16 @@ fn worked_scripts(rt: HostRuntime) -> Result<(), Fail> {
 }
 
 #[test]
+fn two_actors_place_one_page(rt: HostRuntime) -> Result<(), Fail> {
+    reports(&rt, rt.alloc(), TWO_ACTORS, TWO_ACTORS_REPORT)
+}
+
+#[test]
+fn a_turn_waits(rt: HostRuntime) -> Result<(), Fail> {
+    reports(&rt, rt.alloc(), MAP_WAITS, MAP_WAITS_REPORT)
+}
+
+#[test]
 fn over_sure_streams(rt: HostRuntime) -> Result<(), Fail> {
     let script = text(rt.alloc(), PLAINEST_RUN, &[])?;
     let mut source = SureSource::new(rt.alloc(), script.as_bytes())?;
@@ -260,7 +126,7 @@ fn refused_scripts(rt: HostRuntime) -> Result<(), Fail> {
     assert_eq!(rt; sink.held().len(), 0);
     let (ended, _) = replayed(rt.alloc(), &[])?;
     told(&rt, rt.alloc(), &ended, 3, "script line 1: bad header")?;
-    let (ended, _) = replayed(rt.alloc(), &["hmm 1", "frames 1", "actor 0", "fork 0 1"])?;
+    let (ended, _) = replayed(rt.alloc(), &["hmm 1", "frames 1", "actor 0", "evict 0"])?;
     told(&rt, rt.alloc(), &ended, 3, "script line 4: bad word")
 }
 

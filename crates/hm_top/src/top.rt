@@ -1,21 +1,21 @@
 // The top call.
-ghost use Rattle.std.specs.Prelude.{◌≡◌, ◌≢◌, ◌⊎◌, ◌↔◌, ◌≤◌, IfSome, IfOk, IsTrue, Some, None, [], ◌∷◌, map, codes, string_bytes, length};
-ghost use Rattle.hm_base.specs.Program.{IsScript};
+ghost use Rattle.std.specs.Prelude.{◌≡◌, ◌≢◌, ◌⊎◌, ◌↔◌, ◌≤◌, IfSome, IfOk, IsTrue, Some, None, true, false, [], ◌∷◌, map, codes, string_bytes, length};
+ghost use Rattle.std.specs.List.{list_all};
 ghost use Rattle.hm_history.specs.Legal.{Legal};
 ghost use Rattle.hm_history.specs.Run as runs;
 ghost use Rattle.hm_io.specs.Streams.{Rose, Adds, AddsFront};
-ghost use Rattle.hm_laws.specs.Basic.{IsBasic};
+ghost use Rattle.hm_machine.specs.Turning.{is_turns};
 ghost use Rattle.hm_report.specs.Counted.{EndsAreCounted};
 ghost use Rattle.hm_script.specs.Built.{IsBuilt};
-ghost use Rattle.hm_top.specs.OneActor.{IsOneActor};
-ghost use Rattle.hm_top.specs.Replay.{IsTextOf, IsRunOf, IsLegalFor, IsRefusalOf, report_for, HasRun, HasEnded, IsStatus};
+ghost use Rattle.hm_world.specs.Told.{opening};
+ghost use Rattle.hm_top.specs.Replay.{IsTextOf, IsRunOf, IsLegalFor, IsFullFor, IsWithin, IsRefusalOf, report_for, Replayed, HasReported, HasRun, HasEnded, IsStatus};
 ghost use Rattle.hm_top.specs.Streams.{LeftOver};
 
 use crate::input::{Input, read_all};
-use crate::machine;
-use hm_base::{NoMemory, Script, Text};
-use hm_history::History;
+use hm_base::{NoMemory, Script};
+use hm_history::{History, StepError};
 use hm_io::{Sink, Source};
+use hm_machine::Machine;
 use hm_report::{Written, write_report};
 use hm_script::{BUILT_WORDS, Refused, ScriptError, parse};
 use std::alloc::Global;
@@ -23,8 +23,8 @@ use std::alloc::Global;
 /// How a call ended.
 #[derive(Drop)]
 pub struct Ended {
-    /// 0 done, 2 usage, 3 script refused, 4 read fault, 5 write fault, 6 out of memory, 8 a script of more than
-    /// 4,194,304 bytes.
+    /// 0 done, 2 usage, 3 script refused, 4 read fault, 5 write fault, 6 out of memory, 7 history full, 8 a script of
+    /// more than 4,194,304 bytes.
     pub status: u8,
     /// The script whose report went out, whole or in part.
     pub script: Option<Script>,
@@ -48,19 +48,51 @@ fn stopped(alloc: Global, status: u8, refused: Option<Refused>) -> Ended
     }
 }
 
+/// A script that has run, and whether a turn found its history full and an entry due.
+#[derive(Drop)]
+struct Ran {
+    script: Script,
+    history: History,
+    full: bool,
+}
+
+/// Makes the schedule's turns, and says whether one found the history full and an entry due.
+fn is_full(machine: &mut Machine) -> Result<bool, NoMemory>
+    requires opening { machine.old ≡ opening machine.old.script }
+    requires turns { list_all is_turns machine.old.script.schedule ≡ true }
+    ensures { IfOk result (Replayed machine.old machine.new) }
+{
+    match machine.replay() {
+        Ok(()) => Ok(false),
+        Err(StepError::Full(_)) => Ok(true),
+        Err(StepError::NoMemory) => Err(NoMemory),
+    }
+}
+
 /// The script's run, which is legal.
-fn run_script(alloc: Global, script: &Script) -> Result<History, NoMemory>
-    requires { IsBuilt BUILT_WORDS script.now }
-    ensures run { IfOk result (λ h. h.entries ≡ runs.run script.now) }
-    ensures legal { IfOk result (λ h. Legal script.now h.entries) }
-    ensures counted { IfOk result (λ h. EndsAreCounted script.now h.entries) }
+fn run_script(alloc: Global, script: Script) -> Result<Ran, NoMemory>
+    requires { IsBuilt BUILT_WORDS script }
+    ensures script { IfOk result (λ r. r.script ≡ script) }
+    ensures run { IfOk result (λ r. r.history.entries ≡ runs.run script) }
+    ensures legal { IfOk result (λ r. Legal script r.history.entries) }
+    ensures counted { IfOk result (λ r. EndsAreCounted script r.history.entries) }
+    ensures full { IfOk result (λ r. r.full ≡ true → IsFullFor (Some script) r.history.entries) }
+    ensures within { IfOk result (λ r. r.full ≡ false → IsWithin (Some script)) }
 {
     script.fits();
     hm_laws::every_run_is_legal();
     hm_laws::history_stands();
     hm_history::laws::runs_are_due();
     hm_report::ends_are_counted();
-    machine::replay(alloc, script)
+    let mut machine = Machine::new(alloc, script)?;
+    let full = is_full(&mut machine)?;
+    machine.world().stands();
+    let (script, history) = machine.into_parts();
+    Ok(Ran {
+        script,
+        history,
+        full,
+    })
 }
 
 /// Runs the script and writes its report.
@@ -70,7 +102,9 @@ fn answer<K: Sink>(alloc: Global, script: Script, sink: &mut K) -> Ended
     ensures script { HasRun result.status → result.script ≡ Some script }
     ensures run { HasRun result.status → result.history.entries ≡ runs.run script }
     ensures legal { HasRun result.status → Legal script result.history.entries }
-    ensures written { result.status ≡ 0 → Adds (K.held sink.old) (K.held sink.new) (report_for (Some script) result.history.entries) }
+    ensures full { result.status ≡ 7 → IsFullFor (Some script) result.history.entries }
+    ensures within { result.status ≡ 0 → IsWithin (Some script) }
+    ensures written { HasReported result.status → Adds (K.held sink.old) (K.held sink.new) (report_for (Some script) result.history.entries) }
     ensures front { result.status ≡ 5 → AddsFront (K.held sink.old) (K.held sink.new) (report_for (Some script) result.history.entries) }
     ensures write_fault { result.status ≡ 5 → Rose (K.failures sink.old) (K.failures sink.new) }
     ensures no_write_fault { result.status ≢ 5 → K.failures sink.new ≡ K.failures sink.old }
@@ -78,12 +112,16 @@ fn answer<K: Sink>(alloc: Global, script: Script, sink: &mut K) -> Ended
     ensures no_run { result.status ≡ 6 → (result.script ≡ None) × (result.history.entries ≡ []) }
     ensures refused { result.refused ≡ None }
 {
-    let history = match run_script(alloc, &script) {
-        Ok(history) => history,
+    let Ran {
+        script,
+        history,
+        full,
+    } = match run_script(alloc, script) {
+        Ok(ran) => ran,
         Err(_) => return stopped(alloc, 6, None),
     };
     let status = match write_report(alloc, &script, &history, sink) {
-        Written::Done => 0,
+        Written::Done => if full { 7 } else { 0 },
         Written::Fault => 5,
         Written::NoMemory => return stopped(alloc, 6, None),
     };
@@ -103,7 +141,9 @@ fn replay<S: Source, K: Sink>(alloc: Global, source: &mut S, sink: &mut K) -> En
     ensures rest { HasEnded result.status → IfSome (S.left source.old) (λ _. S.left source.new ≡ Some []) }
     ensures run { HasRun result.status → IsRunOf result.script result.history.entries }
     ensures legal { HasRun result.status → IsLegalFor result.script result.history.entries }
-    ensures written { result.status ≡ 0 → Adds (K.held sink.old) (K.held sink.new) (report_for result.script result.history.entries) }
+    ensures full { result.status ≡ 7 → IsFullFor result.script result.history.entries }
+    ensures fits { result.status ≡ 0 → IsWithin result.script }
+    ensures written { HasReported result.status → Adds (K.held sink.old) (K.held sink.new) (report_for result.script result.history.entries) }
     ensures front { result.status ≡ 5 → AddsFront (K.held sink.old) (K.held sink.new) (report_for result.script result.history.entries) }
     ensures refused { result.status ≡ 3 → IfSome (S.left source.old) (IsRefusalOf BUILT_WORDS result.refused) }
     ensures not_refused { result.status ≢ 3 → result.refused ≡ None }
@@ -111,9 +151,9 @@ fn replay<S: Source, K: Sink>(alloc: Global, source: &mut S, sink: &mut K) -> En
     ensures no_read_fault { result.status ≢ 4 → S.failures source.new ≡ S.failures source.old }
     ensures write_fault { result.status ≡ 5 → Rose (K.failures sink.old) (K.failures sink.new) }
     ensures no_write_fault { result.status ≢ 5 → K.failures sink.new ≡ K.failures sink.old }
-    ensures unwritten { result.status ≢ 0 → result.status ≢ 5 → result.status ≢ 6 → K.held sink.new ≡ K.held sink.old }
+    ensures unwritten { result.status ≢ 0 → result.status ≢ 5 → result.status ≢ 6 → result.status ≢ 7 → K.held sink.new ≡ K.held sink.old }
     ensures want { result.status ≡ 6 → (K.held sink.new ≡ K.held sink.old) ⊎ Rose (K.wanted sink.old) (K.wanted sink.new) }
-    ensures no_run { result.status ≢ 0 → result.status ≢ 5 → (result.script ≡ None) × (result.history.entries ≡ []) }
+    ensures no_run { result.status ≢ 0 → result.status ≢ 5 → result.status ≢ 7 → (result.script ≡ None) × (result.history.entries ≡ []) }
     ensures too_long { result.status ≡ 8 → LeftOver (S.left source.old) 4194304 }
     ensures within { HasEnded result.status → IfSome (S.left source.old) (λ bytes. length bytes ≤ 4194304) }
 {
@@ -161,13 +201,16 @@ pub fn run<S: Source, K: Sink>(
     ensures usage { result.status ≡ 2 → ¬ (map string_bytes words.items ≡ codes "replay" ∷ []) }
     ensures form { (result.status ≡ 2) ⊎ (map string_bytes words.items ≡ codes "replay" ∷ []) }
 
-    // At 0, and at 5 but for the end of the report: the bytes read are the text of the script in the answer, nothing
-    // is left, the history is the script's run and legal for it, and the bytes written are its report.
+    // At 0 and 7, and at 5 but for the end of the report: the bytes read are the text of the script in the answer,
+    // nothing is left, the history is the script's run and legal for it, and the bytes written are its report. 7 comes
+    // exactly where a turn of the schedule found an entry due and the history full.
     ensures read { HasRun result.status → IfSome (S.left source.old) (IsTextOf result.script) }
     ensures rest { HasEnded result.status → IfSome (S.left source.old) (λ _. S.left source.new ≡ Some []) }
     ensures run { HasRun result.status → IsRunOf result.script result.history.entries }
     ensures legal { HasRun result.status → IsLegalFor result.script result.history.entries }
-    ensures written { result.status ≡ 0 → Adds (K.held sink.old) (K.held sink.new) (report_for result.script result.history.entries) }
+    ensures full { result.status ≡ 7 → IsFullFor result.script result.history.entries }
+    ensures fits { result.status ≡ 0 → IsWithin result.script }
+    ensures written { HasReported result.status → Adds (K.held sink.old) (K.held sink.new) (report_for result.script result.history.entries) }
     ensures front { result.status ≡ 5 → AddsFront (K.held sink.old) (K.held sink.new) (report_for result.script result.history.entries) }
 
     // Status 3 comes exactly where no script of the words that are run has the bytes as its text.
@@ -183,9 +226,9 @@ pub fn run<S: Source, K: Sink>(
     ensures within { HasEnded result.status → IfSome (S.left source.old) (λ bytes. length bytes ≤ 4194304) }
 
     // Nothing is written at other statuses; at 6 only where the sink itself wanted memory.
-    ensures unwritten { result.status ≢ 0 → result.status ≢ 5 → result.status ≢ 6 → K.held sink.new ≡ K.held sink.old }
+    ensures unwritten { result.status ≢ 0 → result.status ≢ 5 → result.status ≢ 6 → result.status ≢ 7 → K.held sink.new ≡ K.held sink.old }
     ensures want { result.status ≡ 6 → (K.held sink.new ≡ K.held sink.old) ⊎ Rose (K.wanted sink.old) (K.wanted sink.new) }
-    ensures no_run { result.status ≢ 0 → result.status ≢ 5 → (result.script ≡ None) × (result.history.entries ≡ []) }
+    ensures no_run { result.status ≢ 0 → result.status ≢ 5 → result.status ≢ 7 → (result.script ≡ None) × (result.history.entries ≡ []) }
 {
     if !is_replay(words.as_slice()) {
         return stopped(alloc, 2, None);
