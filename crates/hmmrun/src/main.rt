@@ -16,13 +16,21 @@ fn tell(rt: &HostRuntime, ended: &Ended) -> io::Result<()> {
     eprintln!(rt; "hmmrun: {words}")
 }
 
+/// Ends the program where there was no memory for its words.
+fn no_memory(rt: &HostRuntime) -> ExitCode {
+    let _ = eprintln!(rt; "hmmrun: out of memory");
+    ExitCode::from(6)
+}
+
 fn main(rt: HostRuntime) -> ExitCode {
     let mut words = Vec::new(rt.alloc());
-    if let Ok(args) = env::args(&rt) {
-        for word in args.skip(1) {
-            if words.push(word).is_err() {
-                return ExitCode::from(6);
-            }
+    let args = match env::args(&rt) {
+        Ok(args) => args,
+        Err(_) => return no_memory(&rt),
+    };
+    for word in args.skip(1) {
+        if words.push(word).is_err() {
+            return no_memory(&rt);
         }
     }
     let mut source = StdSource::new(rt.stdin());
