@@ -22,6 +22,8 @@ all_of p q weaker (x ∷ xs) e = let both = and_parts (p x) (list_all p xs) e in
 -- what is run is what the laws are proved for
 lawful : (o : Op) → uses BUILT_WORDS o ≡ true → is_basic o ≡ true
 lawful (Op.Map p s r) e = e
+lawful (Op.Evict d) e = cc
+lawful (Op.Remove d) e = cc
 lawful o e = e
 
 pub basic_of : (s : Program) → IsBuilt BUILT_WORDS s → IsBasic s
