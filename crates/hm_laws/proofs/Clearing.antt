@@ -13,6 +13,7 @@ use Rattle.hm_laws.specs.Past.{Past}
 use Rattle.hm_laws.specs.Sound.{Sound}
 use Rattle.hm_laws.specs.Allowed.{next, Allowed}
 use Rattle.hm_laws.specs.Facts.{Clear, ClearTo, GoneFor, catches_at}
+use Rattle.hm_laws.specs.Spares.{Another}
 use Rattle.hm_laws.proofs.Search.{frame_tells}
 use Rattle.hm_laws.proofs.Updates.{true_false, equal_numbers}
 use Rattle.hm_laws.proofs.PoolsKept.{free_says}
@@ -40,7 +41,7 @@ clearing_other c s t a b so ne k ok (Op.Remove d) v h = λ j l. (gone_on s a k d
   where
     by : (j : ℕ) → s.places.withdrawn d ≡ true → (s.places.held (dev_frame d j) ≡ false) ⊎ (s.locks.frame (dev_frame d j) ≡ Some b) → ((next s a k).places.held (dev_frame d j) ≡ false) ⊎ ((next s a k).locks.frame (dev_frame d j) ≡ Some b)
     by j w (inl i) = inl (still_free c s t a k ok d j w i)
-    by j w (inr i) = inr (lock_keeps c s t a b so ne k ok (dev_frame d j) i)
+    by j w (inr i) = inr (lock_keeps c s t a b so k ok (dev_frame d j) (Another ne) i)
 clearing_other c s t a b so ne k ok o v h = tt
 
 -- and after the actor's own entries, where none of its frames is done

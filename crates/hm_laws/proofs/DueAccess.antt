@@ -55,9 +55,9 @@ loaded_answer s p at n z = both_of _ _ (zero_is _ z) (subst (λ m. same_bytes (p
 pub load_piece_ok : (c : Program) (s : After) (t : Past) (a p at n k : ℕ) (xs : List Migrating) → a < 16 → Sound c s t → HoldsAll s t a (Is (has_piece (Op.Load p at n) k) ∷ nothing_held) → Good c s t a (Op.Load p at n) xs (Phase.Piece k) [] (due_cpu s (Op.Load p at n) k p)
 load_piece_ok c s t a p at n k xs few so h = either P (s.plain.there p) _ _
     (λ th. either P (cpu_reads (s.places.place p (at_page o k))) _ _
-    (λ r. ((release_none s a h.1.0, loaded_answer s.plain p (op_piece o k).0 (op_piece o k).1 (read_cause s.plain p (at_page o k) th (so.areas.in_area p (at_page o k) th (reads_not_empty (s.places.place p (at_page o k)) r))), r), tt, ends_ok o k (next s a (answer s o k)) t a (here_at s.locks.map a None, h.1.1)))
+    (λ r. ((release_none s a h.1.0, loaded_answer s.plain p (op_piece o k).0 (op_piece o k).1 (read_cause s.plain p (at_page o k) th (so.areas.in_area p (at_page o k) th (reads_not_empty (s.places.place p (at_page o k)) r))), r), tt, ends_ok o xs k (next s a (answer s o k)) t a (here_at s.locks.map a None, h.1.1)))
     (λ r. rlock_ok c s t a o xs (Phase.Piece k) p few so h.1.0 (h.0, ((tt, here_at s.locks.map a _), h.1.1))))
-    (λ th. ((release_none s a h.1.0, not_there s.plain p _ th), not_short c s 1 refl, ends_ok o k (next s a (failed o k 1)) t a (here_at s.locks.map a None, h.1.1)))
+    (λ th. ((release_none s a h.1.0, not_there s.plain p _ th), not_short c s 1 refl, ends_ok o xs k (next s a (failed o k 1)) t a (here_at s.locks.map a None, h.1.1)))
   where
     o : Op
     o = Op.Load p at n
@@ -68,9 +68,9 @@ load_piece_ok c s t a p at n k xs few so h = either P (s.plain.there p) _ _
 pub store_piece_ok : (c : Program) (s : After) (t : Past) (a p at : ℕ) (bs : List ℕ) (k : ℕ) (xs : List Migrating) → a < 16 → length bs ≤ 256 → Sound c s t → HoldsAll s t a (Is (has_piece (Op.Store p at bs) k) ∷ nothing_held) → Good c s t a (Op.Store p at bs) xs (Phase.Piece k) [] (due_cpu s (Op.Store p at bs) k p)
 store_piece_ok c s t a p at bs k xs few short so h = either P (s.plain.there p) _ _
     (λ th. either P (cpu_writes (s.places.place p (at_page o k))) _ _
-    (λ r. ((release_none s a h.1.0, zero_is (cause_at s.plain (Who.Cpu p) (at_page o k) true) (write_cause s.plain p (at_page o k) th (so.areas.may_write p (at_page o k) (writes_writable (s.places.place p (at_page o k)) r)).1), r, store_in_page p at bs k short), tt, ends_ok o k (next s a (answer s o k)) t a (here_at s.locks.map a None, h.1.1)))
+    (λ r. ((release_none s a h.1.0, zero_is (cause_at s.plain (Who.Cpu p) (at_page o k) true) (write_cause s.plain p (at_page o k) th (so.areas.may_write p (at_page o k) (writes_writable (s.places.place p (at_page o k)) r)).1), r, store_in_page p at bs k short), tt, ends_ok o xs k (next s a (answer s o k)) t a (here_at s.locks.map a None, h.1.1)))
     (λ r. rlock_ok c s t a o xs (Phase.Piece k) p few so h.1.0 (h.0, ((tt, here_at s.locks.map a _), h.1.1))))
-    (λ th. ((release_none s a h.1.0, not_there s.plain p _ th), not_short c s 1 refl, ends_ok o k (next s a (failed o k 1)) t a (here_at s.locks.map a None, h.1.1)))
+    (λ th. ((release_none s a h.1.0, not_there s.plain p _ th), not_short c s 1 refl, ends_ok o xs k (next s a (failed o k 1)) t a (here_at s.locks.map a None, h.1.1)))
   where
     o : Op
     o = Op.Store p at bs

@@ -37,7 +37,7 @@ use Rattle.hm_laws.proofs.PoolsKept.{free_says}
 use Rattle.hm_laws.proofs.ContentsKept.{stood_else}
 use Rattle.hm_laws.proofs.OtherFrames.{frame_here}
 use Rattle.hm_laws.proofs.Looks.{touches_own}
-use Rattle.hm_laws.proofs.DueWords.{Good, Unshared, IsShort, either, either_option, some_rights, write_rights, some_write, no_area, no_frame, read_only, not_short}
+use Rattle.hm_laws.proofs.DueWords.{Good, IsShort, either, either_option, some_rights, write_rights, some_write, no_area, no_frame, read_only, not_short}
 use Rattle.hm_laws.proofs.LeftFrames.{orphan_at, LocksNothing, unfrozen, gains_own, no_left, none_left}
 use Rattle.hm_laws.proofs.DuePlaces.{zero_ok}
 use Rattle.hm_laws.proofs.Pieces.{sole_ok}
@@ -61,9 +61,9 @@ taken_own c s t a g so free = (
   frame_here s.places.moved_to g None,
 )
 
-taken_facts : (c : Program) (s : After) (t : Past) (a : ℕ) (o : Op) (touch : Touch) (g : Frame) → g.pool ≡ PoolId.System → Sound c s t → lowest_free c s.places g.pool ≡ Some g → HoldsAll s t a (deciding o touch) → ReadsThere s a (proc_of s.plain (op_who o)) → is_read_write (rights_of s.plain (proc_of s.plain (op_who o)) (touch_page o touch)) ≡ true →
-    (x : Place) → s.places.place (proc_of s.plain (op_who o)) (touch_page o touch) ≡ x → is_core x ≡ true → writable x ≡ false → HoldsAll (next s a (Kind.Take g)) t a (facts o (taken touch g x ∷ []))
-taken_facts c s t a o touch g pool so free h th i x e co w = by x e co w
+taken_facts : (c : Program) (s : After) (t : Past) (a : ℕ) (o : Op) (xs : List Migrating) (touch : Touch) (g : Frame) → g.pool ≡ PoolId.System → Sound c s t → lowest_free c s.places g.pool ≡ Some g → HoldsAll s t a (deciding o touch) → ReadsThere s a (proc_of s.plain (op_who o)) → is_read_write (rights_of s.plain (proc_of s.plain (op_who o)) (touch_page o touch)) ≡ true →
+    (x : Place) → s.places.place (proc_of s.plain (op_who o)) (touch_page o touch) ≡ x → is_core x ≡ true → writable x ≡ false → HoldsAll (next s a (Kind.Take g)) t a (facts o xs (taken touch g x ∷ []))
+taken_facts c s t a o xs touch g pool so free h th i x e co w = by x e co w
   where
     own : OwnsFrame (next s a (Kind.Take g)) a g
     own = taken_own c s t a g so (free_says c s.places g.pool g free).1
@@ -83,7 +83,7 @@ taken_facts c s t a o touch g pool so free h th i x e co w = by x e co w
     not_writable : (b : Bool) → b ≡ false → not b ≡ true
     not_writable b n = grind arith
 
-    by : (x : Place) → s.places.place (proc_of s.plain (op_who o)) (touch_page o touch) ≡ x → is_core x ≡ true → writable x ≡ false → HoldsAll (next s a (Kind.Take g)) t a (facts o (taken touch g x ∷ []))
+    by : (x : Place) → s.places.place (proc_of s.plain (op_who o)) (touch_page o touch) ≡ x → is_core x ≡ true → writable x ≡ false → HoldsAll (next s a (Kind.Take g)) t a (facts o xs (taken touch g x ∷ []))
     by Place.Zero e co w = (touches, ((h.1.0.0, th, i), (h.1.1.0, (locks, ((h.1.0.0, th, own, λ z n l. ap (λ (f : ℕ → ℕ). f n) zero ∙ sym (ap (λ y. shows (next s a (Kind.Take g)) y n) e)), (refl, (refl, (system, tt))))))))
     by Place.Empty e co w = (touches, ((h.1.0.0, th, i), (h.1.1.0, (locks, ((own, zero), (refl, (refl, (system, tt))))))))
     by (Place.Sys n z) e co w = (touches, ((h.1.0.0, th, i), (h.1.1.0, (locks, ((own, zero), (refl, (not_writable z w, (system, tt))))))))
@@ -147,19 +147,19 @@ take_ok c s t a o xs touch suited out so h r co w = by (lowest_free c s.places P
 
     by : (x : Option Frame) → lowest_free c s.places PoolId.System ≡ x → Good c s t a o xs (Phase.Decide touch) [] (elim x [ Some g ↦ Do (Kind.Take g) | None ↦ Do (fails o (piece_of touch) 3) ])
     by None e = out.fail 3 (no_frame s.plain (op_who o) _ th.1 (some_write _ r)) (λ i. e)
-    by (Some g) e = (free, tt, taken_facts c s t a o touch g (free_says c s.places PoolId.System g e).0 so free h th r (s.places.place (proc_of s.plain (op_who o)) (touch_page o touch)) refl co w)
+    by (Some g) e = (free, tt, taken_facts c s t a o xs touch g (free_says c s.places PoolId.System g e).0 so free h th r (s.places.place (proc_of s.plain (op_who o)) (touch_page o touch)) refl co w)
       where
         free : lowest_free c s.places g.pool ≡ Some g
         free = subst (λ i. lowest_free c s.places i ≡ Some g) (sym (free_says c s.places PoolId.System g e).0) e
 
-pub fault_ok : (c : Program) (s : After) (t : Past) (a : ℕ) (o : Op) (xs : List Migrating) (touch : Touch) (suited : Place → Bool) → a < 16 → Outcomes c s t a o xs touch suited → Sound c s t → Unshared s → HoldsAll s t a (deciding o touch) →
+pub fault_ok : (c : Program) (s : After) (t : Past) (a : ℕ) (o : Op) (xs : List Migrating) (touch : Touch) (suited : Place → Bool) → a < 16 → Outcomes c s t a o xs touch suited → Sound c s t → HoldsAll s t a (deciding o touch) →
     Good c s t a o xs (Phase.Decide touch) [] (fault c s a o (piece_of touch) suited (proc_of s.plain (op_who o)) (touch_page o touch))
-fault_ok c s t a o xs touch suited few out so core h = either P (is_none (rights_of s.plain p v)) _ _
+fault_ok c s t a o xs touch suited few out so h = either P (is_none (rights_of s.plain p v)) _ _
     (λ e. out.fail 1 (no_area s.plain (op_who o) v out.inside e) (not_short c s 1 refl))
     (λ e. either P (op_writes o && is_read_only (rights_of s.plain p v)) _ _
     (λ d. out.fail 2 (read_only s.plain (op_who o) v out.inside (there_of c s t p v so (some_rights _ e)) e (both_so (op_writes o) _ d)) (not_short c s 2 refl))
     (λ d. either P (suited (s.places.place p v)) _ _ out.suit
-    (λ r. by e (both_not (op_writes o) (is_read_only (rights_of s.plain p v)) d) (s.places.place p v) refl (core p v) r)))
+    (λ r. by e (both_not (op_writes o) (is_read_only (rights_of s.plain p v)) d) (s.places.place p v) refl r)))
   where
     p : ℕ
     p = proc_of s.plain (op_who o)
@@ -175,28 +175,36 @@ fault_ok c s t a o xs touch suited few out so core h = either P (is_none (rights
 
     -- the place is put in, and the actor decides again
     again : (x : Place) → PlaceOk s t a (proc_of s.plain (op_who o)) (touch_page o touch) x → is_exclusive x ≡ false → moving_frame x ≡ None → ((f : Frame) → orphan_at s (proc_of s.plain (op_who o)) (touch_page o touch) x ≡ Some f → ⊥) → P (Do (Kind.Place (proc_of s.plain (op_who o)) (touch_page o touch) x))
-    again x ok co nm left = (ok, co, (touches_own c s t a (Kind.Place (proc_of s.plain (op_who o)) (touch_page o touch) x) so ok refl o touch h.0, (h.1.0, (h.1.1.0, (still_none s t a _ _ x (unfrozen s x nm) left h.1.1.1.0, tt)))))
+    again x ok shared nm left = (ok, shared, (touches_own c s t a (Kind.Place (proc_of s.plain (op_who o)) (touch_page o touch) x) so ok refl o touch h.0, (h.1.0, (h.1.1.0, (still_none s t a _ _ x (unfrozen s x nm) left h.1.1.1.0, tt)))))
 
-    by : is_none (rights_of s.plain (proc_of s.plain (op_who o)) (touch_page o touch)) ≡ false → (op_writes o ≡ true → is_read_only (rights_of s.plain (proc_of s.plain (op_who o)) (touch_page o touch)) ≡ false) → (x : Place) → s.places.place (proc_of s.plain (op_who o)) (touch_page o touch) ≡ x → is_exclusive x ≡ false → suited x ≡ false →
+    by : is_none (rights_of s.plain (proc_of s.plain (op_who o)) (touch_page o touch)) ≡ false → (op_writes o ≡ true → is_read_only (rights_of s.plain (proc_of s.plain (op_who o)) (touch_page o touch)) ≡ false) → (x : Place) → s.places.place (proc_of s.plain (op_who o)) (touch_page o touch) ≡ x → suited x ≡ false →
         P (fault_at c s a o (piece_of touch) (proc_of s.plain (op_who o)) (touch_page o touch) x)
-    by e d Place.Empty i co r = either P (op_writes o) _ _
+    by e d Place.Empty i r = either P (op_writes o) _ _
         (λ w. take_ok c s t a o xs touch suited out so h (write_rights _ e (d w)) (ap is_core i) (ap writable i))
         (λ w. again Place.Zero (zero_ok c s t a _ _ so (reads e) (ranged c s t _ _ so (some_rights _ e)) i (some_rights _ e)) refl refl (λ f. no_left s _ _ Place.Zero f (ap names i)))
-    by e d Place.Zero i co r = take_ok c s t a o xs touch suited out so h (write_rights _ e (d (suit_writes (op_writes o) Place.Zero refl refl (sym (out.suits_core Place.Zero refl) ∙ r)).0)) (ap is_core i) (ap writable i)
-    by e d (Place.Sys m w) i co r = either P (is_alone s (sys_frame m)) _ _
+    by e d Place.Zero i r = take_ok c s t a o xs touch suited out so h (write_rights _ e (d (suit_writes (op_writes o) Place.Zero refl refl (sym (out.suits_core Place.Zero refl) ∙ r)).0)) (ap is_core i) (ap writable i)
+    by e d (Place.Sys m w) i r = either P (is_alone s (sys_frame m)) _ _
         (λ al. let ok : PlaceOk s t a (proc_of s.plain (op_who o)) (touch_page o touch) (Place.Sys m true) = sole_ok c s t a _ _ m w so (reads e) i (write_rights _ e (d says.0)) al in again (Place.Sys m true) ok refl refl (none_left c s t a _ _ (Place.Sys m true) so ok (sym (ap names i))))
         (λ al. take_ok c s t a o xs touch suited out so h (write_rights _ e (d says.0)) (ap is_core i) (ap writable i ∙ says.1))
       where
         says : (op_writes o ≡ true) × (w ≡ false)
         says = suit_writes (op_writes o) (Place.Sys m w) refl refl (sym (out.suits_core (Place.Sys m w) refl) ∙ r)
-    by e d (Place.Own n m w) i co r = either_option P (other_locker s.locks (dev_frame n m) a) _ _ (λ free. (
+    by e d (Place.Own n m w) i r = either_option P (other_locker s.locks (dev_frame n m) a) _ _ (λ free. (
       ok,
       tt,
-      subst (λ y. HoldsAll (next s a (start s (proc_of s.plain (op_who o)) (one_page (touch_page o touch)))) t a (facts o (Phase.Guard (proc_of s.plain (op_who o)) (one_page (touch_page o touch)) (some_overlap s.sequences (proc_of s.plain (op_who o)) (one_page (touch_page o touch))) None (caught y) ∷ Phase.Decide touch ∷ []))) (sym i)
+      subst (λ y. HoldsAll (next s a (start s (proc_of s.plain (op_who o)) (one_page (touch_page o touch)))) t a (facts o xs (Phase.Guard (proc_of s.plain (op_who o)) (one_page (touch_page o touch)) (some_overlap s.sequences (proc_of s.plain (op_who o)) (one_page (touch_page o touch))) None (caught y) ∷ Phase.Decide touch ∷ []))) (sym i)
           (started s a (proc_of s.plain (op_who o)) (one_page (touch_page o touch)) (seq_started s.sequences (proc_of s.plain (op_who o)) (one_page (touch_page o touch))), (h.1.1.1.0, (refl, (refl, (touches_own c s t a (start s (proc_of s.plain (op_who o)) (one_page (touch_page o touch))) so ok refl o touch h.0, ((h.1.0.0, reads e, some_rights _ e), tt)))))),
     )) (λ b free. tt)
       where
         ok : Allowed c s t a (start s (proc_of s.plain (op_who o)) (one_page (touch_page o touch)))
         ok = (few, start_takes s a (proc_of s.plain (op_who o)) (one_page (touch_page o touch)) h.1.1.0)
-    by e d (Place.Moving f w) i co r = tt
-    by e d (Place.Exclusive m b) i co r = cc
+    by e d (Place.Moving f w) i r = tt
+    by e d (Place.Exclusive m b) i r = (
+      ok,
+      tt,
+      subst (λ y. HoldsAll (next s a (start s (proc_of s.plain (op_who o)) (one_page (touch_page o touch)))) t a (facts o xs (Phase.Guard (proc_of s.plain (op_who o)) (one_page (touch_page o touch)) (some_overlap s.sequences (proc_of s.plain (op_who o)) (one_page (touch_page o touch))) None (caught y) ∷ Phase.Decide touch ∷ []))) (sym i)
+          (started s a (proc_of s.plain (op_who o)) (one_page (touch_page o touch)) (seq_started s.sequences (proc_of s.plain (op_who o)) (one_page (touch_page o touch))), (h.1.1.1.0, ((h.1.0.0, refl, refl), (touches_own c s t a (start s (proc_of s.plain (op_who o)) (one_page (touch_page o touch))) so ok refl o touch h.0, (h.1.0, tt))))),
+    )
+      where
+        ok : Allowed c s t a (start s (proc_of s.plain (op_who o)) (one_page (touch_page o touch)))
+        ok = (few, start_takes s a (proc_of s.plain (op_who o)) (one_page (touch_page o touch)) h.1.1.0)

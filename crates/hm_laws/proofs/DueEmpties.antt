@@ -15,7 +15,7 @@ use Rattle.hm_history.specs.Sequences.{seq_started}
 use Rattle.hm_history.specs.Contents.{copied}
 use Rattle.hm_history.specs.After.{After}
 use Rattle.hm_history.specs.Legal.{kept_for}
-use Rattle.hm_history.specs.Operation.{op_mirror, is_to_device}
+use Rattle.hm_history.specs.Operation.{op_mirror, is_to_device, is_migration}
 use Rattle.hm_history.specs.Due.{start, due_alone}
 use Rattle.hm_history.specs.declared.KeptAt.{KeptAt}
 use Rattle.hm_history.specs.declared.KeptWhy.{KeptWhy}
@@ -28,7 +28,8 @@ use Rattle.hm_laws.specs.Past.{Past}
 use Rattle.hm_laws.specs.Sound.{Sound}
 use Rattle.hm_laws.specs.Allowed.{next, AllMoving, IsSource, IsFrozen, Allowed}
 use Rattle.hm_laws.specs.Moves.{IsReturning}
-use Rattle.hm_laws.specs.Facts.{Is, No_guard, Locks_only, Sourced, Copying, Holds, under, facts, HoldsAll}
+use Rattle.hm_history.specs.Moved.{counted, gives_up}
+use Rattle.hm_laws.specs.Facts.{Is, of_system, No_guard, Locks_only, Sourced, Copying, Holds, under, facts, HoldsAll}
 use Rattle.hm_laws.proofs.Search.{frame_tells, is_frame_of, lowest_none}
 use Rattle.hm_laws.proofs.Updates.{true_false}
 use Rattle.hm_laws.proofs.PoolsKept.{free_says}
@@ -39,7 +40,7 @@ use Rattle.hm_laws.proofs.DueWords.{Good, either_option}
 use Rattle.hm_laws.proofs.Guards.{started, start_takes}
 use Rattle.hm_laws.proofs.DueDecide.{taken_own}
 use Rattle.hm_laws.proofs.Clearing.{clear_take}
-use Rattle.hm_laws.proofs.Under.{kept_on, under_on, under_counted, under_given_up}
+use Rattle.hm_laws.proofs.Under.{kept_on, under_on, under_counted, under_given_up, still_only, to_beneath}
 
 listed_direct : (x : Place) (f : Frame) → names x ≡ Some f → is_frame (names_directly x) f ≡ false → is_moving x ≡ true
 listed_direct Place.Empty f n d = cc
@@ -49,7 +50,7 @@ listed_direct (Place.Own e i w) f n d = absurd (true_false (is_frame (names_dire
 listed_direct (Place.Moving g w) f n d = refl
 listed_direct (Place.Exclusive i b) f n d = absurd (true_false (is_frame (names_directly (Place.Exclusive i b)) f) (is_frame_of (names (Place.Exclusive i b)) f n) d)
 
-all_moving : (c : Program) (s : After) (t : Past) (f : Frame) → Sound c s t → lowest_direct s.places f ≡ None → AllMoving s.places.place f
+pub all_moving : (c : Program) (s : After) (t : Past) (f : Frame) → Sound c s t → lowest_direct s.places f ≡ None → AllMoving s.places.place f
 all_moving c s t f so e q u n = listed_direct (s.places.place q u) f n (lowest_none (λ i j. is_frame (names_directly (s.places.place i j)) f) s.places.placed q u e (so.places.listed q u (names_stays (s.places.place q u) f n)))
 
 two_locks : (s : After) (a : ℕ) (f g : Frame) → ((i : Frame) → s.locks.frame i ≡ Some a → list_any (same_frame i) (f ∷ []) ≡ true) → (i : Frame) → with_frame s.locks.frame g (Some a) i ≡ Some a → list_any (same_frame i) (f ∷ g ∷ []) ≡ true
@@ -97,8 +98,11 @@ alone_ok c s t a o xs f at below few so dev h = either_option P (lowest_direct s
         kept n (KeptAt.Frame i) = ap is_none (ap (λ b. lowest_free c s.places (elim b [ true ↦ PoolId.Device (mirror_dev s.plain (op_mirror o)) | false ↦ PoolId.System ])) dev ∙ n)
 
         by : (x : Option Frame) → lowest_free c s.places PoolId.System ≡ x → P (elim x [ Some g ↦ Kind.Take g | None ↦ Kind.Kept at KeptWhy.NoFrame ])
-        by None n = (tt, kept n at, (h.0, (h.1.0, (h.1.1.0, (kept_on s t a o below h.1.1.1, under_given_up (next s a (Kind.Kept at KeptWhy.NoFrame)) t a o below (under_on c s t a (Kind.Kept at KeptWhy.NoFrame) so tt (record { clear = λ f h n. h; no_begin = refl; map = refl; there = λ p. refl; areas = λ p. refl }) o below (λ d j v n e i. cc) h.1.1.1))))))
-        by (Some g) n = (free, tt, (same_itself f, (same_itself g, (refl, (h.0, (two_locks s a f g h.1.0, ((moved, taken_own c s t a g so out, (λ i l m. absurd (no_part i m)), apart, ap (λ x. same_pool x PoolId.System) (free_says c s.places PoolId.System g n).0), under_on c s t a (Kind.Take g) so free (record { clear = λ i y z. clear_take s a g i y; no_begin = refl; map = refl; there = λ p. refl; areas = λ p. refl }) o below (λ d j v n e i. cc) h.1.1.1)))))))
+        by None n = (tt, kept n at, (h.0, (still_only (next s a (Kind.Kept at KeptWhy.NoFrame)) t a o xs (f ∷ []) (gives_up o below) rest h.1.0, (h.1.1.0, (kept_on s t a o below h.1.1.1, to_beneath (next s a (Kind.Kept at KeptWhy.NoFrame)) t a o xs (f ∷ []) (gives_up o below) rest)))))
+          where
+            rest : HoldsAll (next s a (Kind.Kept at KeptWhy.NoFrame)) t a (under o (gives_up o below))
+            rest = under_given_up (next s a (Kind.Kept at KeptWhy.NoFrame)) t a o below (under_on c s t a (Kind.Kept at KeptWhy.NoFrame) so tt (record { clear = λ f h n. h; no_begin = refl; map = refl; there = λ p. refl; areas = λ p. refl }) o below (λ d j v n e i. cc) h.1.1.1)
+        by (Some g) n = (free, tt, (same_itself f, (same_itself g, (refl, (h.0, (two_locks s a f g h.1.0, ((moved, taken_own c s t a g so out, (λ i l m. absurd (no_part i m)), apart), (ap (λ x. same_pool x PoolId.System) (free_says c s.places PoolId.System g n).0, under_on c s t a (Kind.Take g) so free (record { clear = λ i y z. clear_take s a g i y; no_begin = refl; map = refl; there = λ p. refl; areas = λ p. refl }) o below (λ d j v n e i. cc) h.1.1.1))))))))
           where
             free : lowest_free c s.places g.pool ≡ Some g
             free = subst (λ i. lowest_free c s.places i ≡ Some g) (sym (free_says c s.places PoolId.System g n).0) n
@@ -126,15 +130,15 @@ part_copied from to new k h e o l m = e o ∙ by (nat_le (512 * k) o && nat_lt o
 same_says : (f g : Frame) → same_frame f g ≡ true → f ≡ g
 same_says f g h = grind (arith, frame_tells f g)
 
-copying_on : (s : After) (t : Past) (a : ℕ) (i j : Frame) (k : ℕ) → Holds s t a (Copying i j k) → Holds (next s a (Kind.Copied i j (Some k))) t a (Copying i j (k + 1))
-copying_on s t a i j k h = (h.0, h.1, (λ o l m. part_copied (s.contents i) (s.contents j) (with_frame s.contents j (copied (s.contents i) (s.contents j) (Some k)) j) k h.2 (λ o. ap (λ (f : ℕ → ℕ). f o) (frame_here s.contents j (copied (s.contents i) (s.contents j) (Some k)))) o l m ∙ sym (ap (λ (f : ℕ → ℕ). f o) (frame_else s.contents j i (copied (s.contents i) (s.contents j) (Some k)) h.3))), h.3, h.4)
+pub copying_on : (s : After) (t : Past) (a : ℕ) (i j : Frame) (k : ℕ) → Holds s t a (Copying i j k) → Holds (next s a (Kind.Copied i j (Some k))) t a (Copying i j (k + 1))
+copying_on s t a i j k h = (h.0, h.1, (λ o l m. part_copied (s.contents i) (s.contents j) (with_frame s.contents j (copied (s.contents i) (s.contents j) (Some k)) j) k h.2 (λ o. ap (λ (f : ℕ → ℕ). f o) (frame_here s.contents j (copied (s.contents i) (s.contents j) (Some k)))) o l m ∙ sym (ap (λ (f : ℕ → ℕ). f o) (frame_else s.contents j i (copied (s.contents i) (s.contents j) (Some k)) h.3))), h.3)
 
-pub copy_ok : (c : Program) (s : After) (t : Past) (a : ℕ) (o : Op) (xs : List Migrating) (f g i j : Frame) (k : ℕ) (below : List Phase) → Sound c s t → HoldsAll s t a (Is (same_frame f i) ∷ Is (same_frame g j) ∷ Is (nat_le k 7) ∷ No_guard ∷ Locks_only (i ∷ j ∷ []) ∷ Copying i j k ∷ under o below) →
+pub copy_ok : (c : Program) (s : After) (t : Past) (a : ℕ) (o : Op) (xs : List Migrating) (f g i j : Frame) (k : ℕ) (below : List Phase) → Sound c s t → HoldsAll s t a (Is (same_frame f i) ∷ Is (same_frame g j) ∷ Is (nat_le k 7) ∷ No_guard ∷ Locks_only (i ∷ j ∷ []) ∷ Copying i j k ∷ Is (of_system j) ∷ under o below) →
     Good c s t a o xs (Phase.Copy f g k) (Phase.Copied i j ∷ below) (Do (Kind.Copied f g (Some k)))
 copy_ok c s t a o xs f g i j k below so h = subst (λ z. Good c s t a o xs (Phase.Copy z g k) (Phase.Copied i j ∷ below) (Do (Kind.Copied z g (Some k)))) (sym (same_says f i h.0)) (subst (λ z. Good c s t a o xs (Phase.Copy i z k) (Phase.Copied i j ∷ below) (Do (Kind.Copied i z (Some k)))) (sym (same_says g j h.1.0)) (h.1.1.1.1.1.0.1.0, (so.frames.locked_held i a h.1.1.1.1.1.0.0.0.mine, h.1.1.1.1.1.0.3, few h.1.1.0), by (nat_lt k 7) refl))
   where
     moved : HoldsAll (next s a (Kind.Copied i j (Some k))) t a (under o below)
-    moved = under_on c s t a (Kind.Copied i j (Some k)) so h.1.1.1.1.1.0.1.0 (record { clear = λ f h n. h; no_begin = refl; map = refl; there = λ p. refl; areas = λ p. refl }) o below (λ d j v n e i. cc) h.1.1.1.1.1.1
+    moved = under_on c s t a (Kind.Copied i j (Some k)) so h.1.1.1.1.1.0.1.0 (record { clear = λ f h n. h; no_begin = refl; map = refl; there = λ p. refl; areas = λ p. refl }) o below (λ d j v n e i. cc) h.1.1.1.1.1.1.1
 
     more : nat_lt k 7 ≡ true → nat_le (k + 1) 7 ≡ true
     more e = grind (arith, nat_tests)
@@ -145,12 +149,12 @@ copy_ok c s t a o xs f g i j k below so h = subst (λ z. Good c s t a o xs (Phas
     last : nat_lt k 7 ≡ false → nat_le k 7 ≡ true → k + 1 ≡ 8
     last e l = grind (arith, nat_tests)
 
-    by : (b : Bool) → nat_lt k 7 ≡ b → HoldsAll (next s a (Kind.Copied i j (Some k))) t a (facts o (if b then Phase.Copy i j (k + 1) ∷ Phase.Copied i j ∷ below else (Phase.Copied i j ∷ below)))
-    by true e = (same_itself i, (same_itself j, (more e, (h.1.1.1.0, (h.1.1.1.1.0, (copying_on s t a i j k h.1.1.1.1.1.0, moved))))))
-    by false e = (h.1.1.1.0, (h.1.1.1.1.0, (subst (λ n. Holds (next s a (Kind.Copied i j (Some k))) t a (Copying i j n)) (last e h.1.1.0) (copying_on s t a i j k h.1.1.1.1.1.0), moved)))
+    by : (b : Bool) → nat_lt k 7 ≡ b → HoldsAll (next s a (Kind.Copied i j (Some k))) t a (facts o xs (if b then Phase.Copy i j (k + 1) ∷ Phase.Copied i j ∷ below else (Phase.Copied i j ∷ below)))
+    by true e = (same_itself i, (same_itself j, (more e, (h.1.1.1.0, (h.1.1.1.1.0, (copying_on s t a i j k h.1.1.1.1.1.0, (h.1.1.1.1.1.1.0, moved)))))))
+    by false e = (h.1.1.1.0, (h.1.1.1.1.0, (subst (λ n. Holds (next s a (Kind.Copied i j (Some k))) t a (Copying i j n)) (last e h.1.1.0) (copying_on s t a i j k h.1.1.1.1.1.0), (h.1.1.1.1.1.1.0, moved))))
 
 -- and committed
-committed : (s : After) (t : Past) (a : ℕ) (f g : Frame) → Holds s t a (Copying f g 8) → IsReturning (next s a (Kind.Committed f g)) a f g
+pub committed : (s : After) (t : Past) (a : ℕ) (f g : Frame) → Holds s t a (Copying f g 8) → IsReturning (next s a (Kind.Committed f g)) a f g
 committed s t a f g h = record {
   mine = h.0.0.mine;
   moved = frame_here s.places.moved_to f (Some g);
@@ -171,11 +175,18 @@ committed s t a f g h = record {
     there q u n (inl e) = inl e.0
     there q u n (inr e) = absurd (h.1.0.unstood q u (sym e.1 ∙ n))
 
-all_parts : (o : ℕ) → o < 4096 → o < 512 * 8
+pub all_parts : (o : ℕ) → o < 4096 → o < 512 * 8
 all_parts o l = omega (arith, l)
 
-pub copied_ok : (c : Program) (s : After) (t : Past) (a : ℕ) (o : Op) (xs : List Migrating) (f g : Frame) (below : List Phase) → Sound c s t → HoldsAll s t a (No_guard ∷ Locks_only (f ∷ g ∷ []) ∷ Copying f g 8 ∷ under o below) → Good c s t a o xs (Phase.Copied f g) below (Do (Kind.Committed f g))
-copied_ok c s t a o xs f g below so h = (ok, tt, (h.0, (h.1.0, ((committed s t a f g h.1.1.0, h.1.1.0.4), under_counted s (next s a (Kind.Committed f g)) t a o below refl h.1.1.1 (under_on c s t a (Kind.Committed f g) so ok (record { clear = λ f h n. h; no_begin = refl; map = refl; there = λ p. refl; areas = λ p. refl }) o below (λ d j v n e i. cc) h.1.1.1)))))
+pub copied_ok : (c : Program) (s : After) (t : Past) (a : ℕ) (o : Op) (xs : List Migrating) (f g : Frame) (below : List Phase) → Sound c s t → HoldsAll s t a (No_guard ∷ Locks_only (f ∷ g ∷ []) ∷ Copying f g 8 ∷ Is (of_system g) ∷ under o below) → Good c s t a o xs (Phase.Copied f g) below (Do (Kind.Committed f g))
+copied_ok c s t a o xs f g below so h = (ok, tt, (h.0, (still_only (next s a (Kind.Committed f g)) t a o xs (f ∷ g ∷ []) (counted below) rest h.1.0, (committed s t a f g h.1.1.0, (returns (of_system g) h.1.1.1.0, to_beneath (next s a (Kind.Committed f g)) t a o xs (f ∷ g ∷ []) (counted below) rest)))))
   where
     ok : Allowed c s t a (Kind.Committed f g)
     ok = (h.1.1.0.0, h.1.1.0.1, λ i l. h.1.1.0.2 i l (all_parts i l))
+
+    returns : (b : Bool) → b ≡ true → (b || is_migration o) ≡ true
+    returns true e = refl
+    returns false e = cc
+
+    rest : HoldsAll (next s a (Kind.Committed f g)) t a (under o (counted below))
+    rest = under_counted s (next s a (Kind.Committed f g)) t a o below refl h.1.1.1.1 (under_on c s t a (Kind.Committed f g) so ok (record { clear = λ f h n. h; no_begin = refl; map = refl; there = λ p. refl; areas = λ p. refl }) o below (λ d j v n e i. cc) h.1.1.1.1)

@@ -179,11 +179,11 @@ abbrev on_page : Op → Touch → ℕ → Pages → List Fact
 on_page o touch q r = Over_page q r (op_who o) (touch_page o touch) ∷ Touching o touch ∷ Read_locked (op_who o) ∷ []
 
 -- what the page named before is dropped, where it was left behind
-orphan_facts : (c : Program) (s : After) (t : Past) (a : ℕ) (o : Op) (p v : ℕ) (x : Place) (q : ℕ) (r : Pages) (met : Bool) (told : Option ℕ) (touch : Touch) → Sound c s t → Allowed c s t a (Kind.Place p v x) → is_moving x ≡ false → HoldsAll (next s a (Kind.Place p v x)) t a (on_page o touch q r) → Holds s t a (In_guard q r met told) →
+orphan_facts : (c : Program) (s : After) (t : Past) (a : ℕ) (o : Op) (xs : List Migrating) (p v : ℕ) (x : Place) (q : ℕ) (r : Pages) (met : Bool) (told : Option ℕ) (touch : Touch) → Sound c s t → Allowed c s t a (Kind.Place p v x) → is_moving x ≡ false → HoldsAll (next s a (Kind.Place p v x)) t a (on_page o touch q r) → Holds s t a (In_guard q r met told) →
     ((f : Frame) → (next s a (Kind.Place p v x)).locks.frame f ≡ Some a → orphan_at s p v x ≡ Some f) → (y : Option Frame) → orphan_at s p v x ≡ y →
-    HoldsAll (next s a (Kind.Place p v x)) t a (facts o (dropping y (Phase.Guard q r met told Body.Nothing ∷ Phase.Decide touch ∷ [])))
-orphan_facts c s t a o p v x q r met told touch so ok nm h g l None e = (g, ((λ f j. absurd (some_none (orphan_at s p v x) f (l f j) e)), h))
-orphan_facts c s t a o p v x q r met told touch so ok nm h g l (Some f) e = (left_owned c s t a p v x so ok nm f e, (g, ((λ i j. only i (some_is f i (sym e ∙ l i j))), h)))
+    HoldsAll (next s a (Kind.Place p v x)) t a (facts o xs (dropping y (Phase.Guard q r met told Body.Nothing ∷ Phase.Decide touch ∷ [])))
+orphan_facts c s t a o xs p v x q r met told touch so ok nm h g l None e = (g, ((λ f j. absurd (some_none (orphan_at s p v x) f (l f j) e)), h))
+orphan_facts c s t a o xs p v x q r met told touch so ok nm h g l (Some f) e = (left_owned c s t a p v x so ok nm f e, (g, ((λ i j. only i (some_is f i (sym e ∙ l i j))), h)))
   where
     only : (g : Frame) → f ≡ g → list_any (same_frame g) (f ∷ []) ≡ true
     only g h = grind (arith, frame_tells g f)
@@ -195,7 +195,7 @@ replace_ok c s t a o xs touch g over met told so h = guard_ok c s t a o xs (proc
     (λ e. (
       (placed al e).0,
       (placed al e).1,
-      orphan_facts c s t a o (proc_of s.plain (op_who o)) (touch_page o touch) (place_in g true) (proc_of s.plain (op_who o)) (one_page (touch_page o touch)) met told touch so (placed al e).0 (placed al e).3 (h.1.1.0, (touches_own c s t a (Kind.Place (proc_of s.plain (op_who o)) (touch_page o touch) (place_in g true)) so (placed al e).0 refl o touch h.1.1.1.0, ((h.1.1.1.1.0.0, h.1.1.1.1.0.1.0), tt))) h.0
+      orphan_facts c s t a o xs (proc_of s.plain (op_who o)) (touch_page o touch) (place_in g true) (proc_of s.plain (op_who o)) (one_page (touch_page o touch)) met told touch so (placed al e).0 (placed al e).3 (h.1.1.0, (touches_own c s t a (Kind.Place (proc_of s.plain (op_who o)) (touch_page o touch) (place_in g true)) so (placed al e).0 refl o touch h.1.1.1.0, ((h.1.1.1.1.0.0, h.1.1.1.1.0.1.0), tt))) h.0
           (own_locks s t a (proc_of s.plain (op_who o)) (touch_page o touch) g sys own.0.mine (core_lands (s.places.place (proc_of s.plain (op_who o)) (touch_page o touch)) (lands e)) h.1.0) (orphan_at s (proc_of s.plain (op_who o)) (touch_page o touch) (place_in g true)) refl,
     ))
     (λ e. let ends : Allowed c s t a (Kind.End (proc_of s.plain (op_who o)) (one_page (touch_page o touch)) (seq_ended s.sequences (proc_of s.plain (op_who o)))) = end_takes s a (proc_of s.plain (op_who o)) (one_page (touch_page o touch)) met told h.0 al in

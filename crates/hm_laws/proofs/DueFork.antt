@@ -8,7 +8,7 @@ use Rattle.hm_base.specs.declared.Frame.{Frame}
 use Rattle.hm_base.specs.declared.Place.{Place}
 use Rattle.hm_base.specs.declared.ops.Op.{Op}
 use Rattle.hm_history.specs.Words.{names, writable, is_empty_place, page_of}
-use Rattle.hm_history.specs.Places.{with_place}
+use Rattle.hm_history.specs.Places.{with_place, is_exclusive}
 use Rattle.hm_history.specs.Sequences.{seq_started, seq_ended, all_told}
 use Rattle.hm_history.specs.Contents.{shown_by}
 use Rattle.hm_history.specs.After.{After}
@@ -29,7 +29,7 @@ use Rattle.hm_history.specs.declared.phases.Migrating.{Migrating}
 use Rattle.hm_history.specs.declared.phases.Body.{Body}
 use Rattle.hm_history.specs.declared.phases.Phase.{Phase}
 use Rattle.hm_history.specs.declared.phases.Next.TheVariants.{Do}
-use Rattle.hm_laws.proofs.DueWords.{Good, Unshared, either, release_clean, not_short}
+use Rattle.hm_laws.proofs.DueWords.{Good, either, release_clean, not_short}
 use Rattle.hm_laws.proofs.LeftFrames.{orphan_at, no_left, none_left}
 use Rattle.hm_laws.proofs.DuePlaces.{narrowed_ok, child_ok}
 use Rattle.hm_laws.proofs.Guards.{started, number_is, start_takes, is_covered, end_takes, guard_ok}
@@ -195,27 +195,27 @@ not_itself : (c : Program) (s : After) (t : Past) (a p d : ℕ) → Sound c s t 
 not_itself c s t a p d so th h e = true_false (s.plain.been d) (ap s.plain.been e ∙ so.processes.there_been p th) h.1
 
 -- which page of the fork was placed: the parent's, or the child's
-parent_body : (s : After) (t : Past) (a : ℕ) (o : Op) (p : ℕ) (r : Pages) (met : Bool) (told : Option ℕ) (u : ℕ) (b : Bool) → b ≡ true → HoldsAll s t a (facts o (Phase.Guard p r met told (Body.Fork u true) ∷ Phase.Answer ∷ [])) →
-    HoldsAll s t a (facts o (Phase.Guard p r met told (if b then Body.Fork u true else Body.Fork (u + 1) false) ∷ Phase.Answer ∷ []))
-parent_body s t a o p r met told u true e h = h
-parent_body s t a o p r met told u false e h = cc
+parent_body : (s : After) (t : Past) (a : ℕ) (o : Op) (xs : List Migrating) (p : ℕ) (r : Pages) (met : Bool) (told : Option ℕ) (u : ℕ) (b : Bool) → b ≡ true → HoldsAll s t a (facts o xs (Phase.Guard p r met told (Body.Fork u true) ∷ Phase.Answer ∷ [])) →
+    HoldsAll s t a (facts o xs (Phase.Guard p r met told (if b then Body.Fork u true else Body.Fork (u + 1) false) ∷ Phase.Answer ∷ []))
+parent_body s t a o xs p r met told u true e h = h
+parent_body s t a o xs p r met told u false e h = cc
 
-child_body : (s : After) (t : Past) (a : ℕ) (o : Op) (p : ℕ) (r : Pages) (met : Bool) (told : Option ℕ) (u : ℕ) (b : Bool) → b ≡ false → HoldsAll s t a (facts o (Phase.Guard p r met told (Body.Fork (u + 1) false) ∷ Phase.Answer ∷ [])) →
-    HoldsAll s t a (facts o (Phase.Guard p r met told (if b then Body.Fork u true else Body.Fork (u + 1) false) ∷ Phase.Answer ∷ []))
-child_body s t a o p r met told u true e h = cc
-child_body s t a o p r met told u false e h = h
+child_body : (s : After) (t : Past) (a : ℕ) (o : Op) (xs : List Migrating) (p : ℕ) (r : Pages) (met : Bool) (told : Option ℕ) (u : ℕ) (b : Bool) → b ≡ false → HoldsAll s t a (facts o xs (Phase.Guard p r met told (Body.Fork (u + 1) false) ∷ Phase.Answer ∷ [])) →
+    HoldsAll s t a (facts o xs (Phase.Guard p r met told (if b then Body.Fork u true else Body.Fork (u + 1) false) ∷ Phase.Answer ∷ []))
+child_body s t a o xs p r met told u true e h = cc
+child_body s t a o xs p r met told u false e h = h
 
 forked_answer : (p d : ℕ) (s : After) (t : Past) (a : ℕ) → Holds s t a (Forking p d (last_of all_pages)) → HoldsAll s t a (answering (Op.Fork p d))
 forked_answer p d s t a h = (refl, ((h.0, λ i. absurd (true_false false i refl)), (h, tt)))
 
 -- the child's place
-pub fork_child_ok : (c : Program) (s : After) (t : Past) (a p d : ℕ) (xs : List Migrating) (met : Bool) (told : Option ℕ) (n u : ℕ) (half : Bool) → Sound c s t → Unshared s → Guarding s.sequences.guard a p all_pages met told → Holds s t a (Locks_only []) → Holds s t a (Forking p d n) → n ≤ u → ((w : ℕ) → n ≤ w → w < u → is_empty_place (s.places.place p w) ≡ true) →
+pub fork_child_ok : (c : Program) (s : After) (t : Past) (a p d : ℕ) (xs : List Migrating) (met : Bool) (told : Option ℕ) (n u : ℕ) (half : Bool) → Sound c s t → Guarding s.sequences.guard a p all_pages met told → Holds s t a (Locks_only []) → Holds s t a (Forking p d n) → n ≤ u → ((w : ℕ) → n ≤ w → w < u → is_empty_place (s.places.place p w) ≡ true) →
     is_empty_place (s.places.place p u) ≡ false → writable (s.places.place p u) ≡ false → Good c s t a (Op.Fork p d) xs (Phase.Guard p all_pages met told (Body.Fork n half)) (Phase.Answer ∷ []) (Do (Kind.Place d u (s.places.place p u)))
-fork_child_ok c s t a p d xs met told n u half so core g l f le between st nw = (
+fork_child_ok c s t a p d xs met told n u half so g l f le between st nw = (
   ok,
-  core p u,
-  goes_on s t a (Op.Fork p d) (Kind.Place d u (s.places.place p u)) d u (s.places.place p u) _ left
-      (child_body (next s a (Kind.Place d u (s.places.place p u))) t a (Op.Fork p d) p all_pages met told u (d == p) (differ (d == p) refl) (g, (still_none s t a d u (s.places.place p u) (λ f e. so.frames.moving_locked p u f e) left l, ((refl, refl), (refl, ((f.0, λ i. absurd (true_false false i refl)), (child_placed c s t a p d n u so ne f le between st nw, tt)))))))
+  shared (s.places.place p u) nw,
+  goes_on s t a (Op.Fork p d) xs (Kind.Place d u (s.places.place p u)) d u (s.places.place p u) _ left
+      (child_body (next s a (Kind.Place d u (s.places.place p u))) t a (Op.Fork p d) xs p all_pages met told u (d == p) (differ (d == p) refl) (g, (still_none s t a d u (s.places.place p u) (λ f e. so.frames.moving_locked p u f e) left l, ((refl, refl), (refl, ((f.0, λ i. absurd (true_false false i refl)), (child_placed c s t a p d n u so ne f le between st nw, tt)))))))
       (orphan_at s d u (s.places.place p u)) refl,
 )
   where
@@ -232,20 +232,23 @@ fork_child_ok c s t a p d xs met told n u half so core g l f le between st nw = 
     ok : PlaceOk s t a d u (s.places.place p u)
     ok = child_ok c s t a p d u so f.2 l empty st nw
 
+    shared : (y : Place) → writable y ≡ false → is_exclusive y ≡ false
+    shared y e = grind arith
+
     nothing : (y : Place) → is_empty_place y ≡ true → names y ≡ None
     nothing y e = grind arith
 
     left : (i : Frame) → orphan_at s d u (s.places.place p u) ≡ Some i → ⊥
     left i e = no_left s d u (s.places.place p u) i (nothing (s.places.place d u) empty) e
 
-pub fork_ok : (c : Program) (s : After) (t : Past) (a p d : ℕ) (xs : List Migrating) (met : Bool) (told : Option ℕ) (n : ℕ) (half : Bool) → Sound c s t → Unshared s → HoldsAll s t a (fork_guard (Op.Fork p d) p all_pages met told n half) →
+pub fork_ok : (c : Program) (s : After) (t : Past) (a p d : ℕ) (xs : List Migrating) (met : Bool) (told : Option ℕ) (n : ℕ) (half : Bool) → Sound c s t → HoldsAll s t a (fork_guard (Op.Fork p d) p all_pages met told n half) →
     Good c s t a (Op.Fork p d) xs (Phase.Guard p all_pages met told (Body.Fork n half)) (Phase.Answer ∷ []) (Do (due_guard s a (Op.Fork p d) p all_pages met told (Body.Fork n half)))
-fork_ok c s t a p d xs met told n true so core h = guard_ok c s t a (Op.Fork p d) xs p all_pages met told (Body.Fork n true) (Phase.Answer ∷ []) so h.0 (λ m tk i. (i, (h.1.0, (h.1.1.0, (h.1.1.1.0, (h.1.1.1.1.0, ((h.1.1.1.1.1.0.0, h.1.1.1.1.1.0.1, h.1.1.1.1.1.0.2, (λ u l. alike_told s a m all_pages (s.sequences.seq p) p d u (h.1.1.1.1.1.0.3 u l)), h.1.1.1.1.1.0.4), tt)))))))
-    (λ al. fork_child_ok c s t a p d xs met told n n true so core h.0 h.1.0 h.1.1.1.1.1.0 (omega arith) (λ w l m. absurd (none w l m)) (h.1.1.1.1.0.1 refl).1 (h.1.1.1.1.0.1 refl).0)
+fork_ok c s t a p d xs met told n true so h = guard_ok c s t a (Op.Fork p d) xs p all_pages met told (Body.Fork n true) (Phase.Answer ∷ []) so h.0 (λ m tk i. (i, (h.1.0, (h.1.1.0, (h.1.1.1.0, (h.1.1.1.1.0, ((h.1.1.1.1.1.0.0, h.1.1.1.1.1.0.1, h.1.1.1.1.1.0.2, (λ u l. alike_told s a m all_pages (s.sequences.seq p) p d u (h.1.1.1.1.1.0.3 u l)), h.1.1.1.1.1.0.4), tt)))))))
+    (λ al. fork_child_ok c s t a p d xs met told n n true so h.0 h.1.0 h.1.1.1.1.1.0 (omega arith) (λ w l m. absurd (none w l m)) (h.1.1.1.1.0.1 refl).1 (h.1.1.1.1.0.1 refl).0)
   where
     none : (w : ℕ) → n ≤ w → w < n → ⊥
     none w l m = omega (arith, l, m)
-fork_ok c s t a p d xs met told n false so core h = guard_ok c s t a (Op.Fork p d) xs p all_pages met told (Body.Fork n false) (Phase.Answer ∷ []) so h.0 (λ m tk i. (i, (h.1.0, (h.1.1.0, (h.1.1.1.0, (h.1.1.1.1.0, ((h.1.1.1.1.1.0.0, h.1.1.1.1.1.0.1, h.1.1.1.1.1.0.2, (λ u l. alike_told s a m all_pages (s.sequences.seq p) p d u (h.1.1.1.1.1.0.3 u l)), h.1.1.1.1.1.0.4), tt)))))))
+fork_ok c s t a p d xs met told n false so h = guard_ok c s t a (Op.Fork p d) xs p all_pages met told (Body.Fork n false) (Phase.Answer ∷ []) so h.0 (λ m tk i. (i, (h.1.0, (h.1.1.0, (h.1.1.1.0, (h.1.1.1.1.0, ((h.1.1.1.1.1.0.0, h.1.1.1.1.1.0.1, h.1.1.1.1.1.0.2, (λ u l. alike_told s a m all_pages (s.sequences.seq p) p d u (h.1.1.1.1.1.0.3 u l)), h.1.1.1.1.1.0.4), tt)))))))
     (λ al. by al (next_page s.places is_used p n) refl)
   where
     P : Option Kind → Type 0
@@ -295,12 +298,12 @@ fork_ok c s t a p d xs met told n false so core h = guard_ok c s t a (Op.Fork p 
         let st : (is_empty_place (narrowed (s.places.place p u)) ≡ false) × (writable (narrowed (s.places.place p u)) ≡ false) = narrowed_stays (s.places.place p u) w in (
           ok,
           never_exclusive (s.places.place p u),
-          goes_on s t a (Op.Fork p d) (Kind.Place p u (narrowed (s.places.place p u))) p u (narrowed (s.places.place p u)) _ (stays ok)
-              (parent_body (next s a (Kind.Place p u (narrowed (s.places.place p u)))) t a (Op.Fork p d) p all_pages met told u (p == p) (number_is p p refl)
+          goes_on s t a (Op.Fork p d) xs (Kind.Place p u (narrowed (s.places.place p u))) p u (narrowed (s.places.place p u)) _ (stays ok)
+              (parent_body (next s a (Kind.Place p u (narrowed (s.places.place p u)))) t a (Op.Fork p d) xs p all_pages met told u (p == p) (number_is p p refl)
               (h.0, (still_none s t a p u (narrowed (s.places.place p u)) (narrow_locks c s t p u so) (stays ok) h.1.0, ((refl, refl), (refl, ((f.0, λ i. (ap writable (this_page s.places.place p u (narrowed (s.places.place p u))) ∙ st.1, ap is_empty_place (this_page s.places.place p u (narrowed (s.places.place p u))) ∙ st.0)), (parent_narrowed c s t a p d n u (narrowed (s.places.place p u)) ne f says.above (λ w i j. unused_empty (s.places.place p w) (says.between w i j)) st.0, tt)))))))
               (orphan_at s p u (narrowed (s.places.place p u))) refl,
         ))
-        (λ w. fork_child_ok c s t a p d xs met told n u false so core h.0 h.1.0 f says.above (λ w i j. unused_empty (s.places.place p w) (says.between w i j)) (used (s.places.place p u) says.passes) w))
+        (λ w. fork_child_ok c s t a p d xs met told n u false so h.0 h.1.0 f says.above (λ w i j. unused_empty (s.places.place p w) (says.between w i j)) (used (s.places.place p u) says.passes) w))
         (λ l. ends al (λ w i j. unused_empty (s.places.place p w) (says.between w i (before w j l))))
       where
         says : NextSays s.places is_used p n u

@@ -42,7 +42,7 @@ use Rattle.hm_laws.proofs.DueDecide.{empty_locks}
 
 -- an access fails for want of a frame
 pub give_up_ok : (c : Program) (s : After) (t : Past) (a : ℕ) (o : Op) (xs : List Migrating) (touch : Touch) → touch_page o touch ≡ at_page o (piece_of touch) → HoldsAll s t a (No_guard ∷ Locks_only [] ∷ under o (Phase.GiveUp (Some touch) ∷ [])) → Good c s t a o xs (Phase.GiveUp (Some touch)) [] (Do (failed o (piece_of touch) 3))
-give_up_ok c s t a o xs touch page h = ((release_locked s a (proc_of s.plain (op_who o)) h.1.1.1.0.1.0, no_frame s.plain (op_who o) (at_page o (piece_of touch)) h.1.1.1.0.1.1 (ap (λ v. is_some (rights_of s.plain (proc_of s.plain (op_who o)) v)) (sym page) ∙ h.1.1.1.0.2)), tt, ends_ok o (piece_of touch) (next s a (failed o (piece_of touch) 3)) t a (here_at s.locks.map a None, (h.0, (h.1.0, tt))))
+give_up_ok c s t a o xs touch page h = ((release_locked s a (proc_of s.plain (op_who o)) h.1.1.1.0.1.0, no_frame s.plain (op_who o) (at_page o (piece_of touch)) h.1.1.1.0.1.1 (ap (λ v. is_some (rights_of s.plain (proc_of s.plain (op_who o)) v)) (sym page) ∙ h.1.1.1.0.2)), tt, ends_ok o xs (piece_of touch) (next s a (failed o (piece_of touch) 3)) t a (here_at s.locks.map a None, (h.0, (h.1.0, tt))))
 
 pub refuse_ok : (c : Program) (s : After) (t : Past) (a : ℕ) (o : Op) (xs : List Migrating) → HoldsAll s t a (No_guard ∷ Locks_only [] ∷ under o (Phase.GiveUp None ∷ [])) → Good c s t a o xs (Phase.GiveUp None) [] (Do (Kind.Refused 3))
 refuse_ok c s t a o xs h = (release_none s a h.1.1.1.0, tt, (here_at s.locks.map a None, (h.0, (h.1.0, tt))))
@@ -67,18 +67,18 @@ none_least t h from (suc n) = rw (h from, least) (none_least t h (from + 1) n)
 same_itself : (f : Frame) → same_frame f f ≡ true
 same_itself f = grind (arith, frame_tells f f)
 
-abbrev other_lock : Option ℕ → ℕ → Option ℕ
+abbrev pub other_lock : Option ℕ → ℕ → Option ℕ
 other_lock None a = None
 other_lock (Some b) a = if a == b then None else Some b
 
-other_lock_is : (s : After) (f : Frame) (a : ℕ) → other_lock (s.locks.frame f) a ≡ other_locker s.locks f a
+pub other_lock_is : (s : After) (f : Frame) (a : ℕ) → other_lock (s.locks.frame f) a ≡ other_locker s.locks f a
 other_lock_is s f a = by (s.locks.frame f)
   where
     by : (x : Option ℕ) → other_lock x a ≡ elim x as (λ y. Option ℕ) [ None ↦ None | Some b ↦ if a == b then None else Some b ]
     by None = refl
     by (Some b) = refl
 
-other_is : (x : Option ℕ) (a b : ℕ) → other_lock x a ≡ Some b → (x ≡ Some b) × ((a == b) ≡ false)
+pub other_is : (x : Option ℕ) (a b : ℕ) → other_lock x a ≡ Some b → (x ≡ Some b) × ((a == b) ≡ false)
 other_is None a b h = cc
 other_is (Some d) a b h = by (a == d) refl h
   where
@@ -89,7 +89,7 @@ other_is (Some d) a b h = by (a == d) refl h
     by true e k = cc
     by false e k = (k, ap (λ i. a == i) (sym (some_is d b k)) ∙ e)
 
-mine_is : (x : Option ℕ) (a b : ℕ) → other_lock x a ≡ None → x ≡ Some b → x ≡ Some a
+pub mine_is : (x : Option ℕ) (a b : ℕ) → other_lock x a ≡ None → x ≡ Some b → x ≡ Some a
 mine_is None a b h e = cc
 mine_is (Some d) a b h e = by (a == d) refl h
   where
@@ -128,7 +128,7 @@ frame_ok c s t a d k v n o xs few so come emptied h held P to e = either_option 
     started_at x e = (
       (few, start_takes s a x.0 (one_page x.1) h.1.0),
       tt,
-      subst (λ y. HoldsAll (next s a (start s x.0 (one_page x.1))) t a (facts o (Phase.Guard x.0 (one_page x.1) (some_overlap s.sequences x.0 (one_page x.1)) None (catching y) ∷ Phase.Frames (number_of y) n ∷ []))) (sym named)
+      subst (λ y. HoldsAll (next s a (start s x.0 (one_page x.1))) t a (facts o xs (Phase.Guard x.0 (one_page x.1) (some_overlap s.sequences x.0 (one_page x.1)) None (catching y) ∷ Phase.Frames (number_of y) n ∷ []))) (sym named)
           (started s a x.0 (one_page x.1) (seq_started s.sequences x.0 (one_page x.1)), (h.1.1.0, (refl, (come.catches, (come.evicts, (clear_same s a (start s x.0 (one_page x.1)) o k come.clear, (gone_for s a (start s x.0 (one_page x.1)) o come.gone, (h.0, (one_more n s.length emptied, tt))))))))),
     )
       where

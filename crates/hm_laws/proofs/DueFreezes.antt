@@ -78,15 +78,15 @@ source_frozen c s t a p v f w so ok lock fresh stood_by = record {
     at q u n (inr e) = ap names e ∙ stood_by q u (sym (ap (stood s.places.moved_to) e) ∙ n)
 
 -- the page that is frozen, its lock and what is known then
-record Froze (c : Program) (s : After) (t : Past) (a p v : ℕ) (f : Frame) (l : List Frame) : Type 0 where
-  ok : Allowed c s t a (Kind.Place p v (Place.Moving f (writable (s.places.place p v))))
-  source : IsSource (next s a (Kind.Place p v (Place.Moving f (writable (s.places.place p v))))) a f
-  stays : (i : Frame) → orphan_at s p v (Place.Moving f (writable (s.places.place p v))) ≡ Some i → ⊥
-  locks : (i : Frame) → (next s a (Kind.Place p v (Place.Moving f (writable (s.places.place p v))))).locks.frame i ≡ Some a → list_any (same_frame i) (f ∷ []) ≡ true
+pub record Froze (c : Program) (s : After) (t : Past) (a p v : ℕ) (f : Frame) (l : List Frame) : Type 0 where
+  pub ok : Allowed c s t a (Kind.Place p v (Place.Moving f (writable (s.places.place p v))))
+  pub source : IsSource (next s a (Kind.Place p v (Place.Moving f (writable (s.places.place p v))))) a f
+  pub stays : (i : Frame) → orphan_at s p v (Place.Moving f (writable (s.places.place p v))) ≡ Some i → ⊥
+  pub locks : (i : Frame) → (next s a (Kind.Place p v (Place.Moving f (writable (s.places.place p v))))).locks.frame i ≡ Some a → list_any (same_frame i) l ≡ true
 
-froze : (c : Program) (s : After) (t : Past) (a p v : ℕ) (f : Frame) → Sound c s t → names_directly (s.places.place p v) ≡ Some f → (s.locks.frame f ≡ None) ⊎ (s.locks.frame f ≡ Some a) → is_guarded s.sequences a p v ≡ true →
-    ((q u : ℕ) → stood s.places.moved_to (s.places.place q u) ≡ Some f → names (s.places.place q u) ≡ Some f) → ((i : Frame) → s.locks.frame i ≡ Some a → list_any (same_frame i) (f ∷ []) ≡ true) → Froze c s t a p v f []
-froze c s t a p v f so direct lock guard stood_by only = record {
+pub froze : (c : Program) (s : After) (t : Past) (a p v : ℕ) (f : Frame) (l : List Frame) → Sound c s t → names_directly (s.places.place p v) ≡ Some f → (s.locks.frame f ≡ None) ⊎ (s.locks.frame f ≡ Some a) → is_guarded s.sequences a p v ≡ true →
+    ((q u : ℕ) → stood s.places.moved_to (s.places.place q u) ≡ Some f → names (s.places.place q u) ≡ Some f) → ((i : Frame) → s.locks.frame i ≡ Some a → list_any (same_frame i) l ≡ true) → list_any (same_frame f) l ≡ true → Froze c s t a p v f l
+froze c s t a p v f l so direct lock guard stood_by only listed = record {
   ok = ok;
   source = source_frozen c s t a p v f (writable (s.places.place p v)) so ok lock (so.frames.direct_fresh p v f direct) stood_by;
   stays = none_left c s t a p v (Place.Moving f (writable (s.places.place p v))) so ok (sym named);
@@ -99,9 +99,9 @@ froze c s t a p v f so direct lock guard stood_by only = record {
     named : names (s.places.place p v) ≡ Some f
     named = (direct_names (s.places.place p v) f direct).0
 
-    at : (i : Frame) → (s.locks.frame i ≡ Some a) ⊎ ((Some f ≡ Some i) × (s.locks.frame i ≡ None)) → list_any (same_frame i) (f ∷ []) ≡ true
+    at : (i : Frame) → (s.locks.frame i ≡ Some a) ⊎ ((Some f ≡ Some i) × (s.locks.frame i ≡ None)) → list_any (same_frame i) l ≡ true
     at i (inl k) = only i k
-    at i (inr k) = only_it i f (sym (some_is f i k.0))
+    at i (inr k) = subst (λ j. list_any (same_frame j) l ≡ true) (some_is f i k.0) listed
 
 frozen_clear : (c : Program) (s : After) (t : Past) (a p v : ℕ) (f : Frame) → Sound c s t → Allowed c s t a (Kind.Place p v (Place.Moving f (writable (s.places.place p v)))) → (i : Frame) → Clear s a i → Clear (next s a (Kind.Place p v (Place.Moving f (writable (s.places.place p v))))) a i
 frozen_clear c s t a p v f so ok i (inl h) = inl h
@@ -119,10 +119,10 @@ catch_ok c s t a o xs q r met told f below so h = guard_ok c s t a o xs q r met 
     P = λ k. Good c s t a o xs (Phase.Guard q r met told (Body.Catch f)) below (Do k)
 
     ends : Allowed c s t a (Kind.End q r (seq_ended s.sequences q)) → P (Kind.End q r (seq_ended s.sequences q))
-    ends ok = (ok, tt, resting (next s a (Kind.End q r (seq_ended s.sequences q))) t a o below (under_on c s t a (Kind.End q r (seq_ended s.sequences q)) so ok (record { clear = λ f h n. h; no_begin = refl; map = refl; there = λ p. refl; areas = λ p. refl }) o below (λ d j v n e i. cc) h.1.1.1.1) (here_at s.sequences.guard a None) h.1.0)
+    ends ok = (ok, tt, resting (next s a (Kind.End q r (seq_ended s.sequences q))) t a o xs below (under_on c s t a (Kind.End q r (seq_ended s.sequences q)) so ok (record { clear = λ f h n. h; no_begin = refl; map = refl; there = λ p. refl; areas = λ p. refl }) o below (λ d j v n e i. cc) h.1.1.1.1) (here_at s.sequences.guard a None) h.1.0)
 
     placed : all_told h.0.given ≡ true → (is_frame (names_directly (s.places.place q r.first)) f ≡ true) × (is_none (s.locks.frame f) ≡ true) → P (Kind.Place q r.first (Place.Moving f (writable (s.places.place q r.first))))
-    placed al e = (z.ok, refl, goes_on s t a o k q r.first (Place.Moving f (writable (s.places.place q r.first))) _ z.stays (by (is_evicting o)) (orphan_at s q r.first (Place.Moving f (writable (s.places.place q r.first)))) refl)
+    placed al e = (z.ok, refl, goes_on s t a o xs k q r.first (Place.Moving f (writable (s.places.place q r.first))) _ z.stays (by (is_evicting o)) (orphan_at s q r.first (Place.Moving f (writable (s.places.place q r.first)))) refl)
       where
         free : s.locks.frame f ≡ None
         free = free_is (s.locks.frame f) e.1
@@ -130,14 +130,14 @@ catch_ok c s t a o xs q r met told f below so h = guard_ok c s t a o xs q r met 
         k : Kind
         k = Kind.Place q r.first (Place.Moving f (writable (s.places.place q r.first)))
 
-        z : Froze c s t a q r.first f []
-        z = froze c s t a q r.first f so (is_frame_from (names_directly (s.places.place q r.first)) f e.0) (inl free) (is_covered s a q r.first r met told h.0 al (first_covered r h.1.1.0))
-            (λ i u n. unlocked_stands c s t so f free (s.places.place i u) (so.frames.stands_locked i u f) n) (λ i l. absurd (empty_locks i (h.1.0 i l)))
+        z : Froze c s t a q r.first f (f ∷ [])
+        z = froze c s t a q r.first f (f ∷ []) so (is_frame_from (names_directly (s.places.place q r.first)) f e.0) (inl free) (is_covered s a q r.first r met told h.0 al (first_covered r h.1.1.0))
+            (λ i u n. unlocked_stands c s t so f free (s.places.place i u) (so.frames.stands_locked i u f) n) (λ i l. absurd (empty_locks i (h.1.0 i l))) (only_it f f refl)
 
         rest : HoldsAll (next s a (Kind.Place q r.first (Place.Moving f (writable (s.places.place q r.first))))) t a (under o below)
         rest = under_on c s t a (Kind.Place q r.first (Place.Moving f (writable (s.places.place q r.first)))) so z.ok (record { clear = λ i y n. frozen_clear c s t a q r.first f so z.ok i y; no_begin = refl; map = refl; there = λ p. refl; areas = λ p. refl }) o below (λ d j v n e i. cc) h.1.1.1.1
 
-        by : (b : Bool) → HoldsAll (next s a (Kind.Place q r.first (Place.Moving f (writable (s.places.place q r.first))))) t a (facts o (Phase.Guard q r met told Body.Nothing ∷ (if b then Phase.Alone f (KeptAt.Frame f) ∷ frames_past f below else (Phase.Alone f (KeptAt.Page r.first) ∷ below))))
+        by : (b : Bool) → HoldsAll (next s a (Kind.Place q r.first (Place.Moving f (writable (s.places.place q r.first))))) t a (facts o xs (Phase.Guard q r met told Body.Nothing ∷ (if b then Phase.Alone f (KeptAt.Frame f) ∷ frames_past f below else (Phase.Alone f (KeptAt.Page r.first) ∷ below))))
         by true = (h.0, (z.locks, (z.source, under_past (next s a (Kind.Place q r.first (Place.Moving f (writable (s.places.place q r.first))))) t a o f below z.source.mine h.1.1.1.0 rest)))
         by false = (h.0, (z.locks, (z.source, rest)))
 
@@ -159,13 +159,13 @@ freezing_ok c s t a o xs q r met told f g at below so h = guard_ok c s t a o xs 
     ends ok = (ok, tt, (here_at s.sequences.guard a None, (h.1.0, (h.1.1.1.1.0, under_on c s t a (Kind.End q r (seq_ended s.sequences q)) so ok (record { clear = λ f h n. h; no_begin = refl; map = refl; there = λ p. refl; areas = λ p. refl }) o below (λ d j v n e i. cc) h.1.1.1.1.1))))
 
     placed : all_told h.0.given ≡ true → is_frame (names_directly (s.places.place q r.first)) f ≡ true → P (Kind.Place q r.first (Place.Moving f (writable (s.places.place q r.first))))
-    placed al e = (z.ok, refl, goes_on s t a o (Kind.Place q r.first (Place.Moving f (writable (s.places.place q r.first)))) q r.first (Place.Moving f (writable (s.places.place q r.first))) _ z.stays (h.0, (subst (λ i. Holds (next s a (Kind.Place q r.first (Place.Moving f (writable (s.places.place q r.first))))) t a (Locks_only (i ∷ []))) same z.locks, (subst (IsSource (next s a (Kind.Place q r.first (Place.Moving f (writable (s.places.place q r.first))))) a) same z.source, rest))) (orphan_at s q r.first (Place.Moving f (writable (s.places.place q r.first)))) refl)
+    placed al e = (z.ok, refl, goes_on s t a o xs (Kind.Place q r.first (Place.Moving f (writable (s.places.place q r.first)))) q r.first (Place.Moving f (writable (s.places.place q r.first))) _ z.stays (h.0, (subst (λ i. Holds (next s a (Kind.Place q r.first (Place.Moving f (writable (s.places.place q r.first))))) t a (Locks_only (i ∷ []))) same z.locks, (subst (IsSource (next s a (Kind.Place q r.first (Place.Moving f (writable (s.places.place q r.first))))) a) same z.source, rest))) (orphan_at s q r.first (Place.Moving f (writable (s.places.place q r.first)))) refl)
       where
         source : IsSource s a f
         source = subst (IsSource s a) (sym same) h.1.1.1.1.0
 
-        z : Froze c s t a q r.first f []
-        z = froze c s t a q r.first f so (is_frame_from (names_directly (s.places.place q r.first)) f e) (inr source.mine) (is_covered s a q r.first r met told h.0 al (first_covered r h.1.1.0)) source.stood_by (subst (λ j. (i : Frame) → s.locks.frame i ≡ Some a → list_any (same_frame i) (j ∷ []) ≡ true) (sym same) h.1.0)
+        z : Froze c s t a q r.first f (f ∷ [])
+        z = froze c s t a q r.first f (f ∷ []) so (is_frame_from (names_directly (s.places.place q r.first)) f e) (inr source.mine) (is_covered s a q r.first r met told h.0 al (first_covered r h.1.1.0)) source.stood_by (subst (λ j. (i : Frame) → s.locks.frame i ≡ Some a → list_any (same_frame i) (j ∷ []) ≡ true) (sym same) h.1.0) (only_it f f refl)
 
         rest : HoldsAll (next s a (Kind.Place q r.first (Place.Moving f (writable (s.places.place q r.first))))) t a (under o below)
         rest = under_on c s t a (Kind.Place q r.first (Place.Moving f (writable (s.places.place q r.first)))) so z.ok (record { clear = λ i y n. frozen_clear c s t a q r.first f so z.ok i y; no_begin = refl; map = refl; there = λ p. refl; areas = λ p. refl }) o below (λ d j v n e i. cc) h.1.1.1.1.1

@@ -29,7 +29,7 @@ use Rattle.hm_laws.proofs.Updates.{here_at, both, equal_numbers}
 use Rattle.hm_laws.proofs.Mirrored.{Mirrored, mirrored}
 use Rattle.hm_laws.proofs.Looks.{within_some}
 use Rattle.hm_laws.proofs.Noted.{matches_right}
-use Rattle.hm_laws.proofs.DueWords.{Good, Unshared, IsShort, either, release_none, rlock_ok, ends_ok}
+use Rattle.hm_laws.proofs.DueWords.{Good, IsShort, either, release_none, rlock_ok, ends_ok}
 use Rattle.hm_laws.proofs.Guards.{number_is}
 use Rattle.hm_laws.proofs.DueMirrors.{release_locked}
 use Rattle.hm_laws.proofs.DueDecide.{Outcomes, fault_ok}
@@ -89,13 +89,13 @@ walk_outcomes c s t a o xs k at q so h att i fail suit = record {
   suits_core = suits_core (mirror_dev s.plain (op_mirror o)) (op_writes o);
 }
 
-pub load_walk_ok : (c : Program) (s : After) (t : Past) (a m adr n k at q : ℕ) (xs : List Migrating) → a < 16 → Sound c s t → Unshared s → HoldsAll s t a (deciding (Op.DeviceLoad m adr n) (Touch.Walk k at q)) → Good c s t a (Op.DeviceLoad m adr n) xs (Phase.Decide (Touch.Walk k at q)) [] (due_decide c s a (Op.DeviceLoad m adr n) (Touch.Walk k at q) (mirror_proc s.plain m) (at_page (Op.DeviceLoad m adr n) k))
-load_walk_ok c s t a m adr n k at q xs few so co h = either P (repeats s m q) _ _
+pub load_walk_ok : (c : Program) (s : After) (t : Past) (a m adr n k at q : ℕ) (xs : List Migrating) → a < 16 → Sound c s t → HoldsAll s t a (deciding (Op.DeviceLoad m adr n) (Touch.Walk k at q)) → Good c s t a (Op.DeviceLoad m adr n) xs (Phase.Decide (Touch.Walk k at q)) [] (due_decide c s a (Op.DeviceLoad m adr n) (Touch.Walk k at q) (mirror_proc s.plain m) (at_page (Op.DeviceLoad m adr n) k))
+load_walk_ok c s t a m adr n k at q xs few so h = either P (repeats s m q) _ _
     (λ e. (release_locked s a (mirror_proc s.plain m) h.1.0.1, tt, (h.0.0, (here_at s.locks.map a None, h.1.1))))
     (λ e. fault_ok c s t a o xs (Touch.Walk k at q) (suits_walk (mirror_dev s.plain m) false) few (walk_outcomes c s t a o xs k at q so h (not_repeats s m q e).0 refl
-    (λ i f sh. ((release_locked s a (mirror_proc s.plain m) h.1.0.1, f), sh, ends_ok o k (next s a (failed o k i)) t a (here_at s.locks.map a None, h.1.1)))
+    (λ i f sh. ((release_locked s a (mirror_proc s.plain m) h.1.0.1, f), sh, ends_ok o xs k (next s a (failed o k i)) t a (here_at s.locks.map a None, h.1.1)))
     (λ w. let st = suited_stands s.places.moved_to (mirror_dev s.plain m) false (s.places.place (mirror_proc s.plain m) (at_page o k)) w in
-    (release_locked s a (mirror_proc s.plain m) h.1.0.1, tt, (h.0, ((h.0.1, h.0.2.1, st.2, λ i j. (st.0, st.1)), (here_at s.locks.map a None, h.1.1)))))) so co h)
+    (release_locked s a (mirror_proc s.plain m) h.1.0.1, tt, (h.0, ((h.0.1, h.0.2.1, st.2, λ i j. (st.0, st.1)), (here_at s.locks.map a None, h.1.1)))))) so h)
   where
     o : Op
     o = Op.DeviceLoad m adr n
@@ -103,13 +103,13 @@ load_walk_ok c s t a m adr n k at q xs few so co h = either P (repeats s m q) _ 
     P : Next → Type 0
     P = Good c s t a (Op.DeviceLoad m adr n) xs (Phase.Decide (Touch.Walk k at q)) []
 
-pub store_walk_ok : (c : Program) (s : After) (t : Past) (a m adr : ℕ) (bs : List ℕ) (k at q : ℕ) (xs : List Migrating) → a < 16 → Sound c s t → Unshared s → HoldsAll s t a (deciding (Op.DeviceStore m adr bs) (Touch.Walk k at q)) → Good c s t a (Op.DeviceStore m adr bs) xs (Phase.Decide (Touch.Walk k at q)) [] (due_decide c s a (Op.DeviceStore m adr bs) (Touch.Walk k at q) (mirror_proc s.plain m) (at_page (Op.DeviceStore m adr bs) k))
-store_walk_ok c s t a m adr bs k at q xs few so co h = either P (repeats s m q) _ _
+pub store_walk_ok : (c : Program) (s : After) (t : Past) (a m adr : ℕ) (bs : List ℕ) (k at q : ℕ) (xs : List Migrating) → a < 16 → Sound c s t → HoldsAll s t a (deciding (Op.DeviceStore m adr bs) (Touch.Walk k at q)) → Good c s t a (Op.DeviceStore m adr bs) xs (Phase.Decide (Touch.Walk k at q)) [] (due_decide c s a (Op.DeviceStore m adr bs) (Touch.Walk k at q) (mirror_proc s.plain m) (at_page (Op.DeviceStore m adr bs) k))
+store_walk_ok c s t a m adr bs k at q xs few so h = either P (repeats s m q) _ _
     (λ e. (release_locked s a (mirror_proc s.plain m) h.1.0.1, tt, (h.0.0, (here_at s.locks.map a None, h.1.1))))
     (λ e. fault_ok c s t a o xs (Touch.Walk k at q) (suits_walk (mirror_dev s.plain m) true) few (walk_outcomes c s t a o xs k at q so h (not_repeats s m q e).0 refl
-    (λ i f sh. ((release_locked s a (mirror_proc s.plain m) h.1.0.1, f), sh, ends_ok o k (next s a (failed o k i)) t a (here_at s.locks.map a None, h.1.1)))
+    (λ i f sh. ((release_locked s a (mirror_proc s.plain m) h.1.0.1, f), sh, ends_ok o xs k (next s a (failed o k i)) t a (here_at s.locks.map a None, h.1.1)))
     (λ w. let st = suited_stands s.places.moved_to (mirror_dev s.plain m) true (s.places.place (mirror_proc s.plain m) (at_page o k)) w in
-    (release_locked s a (mirror_proc s.plain m) h.1.0.1, tt, (h.0, ((h.0.1, h.0.2.1, st.2, λ i j. (st.0, st.1)), (here_at s.locks.map a None, h.1.1)))))) so co h)
+    (release_locked s a (mirror_proc s.plain m) h.1.0.1, tt, (h.0, ((h.0.1, h.0.2.1, st.2, λ i j. (st.0, st.1)), (here_at s.locks.map a None, h.1.1)))))) so h)
   where
     o : Op
     o = Op.DeviceStore m adr bs

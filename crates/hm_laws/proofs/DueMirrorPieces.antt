@@ -100,7 +100,7 @@ load_mirror_ok c s t a m at n k xs so h = either P (in_window s.plain m (one_pag
     (λ u. answers w (entry_of (λ y. may_read y.right) (s.places.table m (at_page o k)) u))
     (λ u. either P (is_invalidating s m) _ _ (λ e. tt)
     (λ e. let b = begins_ok c s t a o xs k m so h.1 w e (λ l. ((h.0, window_within s.plain m (at_page o k) w, l), h.1)) in (b.0, tt, b.1))))
-    (λ w. ((release_none s a h.1.0, outside s.plain m (at_page o k) w), not_short c s 4 refl, ends_ok o k (next s a (failed o k 4)) t a (here_at s.locks.map a None, h.1.1)))
+    (λ w. ((release_none s a h.1.0, outside s.plain m (at_page o k) w), not_short c s 4 refl, ends_ok o xs k (next s a (failed o k 4)) t a (here_at s.locks.map a None, h.1.1)))
   where
     o : Op
     o = Op.DeviceLoad m at n
@@ -110,7 +110,7 @@ load_mirror_ok c s t a m at n k xs so h = either P (in_window s.plain m (one_pag
 
     answers : in_window s.plain m (one_page (at_page (Op.DeviceLoad m at n) k)) ≡ true → (e : TableEntry) × (s.places.table m (at_page (Op.DeviceLoad m at n) k) ≡ Some e) × (may_read e.right ≡ true) → P (Do (answer s (Op.DeviceLoad m at n) k))
     answers w e = let says : TableSays s m (at_page (Op.DeviceLoad m at n) k) e.0 = table_says c s t m (at_page (Op.DeviceLoad m at n) k) e.0 so e.1 e.2 in
-        ((release_none s a h.1.0, loaded_bytes s m (op_piece o k).0 (op_piece o k).1 (read_cause s m (at_page o k) e.0 w says), says.reads), tt, ends_ok o k (next s a (answer s o k)) t a (here_at s.locks.map a None, h.1.1))
+        ((release_none s a h.1.0, loaded_bytes s m (op_piece o k).0 (op_piece o k).1 (read_cause s m (at_page o k) e.0 w says), says.reads), tt, ends_ok o xs k (next s a (answer s o k)) t a (here_at s.locks.map a None, h.1.1))
 
 pub store_mirror_ok : (c : Program) (s : After) (t : Past) (a m at : ℕ) (bs : List ℕ) (k : ℕ) (xs : List Migrating) → InPage (op_piece (Op.DeviceStore m at bs) k).0 (length (op_bytes (Op.DeviceStore m at bs) (op_piece (Op.DeviceStore m at bs) k))) → Sound c s t → HoldsAll s t a (Is (has_piece (Op.DeviceStore m at bs) k) ∷ nothing_held) → Good c s t a (Op.DeviceStore m at bs) xs (Phase.Piece k) [] (due_mirror s (Op.DeviceStore m at bs) k m)
 store_mirror_ok c s t a m at bs k xs short so h = either P (in_window s.plain m (one_page (at_page o k))) _ _
@@ -118,7 +118,7 @@ store_mirror_ok c s t a m at bs k xs short so h = either P (in_window s.plain m 
     (λ u. answers w (entry_of (λ y. may_write y.right) (s.places.table m (at_page o k)) u))
     (λ u. either P (is_invalidating s m) _ _ (λ e. tt)
     (λ e. let b = begins_ok c s t a o xs k m so h.1 w e (λ l. ((h.0, window_within s.plain m (at_page o k) w, l), h.1)) in (b.0, tt, b.1))))
-    (λ w. ((release_none s a h.1.0, outside s.plain m (at_page o k) w), not_short c s 4 refl, ends_ok o k (next s a (failed o k 4)) t a (here_at s.locks.map a None, h.1.1)))
+    (λ w. ((release_none s a h.1.0, outside s.plain m (at_page o k) w), not_short c s 4 refl, ends_ok o xs k (next s a (failed o k 4)) t a (here_at s.locks.map a None, h.1.1)))
   where
     o : Op
     o = Op.DeviceStore m at bs
@@ -128,4 +128,4 @@ store_mirror_ok c s t a m at bs k xs short so h = either P (in_window s.plain m 
 
     answers : in_window s.plain m (one_page (at_page (Op.DeviceStore m at bs) k)) ≡ true → (e : TableEntry) × (s.places.table m (at_page (Op.DeviceStore m at bs) k) ≡ Some e) × (may_write e.right ≡ true) → P (Do (answer s (Op.DeviceStore m at bs) k))
     answers w e = let says : TableSays s m (at_page (Op.DeviceStore m at bs) k) e.0 = table_says c s t m (at_page (Op.DeviceStore m at bs) k) e.0 so e.1 (allows_write e.0.right e.2) in
-        ((release_none s a h.1.0, zero_is (cause_at s.plain (Who.Mirror m) (at_page o k) true) (write_cause c s t m (at_page o k) e.0 so w says e.2), says.writes e.2, short), tt, ends_ok o k (next s a (answer s o k)) t a (here_at s.locks.map a None, h.1.1))
+        ((release_none s a h.1.0, zero_is (cause_at s.plain (Who.Mirror m) (at_page o k) true) (write_cause c s t m (at_page o k) e.0 so w says e.2), says.writes e.2, short), tt, ends_ok o xs k (next s a (answer s o k)) t a (here_at s.locks.map a None, h.1.1))

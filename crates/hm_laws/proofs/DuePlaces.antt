@@ -13,12 +13,14 @@ use Rattle.hm_history.specs.Plain.{rights_of, is_read_write}
 use Rattle.hm_history.specs.Lookups.{loses, is_guarded}
 use Rattle.hm_history.specs.Contents.{shown_by}
 use Rattle.hm_history.specs.After.{After}
+use Rattle.hm_history.specs.Due.{is_untouched}
 use Rattle.hm_laws.specs.Stood.{stood, is_moving, Unnamed, Unstood}
 use Rattle.hm_laws.specs.Past.{Past}
 use Rattle.hm_laws.specs.Sound.{Sound}
 use Rattle.hm_laws.specs.Allowed.{Owned, shows, ReadsThere, WritesThere, HasChild, OwnsFrame, Reader, Writer, Parent, PlaceOk}
 use Rattle.hm_laws.proofs.Updates.{true_false}
 use Rattle.hm_laws.proofs.AreasKept.{writable_stays}
+use Rattle.hm_laws.proofs.FramesKept.{untouched_unnamed, unnamed_untouched}
 use Rattle.hm_laws.proofs.OtherFrames.{some_is}
 use Rattle.hm_laws.specs.Facts.{Locks_only, ShownIn, Holds}
 use Rattle.hm_history.specs.Words.{narrowed}
@@ -41,6 +43,7 @@ zero_ok c s t a p v so h l e i = record {
   freezes = λ f n. cc;
   finishes = λ f k. absurd (some_none (moving_frame (s.places.place p v)) f k (ap moving_frame e));
   owned = λ d m w k. absurd (true_false (is_empty_place (s.places.place p v)) (ap is_empty_place e) (ap is_empty_place k));
+  touched = λ k. inl (ap is_untouched e);
   settles = λ n w k m d. cc;
   stays_locked = λ f m n. cc;
   in_area = λ k n. i;
@@ -75,6 +78,7 @@ own_ok c s t a p v n so h l r own e co gd = record {
   freezes = λ f i. cc;
   finishes = λ f k. absurd (some_none (moving_frame (s.places.place p v)) f k (core_frozen (s.places.place p v) co));
   owned = λ d m w k. absurd (true_false (is_core (s.places.place p v)) co (ap is_core k));
+  touched = λ k. cc;
   settles = λ m w i k d. (subst (Unnamed s.places.place) (same m w i) own.0.unnamed, subst (Unstood s.places.place s.places.moved_to) (same m w i) own.0.unstood);
   stays_locked = λ f m i. cc;
   in_area = λ k i. some_write (rights_of s.plain p v) r;
@@ -148,6 +152,7 @@ narrowed_ok c s t a p v so h none w gd = by (narrowed (s.places.place p v)) (nar
       freezes = λ f i. inr (inr (p, v, sym k.frozen_same ∙ i));
       finishes = λ f i. inl (k.frozen_same ∙ i);
       owned = λ d n z i. inl (k.owned_same d n z i);
+      touched = λ i. inl (unnamed_untouched (s.places.place p v) (sym k.names_same ∙ untouched_unnamed x i));
       settles = λ m z i nm d. absurd (nothing (sys_frame m) (none (sys_frame m) d));
       stays_locked = λ f m i. inr (so.frames.stands_locked p v f (sym k.moving_same ∙ m) (sym k.stood_same ∙ i));
       in_area = λ th i. so.areas.in_area p v th stays;
@@ -179,6 +184,7 @@ child_ok c s t a p d v so h none e n w = record {
   freezes = λ f i. inr (inr (p, v, i));
   finishes = λ f k. absurd (empty_frozen (s.places.place d v) f e k);
   owned = λ i m z k. absurd (true_false (is_empty_place (s.places.place d v)) e (ap is_empty_place k));
+  touched = λ k. inl (empty_untouched (s.places.place d v) e);
   settles = λ m z i nm k. absurd (nothing (sys_frame m) (none (sys_frame m) k));
   stays_locked = λ f m i. inr (so.frames.stands_locked p v f m i);
   in_area = λ th i. absurd (true_false (s.plain.been d) (so.processes.there_been d th) h.1);
@@ -194,6 +200,9 @@ child_ok c s t a p d v so h none e n w = record {
 
     writable_at : (q u : ℕ) → (p ≡ q) × (v ≡ u) → writable (s.places.place q u) ≡ false
     writable_at q u k = ap writable (ap (λ i. s.places.place i u) (sym k.0) ∙ ap (s.places.place p) (sym k.1)) ∙ w
+
+    empty_untouched : (y : Place) → is_empty_place y ≡ true → is_untouched y ≡ true
+    empty_untouched y e = grind arith
 
     empty_frozen : (y : Place) (f : Frame) → is_empty_place y ≡ true → moving_frame y ≡ Some f → ⊥
     empty_frozen y f e m = grind arith
@@ -225,6 +234,7 @@ empty_ok c s t a p v so h gd = record {
   freezes = λ f n. cc;
   finishes = λ f k. inr (inr refl);
   owned = λ d m w k. inr (inr (inr refl));
+  touched = λ k. inr refl;
   settles = λ n w k m d. cc;
   stays_locked = λ f m n. cc;
   in_area = λ k n. cc;

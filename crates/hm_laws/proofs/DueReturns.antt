@@ -1,5 +1,5 @@
 -- Pages return to a frame, which is then given free.
-use Rattle.std.proofs.Common.{◌≡◌, ℕ, ◌⊎◌, inl, inr, Bool, true, false, ◌||◌, if◌then◌else◌, is_some, Option, Some, None, List, [], ◌∷◌, refl, sym, ap, ◌∙◌, subst, unwrap_or}
+use Rattle.std.proofs.Common.{◌≡◌, ℕ, ◌⊎◌, inl, inr, Bool, true, false, ◌||◌, if◌then◌else◌, is_some, Option, Some, None, List, [], ◌∷◌, refl, sym, ap, ◌∙◌, subst, arith, unwrap_or}
 use Rattle.std.specs.List.{list_any}
 use Rattle.hm_base.specs.Program.{Program}
 use Rattle.hm_base.specs.declared.Frame.{Frame}
@@ -18,8 +18,8 @@ use Rattle.hm_laws.specs.Past.{Past, past_next}
 use Rattle.hm_laws.specs.Sound.{Sound}
 use Rattle.hm_laws.specs.Allowed.{next, IsSource, Allowed}
 use Rattle.hm_laws.specs.Moves.{IsReturning, IsReturned}
-use Rattle.hm_laws.specs.Facts.{Is, Clear, keeps_on, of_system, No_guard, Locks_only, Sourced, Coming_back, Back, Holds, under, facts, HoldsAll}
-use Rattle.hm_laws.proofs.Search.{is_frame_from, is_frame_of, lowest_none}
+use Rattle.hm_laws.specs.Facts.{Is, Clear, keeps_on, of_system, No_guard, Locks_only, Sourced, Coming_back, Back, returns_to, held_under, beneath, Holds, facts, HoldsAll}
+use Rattle.hm_laws.proofs.Search.{frame_tells, is_frame_from, is_frame_of, lowest_none}
 use Rattle.hm_laws.proofs.Updates.{some_none, true_false}
 use Rattle.hm_laws.proofs.PlaceLocks.{lowest_passes}
 use Rattle.hm_laws.proofs.AreasKept.{placed_cases}
@@ -29,7 +29,8 @@ use Rattle.hm_laws.proofs.DueWords.{Good, either_option}
 use Rattle.hm_laws.proofs.MovePlaces.{stood_direct, InFrame, in_frame, return_ok}
 use Rattle.hm_history.specs.Operation.{is_remove}
 use Rattle.hm_laws.proofs.Clearing.{clear_drop, clear_done}
-use Rattle.hm_laws.proofs.Under.{not_removing, under_on, resting}
+use Rattle.hm_laws.specs.Spares.{Apart}
+use Rattle.hm_laws.proofs.Under.{not_removing, beneath_less, apart_below, beneath_on, resting_beneath, to_system}
 use Rattle.hm_laws.proofs.OwnPlaces.{locked_still, KeepsName, locks_after}
 use Rattle.hm_laws.proofs.OtherMoves.{direct_of}
 
@@ -51,18 +52,22 @@ none_named : (c : Program) (s : After) (t : Past) (f : Frame) → Sound c s t �
 none_named c s t f so e q u n = true_false (is_frame (names (s.places.place q u)) f) (is_frame_of (names (s.places.place q u)) f n) (lowest_none (λ i j. is_frame (names (s.places.place i j)) f) s.places.placed q u e (so.places.listed q u (names_stays (s.places.place q u) f n)))
 
 -- a frame that is given free
-freed_locks : (s : After) (a : ℕ) (g : Frame) (l : List Frame) → ((i : Frame) → s.locks.frame i ≡ Some a → list_any (same_frame i) (g ∷ l) ≡ true) → (i : Frame) → with_frame s.locks.frame g None i ≡ Some a → list_any (same_frame i) l ≡ true
+pub freed_locks : (s : After) (a : ℕ) (g : Frame) (l : List Frame) → ((i : Frame) → s.locks.frame i ≡ Some a → list_any (same_frame i) (g ∷ l) ≡ true) → (i : Frame) → with_frame s.locks.frame g None i ≡ Some a → list_any (same_frame i) l ≡ true
 freed_locks s a g l h i k = by (same_frame i g) (h i) k
   where
     by : (b : Bool) → (s.locks.frame i ≡ Some a → (b || list_any (same_frame i) l) ≡ true) → ◌≡◌ {A = Option ℕ} (if b then None else s.locks.frame i) (Some a) → list_any (same_frame i) l ≡ true
     by true m k = cc
     by false m k = m k
 
-abbrev Rests : Program → After → Past → ℕ → Op → List Phase → Kind → Type 0
-Rests c s t a o below k = Allowed c s t a k × HoldsAll (next s a k) (past_next t s.length a k) a (facts o below)
+-- what is done with a frame that is given free
+only_it : (f : Frame) → list_any (same_frame f) (f ∷ []) ≡ true
+only_it f = grind (arith, frame_tells f f)
 
-settles_done : (c : Program) (s : After) (t : Past) (a : ℕ) (o : Op) (g : Frame) (below : List Phase) (x : ℕ × ℕ) → Sound c s t → IsReturned s a g → Holds s t a No_guard → Holds s t a (Locks_only (g ∷ [])) → HoldsAll s t a (under o below) → ((d j v n : ℕ) → Kind.Done g ≡ Kind.Done (dev_frame d j) → below ≡ Phase.Frames v n ∷ [] → is_remove o ≡ false) → lowest_named s.places g ≡ Some x → Rests c s t a o below (Kind.Done g)
-settles_done c s t a o g below x so r n l u done e = (ok, resting (next s a (Kind.Done g)) t a o below (under_on c s t a (Kind.Done g) so ok (record { clear = λ f h n. clear_done s a g f h n; no_begin = refl; map = refl; there = λ p. refl; areas = λ p. refl }) o below done u) n (freed_locks s a g [] l))
+abbrev Rests : Program → After → Past → ℕ → Op → List Migrating → List Phase → Kind → Type 0
+Rests c s t a o xs below k = Allowed c s t a k × HoldsAll (next s a k) (past_next t s.length a k) a (facts o xs below)
+
+settles_done : (c : Program) (s : After) (t : Past) (a : ℕ) (o : Op) (xs : List Migrating) (g : Frame) (below : List Phase) (x : ℕ × ℕ) → Sound c s t → IsReturned s a g → Holds s t a No_guard → Holds s t a (Locks_only (g ∷ held_under o xs below)) → HoldsAll s t a (beneath o xs (g ∷ []) below) → ((d j v n : ℕ) → Kind.Done g ≡ Kind.Done (dev_frame d j) → below ≡ Phase.Frames v n ∷ [] → is_remove o ≡ false) → lowest_named s.places g ≡ Some x → Rests c s t a o xs below (Kind.Done g)
+settles_done c s t a o xs g below x so r n l u done e = (ok, resting_beneath (next s a (Kind.Done g)) t a o xs (g ∷ []) below (beneath_on c s t a (Kind.Done g) so ok (record { clear = λ f h n. clear_done s a g f h n; no_begin = refl; map = refl; there = λ p. refl; areas = λ p. refl }) o xs (g ∷ []) below done (λ i m e. apart_below s t a o xs (g ∷ []) below u g i (only_it g) m e) u) n (freed_locks s a g (held_under o xs below) l))
   where
     lands : (q u : ℕ) → names (s.places.place q u) ≡ Some g → (b : Bool) → is_moving (s.places.place q u) ≡ b → b ≡ false
     lands q u n true m = absurd (r.lands q u (names_moving (s.places.place q u) g n m))
@@ -71,8 +76,8 @@ settles_done c s t a o g below x so r n l u done e = (ok, resting (next s a (Kin
     ok : Allowed c s t a (Kind.Done g)
     ok = (record { mine = r.dest; lands = λ q u n. lands q u n (is_moving (s.places.place q u)) refl; stood_by = λ q u n. (direct_names (s.places.place q u) g (r.stood_by q u n)).1 }, (x.0, x.1, is_frame_from (names (s.places.place x.0 x.1)) g (lowest_passes (λ i j. is_frame (names (s.places.place i j)) g) s.places.placed x e)))
 
-settles_drop : (c : Program) (s : After) (t : Past) (a : ℕ) (o : Op) (g : Frame) (below : List Phase) → Sound c s t → IsReturned s a g → Holds s t a No_guard → Holds s t a (Locks_only (g ∷ [])) → HoldsAll s t a (under o below) → lowest_named s.places g ≡ None → Rests c s t a o below (Kind.Drop g)
-settles_drop c s t a o g below so r n l u e = (ok, resting (next s a (Kind.Drop g)) t a o below (under_on c s t a (Kind.Drop g) so ok (record { clear = λ f h n. clear_drop s a g f h; no_begin = refl; map = refl; there = λ p. refl; areas = λ p. refl }) o below (λ d j v n e i. cc) u) n (freed_locks s a g [] l))
+settles_drop : (c : Program) (s : After) (t : Past) (a : ℕ) (o : Op) (xs : List Migrating) (g : Frame) (below : List Phase) → Sound c s t → IsReturned s a g → Holds s t a No_guard → Holds s t a (Locks_only (g ∷ held_under o xs below)) → HoldsAll s t a (beneath o xs (g ∷ []) below) → lowest_named s.places g ≡ None → Rests c s t a o xs below (Kind.Drop g)
+settles_drop c s t a o xs g below so r n l u e = (ok, resting_beneath (next s a (Kind.Drop g)) t a o xs (g ∷ []) below (beneath_on c s t a (Kind.Drop g) so ok (record { clear = λ f h n. clear_drop s a g f h; no_begin = refl; map = refl; there = λ p. refl; areas = λ p. refl }) o xs (g ∷ []) below (λ d j v n e i. cc) (λ i m e. apart_below s t a o xs (g ∷ []) below u g i (only_it g) m e) u) n (freed_locks s a g (held_under o xs below) l))
   where
     ok : Allowed c s t a (Kind.Drop g)
     ok = record { mine = r.dest; unnamed = none_named c s t g so e; unstood = λ q u n. none_named c s t g so e q u (direct_names (s.places.place q u) g (r.stood_by q u n)).0 }
@@ -87,10 +92,10 @@ clear_placed : (s : After) (a p v : ℕ) (x : Place) (i : Frame) → ((j : Frame
 clear_placed s a p v x i mine (inl h) = inl h
 clear_placed s a p v x i mine (inr h) = inr (mine i h)
 
-pub settle_ok : (c : Program) (s : After) (t : Past) (a : ℕ) (o : Op) (xs : List Migrating) (g : Frame) (below : List Phase) → Sound c s t → HoldsAll s t a (No_guard ∷ Locks_only (g ∷ []) ∷ Back g ∷ under o below) → Good c s t a o xs (Phase.Settle g) below (Do (settle s g))
+pub settle_ok : (c : Program) (s : After) (t : Past) (a : ℕ) (o : Op) (xs : List Migrating) (g : Frame) (below : List Phase) → Sound c s t → HoldsAll s t a (No_guard ∷ Locks_only (g ∷ held_under o xs below) ∷ Back g ∷ Is (returns_to o g) ∷ beneath o xs (g ∷ []) below) → Good c s t a o xs (Phase.Settle g) below (Do (settle s g))
 settle_ok c s t a o xs g below so h = either_option (λ k. Good c s t a o xs (Phase.Settle g) below (Do k)) (lowest_named s.places g) (Kind.Drop g) (λ x. Kind.Done g)
-    (λ e. let z : Rests c s t a o below (Kind.Drop g) = settles_drop c s t a o g below so h.1.1.0.0 h.0 h.1.0 h.1.1.1 e in (z.0, tt, z.1))
-    (λ x e. let z : Rests c s t a o below (Kind.Done g) = settles_done c s t a o g below x so h.1.1.0.0 h.0 h.1.0 h.1.1.1 (λ d j v n e i. absurd (not_device g d j h.1.1.0.1 e)) e in (z.0, tt, z.1))
+    (λ e. let z : Rests c s t a o xs below (Kind.Drop g) = settles_drop c s t a o xs g below so h.1.1.0 h.0 h.1.0 h.1.1.1.1 e in (z.0, tt, z.1))
+    (λ x e. let z : Rests c s t a o xs below (Kind.Done g) = settles_done c s t a o xs g below x so h.1.1.0 h.0 h.1.0 h.1.1.1.1 (λ d j v n e i. absurd (not_device g d j (to_system s t a o xs (g ∷ []) g v n below h.1.1.1.1 h.1.1.1.0 i) e)) e in (z.0, tt, z.1))
 
 -- a page returns
 record Return (c : Program) (s : After) (t : Past) (a p v : ℕ) (f h : Frame) (l : List Frame) : Type 0 where
@@ -121,21 +126,41 @@ returns c s t a p v f h l so e stands mine dest fresh pages only = record {
     at i (inl k) = only i k
     at i (inr k) = absurd (some_none (moving_frame (place_in h (writable (s.places.place p v)))) i k.0 x.unfrozen)
 
+-- it has nothing to do with another frame
+first_of : (f g : Frame) → list_any (same_frame f) (f ∷ g ∷ []) ≡ true
+first_of f g = grind (arith, frame_tells f f)
+
+second_of : (f g : Frame) → list_any (same_frame g) (f ∷ g ∷ []) ≡ true
+second_of f g = grind (arith, frame_tells g g)
+
+returns_apart : (s : After) (p v : ℕ) (f h i : Frame) → s.places.place p v ≡ Place.Moving f (writable (s.places.place p v)) → (i ≡ f → ⊥) → (i ≡ h → ⊥) → Apart s (Kind.Place p v (place_in h (writable (s.places.place p v)))) i
+returns_apart s p v f h i e nf nh = (
+  λ n. nf (some_is i f (sym n ∙ ap names e)),
+  λ n. nh (some_is i h (sym n ∙ (direct_names (place_in h (writable (s.places.place p v))) h new.direct).0)),
+  λ n. nh (some_is i h (sym n ∙ stood_direct s.places.moved_to (place_in h (writable (s.places.place p v))) h new.direct)),
+)
+  where
+    new : InFrame h (writable (s.places.place p v)) (place_in h (writable (s.places.place p v)))
+    new = in_frame h (writable (s.places.place p v))
+
 -- to the frame that it was committed to
-pub return_to_ok : (c : Program) (s : After) (t : Past) (a : ℕ) (o : Op) (xs : List Migrating) (f g : Frame) (below : List Phase) → Sound c s t → HoldsAll s t a (No_guard ∷ Locks_only (f ∷ g ∷ []) ∷ Coming_back f g ∷ under o below) → Good c s t a o xs (Phase.Finish f (Some g)) below (Do (due_finish s f (Some g)))
+pub return_to_ok : (c : Program) (s : After) (t : Past) (a : ℕ) (o : Op) (xs : List Migrating) (f g : Frame) (below : List Phase) → Sound c s t → HoldsAll s t a (No_guard ∷ Locks_only (f ∷ g ∷ held_under o xs below) ∷ Coming_back f g ∷ Is (returns_to o g) ∷ beneath o xs (f ∷ g ∷ []) below) → Good c s t a o xs (Phase.Finish f (Some g)) below (Do (due_finish s f (Some g)))
 return_to_ok c s t a o xs f g below so h = either_option P (lowest_moving s.places f) _ _ last more
   where
     P : Kind → Type 0
     P = λ k. Good c s t a o xs (Phase.Finish f (Some g)) below (Do k)
 
     r : IsReturning s a f g
-    r = h.1.1.0.0
+    r = h.1.1.0
+
+    off : (i : Frame) → list_any (same_frame i) (held_under o xs below) ≡ true → (i ≡ f → ⊥) × (i ≡ g → ⊥)
+    off i m = (apart_below s t a o xs (f ∷ g ∷ []) below h.1.1.1.1 f i (first_of f g) m, apart_below s t a o xs (f ∷ g ∷ []) below h.1.1.1.1 g i (second_of f g) m)
 
     apart : g ≡ f → ⊥
     apart e = some_none (s.places.moved_to f) g r.moved (ap s.places.moved_to (sym e) ∙ r.fresh)
 
     last : lowest_moving s.places f ≡ None → P (Kind.Drop f)
-    last e = (ok, tt, (h.0, (freed_locks s a f (g ∷ []) h.1.0, ((back, h.1.1.0.1), under_on c s t a (Kind.Drop f) so ok (record { clear = λ i h n. clear_drop s a f i h; no_begin = refl; map = refl; there = λ p. refl; areas = λ p. refl }) o below (λ d j v n e i. cc) h.1.1.1))))
+    last e = (ok, tt, (h.0, (freed_locks s a f (g ∷ held_under o xs below) h.1.0, (back, (h.1.1.1.0, beneath_on c s t a (Kind.Drop f) so ok (record { clear = λ i h n. clear_drop s a f i h; no_begin = refl; map = refl; there = λ p. refl; areas = λ p. refl }) o xs (g ∷ []) below (λ d j v n e i. cc) (λ i m. (off i m).0) (beneath_less s t a o xs f (g ∷ []) below h.1.1.1.1))))))
       where
         ok : Allowed c s t a (Kind.Drop f)
         ok = record { mine = r.mine; unnamed = λ q u n. none_frozen c s t f so e q u (names_moving (s.places.place q u) f n (r.frozen q u n)); unstood = r.unstood }
@@ -148,7 +173,7 @@ return_to_ok c s t a o xs f g below so h = either_option P (lowest_moving s.plac
             by q u (inr d) = d
 
     more : (x : ℕ × ℕ) → lowest_moving s.places f ≡ Some x → P (Kind.Place x.0 x.1 (place_in g (writable (s.places.place x.0 x.1))))
-    more x e = (z.ok, z.shared, (h.0, (z.locks, ((still, h.1.1.0.1), under_on c s t a (Kind.Place x.0 x.1 (place_in g (writable (s.places.place x.0 x.1)))) so z.ok (record { clear = λ i y n. clear_placed s a x.0 x.1 _ i z.mine y; no_begin = refl; map = refl; there = λ p. refl; areas = λ p. refl }) o below (λ d j v n e i. cc) h.1.1.1))))
+    more x e = (z.ok, z.shared, (h.0, (z.locks, (still, (h.1.1.1.0, beneath_on c s t a (Kind.Place x.0 x.1 (place_in g (writable (s.places.place x.0 x.1)))) so z.ok (record { clear = λ i y n. clear_placed s a x.0 x.1 _ i z.mine y; no_begin = refl; map = refl; there = λ p. refl; areas = λ p. refl }) o xs (f ∷ g ∷ []) below (λ d j v n e i. cc) (λ i m. returns_apart s x.0 x.1 f g i is (off i m).0 (off i m).1) h.1.1.1.1)))))
       where
         is : s.places.place x.0 x.1 ≡ Place.Moving f (writable (s.places.place x.0 x.1))
         is = found_frozen s f x e
@@ -159,8 +184,8 @@ return_to_ok c s t a o xs f g below so h = either_option P (lowest_moving s.plac
         new : InFrame g (writable (s.places.place x.0 x.1)) (place_in g (writable (s.places.place x.0 x.1)))
         new = in_frame g (writable (s.places.place x.0 x.1))
 
-        z : Return c s t a x.0 x.1 f g (f ∷ g ∷ [])
-        z = returns c s t a x.0 x.1 f g (f ∷ g ∷ []) so is stands r.mine r.dest r.fresh
+        z : Return c s t a x.0 x.1 f g (f ∷ g ∷ held_under o xs below)
+        z = returns c s t a x.0 x.1 f g (f ∷ g ∷ held_under o xs below) so is stands r.mine r.dest r.fresh
             (λ q u n. so.frames.stood_page x.0 x.1 q u g (ap (stood s.places.moved_to) is ∙ stands) (stood_direct s.places.moved_to (s.places.place q u) g (direct_of (s.places.place q u) g n (r.lands q u)))) h.1.0
 
         by : (P : Place → Type 0) → P (place_in g (writable (s.places.place x.0 x.1))) → (q u : ℕ) → P (s.places.place q u) → P (with_place s.places.place x.0 x.1 (place_in g (writable (s.places.place x.0 x.1))) q u)
@@ -183,14 +208,14 @@ return_to_ok c s t a o xs f g below so h = either_option P (lowest_moving s.plac
         }
 
 -- or to its own, which was not committed
-pub give_back_ok : (c : Program) (s : After) (t : Past) (a : ℕ) (o : Op) (xs : List Migrating) (f : Frame) (below : List Phase) → Sound c s t → HoldsAll s t a (No_guard ∷ Locks_only (f ∷ []) ∷ Sourced f ∷ Is (keeps_on o below) ∷ under o below) → Good c s t a o xs (Phase.Finish f None) below (Do (due_finish s f None))
+pub give_back_ok : (c : Program) (s : After) (t : Past) (a : ℕ) (o : Op) (xs : List Migrating) (f : Frame) (below : List Phase) → Sound c s t → HoldsAll s t a (No_guard ∷ Locks_only (f ∷ held_under o xs below) ∷ Sourced f ∷ Is (keeps_on o below) ∷ beneath o xs (f ∷ []) below) → Good c s t a o xs (Phase.Finish f None) below (Do (due_finish s f None))
 give_back_ok c s t a o xs f below so h = either_option P (lowest_moving s.places f) _ _ last more
   where
     P : Kind → Type 0
     P = λ k. Good c s t a o xs (Phase.Finish f None) below (Do k)
 
     goes : (d j v n : ℕ) → Kind.Done f ≡ Kind.Done (dev_frame d j) → below ≡ Phase.Frames v n ∷ [] → is_remove o ≡ false
-    goes d j v n e i = at (not_removing s t a o below h.1.1.1.1 h.1.1.1.0)
+    goes d j v n e i = at (not_removing s t a o xs (f ∷ []) below h.1.1.1.1 h.1.1.1.0)
       where
         at : (is_remove o ≡ false) ⊎ ((v n : ℕ) → below ≡ Phase.Frames v n ∷ [] → ⊥) → is_remove o ≡ false
         at (inl k) = k
@@ -201,20 +226,20 @@ give_back_ok c s t a o xs f below so h = either_option P (lowest_moving s.places
 
     last : lowest_moving s.places f ≡ None → P (settle s f)
     last e = either_option P (lowest_named s.places f) (Kind.Drop f) (λ x. Kind.Done f)
-        (λ i. let z : Rests c s t a o below (Kind.Drop f) = settles_drop c s t a o f below so back h.0 h.1.0 h.1.1.1.1 i in (z.0, tt, z.1))
-        (λ x i. let z : Rests c s t a o below (Kind.Done f) = settles_done c s t a o f below x so back h.0 h.1.0 h.1.1.1.1 goes i in (z.0, tt, z.1))
+        (λ i. let z : Rests c s t a o xs below (Kind.Drop f) = settles_drop c s t a o xs f below so back h.0 h.1.0 h.1.1.1.1 i in (z.0, tt, z.1))
+        (λ x i. let z : Rests c s t a o xs below (Kind.Done f) = settles_done c s t a o xs f below x so back h.0 h.1.0 h.1.1.1.1 goes i in (z.0, tt, z.1))
       where
         back : IsReturned s a f
         back = record { dest = r.mine; lands = none_frozen c s t f so e; stood_by = λ q u n. direct_of (s.places.place q u) f (r.stood_by q u n) (none_frozen c s t f so e q u) }
 
     more : (x : ℕ × ℕ) → lowest_moving s.places f ≡ Some x → P (Kind.Place x.0 x.1 (place_in f (writable (s.places.place x.0 x.1))))
-    more x e = (z.ok, z.shared, (h.0, (z.locks, (still, (h.1.1.1.0, under_on c s t a (Kind.Place x.0 x.1 (place_in f (writable (s.places.place x.0 x.1)))) so z.ok (record { clear = λ i y n. clear_placed s a x.0 x.1 _ i z.mine y; no_begin = refl; map = refl; there = λ p. refl; areas = λ p. refl }) o below (λ d j v n e i. cc) h.1.1.1.1)))))
+    more x e = (z.ok, z.shared, (h.0, (z.locks, (still, (h.1.1.1.0, beneath_on c s t a (Kind.Place x.0 x.1 (place_in f (writable (s.places.place x.0 x.1)))) so z.ok (record { clear = λ i y n. clear_placed s a x.0 x.1 _ i z.mine y; no_begin = refl; map = refl; there = λ p. refl; areas = λ p. refl }) o xs (f ∷ []) below (λ d j v n e i. cc) (λ i m. let ne : (i ≡ f → ⊥) = apart_below s t a o xs (f ∷ []) below h.1.1.1.1 f i (only_it f) m in returns_apart s x.0 x.1 f f i is ne ne) h.1.1.1.1)))))
       where
         is : s.places.place x.0 x.1 ≡ Place.Moving f (writable (s.places.place x.0 x.1))
         is = found_frozen s f x e
 
-        z : Return c s t a x.0 x.1 f f (f ∷ [])
-        z = returns c s t a x.0 x.1 f f (f ∷ []) so is (ap (λ y. Some (unwrap_or y f)) r.fresh) r.mine r.mine r.fresh (λ q u n. so.frames.one_page x.0 x.1 q u f (ap names is) n) h.1.0
+        z : Return c s t a x.0 x.1 f f (f ∷ held_under o xs below)
+        z = returns c s t a x.0 x.1 f f (f ∷ held_under o xs below) so is (ap (λ y. Some (unwrap_or y f)) r.fresh) r.mine r.mine r.fresh (λ q u n. so.frames.one_page x.0 x.1 q u f (ap names is) n) h.1.0
 
         still : IsSource (next s a (Kind.Place x.0 x.1 (place_in f (writable (s.places.place x.0 x.1))))) a f
         still = record { mine = z.mine f r.mine; fresh = r.fresh; stood_by = λ q u n. at q u n (placed_cases s.places.place x.0 x.1 (place_in f (writable (s.places.place x.0 x.1))) q u) }

@@ -130,11 +130,11 @@ upto_last : (m n k : ℕ) → nat_le m n ≡ true → nat_le m (m + k) ≡ true
 upto_last m n k h = grind (arith, nat_tests)
 
 -- the actor goes on with the next page, when what the page named is dropped
-zapped_facts : (c : Program) (s : After) (t : Past) (a : ℕ) (o : Op) (p : ℕ) (r : Pages) (met : Bool) (told : Option ℕ) (u m : ℕ) → Sound c s t → Allowed c s t a (Kind.Place p u Place.Empty) → Holds s t a (Locks_only []) → Guarding s.sequences.guard a p r met told →
+zapped_facts : (c : Program) (s : After) (t : Past) (a : ℕ) (o : Op) (xs : List Migrating) (p : ℕ) (r : Pages) (met : Bool) (told : Option ℕ) (u m : ℕ) → Sound c s t → Allowed c s t a (Kind.Place p u Place.Empty) → Holds s t a (Locks_only []) → Guarding s.sequences.guard a p r met told →
     HoldsAll (next s a (Kind.Place p u Place.Empty)) t a (Over p r (proc_of_op o) (op_span o) ∷ zapping o m) → (y : Option Frame) → orphan_at s p u Place.Empty ≡ y →
-    HoldsAll (next s a (Kind.Place p u Place.Empty)) t a (facts o (dropping y (Phase.Guard p r met told (Body.Zap m) ∷ Phase.Answer ∷ [])))
-zapped_facts c s t a o p r met told u m so ok l g h None e = (g, ((λ f j. absurd (some_none (orphan_at s p u Place.Empty) f (left_locks s t a p u Place.Empty refl l f j) e)), h))
-zapped_facts c s t a o p r met told u m so ok l g h (Some f) e = (left_owned c s t a p u Place.Empty so ok refl f e, (g, ((λ i j. only_that f i (some_is f i (sym e ∙ left_locks s t a p u Place.Empty refl l i j))), h)))
+    HoldsAll (next s a (Kind.Place p u Place.Empty)) t a (facts o xs (dropping y (Phase.Guard p r met told (Body.Zap m) ∷ Phase.Answer ∷ [])))
+zapped_facts c s t a o xs p r met told u m so ok l g h None e = (g, ((λ f j. absurd (some_none (orphan_at s p u Place.Empty) f (left_locks s t a p u Place.Empty refl l f j) e)), h))
+zapped_facts c s t a o xs p r met told u m so ok l g h (Some f) e = (left_owned c s t a p u Place.Empty so ok refl f e, (g, ((λ i j. only_that f i (some_is f i (sym e ∙ left_locks s t a p u Place.Empty refl l i j))), h)))
 
 pub zap_ok : (c : Program) (s : After) (t : Past) (a : ℕ) (o : Op) (xs : List Migrating) (met : Bool) (told : Option ℕ) (n : ℕ) → Sound c s t → HoldsAll s t a (zap_guard o (proc_of_op o) (op_span o) met told n) →
     Good c s t a o xs (Phase.Guard (proc_of_op o) (op_span o) met told (Body.Zap n)) (Phase.Answer ∷ []) (Do (due_guard s a o (proc_of_op o) (op_span o) met told (Body.Zap n)))
@@ -172,7 +172,7 @@ zap_ok c s t a o xs met told n so h = guard_ok c s t a o xs p r met told (Body.Z
     by al (Some u) e = either P (nat_lt u (last_of (op_span o))) (Some (Kind.Place (proc_of_op o) u Place.Empty)) None
         (λ l. let cv : covers (op_span o) u ≡ true = in_span (op_span o) n u h.1.1.1.1.0 says.above l in
         let ok : PlaceOk s t a (proc_of_op o) u Place.Empty = empty_ok c s t a (proc_of_op o) u so em.0 (is_covered s a (proc_of_op o) u (op_span o) met told h.0 al cv) in
-        (ok, refl, zapped_facts c s t a o (proc_of_op o) (op_span o) met told u (u + 1) so ok h.1.0 h.0 (h.1.1.0, (h.1.1.1.0, (more_first (op_span o).first n u h.1.1.1.1.0 says.above, (h.1.1.1.1.1.0, ((em.0, zapped_clean s (proc_of_op o) (op_span o) u em.1 cv, zapped_below s (proc_of_op o) (op_span o) u (empty_to u says.between)), tt))))) (orphan_at s (proc_of_op o) u Place.Empty) refl))
+        (ok, refl, zapped_facts c s t a o xs (proc_of_op o) (op_span o) met told u (u + 1) so ok h.1.0 h.0 (h.1.1.0, (h.1.1.1.0, (more_first (op_span o).first n u h.1.1.1.1.0 says.above, (h.1.1.1.1.1.0, ((em.0, zapped_clean s (proc_of_op o) (op_span o) u em.1 cv, zapped_below s (proc_of_op o) (op_span o) u (empty_to u says.between)), tt))))) (orphan_at s (proc_of_op o) u Place.Empty) refl))
         (λ l. ends al (empty_to (last_of (op_span o)) (λ w k m. says.between w k (before w m l))))
       where
         says : NextSays s.places is_used (proc_of_op o) n u
@@ -222,9 +222,9 @@ pub never_exclusive : (y : Place) → is_exclusive (narrowed y) ≡ false
 never_exclusive y = grind arith
 
 -- nothing is left behind, so that the actor goes on
-pub goes_on : (s : After) (t : Past) (a : ℕ) (o : Op) (k : Kind) (p v : ℕ) (x : Place) (st : List Phase) → ((f : Frame) → orphan_at s p v x ≡ Some f → ⊥) → HoldsAll (next s a k) t a (facts o st) → (y : Option Frame) → orphan_at s p v x ≡ y → HoldsAll (next s a k) t a (facts o (dropping y st))
-goes_on s t a o k p v x st n h None e = h
-goes_on s t a o k p v x st n h (Some f) e = absurd (n f e)
+pub goes_on : (s : After) (t : Past) (a : ℕ) (o : Op) (xs : List Migrating) (k : Kind) (p v : ℕ) (x : Place) (st : List Phase) → ((f : Frame) → orphan_at s p v x ≡ Some f → ⊥) → HoldsAll (next s a k) t a (facts o xs st) → (y : Option Frame) → orphan_at s p v x ≡ y → HoldsAll (next s a k) t a (facts o xs (dropping y st))
+goes_on s t a o xs k p v x st n h None e = h
+goes_on s t a o xs k p v x st n h (Some f) e = absurd (n f e)
 
 pub narrow_ok : (c : Program) (s : After) (t : Past) (a : ℕ) (o : Op) (xs : List Migrating) (met : Bool) (told : Option ℕ) (n : ℕ) → Sound c s t → HoldsAll s t a (narrow_guard o (proc_of_op o) (op_span o) met told n) →
     Good c s t a o xs (Phase.Guard (proc_of_op o) (op_span o) met told (Body.Narrow n)) (Phase.Answer ∷ []) (Do (due_guard s a o (proc_of_op o) (op_span o) met told (Body.Narrow n)))
@@ -262,7 +262,7 @@ narrow_ok c s t a o xs met told n so h = guard_ok c s t a o xs (proc_of_op o) (o
         let st : (is_empty_place (narrowed (s.places.place (proc_of_op o) u)) ≡ false) × (writable (narrowed (s.places.place (proc_of_op o) u)) ≡ false) = narrowed_stays (s.places.place (proc_of_op o) u) says.passes in (
           ok,
           never_exclusive (s.places.place (proc_of_op o) u),
-          goes_on s t a o (Kind.Place (proc_of_op o) u (narrowed (s.places.place (proc_of_op o) u))) (proc_of_op o) u (narrowed (s.places.place (proc_of_op o) u)) (Phase.Guard (proc_of_op o) (op_span o) met told (Body.Narrow (u + 1)) ∷ Phase.Answer ∷ []) (stays u ok)
+          goes_on s t a o xs (Kind.Place (proc_of_op o) u (narrowed (s.places.place (proc_of_op o) u))) (proc_of_op o) u (narrowed (s.places.place (proc_of_op o) u)) (Phase.Guard (proc_of_op o) (op_span o) met told (Body.Narrow (u + 1)) ∷ Phase.Answer ∷ []) (stays u ok)
               (h.0, (still_none s t a (proc_of_op o) u (narrowed (s.places.place (proc_of_op o) u)) (narrow_locks c s t (proc_of_op o) u so) (stays u ok) h.1.0, (h.1.1.0, (h.1.1.1.0, (more_first (op_span o).first n u h.1.1.1.1.0 says.above, (h.1.1.1.1.1.0, ((nr.0, narrow_clean s (proc_of_op o) u (narrowed (s.places.place (proc_of_op o) u)) nr.1 st.0, narrow_below s (proc_of_op o) (op_span o) u (narrowed (s.places.place (proc_of_op o) u)) st.1 (narrow_to u says.between)), tt)))))))
               (orphan_at s (proc_of_op o) u (narrowed (s.places.place (proc_of_op o) u))) refl,
         ))

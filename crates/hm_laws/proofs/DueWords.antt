@@ -30,7 +30,7 @@ use Rattle.hm_history.specs.Locks.{writer, lowest_other}
 use Rattle.hm_history.specs.Operation.{op_pieces, op_mirror}
 use Rattle.hm_history.specs.Legal.{kept_for}
 use Rattle.hm_history.specs.Moved.{moved, piece_ends}
-use Rattle.hm_history.specs.Going.{seen_at}
+use Rattle.hm_history.specs.Going.{seen_at, recorded}
 use Rattle.hm_history.specs.Due.{rlock, wlock}
 use Rattle.hm_history.specs.declared.phases.Migrating.{Migrating}
 use Rattle.hm_history.specs.declared.phases.Phase.{Phase}
@@ -38,6 +38,8 @@ use Rattle.hm_history.specs.declared.phases.Next.{Next}
 use Rattle.hm_history.specs.declared.phases.Next.TheVariants.{Do, Wait}
 use Rattle.hm_laws.specs.Stood.{IsNamed}
 use Rattle.hm_laws.specs.Facts.{is_core}
+use Rattle.hm_laws.proofs.OtherFetches.{ForItself}
+use Rattle.hm_history.specs.declared.phases.Body.{Body}
 
 -- no system frame is free, where the cause says so
 abbrev pub IsShort : Program → After → ℕ → Type 0
@@ -49,26 +51,28 @@ Fair c s a o xs (Kind.Failed x at n k) (Phase.GiveUp y) = ⊤
 Fair c s a o xs (Kind.Failed x at n k) top = IsShort c s k
 Fair c s a o xs (Kind.Refused n) (Phase.GiveUp y) = ⊤
 Fair c s a o xs (Kind.Refused n) top = IsShort c s n
+Fair c s a o xs (Kind.Place p v x) (Phase.Guard q r met told (Body.Seize f)) = ForItself a (Kind.Place p v x)
 Fair c s a o xs (Kind.Place p v x) top = is_exclusive x ≡ false
 Fair c s a o xs (Kind.Mapped p r w) top = 1 ≤ r.count
 Fair c s a o xs (Kind.Copied f g None) top = IsNamed s.places.place f
 Fair c s a o xs (Kind.Copied f g (Some k)) top = (s.places.held f ≡ true) × (f ≡ g → ⊥) × (k < 8)
 Fair c s a o xs (Kind.Kept at why) top = kept_for c s a o xs (mirror_proc s.plain (op_mirror o)) at why ≡ true
-Fair c s a o xs (Kind.Fetched m at bs) top = ⊥
-Fair c s a o xs (Kind.Added m at was now) top = ⊥
 Fair c s a o xs k top = ⊤
 
 -- the facts of the stack to which an entry leads
 abbrev pub Led : After → Past → ℕ → Op → List Migrating → Phase → List Phase → Kind → Type 0
-Led s t a o xs top below k = HoldsAll (next s a k) (past_next t s.length a k) a (facts o (moved o (top ∷ below) k (seen_at s o xs top k)))
+Led s t a o xs top below k = HoldsAll (next s a k) (past_next t s.length a k) a (facts o (recorded top (seen_at s o xs top k).page xs k) (moved o (top ∷ below) k (seen_at s o xs top k)))
 
 -- it is allowed, and its actor then knows what its next phases say
 abbrev pub Good : Program → After → Past → ℕ → Op → List Migrating → Phase → List Phase → Next → Type 0
 Good c s t a o xs top below (Do k) = Allowed c s t a k × Fair c s a o xs k top × Led s t a o xs top below k
 Good c s t a o xs top below (Wait w) = ⊤
 
-abbrev pub Unshared : After → Type 0
-Unshared s = (p v : ℕ) → is_exclusive (s.places.place p v) ≡ false
+-- so an actor takes a page for nobody else
+pub takes_for_itself : (c : Program) (s : After) (a : ℕ) (o : Op) (xs : List Migrating) (k : Kind) (top : Phase) → Fair c s a o xs k top → ForItself a k
+takes_for_itself c s a o xs (Kind.Place p v x) (Phase.Guard q r met told (Body.Seize f)) h = h
+takes_for_itself c s a o xs (Kind.Place p v x) top h = λ n b e. absurd (true_false (is_exclusive x) (ap is_exclusive e) h)
+takes_for_itself c s a o xs k top h = tt
 
 pub either : {X : Type 0} (P : X → Type 0) (b : Bool) (x y : X) → (b ≡ true → P x) → (b ≡ false → P y) → P (elim b [ true ↦ x | false ↦ y ])
 either P true x y f g = f refl
@@ -118,7 +122,7 @@ no_holder : (s : After) (p a : ℕ) → LockRules s.locks.map → s.locks.map a 
 no_holder s p a so n h b w m = grind (arith, nat_tests, least_none (λ d. not (d == a) && lock_passes (λ x. x.proc == p) (s.locks.map d)) 0 16 b h, so.free_above b)
 
 pub rlock_ok : (c : Program) (s : After) (t : Past) (a : ℕ) (o : Op) (xs : List Migrating) (top : Phase) (p : ℕ) → a < 16 → Sound c s t → s.locks.map a ≡ None →
-    HoldsAll (next s a (Kind.Rlock p)) t a (facts o (moved o (top ∷ []) (Kind.Rlock p) (seen_at s o xs top (Kind.Rlock p)))) → Good c s t a o xs top [] (rlock s p)
+    Led s t a o xs top [] (Kind.Rlock p) → Good c s t a o xs top [] (rlock s p)
 rlock_ok c s t a o xs top p few so h led = either_option (Good c s t a o xs top []) (writer s.locks p) _ _ (λ n. ((few, h, no_writer s p so.locks n), tt, led)) (λ b n. tt)
 
 clean_alone : (c : Program) (s : After) (t : Past) (p : ℕ) → Sound c s t → s.plain.there p ≡ true → ((b : ℕ) → s.locks.map b ≡ lock_on p true → ⊥) → Clean s p
@@ -134,10 +138,10 @@ wlock_ok c s t a o xs few so h th = either_option (Good c s t a o xs Phase.Begin
     (λ b n. tt)
 
 -- the next piece, or the end
-pub ends_ok : (o : Op) (k : ℕ) (s : After) (t : Past) (a : ℕ) → HoldsAll s t a nothing_held → HoldsAll s t a (facts o (piece_ends o k))
-ends_ok o k s t a h = by (nat_lt (k + 1) (length (op_pieces o))) refl
+pub ends_ok : (o : Op) (xs : List Migrating) (k : ℕ) (s : After) (t : Past) (a : ℕ) → HoldsAll s t a nothing_held → HoldsAll s t a (facts o xs (piece_ends o k))
+ends_ok o xs k s t a h = by (nat_lt (k + 1) (length (op_pieces o))) refl
   where
-    by : (b : Bool) → has_piece o (k + 1) ≡ b → HoldsAll s t a (facts o (if b then Phase.Piece (k + 1) ∷ [] else []))
+    by : (b : Bool) → has_piece o (k + 1) ≡ b → HoldsAll s t a (facts o xs (if b then Phase.Piece (k + 1) ∷ [] else []))
     by true e = (e, h)
     by false e = h
 

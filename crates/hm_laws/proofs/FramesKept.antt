@@ -8,6 +8,7 @@ use Rattle.hm_history.specs.Words.{same_frame, is_frame, with_frame, names, name
 use Rattle.hm_history.specs.Places.{Places, is_page, with_page, with_place, places_next, lowest_named}
 use Rattle.hm_history.specs.Locks.{Locks, frame_placed, frame_next, with_lock, orphan}
 use Rattle.hm_history.specs.After.{After}
+use Rattle.hm_history.specs.Due.{is_untouched}
 use Rattle.hm_history.specs.declared.Kind.{Kind}
 use Rattle.hm_laws.specs.Stood.{stood, is_moving, IsNamed, Unnamed}
 use Rattle.hm_laws.specs.Past.{Past}
@@ -21,6 +22,13 @@ use Rattle.hm_laws.proofs.PlaceLocks.{lowest_passes, LockMove, Stays, Settles, F
 
 pub names_stays : (x : Place) (f : Frame) → names x ≡ Some f → is_empty_place x ≡ false
 names_stays x f n = grind arith
+
+-- an untouched page is one that names no frame
+pub untouched_unnamed : (x : Place) → is_untouched x ≡ true → names x ≡ None
+untouched_unnamed x h = grind arith
+
+pub unnamed_untouched : (x : Place) → names x ≡ None → is_untouched x ≡ true
+unnamed_untouched x n = grind arith
 
 pub moving_names : (x : Place) (f : Frame) → moving_frame x ≡ Some f → (names x ≡ Some f) × (is_moving x ≡ true)
 moving_names Place.Empty f e = cc

@@ -1,17 +1,19 @@
 -- A stack comes to the giving up of a fault or a removal only where no frame was free for an emptied one.
-use Rattle.std.proofs.Common.{◌≡◌, ℕ, ◌+◌, ◌⊎◌, inl, inr, Bool, true, false, ◌||◌, nat_lt, if◌then◌else◌, Option, Some, None, List, [], ◌∷◌, refl, sym, ap, ◌∙◌, length}
+use Rattle.std.proofs.Common.{◌≡◌, ℕ, ◌+◌, ◌⊎◌, inl, inr, Bool, true, false, ◌||◌, ◌==◌, nat_lt, if◌then◌else◌, Option, Some, None, List, [], ◌∷◌, refl, sym, ap, ◌∙◌, length}
 use Rattle.hm_base.specs.Pages.{Pages}
 use Rattle.hm_base.specs.declared.Frame.{Frame}
 use Rattle.hm_base.specs.declared.Place.{Place}
 use Rattle.hm_base.specs.declared.ops.Op.{Op}
 use Rattle.hm_history.specs.After.{After}
 use Rattle.hm_history.specs.Operation.{op_pieces, is_evicting}
-use Rattle.hm_history.specs.Moved.{read_locked, opened, piece_ends, noted, taken, below_next, frames_past, dropping, ended, guard_goes_on, is_end, told_mirror, body_next, counted, moved, moved_begin, moved_locked, moved_ready, moved_answer, moved_pages, moved_piece, moved_decide, moved_taken, moved_guard, moved_copy, moved_finish, moved_give_up, moved_frames}
+use Rattle.hm_history.specs.Moved.{read_locked, opened, piece_ends, noted, taken, below_next, frames_past, dropping, ended, guard_goes_on, is_end, told_mirror, body_next, counted, moved, moved_begin, moved_locked, moved_ready, moved_answer, moved_pages, moved_piece, is_added, moved_fetched, moved_decide, moved_taken, moved_guard, moved_copy, moved_finish, moved_give_up, moved_frames, copying, dropping_lost, kept_step, moves_on, finishing, moved_moves, moved_migration}
 use Rattle.hm_history.specs.declared.KeptAt.{KeptAt}
+use Rattle.hm_history.specs.declared.KeptWhy.{KeptWhy}
 use Rattle.hm_history.specs.declared.Kind.{Kind}
 use Rattle.hm_history.specs.declared.phases.Seen.{Seen}
 use Rattle.hm_history.specs.declared.phases.Touch.{Touch}
 use Rattle.hm_history.specs.declared.phases.Body.{Body}
+use Rattle.hm_history.specs.declared.phases.Migrating.{Migrating}
 use Rattle.hm_history.specs.declared.phases.Phase.{Phase}
 use Rattle.hm_laws.specs.Past.{Past}
 use Rattle.hm_laws.specs.Facts.{facts, HoldsAll}
@@ -67,6 +69,13 @@ piece o n touch (Kind.Begin m q) seen = refl
 piece o n touch (Kind.Fetched m a bs) seen = refl
 piece o n touch (Kind.Rlock p) seen = refl
 piece o n touch k seen = refl
+
+fetched : (o : Op) (k : Kind) (seen : Seen) → gives (moved_fetched o k seen) ≡ false
+fetched o k seen = by (is_added k)
+  where
+    by : (b : Bool) → gives (if b then [] else moved_piece o 0 Touch.Sole k seen) ≡ false
+    by true = refl
+    by false = piece o 0 Touch.Sole k seen
 
 notes : (touch : Touch) (x : Place) → is_given (noted touch x) ≡ false
 notes (Touch.Walk k at q) x = refl
@@ -148,6 +157,40 @@ frames v n (Kind.Kept (KeptAt.Frame f) why) seen = refl
 frames v n (Kind.Withdrawn d) seen = refl
 frames v n k seen = refl
 
+copies_on : (source : Option Frame) (g : Frame) (below : List Phase) → gives (copying source g below) ≡ gives below
+copies_on None g below = refl
+copies_on (Some f) g below = refl
+
+drops_lost : (why : KeptWhy) (to : Option Frame) (below : List Phase) → gives (dropping_lost why to below) ≡ gives below
+drops_lost KeptWhy.Lost to below = drops to below
+drops_lost why to below = refl
+
+moving_on : (step v : ℕ) → gives (moves_on step v ∷ []) ≡ false
+moving_on step v = by (step == 3)
+  where
+    by : (b : Bool) → gives ((if b then Phase.Moves 3 v else Phase.Moves 5 (v + 1)) ∷ []) ≡ false
+    by true = refl
+    by false = refl
+
+ends_page : (x : Migrating) (k : Kind) → gives (finishing x k) ≡ false
+ends_page x k = by x.source
+  where
+    by : (y : Option Frame) → gives (elim y [ None ↦ Phase.Moves 7 (x.page + 1) ∷ [] | Some f ↦ moved_finish f (if x.moved then x.dest else None) (Phase.Moves 7 (x.page + 1) ∷ []) k ]) ≡ false
+    by None = refl
+    by (Some f) = finishes f (if x.moved then x.dest else None) (Phase.Moves 7 (x.page + 1) ∷ []) k
+
+moves : (step : ℕ) (x : Migrating) (k : Kind) (seen : Seen) → gives (moved_moves step x k seen) ≡ false
+moves step x (Kind.Start p r q) seen = moving_on step x.page
+moves step x (Kind.Take g) seen = copies_on x.source g (Phase.Moves 4 (x.page + 1) ∷ [])
+moves step x (Kind.Kept at why) seen = drops_lost why x.dest (Phase.Moves (kept_step why) (x.page + 1) ∷ [])
+moves step x (Kind.Committed f g) seen = refl
+moves step x (Kind.Set m v f w from) seen = refl
+moves step x k seen = ends_page x k
+
+migration : (step : ℕ) (page : Option Migrating) (k : Kind) (seen : Seen) → gives (moved_migration step page k seen) ≡ false
+migration step None k seen = refl
+migration step (Some x) k seen = moves step x k seen
+
 abbrev pub is_alone_phase : Phase → Bool
 is_alone_phase (Phase.Alone f at) = true
 is_alone_phase top = false
@@ -155,28 +198,28 @@ is_alone_phase top = false
 never : {X : Type 0} (b : Bool) → b ≡ false → b ≡ true → X
 never b h k = absurd (true_false b k h)
 
-pub moved_gives : (s : After) (t : Past) (a : ℕ) (o : Op) (top : Phase) (below : List Phase) (k : Kind) (seen : Seen) → HoldsAll s t a (facts o (top ∷ below)) → gives (moved o (top ∷ below) k seen) ≡ true → (gives below ≡ true) ⊎ (is_alone_phase top ≡ true)
-moved_gives s t a o Phase.Begin below k seen h g = never _ (begin o k) g
-moved_gives s t a o Phase.Locked below k seen h g = never _ (locked o k seen) g
-moved_gives s t a o Phase.Ready below k seen h g = never _ (ready o k seen) g
-moved_gives s t a o Phase.Answer below k seen h g = never _ (answer k) g
-moved_gives s t a o (Phase.Detaching q) below k seen h g = cc
-moved_gives s t a o (Phase.Pages v) below k seen h g = never _ (pages k) g
-moved_gives s t a o (Phase.Piece n) below k seen h g = never _ (piece o n _ k seen) g
-moved_gives s t a o (Phase.Fetched old) below k seen h g = absurd h.0
-moved_gives s t a o (Phase.Begun n at q) below k seen h g = never _ (piece o n _ k seen) g
-moved_gives s t a o (Phase.Decide touch) below k seen h g = never _ (decide o touch k seen) g
-moved_gives s t a o (Phase.Noted n at q x) below k seen h g = cc
-moved_gives s t a o (Phase.Taken touch f x) below k seen h g = never _ (takes_on touch f x k) g
-moved_gives s t a o (Phase.Armed touch f x) below k seen h g = never _ (opens k seen (Body.Replace x f) (Phase.Decide touch ∷ [])) g
-moved_gives s t a o (Phase.Guard p r met told body) below k seen h g = inl (sym (guard o p r met told body below k seen) ∙ g)
-moved_gives s t a o (Phase.Drop f) below k seen h g = inl g
-moved_gives s t a o (Phase.Alone f at) below k seen h g = inr refl
-moved_gives s t a o (Phase.Copy f i n) below k seen h g = inl (sym (copies f i n below) ∙ g)
-moved_gives s t a o (Phase.Copied f i) below k seen h g = inl (sym (counts below) ∙ g)
-moved_gives s t a o (Phase.Finish f to) below k seen h g = inl (sym (finishes f to below k) ∙ g)
-moved_gives s t a o (Phase.Settle i) below k seen h g = inl g
-moved_gives s t a o (Phase.GiveUp touch) below k seen h g = never _ (given o touch k) g
-moved_gives s t a o (Phase.Frames v n) below k seen h g = never _ (frames v n k seen) g
-moved_gives s t a o (Phase.Moves step v) below k seen h g = absurd h.0
-moved_gives s t a o (Phase.Lost v f) below k seen h g = absurd h.0
+pub moved_gives : (s : After) (t : Past) (a : ℕ) (o : Op) (xs : List Migrating) (top : Phase) (below : List Phase) (k : Kind) (seen : Seen) → HoldsAll s t a (facts o xs (top ∷ below)) → gives (moved o (top ∷ below) k seen) ≡ true → (gives below ≡ true) ⊎ (is_alone_phase top ≡ true)
+moved_gives s t a o xs Phase.Begin below k seen h g = never _ (begin o k) g
+moved_gives s t a o xs Phase.Locked below k seen h g = never _ (locked o k seen) g
+moved_gives s t a o xs Phase.Ready below k seen h g = never _ (ready o k seen) g
+moved_gives s t a o xs Phase.Answer below k seen h g = never _ (answer k) g
+moved_gives s t a o xs (Phase.Detaching q) below k seen h g = cc
+moved_gives s t a o xs (Phase.Pages v) below k seen h g = never _ (pages k) g
+moved_gives s t a o xs (Phase.Piece n) below k seen h g = never _ (piece o n _ k seen) g
+moved_gives s t a o xs (Phase.Fetched old) below k seen h g = never _ (fetched o k seen) g
+moved_gives s t a o xs (Phase.Begun n at q) below k seen h g = never _ (piece o n _ k seen) g
+moved_gives s t a o xs (Phase.Decide touch) below k seen h g = never _ (decide o touch k seen) g
+moved_gives s t a o xs (Phase.Noted n at q x) below k seen h g = cc
+moved_gives s t a o xs (Phase.Taken touch f x) below k seen h g = never _ (takes_on touch f x k) g
+moved_gives s t a o xs (Phase.Armed touch f x) below k seen h g = never _ (opens k seen (Body.Replace x f) (Phase.Decide touch ∷ [])) g
+moved_gives s t a o xs (Phase.Guard p r met told body) below k seen h g = inl (sym (guard o p r met told body below k seen) ∙ g)
+moved_gives s t a o xs (Phase.Drop f) below k seen h g = inl g
+moved_gives s t a o xs (Phase.Alone f at) below k seen h g = inr refl
+moved_gives s t a o xs (Phase.Copy f i n) below k seen h g = inl (sym (copies f i n below) ∙ g)
+moved_gives s t a o xs (Phase.Copied f i) below k seen h g = inl (sym (counts below) ∙ g)
+moved_gives s t a o xs (Phase.Finish f to) below k seen h g = inl (sym (finishes f to below k) ∙ g)
+moved_gives s t a o xs (Phase.Settle i) below k seen h g = inl g
+moved_gives s t a o xs (Phase.GiveUp touch) below k seen h g = never _ (given o touch k) g
+moved_gives s t a o xs (Phase.Frames v n) below k seen h g = never _ (frames v n k seen) g
+moved_gives s t a o xs (Phase.Moves step v) below k seen h g = never _ (migration step seen.page k seen) g
+moved_gives s t a o xs (Phase.Lost v f) below k seen h g = inl g

@@ -19,6 +19,7 @@ use Rattle.hm_laws.specs.Facts.{Guarding, facts, HoldsAll}
 use Rattle.std.proofs.Common.{filter, find}
 use Rattle.hm_history.specs.Sequences.{is_above, is_next_told, guard_passes, same_span, all_told, next_told}
 use Rattle.hm_history.specs.Due.{start, due_guard, due_body, body_or_end, to_tell}
+use Rattle.hm_history.specs.Going.{recorded_body}
 use Rattle.hm_history.specs.declared.phases.Migrating.{Migrating}
 use Rattle.hm_history.specs.declared.phases.Body.{Body}
 use Rattle.hm_history.specs.declared.phases.Phase.{Phase}
@@ -215,14 +216,20 @@ told_on c s t a p r told m q so h e = record {
     at k i l true f = inr (grind arith)
     at k i l false f = inl (h.upto k i (first_passes (is_above told) (overlaps s.sequences p r) 0 32 m k e (subst (λ x. list_any (λ j. j == k) x ≡ true) (sym is_met) i) (grind (arith, nat_tests))))
 
+-- no record is made where a mirror is told
+told_records : (body : Body) (xs : List Migrating) (m : ℕ) (r : Pages) (q : ℕ) → recorded_body body xs (Kind.Told m r q) ≡ xs
+told_records (Body.Select n) xs m r q = refl
+told_records (Body.Fresh g) xs m r q = refl
+told_records body xs m r q = refl
+
 -- what is due in a guard: the next mirror is told, and when all are its body goes on
 pub guard_ok : (c : Program) (s : After) (t : Past) (a : ℕ) (o : Op) (xs : List Migrating) (p : ℕ) (r : Pages) (met : Bool) (told : Option ℕ) (body : Body) (below : List Phase) → Sound c s t → (g : Guarding s.sequences.guard a p r met told) →
-    ((m : ℕ) → SequencesOk s a (Kind.Told m r (s.sequences.seq p)) → Guarding (next s a (Kind.Told m r (s.sequences.seq p))).sequences.guard a p r met (Some m) → HoldsAll (next s a (Kind.Told m r (s.sequences.seq p))) (past_next t s.length a (Kind.Told m r (s.sequences.seq p))) a (facts o (Phase.Guard p r met (Some m) body ∷ below))) →
+    ((m : ℕ) → SequencesOk s a (Kind.Told m r (s.sequences.seq p)) → Guarding (next s a (Kind.Told m r (s.sequences.seq p))).sequences.guard a p r met (Some m) → HoldsAll (next s a (Kind.Told m r (s.sequences.seq p))) (past_next t s.length a (Kind.Told m r (s.sequences.seq p))) a (facts o xs (Phase.Guard p r met (Some m) body ∷ below))) →
     (all_told g.given ≡ true → Good c s t a o xs (Phase.Guard p r met told body) below (Do (body_or_end s p r (due_body s a o p r (s.places.place p r.first) body)))) →
     Good c s t a o xs (Phase.Guard p r met told body) below (Do (due_guard s a o p r met told body))
 guard_ok c s t a o xs p r true told body below so g tell go = by (next_told s.sequences p r told) refl
   where
     by : (x : Option ℕ) → next_told s.sequences p r told ≡ x → Good c s t a o xs (Phase.Guard p r true told body) below (Do (elim x [ Some m ↦ Kind.Told m r (s.sequences.seq p) | None ↦ body_or_end s p r (due_body s a o p r (s.places.place p r.first) body) ]))
     by None e = go (told_all c s t a p r true told so g e)
-    by (Some m) e = (tell_takes c s t a p r told m so g e, tt, tell m (tell_takes c s t a p r told m so g e) (told_on c s t a p r told m (s.sequences.seq p) so g e))
+    by (Some m) e = (tell_takes c s t a p r told m so g e, tt, subst (λ ys. HoldsAll (next s a (Kind.Told m r (s.sequences.seq p))) (past_next t s.length a (Kind.Told m r (s.sequences.seq p))) a (facts o ys (Phase.Guard p r true (Some m) body ∷ below))) (sym (told_records body xs m r (s.sequences.seq p))) (tell m (tell_takes c s t a p r told m so g e) (told_on c s t a p r told m (s.sequences.seq p) so g e)))
 guard_ok c s t a o xs p r false told body below so g tell go = go (told_all c s t a p r false told so g refl)

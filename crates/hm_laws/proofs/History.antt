@@ -18,12 +18,10 @@ use Rattle.hm_history.specs.Moved.{moved}
 use Rattle.hm_history.specs.Going.{seen_at}
 use Rattle.hm_history.specs.Due.{due_phase}
 use Rattle.hm_history.specs.declared.phases.Migrating.{Migrating}
-use Rattle.hm_history.specs.declared.phases.Body.{Body}
 use Rattle.hm_history.specs.declared.phases.Phase.{Phase}
 use Rattle.hm_history.specs.declared.phases.Next.{Next}
 use Rattle.hm_history.specs.declared.phases.Next.TheVariants.{Do, Wait}
-use Rattle.hm_laws.specs.Basic.{is_basic}
-use Rattle.hm_laws.proofs.DueWords.{Fair, Led, Good}
+use Rattle.hm_laws.proofs.DueWords.{Fair, Led, Good, takes_for_itself}
 use Rattle.std.proofs.Common.{slice_get, fold, append_assoc, append-nil}
 use Rattle.std.proofs.lemmas.Option.{slice_get_within}
 use Rattle.hm_history.specs.After.{after, after_entry, after_nothing}
@@ -35,14 +33,12 @@ use Rattle.hm_history.specs.declared.Entry.{Entry}
 use Rattle.hm_history.specs.declared.Progress.{Progress}
 use Rattle.hm_base.specs.Program.{IsScript}
 use Rattle.hm_laws.specs.Past.{past_start}
-use Rattle.hm_laws.specs.Basic.{IsBasic}
-use Rattle.hm_laws.specs.Shared.{SharedRules}
 use Rattle.hm_laws.specs.Stands.{Standing}
 use Rattle.hm_laws.proofs.EachKept.{kept}
 use Rattle.hm_laws.proofs.FirstSound.{first_sound}
 use Rattle.hm_laws.proofs.Stable.{stable}
+use Rattle.hm_laws.proofs.OtherFetches.{ForItself}
 use Rattle.hm_laws.proofs.AreaOrder.{order_kept}
-use Rattle.hm_laws.proofs.SharedKept.{shared_kept}
 use Rattle.hm_laws.proofs.Dues.{OpOk, due_ok}
 
 -- the script's operations, one by one
@@ -66,15 +62,15 @@ op_passes c t a i o h e = by (slice_get c.actors a) refl e
     by None ex k = cc
     by (Some os) ex k = (each_passes t os i o (each_passes (list_all t) c.actors a os h ex) k, slice_get_within c.actors a os ex)
 
-pub small : (c : Program) → IsScript c → IsBasic c → Small c
-small c sc ba = record {
-  ops = λ a i o e. ((op_passes c is_basic a i o ba.ops e).0, (op_passes c (op_fits (length c.devices)) a i o sc.ops e).0);
-  few = λ a i o e. omega (arith, (op_passes c is_basic a i o ba.ops e).1, sc.few_actors);
+pub small : (c : Program) → IsScript c → Small c
+small c sc = record {
+  ops = λ a i o e. (op_passes c (op_fits (length c.devices)) a i o sc.ops e).0;
+  few = λ a i o e. omega (arith, (op_passes c (op_fits (length c.devices)) a i o sc.ops e).1, sc.few_actors);
 }
 
-stable_all : (c : Program) (s : After) (t : Past) (a b : ℕ) → Sound c s t → (b ≡ a → ⊥) → (k : Kind) → Allowed c s t a k → (l : List Fact) → HoldsAll s t b l → HoldsAll (next s a k) (past_next t s.length a k) b l
-stable_all c s t a b so ne k ok [] h = tt
-stable_all c s t a b so ne k ok (x ∷ l) h = (stable c s t a b so ne k ok x h.0, stable_all c s t a b so ne k ok l h.1)
+stable_all : (c : Program) (s : After) (t : Past) (a b : ℕ) → Sound c s t → (b ≡ a → ⊥) → (k : Kind) → Allowed c s t a k → ForItself a k → (l : List Fact) → HoldsAll s t b l → HoldsAll (next s a k) (past_next t s.length a k) b l
+stable_all c s t a b so ne k ok own [] h = tt
+stable_all c s t a b so ne k ok own (x ∷ l) h = (stable c s t a b so ne k ok own x h.0, stable_all c s t a b so ne k ok own l h.1)
 
 -- an actor that is done with an operation knows what the next one's first phase says
 some_piece : (a n : ℕ) → nat_lt 0 (length (pieces a n)) ≡ true
@@ -91,49 +87,35 @@ least_count : (n : ℕ) → 0 ≤ n
 least_count n = omega arith
 
 from_known : (c : Program) (s : After) (t : Past) (a i : ℕ) → Small c → HoldsAll s t a nothing_held → Knows c s t a (going_from c a i)
-from_known c s t a i sm h = by (op_at c a i) (sm.ops a i)
+from_known c s t a i sm h = by (op_at c a i)
   where
-    first : (o : Op) → is_basic o ≡ true → HoldsAll s t a (facts o (first_phase o ∷ []))
-    first (Op.Map p r w) k = (refl, h)
-    first (Op.Unmap p r) k = (refl, h)
-    first (Op.Protect p r w) k = (refl, h)
-    first (Op.Exit p) k = (refl, h)
-    first (Op.Fork p d) k = (refl, h)
-    first (Op.Attach m d p r) k = (refl, h)
-    first (Op.Detach m) k = (refl, h)
-    first (Op.Snap m r) k = (refl, h)
-    first (Op.Evict d) k = (refl, (tt, (least_count s.length, h)))
-    first (Op.Remove d) k = (refl, ((λ i l. absurd (none_less i l)), (least_count s.length, h)))
-    first (Op.DeviceLoad m at n) k = (some_piece at n, h)
-    first (Op.DeviceStore m at bs) k = (some_piece at (length bs), h)
-    first (Op.Load p at n) k = (some_piece at n, h)
-    first (Op.Store p at bs) k = (some_piece at (length bs), h)
-    first o k = cc
+    first : (o : Op) → HoldsAll s t a (facts o [] (first_phase o ∷ []))
+    first (Op.Map p r w) = (refl, h)
+    first (Op.Unmap p r) = (refl, h)
+    first (Op.Protect p r w) = (refl, h)
+    first (Op.Exit p) = (refl, h)
+    first (Op.Fork p d) = (refl, h)
+    first (Op.Attach m d p r) = (refl, h)
+    first (Op.Detach m) = (refl, h)
+    first (Op.Snap m r) = (refl, h)
+    first (Op.Exclusive m v) = (refl, h)
+    first (Op.Add m at n) = (refl, h)
+    first (Op.Evict d) = (refl, (tt, (least_count s.length, h)))
+    first (Op.Remove d) = (refl, ((λ i l. absurd (none_less i l)), (least_count s.length, h)))
+    first (Op.DeviceLoad m at n) = (some_piece at n, h)
+    first (Op.DeviceStore m at bs) = (some_piece at (length bs), h)
+    first (Op.Load p at n) = (some_piece at n, h)
+    first (Op.Store p at bs) = (some_piece at (length bs), h)
+    first (Op.ToDevice m r) = (refl, h)
+    first (Op.ToSystem m r) = (refl, h)
 
-    by : (x : Option Op) → ((o : Op) → x ≡ Some o → OpOk c o) → HoldsAll s t a (facts_of x (first_stack x))
-    by None f = h
-    by (Some o) f = first o (f o refl).0
+    by : (x : Option Op) → HoldsAll s t a (facts_of x [] (first_stack x))
+    by None = h
+    by (Some o) = first o
 
-on_known : (c : Program) (s : After) (t : Past) (a i : ℕ) (o : Op) (xs : List Migrating) → Small c → op_at c a i ≡ Some o → (st : List Phase) → HoldsAll s t a (facts o st) → Knows c s t a (going_on c a i st xs)
+on_known : (c : Program) (s : After) (t : Past) (a i : ℕ) (o : Op) (xs : List Migrating) → Small c → op_at c a i ≡ Some o → (st : List Phase) → HoldsAll s t a (facts o xs st) → Knows c s t a (going_on c a i st xs)
 on_known c s t a i o xs sm e [] h = from_known c s t a (i + 1) sm h
-on_known c s t a i o xs sm e (x ∷ st) h = subst (λ y. HoldsAll s t a (facts_of y (x ∷ st))) (sym e) h
-
-on_empty : (c : Program) (a i : ℕ) (st : List Phase) (xs : List Migrating) → xs ≡ [] → (going_on c a i st xs).pages ≡ []
-on_empty c a i [] xs e = refl
-on_empty c a i (x ∷ st) xs e = e
-
--- no phase that there is makes a record of a migration
-no_record : (s : After) (t : Past) (a : ℕ) (o : Op) (page : Option Migrating) (xs : List Migrating) (k : Kind) (top : Phase) (below : List Phase) → HoldsAll s t a (facts o (top ∷ below)) → recorded top page xs k ≡ xs
-no_record s t a o page xs k (Phase.Guard q r met told (Body.Replace over g)) below h = refl
-no_record s t a o page xs k (Phase.Guard q r met told Body.Nothing) below h = refl
-no_record s t a o page xs k (Phase.Guard q r met told (Body.Zap n)) below h = refl
-no_record s t a o page xs k (Phase.Guard q r met told (Body.Narrow n)) below h = refl
-no_record s t a o page xs k (Phase.Guard q r met told (Body.Fork n half)) below h = refl
-no_record s t a o page xs k (Phase.Guard q r met told (Body.Catch f)) below h = refl
-no_record s t a o page xs k (Phase.Guard q r met told (Body.Freeze f)) below h = refl
-no_record s t a o page xs k (Phase.Guard q r met told x) below h = absurd h.0
-no_record s t a o page xs k (Phase.Moves step v) below h = absurd h.0
-no_record s t a o page xs k top below h = refl
+on_known c s t a i o xs sm e (x ∷ st) h = subst (λ y. HoldsAll s t a (facts_of y xs (x ∷ st))) (sym e) h
 
 -- the turn of an actor at a phase
 pub record Turn (c : Program) (s : After) (t : Past) (a : ℕ) (k : Kind) (was g : Going) : Type 0 where
@@ -142,12 +124,11 @@ pub record Turn (c : Program) (s : After) (t : Past) (a : ℕ) (k : Kind) (was g
   pub below : List Phase
   pub is_op : op_at c a was.index ≡ Some op
   pub is_stack : was.stack ≡ top ∷ below
-  pub known : HoldsAll s t a (facts op (top ∷ below))
+  pub known : HoldsAll s t a (facts op was.pages (top ∷ below))
   pub is_due : due_phase c s a op was.pages top ≡ Do k
   pub allowed : Allowed c s t a k
   pub fair : Fair c s a op was.pages k top
   pub knows : Knows c (next s a k) (past_next t s.length a k) a g
-  pub empty : g.pages ≡ []
 
 abbrev kind_of : Progress → Kind
 kind_of (Progress.Did e) = e.kind
@@ -156,10 +137,10 @@ kind_of p = Kind.Refused 0
 did : (a : ℕ) (l k : Kind) → progress a (Do l) ≡ Progress.Did (record { actor = a; kind = k }) → l ≡ k
 did a l k h = ap kind_of h
 
-turn_top : (c : Program) (s : After) (t : Past) (a : ℕ) (g : Going) (k : Kind) → Small c → Sound c s t → SharedRules s → g.pages ≡ [] → (o : Op) → op_at c a g.index ≡ Some o → (st : List Phase) → g.stack ≡ st → HoldsAll s t a (facts o st) → due_top c s a (Some o) g.pages st ≡ Progress.Did (record { actor = a; kind = k }) →
+turn_top : (c : Program) (s : After) (t : Past) (a : ℕ) (g : Going) (k : Kind) → Small c → Sound c s t → (o : Op) → op_at c a g.index ≡ Some o → (st : List Phase) → g.stack ≡ st → HoldsAll s t a (facts o g.pages st) → due_top c s a (Some o) g.pages st ≡ Progress.Did (record { actor = a; kind = k }) →
     Turn c s t a k g (going_top c s a g o st k)
-turn_top c s t a g k sm so sys no_pages o e [] es h d = cc
-turn_top c s t a g k sm so sys no_pages o e (top ∷ below) es h d = by (due_phase c s a o g.pages top) refl (due_ok c s t a o g.pages (sm.ops a g.index o e) (sm.few a g.index o e) so sys.unshared top below h) d
+turn_top c s t a g k sm so o e [] es h d = cc
+turn_top c s t a g k sm so o e (top ∷ below) es h d = by (due_phase c s a o g.pages top) refl (due_ok c s t a o g.pages (sm.ops a g.index o e) (sm.few a g.index o e) so top below h) d
   where
     by : (n : Next) → due_phase c s a o g.pages top ≡ n → Good c s t a o g.pages top below n → progress a n ≡ Progress.Did (record { actor = a; kind = k }) → Turn c s t a k g (going_top c s a g o (top ∷ below) k)
     by (Wait y) en good p = cc
@@ -177,24 +158,21 @@ turn_top c s t a g k sm so sys no_pages o e (top ∷ below) es h d = by (due_pha
           allowed = y.0;
           fair = y.1;
           knows = subst (λ z. Knows c (next s a k) (past_next t s.length a k) a (going_on c a g.index (moved o z k (seen_at s o g.pages top k)) (recorded top (seen_at s o g.pages top k).page g.pages k))) (sym es) (on_known c (next s a k) (past_next t s.length a k) a g.index o _ sm e _ y.2);
-          empty = on_empty c a g.index _ _ (no_record s t a o (seen_at s o g.pages top k).page g.pages k top below h ∙ no_pages);
         }
 
-turn_op : (c : Program) (s : After) (t : Past) (a : ℕ) (g : Going) (k : Kind) → Small c → Sound c s t → SharedRules s → g.pages ≡ [] → (x : Option Op) → op_at c a g.index ≡ x → HoldsAll s t a (facts_of x g.stack) → due_top c s a x g.pages g.stack ≡ Progress.Did (record { actor = a; kind = k }) →
+turn_op : (c : Program) (s : After) (t : Past) (a : ℕ) (g : Going) (k : Kind) → Small c → Sound c s t → (x : Option Op) → op_at c a g.index ≡ x → HoldsAll s t a (facts_of x g.pages g.stack) → due_top c s a x g.pages g.stack ≡ Progress.Did (record { actor = a; kind = k }) →
     Turn c s t a k g (elim x as (λ y. Going) [ None ↦ g | Some o ↦ going_top c s a g o g.stack k ])
-turn_op c s t a g k sm so sys no_pages None e h d = cc
-turn_op c s t a g k sm so sys no_pages (Some o) e h d = turn_top c s t a g k sm so sys no_pages o e g.stack refl h d
+turn_op c s t a g k sm so None e h d = cc
+turn_op c s t a g k sm so (Some o) e h d = turn_top c s t a g k sm so o e g.stack refl h d
 
 pub turn_of : (c : Program) (u : State) (t : Past) (e : Entry) → Small c → Standing c u t → due_in c u e.actor ≡ Progress.Did e → Turn c u.after t e.actor e.kind (u.going e.actor) (going_next c u.after e.actor (u.going e.actor) e.kind)
-turn_of c u t e sm st d = turn_op c u.after t e.actor (u.going e.actor) e.kind sm st.sound st.shared (st.no_records e.actor) (op_at c e.actor (u.going e.actor).index) refl (st.known e.actor) d
+turn_of c u t e sm st d = turn_op c u.after t e.actor (u.going e.actor) e.kind sm st.sound (op_at c e.actor (u.going e.actor).index) refl (st.known e.actor) d
 
 pub turn : (c : Program) (u : State) (t : Past) (e : Entry) → Small c → Standing c u t → due_in c u e.actor ≡ Progress.Did e → Standing c (state_next c u e) (past_next t u.after.length e.actor e.kind)
 turn c u t e sm st d = record {
   sound = kept c u.after t e.actor e.kind st.sound ok.allowed;
   order = order_kept c u.after t e.actor ok.op (u.going e.actor).pages ok.top e.kind ok.allowed ok.fair st.order;
-  shared = shared_kept c u.after t e.actor ok.op (u.going e.actor).pages ok.top e.kind ok.allowed ok.fair st.shared;
   known = λ b. knows b (cases_eq b e.actor);
-  no_records = λ b. none b (cases_eq b e.actor);
 }
   where
     ok : Turn c u.after t e.actor e.kind (u.going e.actor) (going_next c u.after e.actor (u.going e.actor) e.kind)
@@ -204,19 +182,13 @@ turn c u t e sm st d = record {
     knows b (inl i) = subst (λ j. Knows c (after_entry u.after e) (past_next t u.after.length e.actor e.kind) j (with_at u.going e.actor (going_next c u.after e.actor (u.going e.actor) e.kind) j)) (sym i)
         (subst (λ g. Knows c (after_entry u.after e) (past_next t u.after.length e.actor e.kind) e.actor g) (sym (here_at u.going e.actor (going_next c u.after e.actor (u.going e.actor) e.kind))) ok.knows)
     knows b (inr ne) = subst (λ g. Knows c (after_entry u.after e) (past_next t u.after.length e.actor e.kind) b g) (sym (other_at u.going e.actor b (going_next c u.after e.actor (u.going e.actor) e.kind) ne))
-        (stable_all c u.after t e.actor b st.sound ne e.kind ok.allowed (facts_of (op_at c b (u.going b).index) (u.going b).stack) (st.known b))
-
-    none : (b : ℕ) → (b ≡ e.actor) ⊎ (b ≡ e.actor → ⊥) → (with_at u.going e.actor (going_next c u.after e.actor (u.going e.actor) e.kind) b).pages ≡ []
-    none b (inl i) = subst (λ j. (with_at u.going e.actor (going_next c u.after e.actor (u.going e.actor) e.kind) j).pages ≡ []) (sym i) (ap (λ g. g.pages) (here_at u.going e.actor (going_next c u.after e.actor (u.going e.actor) e.kind)) ∙ ok.empty)
-    none b (inr ne) = ap (λ g. g.pages) (other_at u.going e.actor b (going_next c u.after e.actor (u.going e.actor) e.kind) ne) ∙ st.no_records b
+        (stable_all c u.after t e.actor b st.sound ne e.kind ok.allowed (takes_for_itself c u.after e.actor ok.op (u.going e.actor).pages e.kind ok.top ok.fair) (facts_of (op_at c b (u.going b).index) (u.going b).pages (u.going b).stack) (st.known b))
 
 pub at_start : (c : Program) → Small c → Standing c (state_start c) past_start
 at_start c sm = record {
   sound = first_sound c;
   order = record { few = λ p. omega arith; in_order = λ p. refl };
-  shared = record { unshared = λ p v. refl };
   known = λ a. from_known c after_nothing past_start a 0 sm (refl, (refl, ((λ f e. cc), tt)));
-  no_records = λ a. refl;
 }
 
 -- the states after a history are those with which actors go on

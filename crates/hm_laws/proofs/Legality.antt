@@ -32,7 +32,6 @@ use Rattle.hm_history.specs.declared.Entry.{Entry}
 use Rattle.hm_history.specs.declared.Progress.{Progress}
 use Rattle.hm_base.specs.Program.{IsScript}
 use Rattle.hm_laws.specs.Past.{past_start}
-use Rattle.hm_laws.specs.Basic.{IsBasic}
 use Rattle.hm_laws.specs.Stands.{Standing}
 use Rattle.hm_laws.proofs.LawsOf.{answers_of, sequences_of, guarded_of, places_of}
 use Rattle.hm_laws.proofs.History.{Turn, Small, small, turn_of, at_start, after_is, standing_on}
@@ -115,5 +114,5 @@ legal_from : (c : Program) (h es : List Entry) (t : Past) → Small c → Standi
 legal_from c h [] t sm st pa short d = tt
 legal_from c h (e ∷ es) t sm st pa short d = (may_follow c h e t sm st pa short d.0, legal_from c (h ++ e ∷ []) es (past_next t (state_of c h).after.length e.actor e.kind) sm (standing_on c h e t sm st d.0) (untold_on c h e t pa) (short_on c h e t sm st short d.0) d.1)
 
-pub every_history : (c : Program) → IsScript c → IsBasic c → (h : List Entry) → DueFrom c [] h → Legal c h
-every_history c sc ba h d = legal_from c [] h past_start (small c sc ba) (at_start c (small c sc ba)) (past_is_start (state_start c).after.places.table (λ m v. refl)) (short_start c) d
+pub every_history : (c : Program) → IsScript c → (h : List Entry) → DueFrom c [] h → Legal c h
+every_history c sc h d = legal_from c [] h past_start (small c sc) (at_start c (small c sc)) (past_is_start (state_start c).after.places.table (λ m v. refl)) (short_start c) d

@@ -174,7 +174,7 @@ begun_other t n a b m k ne = refl
 touches_on : (c : Program) (s : After) (t : Past) (a b : ℕ) (k : Kind) → Sound c s t → Allowed c s t a k → ((m : ℕ) → (past_next t s.length a k).begun b m ≡ t.begun b m) → (o : Op) (touch : Touch) → Touches s t b o touch → Touches (next s a k) (past_next t s.length a k) b o touch
 touches_on c s t a b k so ok same o (Touch.Cpu n) h = h
 touches_on c s t a b k so ok same o (Touch.Walk n at q) h = (h.0, within_keeps c s t a k ok _ _ h.1, looks_on c s t a b k so ok _ _ at q h.1 (same _) h.2)
-touches_on c s t a b k so ok same o Touch.Sole h = h
+touches_on c s t a b k so ok same o Touch.Sole h = (h.0, within_keeps c s t a k ok _ _ h.1)
 
 pub touches_other : (c : Program) (s : After) (t : Past) (a b : ℕ) (k : Kind) → Sound c s t → (b ≡ a → ⊥) → Allowed c s t a k → (o : Op) (touch : Touch) → Touches s t b o touch → Touches (next s a k) (past_next t s.length a k) b o touch
 touches_other c s t a b k so ne ok o touch h = touches_on c s t a b k so ok (λ m. begun_other t s.length a b m k ne) o touch h

@@ -14,7 +14,7 @@ use Rattle.hm_laws.specs.Past.{Past}
 use Rattle.hm_laws.specs.Sound.{Sound}
 use Rattle.hm_laws.specs.Allowed.{shows, Mover, PlaceOk}
 use Rattle.hm_laws.proofs.Updates.{some_none, true_false}
-use Rattle.hm_laws.proofs.FramesKept.{names_stays, moving_names, direct_names}
+use Rattle.hm_laws.proofs.FramesKept.{names_stays, untouched_unnamed, moving_names, direct_names}
 use Rattle.hm_laws.proofs.OtherFrames.{some_is}
 
 -- a place that names its frame directly stands for it
@@ -49,6 +49,7 @@ freeze_ok c s t a p v f so direct lock guard = record {
   freezes = λ i n. mine i (some_is f i n) lock;
   finishes = λ i k. absurd (true_false (is_moving (s.places.place p v)) (moving_names (s.places.place p v) i k).1 lands);
   owned = λ d n w k. inr (device d n w k lock);
+  touched = λ k. cc;
   settles = λ n w k m i. cc;
   stays_locked = λ i m n. inl (sym (stood_frozen s.places.moved_to f (writable (s.places.place p v)) fresh) ∙ n);
   in_area = λ th e. so.areas.in_area p v th was;
@@ -137,6 +138,7 @@ return_ok c s t a p v f h w x so e i stands mine dest fresh pages = record {
   freezes = λ j n. absurd (some_none (moving_frame x) j n i.unfrozen);
   finishes = λ j k. inr (inl (ap s.locks.frame (sym (some_is f j (sym (ap moving_frame e) ∙ k))) ∙ mine));
   owned = λ d n z k. absurd (true_false (is_moving (s.places.place p v)) (ap is_moving e) (ap is_moving k));
+  touched = λ k. absurd (some_none (names x) h (direct_names x h i.direct).0 (untouched_unnamed x k));
   settles = λ n z k m j. absurd (true_false (is_moving (s.places.place p v)) (ap is_moving e) m);
   stays_locked = λ j m n. absurd (true_false (is_moving x) m i.settled);
   in_area = λ th k. so.areas.in_area p v th was;

@@ -136,6 +136,7 @@ sole_ok c s t a p v n w so h e r al = record {
   freezes = λ f i. cc;
   finishes = λ f k. absurd (some_none (moving_frame (s.places.place p v)) f k (ap moving_frame e));
   owned = λ d m z k. absurd (clash d m z (sym (ap is_owned e) ∙ ap is_owned k));
+  touched = λ k. cc;
   settles = λ m z i nm k. absurd (some_none (s.locks.frame (sys_frame m)) a k (ap s.locks.frame (sym (some_is (sys_frame n) (sys_frame m) (ap names i))) ∙ alone_free s (sys_frame n) al));
   stays_locked = λ f m i. cc;
   in_area = λ th i. some_write (rights_of s.plain p v) r;

@@ -25,7 +25,7 @@ use Rattle.hm_history.specs.declared.phases.Phase.{Phase}
 use Rattle.hm_history.specs.declared.phases.Next.{Next}
 use Rattle.hm_history.specs.declared.phases.Next.TheVariants.{Do}
 use Rattle.hm_laws.specs.Past.{Past}
-use Rattle.hm_laws.specs.Facts.{under, facts, HoldsAll}
+use Rattle.hm_laws.specs.Facts.{beneath, facts, HoldsAll}
 use Rattle.hm_laws.specs.Stands.{Standing}
 use Rattle.hm_laws.proofs.Updates.{other_at, here_at, true_false}
 use Rattle.hm_laws.proofs.Shortness.{is_given, gives, short_same, short_new}
@@ -70,24 +70,25 @@ finishing s f = by (lowest_moving s.places f) (lowest_named s.places f)
     by None (Some z) = refl
     by (Some x) y = refl
 
-shape_under : (s : After) (t : Past) (a : ℕ) (o : Op) (below : List Phase) → HoldsAll s t a (under o below) → gives below ≡ true → shape below ≡ true
-shape_under s t a o (Phase.Decide touch ∷ []) h g = cc
-shape_under s t a o (Phase.GiveUp None ∷ []) h g = refl
-shape_under s t a o (Phase.GiveUp (Some touch) ∷ []) h g = refl
-shape_under s t a o (Phase.Frames v n ∷ []) h g = cc
-shape_under s t a o below h g = absurd h.0
+shape_beneath : (s : After) (t : Past) (a : ℕ) (o : Op) (xs : List Migrating) (l : List Frame) (below : List Phase) → HoldsAll s t a (beneath o xs l below) → gives below ≡ true → shape below ≡ true
+shape_beneath s t a o xs l (Phase.Decide touch ∷ []) h g = cc
+shape_beneath s t a o xs l (Phase.GiveUp None ∷ []) h g = refl
+shape_beneath s t a o xs l (Phase.GiveUp (Some touch) ∷ []) h g = refl
+shape_beneath s t a o xs l (Phase.Frames v n ∷ []) h g = cc
+shape_beneath s t a o xs l (Phase.Moves step v ∷ []) h g = cc
+shape_beneath s t a o xs l below h g = absurd h.0
 
-shape_finish : (s : After) (t : Past) (a : ℕ) (o : Op) (f : Frame) (below : List Phase) (k : Kind) → HoldsAll s t a (under o below) → gives below ≡ true → shape (moved_finish f None below k) ≡ true
-shape_finish s t a o f below (Kind.Place p v x) h g = refl
-shape_finish s t a o f below k h g = shape_under s t a o below h g
+shape_finish : (s : After) (t : Past) (a : ℕ) (o : Op) (xs : List Migrating) (l : List Frame) (f : Frame) (below : List Phase) (k : Kind) → HoldsAll s t a (beneath o xs l below) → gives below ≡ true → shape (moved_finish f None below k) ≡ true
+shape_finish s t a o xs l f below (Kind.Place p v x) h g = refl
+shape_finish s t a o xs l f below k h g = shape_beneath s t a o xs l below h g
 
 second : (b : Bool) → b ≡ true → (d : Bool) → (d || b) ≡ true
 second b h d = grind arith
 
 -- the stack after the actor's entry
-own_step : (c : Program) (h : List Entry) (s : After) (t : Past) (a : ℕ) (g : Going) (o : Op) (top : Phase) (below : List Phase) (k : Kind) (seen : Seen) → s ≡ after h → HoldsAll s t a (facts o (top ∷ below)) → due_phase c s a o g.pages top ≡ Do k → (gives (top ∷ below) ≡ true → (shape (top ∷ below) ≡ true) × (was_short c h a ≡ true)) →
+own_step : (c : Program) (h : List Entry) (s : After) (t : Past) (a : ℕ) (g : Going) (o : Op) (top : Phase) (below : List Phase) (k : Kind) (seen : Seen) → s ≡ after h → HoldsAll s t a (facts o g.pages (top ∷ below)) → due_phase c s a o g.pages top ≡ Do k → (gives (top ∷ below) ≡ true → (shape (top ∷ below) ≡ true) × (was_short c h a ≡ true)) →
     gives (moved o (top ∷ below) k seen) ≡ true → (shape (moved o (top ∷ below) k seen) ≡ true) × (was_short c (h ++ record { actor = a; kind = k } ∷ []) a ≡ true)
-own_step c h s t a g o top below k seen is known due old giv = by top known due old giv (moved_gives s t a o top below k seen known giv)
+own_step c h s t a g o top below k seen is known due old giv = by top known due old giv (moved_gives s t a o g.pages top below k seen known giv)
   where
     same : (k : Kind) → is_finishing k ≡ true → was_short c h a ≡ true → was_short c (h ++ record { actor = a; kind = k } ∷ []) a ≡ true
     same k f w = short_same c h a (record { actor = a; kind = k }) (and_false (a == a) (is_finishing k) f) w
@@ -106,13 +107,13 @@ own_step c h s t a g o top below k seen is known due old giv = by top known due 
         cases None (Some i) n e = wrong (Phase.Alone f at) refl old (sym (ap (λ j. gives (moved o (Phase.Alone f at ∷ below) j seen)) e) ∙ giv)
         cases None None n e = (ap (λ i. shape (moved o (Phase.Alone f at ∷ below) i seen)) e, ap (λ i. was_short c (h ++ record { actor = a; kind = i } ∷ []) a) e ∙ short_new c h a at (ap (λ u. lowest_free c u.places PoolId.System) (sym is) ∙ n))
 
-    by : (top : Phase) → HoldsAll s t a (facts o (top ∷ below)) → due_phase c s a o g.pages top ≡ Do k → (gives (top ∷ below) ≡ true → (shape (top ∷ below) ≡ true) × (was_short c h a ≡ true)) → gives (moved o (top ∷ below) k seen) ≡ true → (gives below ≡ true) ⊎ (is_alone_phase top ≡ true) → (shape (moved o (top ∷ below) k seen) ≡ true) × (was_short c (h ++ record { actor = a; kind = k } ∷ []) a ≡ true)
+    by : (top : Phase) → HoldsAll s t a (facts o g.pages (top ∷ below)) → due_phase c s a o g.pages top ≡ Do k → (gives (top ∷ below) ≡ true → (shape (top ∷ below) ≡ true) × (was_short c h a ≡ true)) → gives (moved o (top ∷ below) k seen) ≡ true → (gives below ≡ true) ⊎ (is_alone_phase top ≡ true) → (shape (moved o (top ∷ below) k seen) ≡ true) × (was_short c (h ++ record { actor = a; kind = k } ∷ []) a ≡ true)
     by (Phase.Alone f at) known due old giv m = alone f at (sym (do_is (due_alone c s f at) k due)) old giv
-    by (Phase.Finish f None) known due old giv (inl gb) = (shape_finish s t a o f below k known.1.1.1.1 gb, same k (ap is_finishing (sym (do_is (due_finish s f None) k due)) ∙ finishing s f) (old (second (gives below) gb false)).1)
+    by (Phase.Finish f None) known due old giv (inl gb) = (shape_finish s t a o g.pages (f ∷ []) f below k known.1.1.1.1 gb, same k (ap is_finishing (sym (do_is (due_finish s f None) k due)) ∙ finishing s f) (old (second (gives below) gb false)).1)
     by (Phase.Finish f (Some i)) known due old giv (inl gb) = wrong (Phase.Finish f (Some i)) refl old gb
     by (Phase.GiveUp y) known due old giv (inl gb) = absurd (up below known gb)
       where
-        up : (below : List Phase) → HoldsAll s t a (facts o (Phase.GiveUp y ∷ below)) → gives below ≡ true → ⊥
+        up : (below : List Phase) → HoldsAll s t a (facts o g.pages (Phase.GiveUp y ∷ below)) → gives below ≡ true → ⊥
         up [] known gb = cc
         up (x ∷ below) known gb = absurd known.0
     by top known due old giv (inl gb) = wrong top refl old gb

@@ -19,12 +19,15 @@ use Rattle.hm_laws.proofs.Updates.{true_false}
 use Rattle.hm_laws.proofs.AreasKept.{placed_cases}
 use Rattle.hm_laws.proofs.Others.{map_other, guard_other, not_writer, not_born, there_other, areas_other, rights_other, bytes_other, mover_of_child, page_other, child_other, has_child_other}
 use Rattle.hm_laws.proofs.OtherMirrors.{who_keeps, read_locked_other, leaving_other}
-use Rattle.hm_laws.proofs.Looks.{touches_other}
+use Rattle.hm_laws.proofs.Looks.{within_keeps, touches_other}
 use Rattle.hm_laws.proofs.Noted.{noted_on}
-use Rattle.hm_laws.proofs.OtherMoves.{source_other, frozen_other, frozen_contents, returning_other, returned_other}
+use Rattle.hm_laws.proofs.KnownPages.{frozen_at_on, own_at_on, touched_on, lands_on}
+use Rattle.hm_laws.proofs.OtherFetches.{ForItself, fetched_other}
+use Rattle.hm_laws.proofs.OtherMoves.{source_other, frozen_other, parts_other, returning_other, returned_other}
 use Rattle.hm_laws.proofs.Clearing.{gone_for, clearing_other}
 use Rattle.hm_laws.proofs.OtherFrames.{lock_gains, owns_other, contents_other, shows_after}
-use Rattle.hm_laws.specs.Facts.{Fact, Is, No_map_lock, Read_locked, Sourced, Copying, Coming_back, Back, Clearing, Gone, Emptied, May_read, Leaving, Touching, Noted, Over_page, May_store, Writes, Not_refused, Emptying, Narrowing, Forking, Halfway, No_guard, In_guard, Over, Locks_only, Owns, Zeroed, Copy_of, Never, ShownIn, Holds}
+use Rattle.hm_laws.specs.Spares.{Another}
+use Rattle.hm_laws.specs.Facts.{Fact, Is, No_map_lock, Read_locked, Sourced, Copying, Coming_back, Back, Clearing, Gone, Emptied, May_read, Leaving, Touching, Noted, Fetched_at, Frozen, Frozen_at, Own_at, Touched, Lands_on, Windowed, Windowed_all, Over_span, Listed, Over_page, May_store, Writes, Not_refused, Emptying, Narrowing, Forking, Halfway, No_guard, In_guard, Over, Locks_only, Owns, Zeroed, Copy_of, Never, ShownIn, Holds}
 use Rattle.hm_history.specs.Due.{proc_of_op}
 
 writes_other : (c : Program) (s : After) (t : Past) (a b p : ℕ) → Sound c s t → (b ≡ a → ⊥) → (k : Kind) → Allowed c s t a k → WritesThere s b p → WritesThere (next s a k) b p
@@ -97,48 +100,58 @@ copy_other c s t a b p v f so ne h u (Kind.Place q w x) ok g n o l = by (placed_
 
         r : (writable (s.places.place q w) ≡ false) × ((o : ℕ) → o < 4096 → shows s x o ≡ shows s (s.places.place q w) o)
         r = reader_page c s t a b q w x so ne (subst (ReadsThere s b) e.0 h) ok.who (sym (ap writable e.2) ∙ n)
-copy_other c s t a b p v f so ne h u k ok g n o l = ap (λ (i : ℕ → ℕ). i o) (contents_other c s t a b so ne k ok f u) ∙ g n o l ∙ sym (shows_after c s t a so k ok p v n o l)
+copy_other c s t a b p v f so ne h u k ok g n o l = ap (λ (i : ℕ → ℕ). i o) (contents_other c s t a b so k ok f (Another ne) u) ∙ g n o l ∙ sym (shows_after c s t a so k ok p v n o l)
 
-pub stable : (c : Program) (s : After) (t : Past) (a b : ℕ) → Sound c s t → (b ≡ a → ⊥) → (k : Kind) → Allowed c s t a k → (x : Fact) → Holds s t b x → Holds (next s a k) (past_next t s.length a k) b x
-stable c s t a b so ne k ok (Is x) h = h
-stable c s t a b so ne k ok No_map_lock h = map_other s a b ne k ∙ h
-stable c s t a b so ne k ok (Read_locked x) h = read_locked_other c s t a b x ne k ok h
-stable c s t a b so ne k ok (May_store x v) h = let w = who_keeps c s t a k ok x h.0 in
+pub stable : (c : Program) (s : After) (t : Past) (a b : ℕ) → Sound c s t → (b ≡ a → ⊥) → (k : Kind) → Allowed c s t a k → ForItself a k → (x : Fact) → Holds s t b x → Holds (next s a k) (past_next t s.length a k) b x
+stable c s t a b so ne k ok own (Is x) h = h
+stable c s t a b so ne k ok own No_map_lock h = map_other s a b ne k ∙ h
+stable c s t a b so ne k ok own (Read_locked x) h = read_locked_other c s t a b x ne k ok h
+stable c s t a b so ne k ok own (May_store x v) h = let w = who_keeps c s t a k ok x h.0 in
     (w.0, subst (ReadsThere (next s a k) b) (sym w.1) (reads_other c s t a b (proc_of s.plain x) so ne k ok h.1), ap (λ p. is_read_write (rights_of (next s a k).plain p v)) w.1 ∙ ap is_read_write (rights_other c s t a b (proc_of s.plain x) false so ne h.1.0 h.1.1 k ok v) ∙ h.2)
-stable c s t a b so ne k ok (Writes p) h = (writes_other c s t a b p so ne k ok h.0, λ x. clean_other c s t a b p so ne k ok h.0 x (h.1 x))
-stable c s t a b so ne k ok (Not_refused o) h = (writes_other c s t a b (proc_of_op o) so ne k ok h.0, refusal_same s.plain (next s a k).plain o (areas_other c s t a b (proc_of_op o) true so ne h.0.0 h.0.1 k ok) ∙ h.1)
-stable c s t a b so ne k ok (Emptying p r n) h = (writes_other c s t a b p so ne k ok h.0, λ x v. clean_other c s t a b p so ne k ok h.0 x (h.1 x v), λ u v l. (page_other c s t a b p so ne h.0.0 h.0.1 k ok u).empty ∙ h.2 u v l)
-stable c s t a b so ne k ok (Narrowing p r n) h = (writes_other c s t a b p so ne k ok h.0, λ x. clean_other c s t a b p so ne k ok h.0 x (h.1 x), λ u v l. (page_other c s t a b p so ne h.0.0 h.0.1 k ok u).right ∙ h.2 u v l)
-stable c s t a b so ne k ok (Forking p d n) h = (
+stable c s t a b so ne k ok own (Writes p) h = (writes_other c s t a b p so ne k ok h.0, λ x. clean_other c s t a b p so ne k ok h.0 x (h.1 x))
+stable c s t a b so ne k ok own (Not_refused o) h = (writes_other c s t a b (proc_of_op o) so ne k ok h.0, refusal_same s.plain (next s a k).plain o (areas_other c s t a b (proc_of_op o) true so ne h.0.0 h.0.1 k ok) ∙ h.1)
+stable c s t a b so ne k ok own (Emptying p r n) h = (writes_other c s t a b p so ne k ok h.0, λ x v. clean_other c s t a b p so ne k ok h.0 x (h.1 x v), λ u v l. (page_other c s t a b p so ne h.0.0 h.0.1 k ok u).empty ∙ h.2 u v l)
+stable c s t a b so ne k ok own (Narrowing p r n) h = (writes_other c s t a b p so ne k ok h.0, λ x. clean_other c s t a b p so ne k ok h.0 x (h.1 x), λ u v l. (page_other c s t a b p so ne h.0.0 h.0.1 k ok u).right ∙ h.2 u v l)
+stable c s t a b so ne k ok own (Forking p d n) h = (
   writes_other c s t a b p so ne k ok h.0,
   λ x. clean_other c s t a b p so ne k ok h.0 x (h.1 x),
   has_child_other c s t a b d so ne h.2 k ok,
   λ u l. alike_other c s t a b p d so ne h.0 h.2 k ok u (h.3 u l),
   λ u l. (child_other c s t a b d so ne h.2 k ok u).empty ∙ h.4 u l,
 )
-stable c s t a b so ne k ok (Halfway half p v) h = (
+stable c s t a b so ne k ok own (Halfway half p v) h = (
   writes_other c s t a b p so ne k ok h.0,
   λ e. ((page_other c s t a b p so ne h.0.0 h.0.1 k ok v).right ∙ (h.1 e).0, (page_other c s t a b p so ne h.0.0 h.0.1 k ok v).empty ∙ (h.1 e).1),
 )
-stable c s t a b so ne k ok No_guard h = guard_other s a b ne k ∙ h
-stable c s t a b so ne k ok (In_guard p r met told) h = record { given = h.given; is = guard_other s a b ne k ∙ h.is; proc = h.proc; span = h.span; met_some = h.met_some; upto = h.upto; below = h.below }
-stable c s t a b so ne k ok (Over p r q whole) h = h
-stable c s t a b so ne k ok (Over_page p r x v) h = let w = who_keeps c s t a k ok x h.0 in (w.0, h.1 ∙ sym w.1, h.2)
-stable c s t a b so ne k ok (Locks_only l) h = λ f e. h f (lock_gains c s t a b so ne k ok f e)
-stable c s t a b so ne k ok (Owns f) h = owns_other c s t a b so ne k ok f h
-stable c s t a b so ne k ok (Zeroed f) h = (owns_other c s t a b so ne k ok f h.0, contents_other c s t a b so ne k ok f h.0.0 ∙ h.1)
-stable c s t a b so ne k ok (Copy_of f x v) h = let w = who_keeps c s t a k ok x h.0 in
-    (w.0, subst (ReadsThere (next s a k) b) (sym w.1) (reads_other c s t a b (proc_of s.plain x) so ne k ok h.1), owns_other c s t a b so ne k ok f h.2, subst (λ p. writable ((next s a k).places.place p v) ≡ false → ShownIn (next s a k) f ((next s a k).places.place p v)) (sym w.1) (copy_other c s t a b (proc_of s.plain x) v f so ne h.1 h.2.0 k ok h.3))
-stable c s t a b so ne k ok (Sourced f) h = source_other c s t a b so ne k ok f h
-stable c s t a b so ne k ok (Copying f g n) h = (frozen_other c s t a b so ne k ok f h.0, owns_other c s t a b so ne k ok g h.1, (λ i l m. ap (λ (y : ℕ → ℕ). y i) (contents_other c s t a b so ne k ok g h.1.0) ∙ h.2 i l m ∙ sym (ap (λ (y : ℕ → ℕ). y i) (frozen_contents c s t a b so ne k ok f h.0))), h.3, h.4)
-stable c s t a b so ne k ok (Coming_back f g) h = (returning_other c s t a b so ne k ok f g h.0, h.1)
-stable c s t a b so ne k ok (Back g) h = (returned_other c s t a b so ne k ok g h.0, h.1)
-stable c s t a b so ne k ok (Gone o) h = gone_for s a k o h
-stable c s t a b so ne k ok (Emptied n) h = omega (arith, h)
-stable c s t a b so ne k ok (Clearing o v) h = clearing_other c s t a b so ne k ok o v h
-stable c s t a b so ne k ok (May_read x v) h = let w = who_keeps c s t a k ok x h.0 in
+stable c s t a b so ne k ok own No_guard h = guard_other s a b ne k ∙ h
+stable c s t a b so ne k ok own (In_guard p r met told) h = record { given = h.given; is = guard_other s a b ne k ∙ h.is; proc = h.proc; span = h.span; met_some = h.met_some; upto = h.upto; below = h.below }
+stable c s t a b so ne k ok own (Over p r q whole) h = h
+stable c s t a b so ne k ok own (Over_page p r x v) h = let w = who_keeps c s t a k ok x h.0 in (w.0, h.1 ∙ sym w.1, h.2)
+stable c s t a b so ne k ok own (Locks_only l) h = λ f e. h f (lock_gains c s t a b so ne k ok f e)
+stable c s t a b so ne k ok own (Owns f) h = owns_other c s t a b so k ok f (Another ne) h
+stable c s t a b so ne k ok own (Zeroed f) h = (owns_other c s t a b so k ok f (Another ne) h.0, contents_other c s t a b so k ok f (Another ne) h.0.0 ∙ h.1)
+stable c s t a b so ne k ok own (Copy_of f x v) h = let w = who_keeps c s t a k ok x h.0 in
+    (w.0, subst (ReadsThere (next s a k) b) (sym w.1) (reads_other c s t a b (proc_of s.plain x) so ne k ok h.1), owns_other c s t a b so k ok f (Another ne) h.2, subst (λ p. writable ((next s a k).places.place p v) ≡ false → ShownIn (next s a k) f ((next s a k).places.place p v)) (sym w.1) (copy_other c s t a b (proc_of s.plain x) v f so ne h.1 h.2.0 k ok h.3))
+stable c s t a b so ne k ok own (Sourced f) h = source_other c s t a b so k ok f (Another ne) h
+stable c s t a b so ne k ok own (Copying f g n) h = (frozen_other c s t a b so k ok f (Another ne) h.0, owns_other c s t a b so k ok g (Another ne) h.1, parts_other c s t a b so k ok f g n (Another ne) (Another ne) h.0 h.1.0 h.2, h.3)
+stable c s t a b so ne k ok own (Coming_back f g) h = returning_other c s t a b so k ok f g (Another ne) (Another ne) h
+stable c s t a b so ne k ok own (Back g) h = returned_other c s t a b so k ok g (Another ne) h
+stable c s t a b so ne k ok own (Gone o) h = gone_for s a k o h
+stable c s t a b so ne k ok own (Emptied n) h = omega (arith, h)
+stable c s t a b so ne k ok own (Clearing o v) h = clearing_other c s t a b so ne k ok o v h
+stable c s t a b so ne k ok own (May_read x v) h = let w = who_keeps c s t a k ok x h.0 in
     (w.0, subst (ReadsThere (next s a k) b) (sym w.1) (reads_other c s t a b (proc_of s.plain x) so ne k ok h.1), ap (λ p. is_some (rights_of (next s a k).plain p v)) w.1 ∙ ap is_some (rights_other c s t a b (proc_of s.plain x) false so ne h.1.0 h.1.1 k ok v) ∙ h.2)
-stable c s t a b so ne k ok (Leaving m) h = leaving_other c s t a b m ne k ok h
-stable c s t a b so ne k ok (Touching o touch) h = touches_other c s t a b k so ne ok o touch h
-stable c s t a b so ne k ok (Noted m v q x) h = noted_on c s t a b k so ok m v q x h
-stable c s t a b so ne k ok Never h = absurd h
+stable c s t a b so ne k ok own (Leaving m) h = leaving_other c s t a b m ne k ok h
+stable c s t a b so ne k ok own (Touching o touch) h = touches_other c s t a b k so ne ok o touch h
+stable c s t a b so ne k ok own (Noted m v q x) h = noted_on c s t a b k so ok m v q x h
+stable c s t a b so ne k ok own (Frozen f) h = frozen_other c s t a b so k ok f (Another ne) h
+stable c s t a b so ne k ok own (Frozen_at x v f) h = frozen_at_on c s t a b so k ok (λ p. reads_other c s t a b p so ne k ok) x v f (Another ne) h
+stable c s t a b so ne k ok own (Own_at x v g) h = own_at_on c s t a b so k ok (λ p. reads_other c s t a b p so ne k ok) x v g (Another ne) h
+stable c s t a b so ne k ok own (Touched x v) h = touched_on c s t a b so k ok (λ p. reads_other c s t a b p so ne k ok) x v h
+stable c s t a b so ne k ok own (Lands_on o g) h = lands_on c s t a b k ok o g h
+stable c s t a b so ne k ok own (Windowed m v) h = within_keeps c s t a k ok m v h
+stable c s t a b so ne k ok own (Windowed_all m r) h = λ v cv. within_keeps c s t a k ok m v (h v cv)
+stable c s t a b so ne k ok own (Over_span p r x whole) h = let w = who_keeps c s t a k ok x h.0 in (w.0, h.1 ∙ sym w.1, h.2)
+stable c s t a b so ne k ok own (Listed xs) h = h
+stable c s t a b so ne k ok own (Fetched_at m at was) h = fetched_other c s t a b m at was so ne k ok own h
+stable c s t a b so ne k ok own Never h = absurd h

@@ -28,13 +28,11 @@ use Rattle.hm_history.specs.declared.Entry.{Entry}
 use Rattle.hm_history.proofs.RunLemmas.{runs_due}
 use Rattle.hm_base.specs.Program.{IsScript}
 use Rattle.hm_laws.specs.Past.{past_start}
-use Rattle.hm_laws.specs.Basic.{IsBasic}
 use Rattle.hm_laws.specs.Laws.{RunIsLegal, HistoryIsLegal, ReadsRight, FramesRead, RulesAreKept, AllowedMayStand, HistoryStands}
 use Rattle.hm_laws.proofs.EachKept.{kept}
 use Rattle.hm_laws.proofs.LawsOf.{answers_of, sequences_of, guarded_of, places_of}
 use Rattle.hm_laws.specs.Stands.{CopiesRightly, Standing, MeetsNobody}
 use Rattle.hm_laws.specs.Order.{OrderRules}
-use Rattle.hm_laws.specs.Shared.{SharedRules}
 use Rattle.hm_laws.proofs.DueWords.{Fair}
 use Rattle.hm_laws.proofs.History.{Turn, small, turn_of, at_start, after_is, standing_after}
 use Rattle.hm_laws.proofs.Legality.{every_history}
@@ -43,10 +41,10 @@ pub history_is_legal : HistoryIsLegal
 history_is_legal = every_history
 
 pub run_is_legal : RunIsLegal
-run_is_legal c sc ba = every_history c sc ba (run c) (runs_due c)
+run_is_legal c sc = every_history c sc (run c) (runs_due c)
 
-standing_of : (c : Program) → IsScript c → IsBasic c → (h : List Entry) → DueFrom c [] h → (t : Past) × Standing c (state_of c h) t
-standing_of c sc ba h d = standing_after c [] h past_start (small c sc ba) (at_start c (small c sc ba)) d
+standing_of : (c : Program) → IsScript c → (h : List Entry) → DueFrom c [] h → (t : Past) × Standing c (state_of c h) t
+standing_of c sc h d = standing_after c [] h past_start (small c sc) (at_start c (small c sc)) d
 
 -- contents
 shown_is : (s : After) (x : Place) → shown s.places s.contents x ≡ shows s x
@@ -63,7 +61,7 @@ reads_right c s t so = record {
     by p a no_one (inr k) = absurd (no_one k.0 k.1)
 
 pub frames_read : FramesRead
-frames_read c sc ba h d = let st : (t : Past) × Standing c (state_of c h) t = standing_of c sc ba h d in subst ReadsRight (after_is c h) (reads_right c (state_of c h).after st.0 st.1.sound)
+frames_read c sc h d = let st : (t : Past) × Standing c (state_of c h) t = standing_of c sc h d in subst ReadsRight (after_is c h) (reads_right c (state_of c h).after st.0 st.1.sound)
 
 -- an actor that the script has not holds nothing
 past_actors : (c : Program) (a i : ℕ) → length c.actors ≤ a → op_at c a i ≡ None
@@ -72,7 +70,7 @@ past_actors c a i h = ap (λ x. slice_get (elim x as (λ y. List Op) [ None ↦ 
 idle_lock : (c : Program) (s : After) (t : Past) (a : ℕ) (g : Going) → op_at c a g.index ≡ None → Knows c s t a g → s.locks.map a ≡ None
 idle_lock c s t a g e k = by (op_at c a g.index) e k
   where
-    by : (x : Option Op) → x ≡ None → HoldsAll s t a (facts_of x g.stack) → s.locks.map a ≡ None
+    by : (x : Option Op) → x ≡ None → HoldsAll s t a (facts_of x g.pages g.stack) → s.locks.map a ≡ None
     by None e k = k.0
     by (Some o) e k = cc
 
@@ -112,21 +110,19 @@ fair_copies c s a o xs (Kind.Copied f g (Some part)) top h = h
 fair_copies c s a o xs k top h = tt
 
 pub history_stands : HistoryStands
-history_stands c sc ba h d = record {
+history_stands c sc h d = record {
   past = st.0;
   rules = subst (λ s. Sound c s st.0) (after_is c h) st.1.sound;
   order = subst (λ s. OrderRules s.plain.areas) (after_is c h) st.1.order;
-  shared = subst SharedRules (after_is c h) st.1.shared;
   known = known;
-  no_records = st.1.no_records;
   same_after = after_is c h;
-  allows = λ e d. subst (λ s. Allowed c s st.0 e.actor e.kind) (after_is c h) (turn_of c (state_of c h) st.0 e (small c sc ba) st.1 d).allowed;
-  copies = λ e d. subst (λ s. CopiesRightly s e.kind) (after_is c h) (turn_copies e (turn_of c (state_of c h) st.0 e (small c sc ba) st.1 d));
+  allows = λ e d. subst (λ s. Allowed c s st.0 e.actor e.kind) (after_is c h) (turn_of c (state_of c h) st.0 e (small c sc) st.1 d).allowed;
+  copies = λ e d. subst (λ s. CopiesRightly s e.kind) (after_is c h) (turn_copies e (turn_of c (state_of c h) st.0 e (small c sc) st.1 d));
   meets_nobody = λ few. meets_nobody (after h) (λ a l. idle_lock c (after h) st.0 a ((state_of c h).going a) (past_actors c a ((state_of c h).going a).index (omega arith)) (known a));
 }
   where
     st : (t : Past) × Standing c (state_of c h) t
-    st = standing_of c sc ba h d
+    st = standing_of c sc h d
 
     turn_copies : (e : Entry) → Turn c (state_of c h).after st.0 e.actor e.kind ((state_of c h).going e.actor) (going_next c (state_of c h).after e.actor ((state_of c h).going e.actor) e.kind) → CopiesRightly (state_of c h).after e.kind
     turn_copies e w = fair_copies c (state_of c h).after e.actor w.op ((state_of c h).going e.actor).pages e.kind w.top w.fair

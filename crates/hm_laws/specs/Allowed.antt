@@ -14,6 +14,7 @@ use Rattle.hm_history.specs.Sequences.{interval_seq, sequences_take}
 use Rattle.hm_history.specs.Lookups.{loses, is_guarded}
 use Rattle.hm_history.specs.Contents.{shown_by}
 use Rattle.hm_history.specs.After.{After, after_entry}
+use Rattle.hm_history.specs.Due.{is_untouched}
 use Rattle.hm_history.specs.declared.TableRight.{TableRight}
 use Rattle.hm_history.specs.declared.Kind.{Kind}
 use Rattle.hm_laws.specs.Stood.{lock_on, stood, is_moving, IsNamed, Unnamed, Unstood}
@@ -130,6 +131,8 @@ pub record PlaceOk (s : After) (t : Past) (a p v : ℕ) (x : Place) : Type 0 whe
   -- a page under way, or in a device's memory, leaves its frame by who has that locked, or is emptied
   pub finishes : (f : Frame) → moving_frame (s.places.place p v) ≡ Some f → (moving_frame x ≡ Some f) ⊎ ((s.locks.frame f ≡ Some a) ⊎ (is_empty_place x ≡ true))
   pub owned : (d n : ℕ) (w : Bool) → s.places.place p v ≡ Own d n w → (Owned d n x) ⊎ ((s.locks.frame (dev_frame d n) ≡ None) ⊎ ((s.locks.frame (dev_frame d n) ≡ Some a) ⊎ (is_empty_place x ≡ true)))
+  -- a page that was touched stays so, or is emptied
+  pub touched : is_untouched x ≡ true → (is_untouched (s.places.place p v) ≡ true) ⊎ (is_empty_place x ≡ true)
   -- its lock is given up only where nobody used it
   pub settles : (n : ℕ) (w : Bool) → x ≡ Sys n w → is_moving (s.places.place p v) ≡ false → s.locks.frame (sys_frame n) ≡ Some a → Unnamed s.places.place (sys_frame n) × Unstood s.places.place s.places.moved_to (sys_frame n)
   pub stays_locked : (f : Frame) → is_moving x ≡ true → stood s.places.moved_to x ≡ Some f → (moving_frame x ≡ Some f) ⊎ (is_some (s.locks.frame f) ≡ true)

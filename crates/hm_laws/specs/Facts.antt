@@ -1,5 +1,5 @@
 -- What each actor knows at its stack of phases, whatever the others do.
-use Rattle.std.specs.Prelude.{◌≡◌, ℕ, ◌<◌, ◌≤◌, Bool, true, false, not, ◌&&◌, ◌==◌, is_some, Option, Some, None, List, [], ◌∷◌, nat_lt, nat_le, ⊤, ◌⊎◌}
+use Rattle.std.specs.Prelude.{◌≡◌, ℕ, ◌<◌, ◌≤◌, Bool, true, false, not, ◌&&◌, ◌||◌, ◌==◌, is_some, Option, Some, None, List, [], ◌∷◌, nat_lt, nat_le, if◌then◌else◌, ◌++◌, ⊤, ◌⊎◌}
 use Rattle.std.specs.List.{list_any, list_all}
 use Rattle.hm_base.specs.Pages.{Pages, one_page, all_pages, covers}
 use Rattle.hm_base.specs.Areas.{last_of}
@@ -8,24 +8,27 @@ use Rattle.hm_base.specs.declared.Frame.{Frame}
 use Rattle.hm_base.specs.declared.Place.{Place}
 use Rattle.hm_base.specs.declared.ops.Op.{Op}
 use Rattle.hm_base.specs.declared.ops.Rights.{Rights}
-use Rattle.hm_history.specs.Words.{writable, is_empty_place, same_frame, names, dev_frame}
+use Rattle.hm_history.specs.Words.{writable, is_empty_place, same_frame, names, names_directly, moving_frame, dev_frame, page_of}
 use Rattle.hm_history.specs.Plain.{Plain, rights_of, is_read_write, area_refusal, mirror_passes, is_attached, is_detaching_state, mirror_proc, mirror_dev, proc_of}
-use Rattle.hm_history.specs.Places.{is_for_device}
+use Rattle.hm_history.specs.Places.{is_for_device, is_exclusive_by}
 use Rattle.hm_history.specs.Sequences.{Guarded, is_above, interval_seq}
+use Rattle.hm_history.specs.Legal.{was_fresh}
 use Rattle.hm_history.specs.Contents.{zeros}
 use Rattle.hm_history.specs.After.{After}
-use Rattle.hm_history.specs.Operation.{op_mirror, op_who, is_evicting, is_remove}
+use Rattle.hm_history.specs.Operation.{op_piece, op_mirror, op_who, is_evicting, is_remove, is_migration}
 use Rattle.hm_history.specs.Going.{Going, op_at, touch_page}
 use Rattle.hm_history.specs.declared.Who.{Who}
 use Rattle.hm_laws.specs.Stood.{lock_on, is_moving, Matches}
-use Rattle.hm_history.specs.Due.{proc_of_op, child_of, process_seq, right_of}
+use Rattle.hm_history.specs.Due.{proc_of_op, child_of, process_seq, right_of, pool_of, is_untouched}
+use Rattle.hm_history.specs.declared.phases.Migrating.{Migrating}
 use Rattle.hm_history.specs.declared.phases.Touch.{Touch}
 use Rattle.hm_history.specs.declared.phases.Body.{Body}
 use Rattle.hm_history.specs.declared.phases.Phase.{Phase}
 use Rattle.hm_laws.specs.Past.{Past}
-pub use Rattle.hm_laws.specs.Shapes.{is_cpu, is_device_access, has_piece, takes_lock, is_detach, is_snap, is_attach, begins, is_fork, zaps, narrows, widens, op_span, at_page, is_core, of_system, is_zero_place}
+pub use Rattle.hm_laws.specs.Shapes.{is_cpu, is_device_access, has_piece, takes_lock, is_detach, is_snap, is_attach, begins, is_fork, takes_alone, is_add, zaps, narrows, widens, op_span, at_page, is_core, of_system, is_zero_place}
 use Rattle.hm_laws.specs.Sound.{has_met}
 use Rattle.hm_laws.specs.Allowed.{shows, CleanBut, Clean, ReadsThere, WritesThere, HasChild, Alike, OwnsFrame, IsSource, IsFrozen}
+use Rattle.hm_laws.specs.Records.{is_past, is_nil, starts_empty, op_range, pages_below, WellListed, staged, parts_of, has_source, has_pair, has_fresh, apart_from}
 use Rattle.hm_laws.specs.Moves.{Parts, IsReturning, IsReturned}
 
 pub data Fact : Type 0 where
@@ -58,6 +61,17 @@ pub data Fact : Type 0 where
   Leaving : (mirror : ℕ) → Fact
   Touching : (op : Op) → (touch : Touch) → Fact
   Noted : (mirror page seq : ℕ) → (place : Place) → Fact
+  Fetched_at : (mirror at was : ℕ) → Fact
+  -- of a migration, which has many frames and pages under way at once
+  Frozen : (frame : Frame) → Fact
+  Frozen_at : (who : Who) → (page : ℕ) → (frame : Frame) → Fact
+  Own_at : (who : Who) → (page : ℕ) → (frame : Frame) → Fact
+  Lands_on : (op : Op) → (frame : Frame) → Fact
+  Windowed : (mirror page : ℕ) → Fact
+  Touched : (who : Who) → (page : ℕ) → Fact
+  Windowed_all : (mirror : ℕ) → (span : Pages) → Fact
+  Over_span : (proc : ℕ) → (span : Pages) → (who : Who) → (whole : Pages) → Fact
+  Listed : (records : List Migrating) → Fact
   Never : Fact
 
 -- the guard that an actor has under way, whose mirrors are told up to this one
@@ -99,7 +113,7 @@ Looks s t a m at q = (t.begun a m ≡ Some at) × (q < process_seq s m) × (inte
 abbrev pub Touches : After → Past → ℕ → Op → Touch → Type 0
 Touches s t a o (Touch.Cpu k) = (is_cpu o && has_piece o k) ≡ true
 Touches s t a o (Touch.Walk k at q) = ((is_device_access o && has_piece o k) ≡ true) × Within s.plain (op_mirror o) (touch_page o (Touch.Walk k at q)) × Looks s t a (op_mirror o) at q
-Touches s t a o Touch.Sole = ⊥
+Touches s t a o Touch.Sole = (takes_alone o ≡ true) × Within s.plain (op_mirror o) (touch_page o Touch.Sole)
 
 -- what was noted is what the page's place stands for, which is no migration entry, and allows no more
 abbrev pub StandsStill : After → ℕ → ℕ → Place → Type 0
@@ -137,9 +151,9 @@ Holds s t a (Owns f) = OwnsFrame s a f
 Holds s t a (Zeroed f) = OwnsFrame s a f × (s.contents f ≡ zeros)
 Holds s t a (Copy_of f x v) = HasProc s.plain x × ReadsThere s a (proc_of s.plain x) × OwnsFrame s a f × (writable (s.places.place (proc_of s.plain x) v) ≡ false → ShownIn s f (s.places.place (proc_of s.plain x) v))
 Holds s t a (Sourced f) = IsSource s a f
-Holds s t a (Copying f g k) = IsFrozen s a f × OwnsFrame s a g × Parts s f g k × (f ≡ g → ⊥) × (of_system g ≡ true)
-Holds s t a (Coming_back f g) = IsReturning s a f g × (of_system g ≡ true)
-Holds s t a (Back g) = IsReturned s a g × (of_system g ≡ true)
+Holds s t a (Copying f g k) = IsFrozen s a f × OwnsFrame s a g × Parts s f g k × (f ≡ g → ⊥)
+Holds s t a (Coming_back f g) = IsReturning s a f g
+Holds s t a (Back g) = IsReturned s a g
 Holds s t a (Clearing o v) = ClearTo s a o v
 Holds s t a (Gone o) = GoneFor s o
 Holds s t a (Emptied n) = n ≤ s.length
@@ -147,6 +161,16 @@ Holds s t a (May_read x v) = HasProc s.plain x × ReadsThere s a (proc_of s.plai
 Holds s t a (Leaving m) = (t.leaver m ≡ Some a) × (mirror_passes is_detaching_state (s.plain.mirrors m) ≡ true)
 Holds s t a (Touching o touch) = Touches s t a o touch
 Holds s t a (Noted m v q x) = Within s.plain m v × (q < process_seq s m) × (is_for_device (names x) (mirror_dev s.plain m) ≡ true) × (is_attached s.plain m ≡ true → interval_seq s.sequences m ≡ q → StandsStill s m v x)
+Holds s t a (Frozen f) = IsFrozen s a f
+Holds s t a (Frozen_at x v f) = HasProc s.plain x × ReadsThere s a (proc_of s.plain x) × (s.locks.frame f ≡ Some a) × (moving_frame (s.places.place (proc_of s.plain x) v) ≡ Some f)
+Holds s t a (Own_at x v g) = HasProc s.plain x × ReadsThere s a (proc_of s.plain x) × (s.locks.frame g ≡ Some a) × (of_system g ≡ false) × (names_directly (s.places.place (proc_of s.plain x) v) ≡ Some g)
+Holds s t a (Lands_on o g) = HasProc s.plain (Who.Mirror (op_mirror o)) × (g.pool ≡ pool_of s o)
+Holds s t a (Windowed m v) = Within s.plain m v
+Holds s t a (Touched x v) = HasProc s.plain x × ReadsThere s a (proc_of s.plain x) × (is_untouched (s.places.place (proc_of s.plain x) v) ≡ false)
+Holds s t a (Windowed_all m r) = (v : ℕ) → covers r v ≡ true → Within s.plain m v
+Holds s t a (Over_span p r x whole) = HasProc s.plain x × (p ≡ proc_of s.plain x) × (r ≡ whole)
+Holds s t a (Listed xs) = WellListed xs
+Holds s t a (Fetched_at m at was) = HasProc s.plain (Who.Mirror m) × (is_exclusive_by (s.places.place (mirror_proc s.plain m) (page_of at)) a ≡ true → s.plain.bytes (mirror_proc s.plain m) at ≡ was)
 Holds s t a Never = ⊥
 
 -- between operations and pieces an actor holds nothing
@@ -176,6 +200,8 @@ answering (Op.Exit p) = zapping (Op.Exit p) (last_of all_pages)
 answering (Op.Protect p r Rights.Read) = narrowing (Op.Protect p r Rights.Read) (last_of r)
 answering (Op.Protect p r Rights.ReadWrite) = widening (Op.Protect p r Rights.ReadWrite)
 answering (Op.Fork p c) = forking (Op.Fork p c) (last_of all_pages) false
+answering (Op.Exclusive m v) = Read_locked (Who.Mirror m) ∷ []
+answering (Op.Add m at n) = Read_locked (Who.Mirror m) ∷ []
 answering o = Never ∷ []
 
 -- a removal catches the frame that it has come to, and does not go on where one is kept
@@ -199,52 +225,129 @@ under o (Phase.Frames v n ∷ []) = Is (is_evicting o) ∷ Clearing o v ∷ Gone
 under o (Phase.GiveUp None ∷ []) = Is (is_remove o) ∷ No_map_lock ∷ []
 under o _ = Never ∷ []
 
--- what an actor knows at each stack of phases that there is; no phases are the end of an operation
-abbrev pub facts : Op → List Phase → List Fact
-facts o [] = nothing_held
-facts o (Phase.Begin ∷ []) = Is (begins o) ∷ nothing_held
-facts o (Phase.Detaching q ∷ []) = Is (is_detach o) ∷ Leaving (op_mirror o) ∷ nothing_held
-facts o (Phase.Pages v ∷ []) = Is (is_snap o) ∷ Read_locked (Who.Mirror (op_mirror o)) ∷ No_guard ∷ Locks_only [] ∷ []
-facts o (Phase.Locked ∷ []) = No_guard ∷ Locks_only [] ∷ Is (takes_lock o) ∷ Writes (proc_of_op o) ∷ []
-facts o (Phase.Ready ∷ []) = No_guard ∷ Locks_only [] ∷ forking o 0 false
-facts o (Phase.Answer ∷ []) = No_guard ∷ Locks_only [] ∷ answering o
-facts o (Phase.Guard q r met told (Body.Zap n) ∷ Phase.Answer ∷ []) = In_guard q r met told ∷ Locks_only [] ∷ Over q r (proc_of_op o) (op_span o) ∷ zapping o n
-facts o (Phase.Drop f ∷ Phase.Guard q r met told (Body.Zap n) ∷ Phase.Answer ∷ []) = Owns f ∷ In_guard q r met told ∷ Locks_only (f ∷ []) ∷ Over q r (proc_of_op o) (op_span o) ∷ zapping o n
-facts o (Phase.Guard q r met told (Body.Narrow n) ∷ Phase.Answer ∷ []) = In_guard q r met told ∷ Locks_only [] ∷ Over q r (proc_of_op o) (op_span o) ∷ narrowing o n
-facts o (Phase.Guard q r met told (Body.Fork n half) ∷ Phase.Answer ∷ []) = In_guard q r met told ∷ Locks_only [] ∷ Over q r (proc_of_op o) (op_span o) ∷ forking o n half
-facts o (Phase.Guard q r met told Body.Nothing ∷ Phase.Answer ∷ []) = In_guard q r met told ∷ Locks_only [] ∷ Over q r (proc_of_op o) (op_span o) ∷ widening o
-facts o (Phase.Piece k ∷ []) = Is (has_piece o k) ∷ nothing_held
-facts o (Phase.Begun k at q ∷ []) = Touching o (Touch.Walk k at q) ∷ nothing_held
-facts o (Phase.Noted k at q x ∷ []) = Touching o (Touch.Walk k at q) ∷ Noted (op_mirror o) (at_page o k) q x ∷ nothing_held
-facts o (Phase.Decide touch ∷ []) = deciding o touch
-facts o (Phase.Taken touch g Place.Zero ∷ []) = Never ∷ []
-facts o (Phase.Taken touch g over ∷ []) =
-    Touching o touch ∷ May_store (op_who o) (touch_page o touch) ∷ No_guard ∷ Locks_only (g ∷ []) ∷ Zeroed g ∷ Is (is_core over) ∷ Is (not (writable over)) ∷ Is (of_system g) ∷ []
-facts o (Phase.Armed touch g over ∷ []) =
-    Touching o touch ∷ May_store (op_who o) (touch_page o touch) ∷ No_guard ∷ Locks_only (g ∷ []) ∷ Copy_of g (op_who o) (touch_page o touch) ∷ Is (is_core over) ∷ Is (not (writable over)) ∷ Is (of_system g) ∷ []
-facts o (Phase.Guard q r met told (Body.Replace over g) ∷ Phase.Decide touch ∷ []) =
-    In_guard q r met told ∷ Locks_only (g ∷ []) ∷ Over_page q r (op_who o) (touch_page o touch) ∷ Touching o touch ∷ May_store (op_who o) (touch_page o touch) ∷ Copy_of g (op_who o) (touch_page o touch) ∷ Is (is_core over) ∷ Is (not (writable over)) ∷ Is (of_system g) ∷ []
-facts o (Phase.Guard q r met told Body.Nothing ∷ Phase.Decide touch ∷ []) =
-    In_guard q r met told ∷ Locks_only [] ∷ Over_page q r (op_who o) (touch_page o touch) ∷ Touching o touch ∷ Read_locked (op_who o) ∷ []
-facts o (Phase.Drop f ∷ Phase.Guard q r met told Body.Nothing ∷ Phase.Decide touch ∷ []) =
-    Owns f ∷ In_guard q r met told ∷ Locks_only (f ∷ []) ∷ Over_page q r (op_who o) (touch_page o touch) ∷ Touching o touch ∷ Read_locked (op_who o) ∷ []
-facts o (Phase.Drop f ∷ Phase.Decide touch ∷ []) = Owns f ∷ No_guard ∷ Locks_only (f ∷ []) ∷ Touching o touch ∷ Read_locked (op_who o) ∷ []
-facts o (Phase.Frames v n ∷ []) = Is (is_evicting o) ∷ Clearing o v ∷ Emptied n ∷ nothing_held
-facts o (Phase.GiveUp touch ∷ []) = No_guard ∷ Locks_only [] ∷ under o (Phase.GiveUp touch ∷ [])
-facts o (Phase.Guard q r met told (Body.Catch f) ∷ below) = In_guard q r met told ∷ Locks_only [] ∷ Is (nat_lt 0 r.count) ∷ Is (catches o f below) ∷ under o below
-facts o (Phase.Guard q r met told (Body.Freeze f) ∷ Phase.Alone g at ∷ below) = In_guard q r met told ∷ Locks_only (g ∷ []) ∷ Is (nat_lt 0 r.count) ∷ Is (same_frame f g) ∷ Sourced g ∷ under o below
-facts o (Phase.Guard q r met told Body.Nothing ∷ Phase.Alone f at ∷ below) = In_guard q r met told ∷ Locks_only (f ∷ []) ∷ Sourced f ∷ under o below
-facts o (Phase.Alone f at ∷ below) = No_guard ∷ Locks_only (f ∷ []) ∷ Sourced f ∷ under o below
-facts o (Phase.Copy f g k ∷ Phase.Copied i j ∷ below) = Is (same_frame f i) ∷ Is (same_frame g j) ∷ Is (nat_le k 7) ∷ No_guard ∷ Locks_only (i ∷ j ∷ []) ∷ Copying i j k ∷ under o below
-facts o (Phase.Copied f g ∷ below) = No_guard ∷ Locks_only (f ∷ g ∷ []) ∷ Copying f g 8 ∷ under o below
-facts o (Phase.Finish f None ∷ below) = No_guard ∷ Locks_only (f ∷ []) ∷ Sourced f ∷ Is (keeps_on o below) ∷ under o below
-facts o (Phase.Finish f (Some g) ∷ below) = No_guard ∷ Locks_only (f ∷ g ∷ []) ∷ Coming_back f g ∷ under o below
-facts o (Phase.Settle g ∷ below) = No_guard ∷ Locks_only (g ∷ []) ∷ Back g ∷ under o below
-facts o _ = Never ∷ []
+-- pages return to a system frame, but in a migration
+abbrev pub returns_to : Op → Frame → Bool
+returns_to o g = of_system g || is_migration o
 
-abbrev pub facts_of : Option Op → List Phase → List Fact
-facts_of None st = nothing_held
-facts_of (Some o) st = facts o st
+-- what a record says of its page: whose place it has, and which frames are the migration's
+abbrev pub known_of : Op → ℕ → Option Frame → Option Frame → Bool → Bool → Bool → Bool → Option (Frame × ℕ) → List Fact
+known_of o v None None moved p3 p5 p7 hand = May_read (Who.Mirror (op_mirror o)) v ∷ []
+known_of o v None (Some g) false p3 p5 p7 hand = if p5 then [] else Zeroed g ∷ May_read (Who.Mirror (op_mirror o)) v ∷ Lands_on o g ∷ []
+known_of o v None (Some g) true p3 p5 p7 hand = if p7 then [] else Back g ∷ Own_at (Who.Mirror (op_mirror o)) v g ∷ Lands_on o g ∷ []
+known_of o v (Some f) None moved p3 p5 p7 hand = if p7 then [] else (if p3 then Frozen f else Sourced f) ∷ Frozen_at (Who.Mirror (op_mirror o)) v f ∷ []
+known_of o v (Some f) (Some g) false p3 p5 p7 hand = if p7 then [] else Copying f g (parts_of hand g) ∷ Frozen_at (Who.Mirror (op_mirror o)) v f ∷ Lands_on o g ∷ []
+known_of o v (Some f) (Some g) true p3 p5 p7 hand = if p7 then [] else Coming_back f g ∷ Frozen_at (Who.Mirror (op_mirror o)) v f ∷ Lands_on o g ∷ []
+
+abbrev pub record_facts : Op → ℕ → ℕ → Option (Frame × ℕ) → Migrating → List Fact
+record_facts o step next hand x =
+    Is (staged o (is_past step next 4 x.page) (is_past step next 5 x.page) x) ∷ Windowed (op_mirror o) x.page ∷ known_of o x.page x.source x.dest x.moved (is_past step next 3 x.page) (is_past step next 5 x.page) (is_past step next 7 x.page) hand
+
+abbrev pub records : Op → ℕ → ℕ → Option (Frame × ℕ) → List Migrating → List Fact
+records o step next hand [] = []
+records o step next hand (x ∷ xs) = record_facts o step next hand x ++ records o step next hand xs
+
+-- the frames of which facts say that the actor has them locked
+abbrev pub fact_frames : Fact → List Frame
+fact_frames (Owns f) = f ∷ []
+fact_frames (Zeroed f) = f ∷ []
+fact_frames (Sourced f) = f ∷ []
+fact_frames (Frozen f) = f ∷ []
+fact_frames (Back f) = f ∷ []
+fact_frames (Copying f g n) = f ∷ g ∷ []
+fact_frames (Coming_back f g) = f ∷ g ∷ []
+fact_frames x = []
+
+abbrev pub frames_of : List Fact → List Frame
+frames_of [] = []
+frames_of (x ∷ l) = fact_frames x ++ frames_of l
+
+-- a migration that has come to a page in a step: the process is locked for reading, and of each page's record what the
+-- steps so far made of it
+abbrev pub migrating : Op → List Migrating → ℕ → ℕ → Option (Frame × ℕ) → List Fact
+migrating o xs step next hand = Is (is_migration o) ∷ Is (nat_le 3 step) ∷ Listed xs ∷ Read_locked (Who.Mirror (op_mirror o)) ∷ records o step next hand xs
+
+-- the frames of its records that it has locked
+abbrev pub held : Op → List Migrating → ℕ → ℕ → Option (Frame × ℕ) → List Frame
+held o xs step next hand = frames_of (records o step next hand xs)
+
+-- what stands below while the pages of a frame return, beside frames in hand: one of those, or a migration
+abbrev pub held_under : Op → List Migrating → List Phase → List Frame
+held_under o xs (Phase.Moves step v ∷ []) = held o xs step v None
+held_under o xs below = []
+
+abbrev pub beneath : Op → List Migrating → List Frame → List Phase → List Fact
+beneath o xs l (Phase.Moves step v ∷ []) = Is (step == 7) ∷ Is (apart_from l (held o xs step v None)) ∷ migrating o xs step v None
+beneath o xs l below = under o below
+
+-- before the first guard of a migration
+abbrev pub readying : Op → List Migrating → List Fact
+readying (Op.ToDevice m r) xs = Is (is_nil xs) ∷ Read_locked (Who.Mirror m) ∷ Windowed_all m r ∷ []
+readying (Op.ToSystem m r) xs = Is (is_nil xs) ∷ Read_locked (Who.Mirror m) ∷ Windowed_all m r ∷ []
+readying o xs = forking o 0 false
+
+-- what an actor knows at each stack of phases that there is; no phases are the end of an operation
+abbrev pub facts : Op → List Migrating → List Phase → List Fact
+facts o xs [] = nothing_held
+facts o xs (Phase.Begin ∷ []) = Is (begins o && starts_empty o xs) ∷ nothing_held
+facts o xs (Phase.Detaching q ∷ []) = Is (is_detach o) ∷ Leaving (op_mirror o) ∷ nothing_held
+facts o xs (Phase.Pages v ∷ []) = Is (is_snap o) ∷ Read_locked (Who.Mirror (op_mirror o)) ∷ No_guard ∷ Locks_only [] ∷ []
+facts o xs (Phase.Locked ∷ []) = No_guard ∷ Locks_only [] ∷ Is (takes_lock o) ∷ Writes (proc_of_op o) ∷ []
+facts o xs (Phase.Ready ∷ []) = No_guard ∷ Locks_only [] ∷ readying o xs
+facts o xs (Phase.Answer ∷ []) = No_guard ∷ Locks_only [] ∷ answering o
+facts o xs (Phase.Guard q r met told (Body.Zap n) ∷ Phase.Answer ∷ []) = In_guard q r met told ∷ Locks_only [] ∷ Over q r (proc_of_op o) (op_span o) ∷ zapping o n
+facts o xs (Phase.Drop f ∷ Phase.Guard q r met told (Body.Zap n) ∷ Phase.Answer ∷ []) = Owns f ∷ In_guard q r met told ∷ Locks_only (f ∷ []) ∷ Over q r (proc_of_op o) (op_span o) ∷ zapping o n
+facts o xs (Phase.Guard q r met told (Body.Narrow n) ∷ Phase.Answer ∷ []) = In_guard q r met told ∷ Locks_only [] ∷ Over q r (proc_of_op o) (op_span o) ∷ narrowing o n
+facts o xs (Phase.Guard q r met told (Body.Fork n half) ∷ Phase.Answer ∷ []) = In_guard q r met told ∷ Locks_only [] ∷ Over q r (proc_of_op o) (op_span o) ∷ forking o n half
+facts o xs (Phase.Guard q r met told Body.Nothing ∷ Phase.Answer ∷ []) = In_guard q r met told ∷ Locks_only [] ∷ Over q r (proc_of_op o) (op_span o) ∷ widening o
+facts o xs (Phase.Piece k ∷ []) = Is (has_piece o k) ∷ nothing_held
+facts o xs (Phase.Fetched was ∷ []) = Is (is_add o) ∷ Fetched_at (op_mirror o) (op_piece o 0).0 was ∷ nothing_held
+facts o xs (Phase.Begun k at q ∷ []) = Touching o (Touch.Walk k at q) ∷ nothing_held
+facts o xs (Phase.Noted k at q x ∷ []) = Touching o (Touch.Walk k at q) ∷ Noted (op_mirror o) (at_page o k) q x ∷ nothing_held
+facts o xs (Phase.Decide touch ∷ []) = deciding o touch
+facts o xs (Phase.Taken touch g Place.Zero ∷ []) = Never ∷ []
+facts o xs (Phase.Taken touch g over ∷ []) =
+    Touching o touch ∷ May_store (op_who o) (touch_page o touch) ∷ No_guard ∷ Locks_only (g ∷ []) ∷ Zeroed g ∷ Is (is_core over) ∷ Is (not (writable over)) ∷ Is (of_system g) ∷ []
+facts o xs (Phase.Armed touch g over ∷ []) =
+    Touching o touch ∷ May_store (op_who o) (touch_page o touch) ∷ No_guard ∷ Locks_only (g ∷ []) ∷ Copy_of g (op_who o) (touch_page o touch) ∷ Is (is_core over) ∷ Is (not (writable over)) ∷ Is (of_system g) ∷ []
+facts o xs (Phase.Guard q r met told (Body.Replace over g) ∷ Phase.Decide touch ∷ []) =
+    In_guard q r met told ∷ Locks_only (g ∷ []) ∷ Over_page q r (op_who o) (touch_page o touch) ∷ Touching o touch ∷ May_store (op_who o) (touch_page o touch) ∷ Copy_of g (op_who o) (touch_page o touch) ∷ Is (is_core over) ∷ Is (not (writable over)) ∷ Is (of_system g) ∷ []
+facts o xs (Phase.Guard q r met told Body.Nothing ∷ Phase.Decide touch ∷ []) =
+    In_guard q r met told ∷ Locks_only [] ∷ Over_page q r (op_who o) (touch_page o touch) ∷ Touching o touch ∷ Read_locked (op_who o) ∷ []
+facts o xs (Phase.Guard q r met told Body.Restore ∷ Phase.Decide touch ∷ []) =
+    In_guard q r met told ∷ Locks_only [] ∷ Over_page q r (op_who o) (touch_page o touch) ∷ Touching o touch ∷ Read_locked (op_who o) ∷ []
+facts o xs (Phase.Guard q r met told (Body.Seize f) ∷ Phase.Decide touch ∷ []) =
+    In_guard q r met told ∷ Locks_only [] ∷ Over_page q r (op_who o) (touch_page o touch) ∷ Touching o touch ∷ Read_locked (op_who o) ∷ []
+facts o xs (Phase.Drop f ∷ Phase.Guard q r met told Body.Nothing ∷ Phase.Decide touch ∷ []) =
+    Owns f ∷ In_guard q r met told ∷ Locks_only (f ∷ []) ∷ Over_page q r (op_who o) (touch_page o touch) ∷ Touching o touch ∷ Read_locked (op_who o) ∷ []
+facts o xs (Phase.Drop f ∷ Phase.Decide touch ∷ []) = Owns f ∷ No_guard ∷ Locks_only (f ∷ []) ∷ Touching o touch ∷ Read_locked (op_who o) ∷ []
+facts o xs (Phase.Frames v n ∷ []) = Is (is_evicting o) ∷ Clearing o v ∷ Emptied n ∷ nothing_held
+facts o xs (Phase.GiveUp touch ∷ []) = No_guard ∷ Locks_only [] ∷ under o (Phase.GiveUp touch ∷ [])
+facts o xs (Phase.Guard q r met told (Body.Catch f) ∷ below) = In_guard q r met told ∷ Locks_only [] ∷ Is (nat_lt 0 r.count) ∷ Is (catches o f below) ∷ under o below
+facts o xs (Phase.Guard q r met told (Body.Freeze f) ∷ Phase.Alone g at ∷ below) = In_guard q r met told ∷ Locks_only (g ∷ []) ∷ Is (nat_lt 0 r.count) ∷ Is (same_frame f g) ∷ Sourced g ∷ under o below
+facts o xs (Phase.Guard q r met told Body.Nothing ∷ Phase.Alone f at ∷ below) = In_guard q r met told ∷ Locks_only (f ∷ []) ∷ Sourced f ∷ under o below
+facts o xs (Phase.Alone f at ∷ below) = No_guard ∷ Locks_only (f ∷ []) ∷ Sourced f ∷ under o below
+facts o xs (Phase.Copy f g k ∷ Phase.Copied i j ∷ below) = Is (same_frame f i) ∷ Is (same_frame g j) ∷ Is (nat_le k 7) ∷ No_guard ∷ Locks_only (i ∷ j ∷ []) ∷ Copying i j k ∷ Is (of_system j) ∷ under o below
+facts o xs (Phase.Copied f g ∷ below) = No_guard ∷ Locks_only (f ∷ g ∷ []) ∷ Copying f g 8 ∷ Is (of_system g) ∷ under o below
+facts o xs (Phase.Finish f None ∷ below) = No_guard ∷ Locks_only (f ∷ held_under o xs below) ∷ Sourced f ∷ Is (keeps_on o below) ∷ beneath o xs (f ∷ []) below
+facts o xs (Phase.Finish f (Some g) ∷ below) = No_guard ∷ Locks_only (f ∷ g ∷ held_under o xs below) ∷ Coming_back f g ∷ Is (returns_to o g) ∷ beneath o xs (f ∷ g ∷ []) below
+facts o xs (Phase.Settle g ∷ below) = No_guard ∷ Locks_only (g ∷ held_under o xs below) ∷ Back g ∷ Is (returns_to o g) ∷ beneath o xs (g ∷ []) below
+facts o xs (Phase.Moves step v ∷ []) = No_guard ∷ Locks_only (held o xs step v None) ∷ migrating o xs step v None
+facts o xs (Phase.Guard q r met told (Body.Select n) ∷ Phase.Moves step v ∷ []) =
+    In_guard q r met told ∷ Locks_only (held o xs step v None) ∷ Over_span q r (Who.Mirror (op_mirror o)) (op_range o) ∷ Is ((step == 3) && (v == r.first)) ∷ Is (nat_le v n) ∷ Is (pages_below n xs) ∷ Windowed_all (op_mirror o) r ∷ migrating o xs step v None
+facts o xs (Phase.Guard q r met told (Body.Freeze f) ∷ Phase.Moves step v ∷ []) =
+    In_guard q r met told ∷ Locks_only (held o xs step v None) ∷ Is (nat_lt 0 r.count) ∷ Is (step == 3) ∷ Is (has_source f v xs) ∷ migrating o xs step v None
+facts o xs (Phase.Guard q r met told Body.Nothing ∷ Phase.Moves step v ∷ []) = In_guard q r met told ∷ Locks_only (held o xs step v None) ∷ migrating o xs step v None
+facts o xs (Phase.Copy f g k ∷ Phase.Moves step v ∷ []) = No_guard ∷ Locks_only (held o xs step v (Some (g, k))) ∷ Is (step == 4) ∷ Is (nat_le k 7) ∷ Is (has_pair f g xs) ∷ migrating o xs step v (Some (g, k))
+facts o xs (Phase.Guard q r met told (Body.Fresh g) ∷ Phase.Moves step v ∷ []) =
+    In_guard q r met told ∷ Locks_only (g ∷ held o xs step v None) ∷ Is (apart_from (g ∷ []) (held o xs step v None)) ∷ Is ((step == 5) && nat_lt r.first v) ∷ Is (has_fresh r.first g xs) ∷ Over_page q r (Who.Mirror (op_mirror o)) r.first ∷ Zeroed g ∷ May_read (Who.Mirror (op_mirror o)) r.first ∷ Lands_on o g ∷ migrating o xs step v None
+facts o xs (Phase.Lost u g ∷ Phase.Moves step v ∷ []) =
+    No_guard ∷ Locks_only (g ∷ held o xs step v None) ∷ Is (apart_from (g ∷ []) (held o xs step v None)) ∷ Is (was_fresh u xs) ∷ Touched (Who.Mirror (op_mirror o)) u ∷ Owns g ∷ migrating o xs step v None
+facts o xs (Phase.Drop g ∷ Phase.Moves step v ∷ []) = No_guard ∷ Locks_only (g ∷ held o xs step v None) ∷ Is (apart_from (g ∷ []) (held o xs step v None)) ∷ Owns g ∷ migrating o xs step v None
+facts o xs _ = Never ∷ []
+
+abbrev pub facts_of : Option Op → List Migrating → List Phase → List Fact
+facts_of None xs st = nothing_held
+facts_of (Some o) xs st = facts o xs st
 
 abbrev pub HoldsAll : After → Past → ℕ → List Fact → Type 0
 HoldsAll s t a [] = ⊤
@@ -252,4 +355,4 @@ HoldsAll s t a (x ∷ l) = Holds s t a x × HoldsAll s t a l
 
 -- an actor's stack is one of those, and it knows what stands there
 abbrev pub Knows : Program → After → Past → ℕ → Going → Type 0
-Knows c s t a g = HoldsAll s t a (facts_of (op_at c a g.index) g.stack)
+Knows c s t a g = HoldsAll s t a (facts_of (op_at c a g.index) g.pages g.stack)

@@ -16,14 +16,13 @@ use Rattle.hm_history.specs.declared.Kind.{Kind}
 use Rattle.hm_laws.specs.Past.{Past, past_next}
 use Rattle.hm_laws.specs.Sound.{Sound}
 use Rattle.hm_laws.specs.Allowed.{next, Allowed}
-use Rattle.hm_laws.specs.Basic.{IsBasic}
 use Rattle.hm_laws.specs.Stands.{Stands}
 
 abbrev pub RunIsLegal : Type 0
-RunIsLegal = (c : Program) → IsScript c → IsBasic c → Legal c (run c)
+RunIsLegal = (c : Program) → IsScript c → Legal c (run c)
 
 abbrev pub HistoryIsLegal : Type 0
-HistoryIsLegal = (c : Program) → IsScript c → IsBasic c → (h : List Entry) → DueFrom c [] h → Legal c h
+HistoryIsLegal = (c : Program) → IsScript c → (h : List Entry) → DueFrom c [] h → Legal c h
 
 -- a page with a place shows its plain bytes, and one with an area and no place has zeros, unless somebody has the
 -- process's mmap lock for writing and is emptying it
@@ -32,7 +31,7 @@ pub record ReadsRight (s : After) : Type 0 where
   pub untouched : (p a : ℕ) → s.plain.there p ≡ true → ((b : ℕ) → s.locks.map b ≡ Some (record { proc = p; writes = true }) → ⊥) → is_empty_place (s.places.place p (page_of a)) ≡ true → is_some (rights_of s.plain p (page_of a)) ≡ true → s.plain.bytes p a ≡ 0
 
 abbrev pub FramesRead : Type 0
-FramesRead = (c : Program) → IsScript c → IsBasic c → (h : List Entry) → DueFrom c [] h → ReadsRight (after h)
+FramesRead = (c : Program) → IsScript c → (h : List Entry) → DueFrom c [] h → ReadsRight (after h)
 
 -- an allowed entry of any kind keeps the rules
 abbrev pub RulesAreKept : Type 0
@@ -49,4 +48,4 @@ abbrev pub AllowedMayStand : Type 0
 AllowedMayStand = (c : Program) (s : After) (t : Past) (a : ℕ) (k : Kind) → Sound c s t → Allowed c s t a k → MayStand c s a k
 
 abbrev pub HistoryStands : Type 0
-HistoryStands = (c : Program) → IsScript c → IsBasic c → (h : List Entry) → DueFrom c [] h → Stands c h
+HistoryStands = (c : Program) → IsScript c → (h : List Entry) → DueFrom c [] h → Stands c h

@@ -2,11 +2,11 @@ pub mod Stood
 pub mod Past
 pub mod Sound
 pub mod Allowed
-pub mod Basic
 pub mod Moves
 pub mod Shapes
+pub mod Spares
+pub mod Records
 pub mod Facts
 pub mod Order
-pub mod Shared
 pub mod Stands
 pub mod Laws

@@ -7,7 +7,7 @@ use Rattle.hm_base.specs.declared.Place.{Place}
 use Rattle.hm_base.specs.declared.ops.Op.{Op}
 use Rattle.hm_base.specs.declared.ops.Rights.{Rights}
 use Rattle.hm_history.specs.Words.{page_of, same_pool}
-use Rattle.hm_history.specs.Operation.{op_piece, op_pieces}
+use Rattle.hm_history.specs.Operation.{op_piece, op_pieces, is_migration, is_exclusive_op}
 
 -- accesses by the CPU, and through a mirror
 abbrev pub is_cpu : Op → Bool
@@ -43,9 +43,19 @@ abbrev pub is_attach : Op → Bool
 is_attach (Op.Attach m d p r) = true
 is_attach o = false
 
+-- operations that take a page for their actor alone; the second adds to a byte of it
+abbrev pub takes_alone : Op → Bool
+takes_alone (Op.Exclusive m v) = true
+takes_alone (Op.Add m a n) = true
+takes_alone o = false
+
+abbrev pub is_add : Op → Bool
+is_add (Op.Add m a n) = true
+is_add o = false
+
 -- operations whose first turn looks at the process, or at the mirror
 abbrev pub begins : Op → Bool
-begins o = takes_lock o || (is_attach o || (is_detach o || is_snap o))
+begins o = takes_lock o || (is_attach o || (is_detach o || (is_snap o || (is_migration o || is_exclusive_op o))))
 
 abbrev pub is_fork : Op → Bool
 is_fork (Op.Fork p c) = true

@@ -1,5 +1,5 @@
 -- What stands after each history of entries that were due, for a program that keeps a state of it.
-use Rattle.std.specs.Prelude.{◌≡◌, ℕ, ◌<◌, ◌≤◌, true, Some, None, List, [], length, ⊤}
+use Rattle.std.specs.Prelude.{◌≡◌, ℕ, ◌<◌, ◌≤◌, true, Some, None, List, length, ⊤}
 use Rattle.hm_base.specs.Program.{Program}
 use Rattle.hm_history.specs.Locks.{writer, lowest_other}
 use Rattle.hm_history.specs.Going.{State, state_of}
@@ -14,15 +14,12 @@ use Rattle.hm_laws.specs.Sound.{Sound}
 use Rattle.hm_laws.specs.Allowed.{Allowed}
 use Rattle.hm_laws.specs.Facts.{Knows}
 use Rattle.hm_laws.specs.Order.{OrderRules}
-use Rattle.hm_laws.specs.Shared.{SharedRules}
 
--- the rules hold, each actor knows what its stack says, and no migration has records
+-- the rules hold, and each actor knows what its stack says
 pub record Standing (c : Program) (t : State) (past : Past) : Type 0 where
   pub sound : Sound c t.after past
   pub order : OrderRules t.after.plain.areas
-  pub shared : SharedRules t.after
   pub known : (a : ℕ) → Knows c t.after past a (t.going a)
-  pub no_records : (a : ℕ) → (t.going a).pages ≡ []
 
 -- one actor meets nobody at a process's mmap lock
 pub record MeetsNobody (s : After) : Type 0 where
@@ -39,9 +36,7 @@ pub record Stands (c : Program) (h : List Entry) : Type 0 where
   pub past : Past
   pub rules : Sound c (after h) past
   pub order : OrderRules (after h).plain.areas
-  pub shared : SharedRules (after h)
   pub known : (a : ℕ) → Knows c (after h) past a ((state_of c h).going a)
-  pub no_records : (a : ℕ) → ((state_of c h).going a).pages ≡ []
   pub same_after : (state_of c h).after ≡ after h
   pub allows : (e : Entry) → due c h e.actor ≡ Progress.Did e → Allowed c (after h) past e.actor e.kind  -- so what is due may be added
   pub copies : (e : Entry) → due c h e.actor ≡ Progress.Did e → CopiesRightly (after h) e.kind

@@ -1,0 +1,71 @@
+-- The records of a migration: its pages in order, and which steps are past for each.
+use Rattle.std.specs.Prelude.{◌≡◌, ℕ, Bool, true, false, not, ◌&&◌, ◌||◌, ◌==◌, nat_lt, if◌then◌else◌, Option, Some, None, is_some, is_none, List, [], ◌∷◌, ◌⊎◌}
+use Rattle.std.specs.List.{list_any, list_all}
+use Rattle.hm_base.specs.Pages.{Pages}
+use Rattle.hm_base.specs.declared.Frame.{Frame}
+use Rattle.hm_base.specs.declared.ops.Op.{Op}
+use Rattle.hm_history.specs.Words.{same_frame, is_frame}
+use Rattle.hm_history.specs.Operation.{is_to_device, is_migration}
+use Rattle.hm_history.specs.declared.phases.Migrating.{Migrating}
+
+-- a migration that has come to a page in a step is past a step for a page
+abbrev pub is_past : ℕ → ℕ → ℕ → ℕ → Bool
+is_past step next k v = nat_lt k step || ((k == step) && nat_lt v next)
+
+abbrev pub is_nil : List Migrating → Bool
+is_nil [] = true
+is_nil (x ∷ xs) = false
+
+abbrev pub starts_empty : Op → List Migrating → Bool
+starts_empty o xs = not (is_migration o) || is_nil xs
+
+-- the pages that a migration is to move
+abbrev pub op_range : Op → Pages
+op_range (Op.ToDevice m r) = r
+op_range (Op.ToSystem m r) = r
+op_range o = record { first = 0; count = 0 }
+
+abbrev pub Among : List Migrating → Migrating → Type 0
+Among [] y = ⊥
+Among (x ∷ xs) y = (x ≡ y) ⊎ Among xs y
+
+abbrev pub pages_below : ℕ → List Migrating → Bool
+pages_below n xs = list_all (λ x. nat_lt x.page n) xs
+
+abbrev pub rising_pages : List Migrating → Bool
+rising_pages [] = true
+rising_pages (x ∷ xs) = list_all (λ y. nat_lt x.page y.page) xs && rising_pages xs
+
+-- the frame is the record's
+abbrev pub is_of : Migrating → Frame → Bool
+is_of x f = is_frame x.source f || is_frame x.dest f
+
+-- the pages are in order, and no frame is of two records, or of one twice
+pub record WellListed (xs : List Migrating) : Type 0 where
+  pub rising : rising_pages xs ≡ true
+  pub apart : (y z : Migrating) (f : Frame) → Among xs y → Among xs z → is_of y f ≡ true → is_of z f ≡ true → y ≡ z
+  pub own : (y : Migrating) (f : Frame) → Among xs y → y.source ≡ Some f → y.dest ≡ Some f → ⊥
+
+-- a record has what the steps that are past gave it: a frame in step 4, its commit in step 5. Only a migration to a
+-- device has pages with no frame
+abbrev pub staged : Op → Bool → Bool → Migrating → Bool
+staged o p4 p5 x = (is_some x.source || is_to_device o) && ((is_none x.dest || p4) && ((not x.moved || (p5 && is_some x.dest)) && (not p5 || (is_none x.dest || (x.moved || is_none x.source)))))
+
+-- so many eighths are copied into the frame, of all but one that is in hand
+abbrev pub parts_of : Option (Frame × ℕ) → Frame → ℕ
+parts_of None g = 8
+parts_of (Some x) g = if same_frame x.0 g then x.1 else 8
+
+-- the record that a pushed phase is about
+abbrev pub has_source : Frame → ℕ → List Migrating → Bool
+has_source f v xs = list_any (λ x. (x.page == v) && is_frame x.source f) xs
+
+abbrev pub has_pair : Frame → Frame → List Migrating → Bool
+has_pair f g xs = list_any (λ x. is_frame x.source f && (is_frame x.dest g && not x.moved)) xs
+
+abbrev pub has_fresh : ℕ → Frame → List Migrating → Bool
+has_fresh v g xs = list_any (λ x. (x.page == v) && (is_none x.source && (is_frame x.dest g && not x.moved))) xs
+
+-- none of these frames is one of those
+abbrev pub apart_from : List Frame → List Frame → Bool
+apart_from l fs = list_all (λ f. not (list_any (same_frame f) fs)) l
