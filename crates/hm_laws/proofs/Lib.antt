@@ -82,5 +82,8 @@ pub mod Telling
 pub mod Shortness
 pub mod Gives
 pub mod ShortOn
+pub mod Waiting
+pub mod GoingOn
+pub mod NeverStuck
 pub mod Legality
 pub mod Standings

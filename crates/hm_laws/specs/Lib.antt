@@ -10,3 +10,4 @@ pub mod Facts
 pub mod Order
 pub mod Stands
 pub mod Laws
+pub mod NeverStuck

@@ -3,6 +3,7 @@
 #![tactic(auto)]
 
 ghost use Rattle.hm_laws.specs.Laws.{RunIsLegal, HistoryIsLegal, FramesRead, RulesAreKept, AllowedMayStand, HistoryStands};
+ghost use Rattle.hm_laws.specs.NeverStuck.{NeverStuck};
 
 /// The run of a script's schedule is legal, whatever the turns.
 pub fn every_run_is_legal()
@@ -32,4 +33,9 @@ pub fn allowed_may_stand()
 /// What a program that keeps the state of a history may rest on.
 pub fn history_stands()
     ensures { HistoryStands }
+{}
+
+/// Somebody always goes on: as long as an operation has not ended, an entry is due to an actor that has one.
+pub fn never_stuck()
+    ensures { NeverStuck }
 {}
