@@ -54,7 +54,6 @@ pub reserved_stands : (c : Program) (g h : List Entry) (z : Option StepError) (x
     Stands (record { script = c; history = h; halted = z }) (record { frames = x.frames; tables = tables; spaces = x.spaces; notifiers = x.notifiers; mirrors = ms; actors = ts })
 reserved_stands c g h z x s e tables st room k ms em ts et = subst (λ l. Stands (record { script = c; history = l; halted = z }) (record { frames = x.frames; tables = tables; spaces = x.spaces; notifiers = x.notifiers; mirrors = ms; actors = ts })) (sym e) (record {
   script = s.script;
-  basic = s.basic;
   due = s.due;
   few = s.few;
   halted = s.halted;

@@ -3,7 +3,6 @@ use Rattle.std.proofs.Common.{◌≡◌, None, List, [], sym, arith, subst}
 use Rattle.hm_base.specs.Program.{Program, IsScript}
 use Rattle.hm_history.specs.Going.{state_start}
 use Rattle.hm_history.specs.declared.Entry.{Entry}
-use Rattle.hm_laws.specs.Basic.{IsBasic}
 use Rattle.hm_frames.specs.Pools.{fresh_pools}
 use Rattle.hm_frames.proofs.Kept.{frames_start}
 use Rattle.hm_tables.specs.Steps.{tables_start}
@@ -33,7 +32,7 @@ shows c x sc f t s n m a = record {
   actors = rw a (actors_starts c);
 }
 
-pub begins : (c : Program) (h : List Entry) (x : Parts) → IsScript c → IsBasic c → h ≡ [] → x.frames ≡ fresh_pools c → x.tables ≡ tables_start c → x.spaces ≡ spaces_start → x.notifiers ≡ subscriptions_start → x.mirrors ≡ mirrors_start → x.actors ≡ actors_start c →
+pub begins : (c : Program) (h : List Entry) (x : Parts) → IsScript c → h ≡ [] → x.frames ≡ fresh_pools c → x.tables ≡ tables_start c → x.spaces ≡ spaces_start → x.notifiers ≡ subscriptions_start → x.mirrors ≡ mirrors_start → x.actors ≡ actors_start c →
     Stands (record { script = c; history = h; halted = None }) x
-begins c h x sc ba e f t s n m a = subst (λ (l : List Entry). Stands (record { script = c; history = l; halted = None }) x) (sym e)
-    (record { script = sc; basic = ba; due = tt; few = omega arith; halted = tt; shows = first c x (shows c x sc f t s n m a) })
+begins c h x sc e f t s n m a = subst (λ (l : List Entry). Stands (record { script = c; history = l; halted = None }) x) (sym e)
+    (record { script = sc; due = tt; few = omega arith; halted = tt; shows = first c x (shows c x sc f t s n m a) })

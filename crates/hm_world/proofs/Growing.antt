@@ -65,7 +65,6 @@ pub stands_grown : (t : Told) (a : ℕ) (k : Kind) (x y : Parts) → Stands t x 
     Shows t.script (state_next t.script (now t) (record { actor = a; kind = k })) y → Stands (grown t a k) y
 stands_grown t a k x y st run l d sh = record {
   script = st.script;
-  basic = st.basic;
   due = DueFrom-append t.script [] t.history (record { actor = a; kind = k }) st.due d;
   few = omega (arith, length-append t.history (record { actor = a; kind = k } ∷ []), l);
   halted = subst (HaltsRightly t.script (t.history ++ record { actor = a; kind = k } ∷ [])) (sym run) tt;

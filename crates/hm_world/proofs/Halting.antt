@@ -11,7 +11,6 @@ same t x error s = s.shows
 pub halts : (t u : Told) → t ≡ u → (x : Parts) → Stands t x → (error : StepError) → MayHalt u.script u.history error → Stands (halted_by t error) x
 halts t u e x s error m = record {
   script = s.script;
-  basic = s.basic;
   due = s.due;
   few = s.few;
   halted = subst (λ v. MayHalt v.script v.history error) (sym e) m;

@@ -22,7 +22,7 @@ in_range : (n : ℕ) (o : Op) → op_fits n o ≡ true → IsTrue (op_in_range o
 in_range n o h = (both (op_in_range o) _ h).0
 
 range_at : (t : Told) (x : Parts) → Stands t x → (a : ℕ) (o : Op) → Some o ≡ op_at t.script a ((now t).going a).index → IsTrue (op_in_range o)
-range_at t x s a o e = in_range (length t.script.devices) o ((small t.script s.script s.basic).ops a ((now t).going a).index o (sym e)).1
+range_at t x s a o e = in_range (length t.script.devices) o ((small t.script s.script).ops a ((now t).going a).index o (sym e))
 
 pub op_ranged : (t u : Told) → t ≡ u → (x : Parts) → Stands t x → (a : ℕ) (o : Op) → Some o ≡ op_at u.script a ((now u).going a).index → IsTrue (op_in_range o)
 op_ranged t u e x s a o = subst (λ v. Some o ≡ op_at v.script a ((now v).going a).index → IsTrue (op_in_range o)) e (range_at t x s a o)

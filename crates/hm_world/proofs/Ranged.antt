@@ -26,14 +26,14 @@ use Rattle.hm_world.proofs.Standing.{Lawful, lawful}
 less : (v : ℕ) → v < 2 ^ 36 → nat_lt v (2 ^ 36) ≡ true
 less v l = grind (arith, nat_tests)
 
-forks_ranged : (c : Program) (s : After) (t : Past) (a : ℕ) (o : Op) (q : ℕ) (r : Rattle.hm_base.specs.Pages.Pages) (met : Bool) (told : Option ℕ) (v : ℕ) (below : List Phase) → Sound c s t → HoldsAll s t a (facts o (Phase.Guard q r met told (Body.Fork v true) ∷ below)) → nat_lt v (2 ^ 36) ≡ true
-forks_ranged c s t a o q r met told v (Phase.Answer ∷ []) so h = less v (so.places.ranged (proc_of_op o) v (h.1.1.1.1.0.1 refl).1)
-forks_ranged c s t a o q r met told v below so h = absurd h.0
+forks_ranged : (c : Program) (s : After) (t : Past) (a : ℕ) (o : Op) (xs : List Migrating) (q : ℕ) (r : Rattle.hm_base.specs.Pages.Pages) (met : Bool) (told : Option ℕ) (v : ℕ) (below : List Phase) → Sound c s t → HoldsAll s t a (facts o xs (Phase.Guard q r met told (Body.Fork v true) ∷ below)) → nat_lt v (2 ^ 36) ≡ true
+forks_ranged c s t a o xs q r met told v (Phase.Answer ∷ []) so h = less v (so.places.ranged (proc_of_op o) v (h.1.1.1.1.0.1 refl).1)
+forks_ranged c s t a o xs q r met told v below so h = absurd h.0
 
-stack_ranged : (c : Program) (s : After) (t : Past) (a : ℕ) (o : Op) (st : List Phase) → Sound c s t → HoldsAll s t a (facts o st) → IsTrue (top_in_range (slice_get st 0))
-stack_ranged c s t a o [] so h = refl
-stack_ranged c s t a o (Phase.Guard q r met told (Body.Fork v true) ∷ below) so h = forks_ranged c s t a o q r met told v below so h
-stack_ranged c s t a o (top ∷ below) so h = refl
+stack_ranged : (c : Program) (s : After) (t : Past) (a : ℕ) (o : Op) (xs : List Migrating) (st : List Phase) → Sound c s t → HoldsAll s t a (facts o xs st) → IsTrue (top_in_range (slice_get st 0))
+stack_ranged c s t a o xs [] so h = refl
+stack_ranged c s t a o xs (Phase.Guard q r met told (Body.Fork v true) ∷ below) so h = forks_ranged c s t a o xs q r met told v below so h
+stack_ranged c s t a o xs (top ∷ below) so h = refl
 
 -- an actor that is in no operation has no phase
 abbrev Rests : Program → ℕ → Going → Type 0
@@ -72,9 +72,9 @@ rests_after c s (e ∷ h) a r = rests_after c (state_next c s e) h a (by (cases_
     by (inr i) = subst (Rests c a) (sym (there s.going e.actor _ i)) r
 
 -- at each top of a stack
-top_at : (c : Program) (u : State) (t : Past) (a : ℕ) (x : Option Op) → op_at c a (u.going a).index ≡ x → Sound c u.after t → Rests c a (u.going a) → HoldsAll u.after t a (facts_of x (u.going a).stack) → IsTrue (top_in_range (slice_get (u.going a).stack 0))
+top_at : (c : Program) (u : State) (t : Past) (a : ℕ) (x : Option Op) → op_at c a (u.going a).index ≡ x → Sound c u.after t → Rests c a (u.going a) → HoldsAll u.after t a (facts_of x (u.going a).pages (u.going a).stack) → IsTrue (top_in_range (slice_get (u.going a).stack 0))
 top_at c u t a None e so r h = let q : (u.going a).stack ≡ [] = r e in rw q refl
-top_at c u t a (Some o) e so r h = stack_ranged c u.after t a o (u.going a).stack so h
+top_at c u t a (Some o) e so r h = stack_ranged c u.after t a o (u.going a).pages (u.going a).stack so h
 
 rests_now : (t : Told) (a : ℕ) → Rests t.script a ((now t).going a)
 unfolding now

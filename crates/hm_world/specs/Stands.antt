@@ -3,7 +3,6 @@ use Rattle.std.specs.Prelude.{◌≤◌, Option, List, [], length}
 use Rattle.hm_base.specs.Program.{Program, IsScript}
 use Rattle.hm_history.specs.Going.{State}
 use Rattle.hm_history.specs.Laws.{DueFrom}
-use Rattle.hm_laws.specs.Basic.{IsBasic}
 use Rattle.hm_frames.specs.Pools.{PoolsState}
 use Rattle.hm_frames.specs.Shown.{FramesShown}
 use Rattle.hm_tables.specs.Values.{Tables}
@@ -36,7 +35,6 @@ pub record Shows (c : Program) (s : State) (x : Parts) : Type 0 where
 
 pub record Stands (t : Told) (x : Parts) : Type 0 where
   pub script : IsScript t.script
-  pub basic : IsBasic t.script
   pub due : DueFrom t.script [] t.history
   pub few : length t.history ≤ 2000000
   pub halted : HaltsRightly t.script t.history t.halted

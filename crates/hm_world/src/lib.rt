@@ -5,7 +5,6 @@ ghost use Rattle.std.specs.Prelude.{◌≡◌, ◌≤◌, [], length, IfOk, None
 ghost use Rattle.hm_base.specs.Program.{IsScript};
 ghost use Rattle.hm_history.specs.Laws.{DueFrom};
 ghost use Rattle.hm_history.specs.Going.{state_of};
-ghost use Rattle.hm_laws.specs.Basic.{IsBasic};
 ghost use Rattle.hm_world.specs.Told.{opening, halted_by, now, MayHalt, HaltsRightly};
 
 mod adds;
@@ -60,7 +59,6 @@ impl Model for World {
 impl World {
     /// The world before the first entry. It takes all the memory that its frames will need.
     pub fn new(alloc: Global, script: Script) -> Result<World, NoMemory>
-        requires { IsBasic script }
         ensures { IfOk result (λ world. world ≡ opening script) }
     {
         script.fits();
@@ -80,7 +78,6 @@ impl World {
     /// Gives what stands of every world where only its value is at hand; it does nothing.
     pub fn stands(&self)
         ensures script { IsScript self.now.script }
-        ensures basic { IsBasic self.now.script }
         ensures due { DueFrom self.now.script [] self.now.history }
         ensures few { length self.now.history ≤ 2000000 }
         ensures halted { HaltsRightly self.now.script self.now.history self.now.halted }
