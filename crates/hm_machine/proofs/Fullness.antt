@@ -1,16 +1,12 @@
 -- A full history takes no further entry, and a turn that adds none is followed by none that does.
 use Rattle.std.proofs.Common.{◌≡◌, ℕ, zero, suc, ◌<◌, true, false, ltb, List, [], ◌∷◌, ◌++◌, length, refl, ap, ◌∙◌, arith}
-use Rattle.std.specs.Prelude.{fold}
-use Rattle.std.specs.List.{list_all}
 use Rattle.std.proofs.lemmas.Bool.Decides.{nat_tests}
 use Rattle.hm_base.specs.Program.{Program}
-use Rattle.hm_base.specs.declared.ops.ScheduleLine.{ScheduleLine}
 use Rattle.hm_history.specs.Due.{due}
-use Rattle.hm_history.specs.Run.{added, is_entry, turn, turns, line_run}
+use Rattle.hm_history.specs.Run.{added, is_entry, turn, turns}
 use Rattle.hm_history.specs.declared.Entry.{Entry}
 use Rattle.hm_history.specs.declared.Progress.{Progress}
 use Rattle.hm_machine.specs.Overrun.{overruns_turns}
-use Rattle.hm_machine.specs.Turning.{is_turns}
 
 pub with_room : (h : List Entry) (e : Entry) → length h < 2000000 → added h (Progress.Did e) ≡ h ++ e ∷ []
 with_room h e room =
@@ -40,12 +36,6 @@ quiet_added h Progress.Idle quiet = refl
 -- after a wait, or at the end, no turn of the actor adds an entry
 pub quiet_turn : (c : Program) (h : List Entry) (a : ℕ) → is_entry (due c h a) ≡ false → turn c h a ≡ h
 quiet_turn c h a quiet = quiet_added h (due c h a) quiet
-
--- nor does a line, nor the lines after it
-pub full_lines : (c : Program) (ls : List ScheduleLine) (h : List Entry) → list_all is_turns ls ≡ true → length h ≡ 2000000 → fold (line_run c) h ls ≡ h
-full_lines c [] h only full = refl
-full_lines c (ScheduleLine.Run a n ∷ ls) h only full = ap (λ g. fold (line_run c) g ls) (full_turns c h a n full) ∙ full_lines c ls h only full
-full_lines c (ScheduleLine.Drain ∷ ls) h only full = let no : false ≡ true = only in cc
 
 -- whether they would go beyond a full history
 pub quiet_within : (c : Program) (h : List Entry) (a n : ℕ) → is_entry (due c h a) ≡ false → overruns_turns c h a n ≡ false

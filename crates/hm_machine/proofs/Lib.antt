@@ -1,4 +1,6 @@
 pub mod Fullness
 pub mod Steps
 pub mod Turns
+pub mod Rounds
+pub mod Draining
 pub mod Lines

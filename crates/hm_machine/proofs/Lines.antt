@@ -1,28 +1,15 @@
 -- A machine that runs the lines of a schedule: it has gone on from s to t, and u comes of the line at position i.
-use Rattle.std.proofs.Common.{◌≡◌, ℕ, add-one, zero, suc, ◌+◌, drop, Bool, true, false, Some, List, [], ◌∷◌, length, refl, sym, ap, ◌∙◌, subst}
-use Rattle.std.specs.Prelude.{Ok, Err, ◌&&◌, slice_get, fold, ⊤}
-use Rattle.std.specs.List.{list_all}
+use Rattle.std.proofs.Common.{◌≡◌, ℕ, add-one, zero, suc, ◌+◌, drop, Bool, Some, List, [], ◌∷◌, length, sym, ap, ◌∙◌, subst}
+use Rattle.std.specs.Prelude.{Ok, Err, slice_get, fold, ⊤}
 use Rattle.hm_base.specs.declared.ops.ScheduleLine.{ScheduleLine}
 use Rattle.hm_history.specs.Run.{line_run}
 use Rattle.hm_history.specs.declared.Entry.{Entry}
 use Rattle.hm_history.specs.declared.StepError.{StepError}
 use Rattle.hm_world.specs.Told.{Told, halted_by}
 use Rattle.hm_machine.specs.Overrun.{overruns_line, overruns_lines}
-use Rattle.hm_machine.specs.Turning.{CameTo, is_turns, with_history}
-use Rattle.hm_machine.proofs.Fullness.{full_lines}
+use Rattle.hm_machine.specs.Turning.{CameTo, with_history}
+use Rattle.hm_machine.proofs.Rounds.{full_lines}
 use Rattle.hm_machine.proofs.Turns.{or_true, or_false}
-
-and_both : (x y : Bool) → (x && y) ≡ true → (x ≡ true) × (y ≡ true)
-and_both true y e = (refl, e)
-and_both false y e = cc
-
-each_at : {X : Type 0} (p : X → Bool) (xs : List X) (i : ℕ) (x : X) → list_all p xs ≡ true → slice_get xs i ≡ Some x → (p x ≡ true) × (list_all p (drop (suc i) xs) ≡ true)
-each_at p [] i x h e = cc
-each_at p (y ∷ ys) zero x h e = let same : y ≡ x = cc in let both = and_both (p y) (list_all p ys) h in (subst (λ z. p z ≡ true) same both.0, both.1)
-each_at p (y ∷ ys) (suc i) x h e = each_at p ys i x (and_both (p y) (list_all p ys) h).1 e
-
-pub all_at : {X : Type 0} (p : X → Bool) (xs : List X) (i : ℕ) (x : X) → list_all p xs ≡ true → slice_get xs i ≡ Some x → (p x ≡ true) × (list_all p (drop (i + 1) xs) ≡ true)
-all_at p xs i x h e = rw (add-one i) (each_at p xs i x h e)
 
 -- the lines from a position on are that line and those after it
 split_at : {X : Type 0} (xs : List X) (i : ℕ) (x : X) → slice_get xs i ≡ Some x → drop i xs ≡ x ∷ drop (suc i) xs
@@ -30,7 +17,7 @@ split_at [] i x e = cc
 split_at (z ∷ xs) zero x e = let same : z ≡ x = cc in ap (λ w. w ∷ xs) same
 split_at (z ∷ xs) (suc i) x e = split_at xs i x e
 
-line_at : {X : Type 0} (xs : List X) (i : ℕ) (x : X) → slice_get xs i ≡ Some x → drop i xs ≡ x ∷ drop (i + 1) xs
+pub line_at : {X : Type 0} (xs : List X) (i : ℕ) (x : X) → slice_get xs i ≡ Some x → drop i xs ≡ x ∷ drop (i + 1) xs
 line_at xs i x e = rw (add-one i) (split_at xs i x e)
 
 -- the lines from position i on are left, which come to this history, and beyond a full one or not
@@ -40,16 +27,15 @@ pub record Left (s t : Told) (i : ℕ) (h : List Entry) (b : Bool) : Type 0 wher
   pub beyond : overruns_lines s.script t.history (drop i s.script.schedule) ≡ b
 
 -- an error ends the lines, of which none that is left adds an entry
-pub lines_fail : (s t u : Told) (i : ℕ) (l : ScheduleLine) (e : StepError) (h : List Entry) (b : Bool) → Left s t i h b → slice_get t.script.schedule i ≡ Some l → list_all is_turns s.script.schedule ≡ true → CameTo t (line_run t.script t.history l) (overruns_line t.script t.history l) (Err e) u → CameTo s h b (Err e) u
-lines_fail s t u i l e h b before here only came =
+pub lines_fail : (s t u : Told) (i : ℕ) (l : ScheduleLine) (e : StepError) (h : List Entry) (b : Bool) → Left s t i h b → slice_get t.script.schedule i ≡ Some l → CameTo t (line_run t.script t.history l) (overruns_line t.script t.history l) (Err e) u → CameTo s h b (Err e) u
+lines_fail s t u i l e h b before here came =
     by t.history e (subst (λ x. slice_get x.script.schedule i ≡ Some l) before.same here) before.left before.beyond (subst (λ x. CameTo x (line_run x.script x.history l) (overruns_line x.script x.history l) (Err e) u) before.same came)
   where
     by : (g : List Entry) (e : StepError) → slice_get s.script.schedule i ≡ Some l → fold (line_run s.script) g (drop i s.script.schedule) ≡ h → overruns_lines s.script g (drop i s.script.schedule) ≡ b → CameTo (with_history s g) (line_run s.script g l) (overruns_line s.script g l) (Err e) u → CameTo s h b (Err e) u
     by g (StepError.Full k) at left beyond came =
         let more = drop (i + 1) s.script.schedule in
         let split : drop i s.script.schedule ≡ l ∷ more = line_at s.script.schedule i l at in
-        let rest = (all_at is_turns s.script.schedule i l only at).1 in
-        let done : line_run s.script g l ≡ h = sym (full_lines s.script more (line_run s.script g l) rest came.1) ∙ sym (ap (fold (line_run s.script) g) split) ∙ left in (
+        let done : line_run s.script g l ≡ h = sym (full_lines s.script more (line_run s.script g l) came.1) ∙ sym (ap (fold (line_run s.script) g) split) ∙ left in (
           came.0,
           sym (ap length done) ∙ came.1,
           came.2 ∙ ap (λ x. halted_by (with_history s x) (StepError.Full k)) done,

@@ -1,6 +1,5 @@
 -- What a turn makes of a machine, and a schedule's turns in order.
 use Rattle.std.specs.Prelude.{◌≡◌, ℕ, ◌<◌, Bool, true, false, not, ◌&&◌, Option, Some, None, Result, Ok, Err, List, length, ⊤}
-use Rattle.hm_base.specs.declared.ops.ScheduleLine.{ScheduleLine}
 use Rattle.hm_history.specs.Due.{due}
 use Rattle.hm_history.specs.Run.{has_room, added, is_entry}
 use Rattle.hm_history.specs.declared.Entry.{Entry}
@@ -41,11 +40,6 @@ AddsTo t p (Err NoMemory) u = u ≡ halted_by t NoMemory
 
 abbrev pub Adds : Told → ℕ → Result Bool StepError → Told → Type 0
 Adds t a r u = AddsTo t (due t.script t.history a) r u
-
--- no line of the schedule drains
-abbrev pub is_turns : ScheduleLine → Bool
-is_turns (ScheduleLine.Run a n) = true
-is_turns ScheduleLine.Drain = false
 
 -- it came to this history, with no turn beyond a full one, or with one; or memory ran out on the way
 abbrev pub CameTo : Told → List Entry → Bool → Result ⊤ StepError → Told → Type 0

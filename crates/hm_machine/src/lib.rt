@@ -1,15 +1,14 @@
 // The machine of a script: a world, and the turns of its actors.
 #![tactic(auto)]
 
-ghost use Rattle.std.specs.Prelude.{◌≡◌, ◌<◌, length, slice_get, IfOk, None, Some, true};
-ghost use Rattle.std.specs.List.{list_all};
+ghost use Rattle.std.specs.Prelude.{◌≡◌, ◌<◌, ◌≤◌, length, slice_get, IfOk, None, Some, false};
+ghost use Rattle.hm_base.specs.declared.ops.ScheduleLine.{ScheduleLine};
 ghost use Rattle.hm_history.specs.Due.{due};
-ghost use Rattle.hm_history.specs.Run.{run, turns, line_run};
+ghost use Rattle.hm_history.specs.Run.{run, turns, turns_on, round, drained, enough, has_room, actors_of, line_run};
 ghost use Rattle.hm_history.specs.declared.Progress.{Progress};
-ghost use Rattle.hm_laws.specs.Basic.{IsBasic};
 ghost use Rattle.hm_world.specs.Told.{opening, halted_by, MayHalt};
-ghost use Rattle.hm_machine.specs.Overrun.{overruns, overruns_line, overruns_turns};
-ghost use Rattle.hm_machine.specs.Turning.{Turned, TurnsTo, Adds, CameTo, is_turns};
+ghost use Rattle.hm_machine.specs.Overrun.{overruns, overruns_line, overruns_turns, some_overruns};
+ghost use Rattle.hm_machine.specs.Turning.{Turned, TurnsTo, Adds, CameTo};
 
 use hm_base::{Actor, NoMemory, ScheduleLine, Script};
 use hm_history::{Entry, History, Progress, StepError, Why};
@@ -50,7 +49,6 @@ impl Model for Machine {
 impl Machine {
     /// The machine before the first turn.
     pub fn new(alloc: Global, script: Script) -> Result<Machine, NoMemory>
-        requires { IsBasic script }
         ensures { IfOk result (λ machine. machine ≡ opening script) }
     {
         Ok(Machine {
@@ -141,6 +139,90 @@ impl Machine {
         Ok(())
     }
 
+    fn entries(&self) -> u64
+        ensures { result ≡ length self.now.history }
+    {
+        self.world.history().len()
+    }
+
+    fn has_room(&self) -> bool
+        ensures { result ≡ has_room self.now.history }
+    {
+        self.entries() < MOST_ENTRIES
+    }
+
+    fn actors(&self) -> u32
+        ensures count { result ≡ length self.now.script.actors }
+        ensures few { result ≤ 16 }
+    {
+        self.world.stands();
+        self.world.script().actors.len() as u32
+    }
+
+    /// Turns of one actor until it waits or is idle, or the history is full, which is no error here.
+    fn turns_on(&mut self, actor: Actor) -> Result<(), StepError>
+        requires { self.old.halted ≡ None }
+        ensures { CameTo self.old (turns_on self.old.script self.old.history actor enough) false result self.new }
+    {
+        for turn in 0..MOST_ENTRIES {
+            if !self.has_room() || !self.adds(actor)? {
+                return Ok(());
+            }
+        }
+        Ok(())
+    }
+
+    /// A round: each actor in order takes turns until it waits or is idle, or the history is full.
+    fn round(&mut self) -> Result<(), StepError>
+        requires { self.old.halted ≡ None }
+        ensures { CameTo self.old (round self.old.script self.old.history) false result self.new }
+    {
+        for number in 0..self.actors() {
+            self.turns_on(Actor::new(number))?;
+        }
+        Ok(())
+    }
+
+    /// Rounds until all actors are idle or the history is full. Where either holds a round adds nothing, and after a
+    /// round that adds nothing none does, so the first such round is the last, and nothing else is asked.
+    fn rounds(&mut self) -> Result<(), StepError>
+        requires { self.old.halted ≡ None }
+        ensures { CameTo self.old (drained self.old.script self.old.history enough) false result self.new }
+    {
+        for round in 0..MOST_ENTRIES {
+            let entries = self.entries();
+            self.round()?;
+            if self.entries() == entries {
+                return Ok(());
+            }
+        }
+        Ok(())
+    }
+
+    /// A turn of each actor at a full history: an error where one has an entry due.
+    fn turns_beyond(&mut self) -> Result<(), StepError>
+        requires running { self.old.halted ≡ None }
+        requires full { has_room self.old.history ≡ false }
+        ensures { CameTo self.old self.old.history (some_overruns self.old.script self.old.history (actors_of self.old.script)) result self.new }
+    {
+        for number in 0..self.actors() {
+            self.adds(Actor::new(number))?;
+        }
+        Ok(())
+    }
+
+    /// Rounds until nothing is left to do. An error where that filled the history and some actor has an entry due.
+    fn drain(&mut self) -> Result<(), StepError>
+        requires { self.old.halted ≡ None }
+        ensures { CameTo self.old (line_run self.old.script self.old.history ScheduleLine.Drain) (overruns_line self.old.script self.old.history ScheduleLine.Drain) result self.new }
+    {
+        self.rounds()?;
+        if self.has_room() {
+            return Ok(());
+        }
+        self.turns_beyond()
+    }
+
     fn lines(&self) -> u64
         ensures { result ≡ length self.now.script.schedule }
     {
@@ -158,20 +240,18 @@ impl Machine {
     }
 
     fn run_line(&mut self, line: ScheduleLine) -> Result<(), StepError>
-        requires running { self.old.halted ≡ None }
-        requires turns { is_turns line ≡ true }
+        requires { self.old.halted ≡ None }
         ensures { CameTo self.old (line_run self.old.script self.old.history line) (overruns_line self.old.script self.old.history line) result self.new }
     {
         match line {
             ScheduleLine::Run { actor, count } => self.turns(actor, count),
-            ScheduleLine::Drain => unreachable!(),
+            ScheduleLine::Drain => self.drain(),
         }
     }
 
-    /// The turns of the script's schedule, in order.
+    /// The lines of the script's schedule, in order.
     pub fn replay(&mut self) -> Result<(), StepError>
-        requires opening { self.old ≡ opening self.old.script }
-        requires turns { list_all is_turns self.old.script.schedule ≡ true }
+        requires { self.old ≡ opening self.old.script }
         ensures { CameTo self.old (run self.old.script) (overruns self.old.script) result self.new }
     {
         for at in 0..self.lines() {

@@ -1,22 +1,15 @@
 // Two actors on one machine.
-ghost use Rattle.std.specs.Prelude.{◌≡◌, IfOk, true};
-ghost use Rattle.std.specs.List.{list_all};
-ghost use Rattle.hm_laws.specs.Basic.{IsBasic};
-ghost use Rattle.hm_machine.specs.Turning.{is_turns};
-
 use crate::{Machine, Turn};
 use hm_base::{
     Actor, ActorLists, Bytes, DeviceList, Op, OpList, Page, Proc, Rights, Schedule, ScheduleLine,
     Script, Span, Version,
 };
+use hm_history::History;
 use std::alloc::Global;
 use std::test::Fail;
 
 /// One actor maps a page, and then another stores to it.
-fn script(alloc: Global) -> Result<Script, Fail>
-    ensures basic { IfOk result (λ s. IsBasic s) }
-    ensures turns { IfOk result (λ s. list_all is_turns s.schedule ≡ true) }
-{
+fn script(alloc: Global) -> Result<Script, Fail> {
     let mut maps = OpList::new(alloc);
     maps.push(Op::Map {
         proc: Proc::new(0),
@@ -77,5 +70,57 @@ fn takes_turns(rt: HostRuntime) -> Result<(), Fail> {
     assert!(rt; !has_added(&mut machine, maps));
     assert!(rt; has_added(&mut machine, stores));
     assert_eq!(rt; machine.world().history().len(), 3);
+    Ok(())
+}
+
+/// Two actors map a page each. The second takes the mmap lock first, and then both are drained.
+fn drained_script(alloc: Global) -> Result<Script, Fail> {
+    let mut first = OpList::new(alloc);
+    first.push(Op::Map {
+        proc: Proc::new(0),
+        span: Span::new(Page::new(16), 1),
+        rights: Rights::ReadWrite,
+    })?;
+    let mut second = OpList::new(alloc);
+    second.push(Op::Map {
+        proc: Proc::new(0),
+        span: Span::new(Page::new(20), 1),
+        rights: Rights::ReadWrite,
+    })?;
+    let mut actors = ActorLists::new(alloc);
+    actors.push(first)?;
+    actors.push(second)?;
+    let mut schedule = Schedule::new(alloc);
+    schedule.push(ScheduleLine::Run {
+        actor: Actor::new(1),
+        count: 1,
+    })?;
+    schedule.push(ScheduleLine::Drain)?;
+    Ok(Script {
+        version: Version::One,
+        frames: 0,
+        devices: DeviceList::new(alloc),
+        skip: 0,
+        actors,
+        schedule,
+    })
+}
+
+fn is_of(history: &History, at: u64, actor: u32) -> bool {
+    match history.get(at) {
+        Some(entry) => entry.actor.number() == actor,
+        None => false,
+    }
+}
+
+/// In the first round the first actor waits for the second, and it maps its page in the second.
+#[test]
+fn drains_both_actors(rt: HostRuntime) -> Result<(), Fail> {
+    let mut machine = Machine::new(rt.alloc(), drained_script(rt.alloc())?)?;
+    assert!(rt; machine.replay().is_ok());
+    let (_, history) = machine.into_parts();
+    assert_eq!(rt; history.len(), 4);
+    assert!(rt; is_of(&history, 1, 1));
+    assert!(rt; is_of(&history, 2, 0));
     Ok(())
 }

@@ -1,0 +1,13 @@
+use Rattle.std.proofs.Common.{◌<◌, ◌≤◌, length, refl, arith}
+use Rattle.hm_machine.proofs.Draining.{round_goes, round_ends}
+use Rattle.hm_machine.proofs.Machine.round.Goals as goal
+
+pub loop-number-preserved : goal.loop-number-preserved
+loop-number-preserved c =
+    let few : c.loop-number.number < length c.args.self.now.script.actors = omega arith in
+    round_goes c.args.self.now c.loop-number.self c.turns_on.new.self c.new.result c.loop-number.number c.in_ok-turns_on.field-0 _ c.loop-number.invariant few c.new.ensures c.in_ok-turns_on.ensures
+
+pub returns : goal.returns
+returns c =
+    let many : length c.args.self.now.script.actors ≤ c.loop-number.number = omega arith in
+    (round_ends c.args.self.now c.loop-number.self c.loop-number.number _ c.loop-number.invariant many, refl)
