@@ -146,22 +146,17 @@ fn numbers_of_version_two_are_in_range(rt: HostRuntime) -> Result<(), Fail> {
     Ok(())
 }
 
-/// Lines with a word that is not run yet, where they stand, and the line that is refused. What
-/// becomes one of the built words leaves this list.
-const NOT_BUILT: [(usize, &[u8], u64); 8] = [
-    (6, b"todev 0 16 1", 6),
-    (6, b"tosys 0 16 1", 6),
+/// Lines with a word that a smaller set has not, where they stand, and the line that is refused.
+const NOT_THERE: [(usize, &[u8], u64); 3] = [
     (6, b"evict 0", 6),
-    (6, b"remove 0", 6),
-    (6, b"exclusive 0 16", 6),
-    (6, b"dadd 0 0x10000 1", 6),
     (2, b"frames 4\nskip 16", 3),
     (8, b"drain", 8),
 ];
 
 /// Lines with words that are run.
-const BUILT: [(usize, &[u8]); 11] = [
+const BUILT: [(usize, &[u8]); 16] = [
     (2, b"frames 4\ndevice 0 8"),
+    (2, b"frames 4\nskip 16"),
     (6, b"unmap 0 16 1"),
     (6, b"protect 0 16 1 r"),
     (6, b"fork 0 1"),
@@ -170,19 +165,30 @@ const BUILT: [(usize, &[u8]); 11] = [
     (6, b"dload 0 0x10000 1"),
     (6, b"dstore 0 0x10000 41"),
     (6, b"snap 0 16 1"),
+    (6, b"todev 0 16 1"),
+    (6, b"tosys 0 16 1"),
+    (1, b"hmm 2"),
     (6, b"actor 1"),
     (7, b"turns 0 20\nturns 0 1"),
+    (8, b"drain"),
 ];
 
 #[test]
-fn words_that_are_not_run_are_bad_words(rt: HostRuntime) -> Result<(), Fail> {
-    let built = Words::built();
-    for (at, line, refused) in &NOT_BUILT {
+fn words_that_are_not_there_are_bad_words(rt: HostRuntime) -> Result<(), Fail> {
+    let mut few = Words::all();
+    few.evict = false;
+    few.skip = false;
+    few.drain = false;
+    for (at, line, refused) in &NOT_THERE {
         let text = changed(&rt, *at, line)?;
-        assert_eq!(rt; refusal(&rt, text.as_slice(), &built), (*refused, 3));
+        assert_eq!(rt; refusal(&rt, text.as_slice(), &few), (*refused, 3));
     }
-    let text = changed(&rt, 1, b"hmm 2")?;
-    assert_eq!(rt; refusal(&rt, text.as_slice(), &built), (1, 1));
+    Ok(())
+}
+
+#[test]
+fn words_that_are_run(rt: HostRuntime) -> Result<(), Fail> {
+    let built = Words::built();
     for (at, line) in &BUILT {
         let text = changed(&rt, *at, line)?;
         assert_eq!(rt; refusal(&rt, text.as_slice(), &built), (0, 0));
