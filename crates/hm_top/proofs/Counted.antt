@@ -5,7 +5,7 @@ use Rattle.hm_base.specs.declared.ops.Op.{Op}
 use Rattle.hm_history.proofs.RunLemmas.{DueFrom-append}
 use Rattle.hm_history.specs.After.{After, after}
 use Rattle.hm_history.specs.Going.{op_at, state_of}
-use Rattle.hm_history.specs.Due.{due, due_top}
+use Rattle.hm_history.specs.Due.{due_top}
 use Rattle.hm_history.specs.Laws.{DueFrom, RunsAreDue}
 use Rattle.hm_history.specs.Run.{run}
 use Rattle.hm_history.specs.declared.Entry.{Entry}
@@ -20,7 +20,7 @@ use Rattle.hm_laws.specs.Stands.{Stands}
 use Rattle.hm_report.specs.Counted.{EndsAreCounted, EndsOfDueAreCounted, NoStrays, is_stray}
 
 -- an eviction drops no frame that it has come to: it has none locked there
-no_stray : (c : Program) (s u : After) (t : Past) (a : ℕ) (x : Option Op) (xs : List Migrating) (st : List Phase) (e : Entry) (k : Kind) → Allowed c s t a k → HoldsAll s t a (facts_of x st) → due_top c u a x xs st ≡ Progress.Did e → is_stray st k ≡ false
+no_stray : (c : Program) (s u : After) (t : Past) (a : ℕ) (x : Option Op) (xs : List Migrating) (st : List Phase) (e : Entry) (k : Kind) → Allowed c s t a k → HoldsAll s t a (facts_of x xs st) → due_top c u a x xs st ≡ Progress.Did e → is_stray st k ≡ false
 no_stray c s u t a None xs st e k ok h d = absurd (idle d)
   where
     idle : Progress.Idle ≡ Progress.Did e → ⊥

@@ -1,2 +1,3 @@
-mod Words
 mod Counted
+mod Rounds
+mod Drains

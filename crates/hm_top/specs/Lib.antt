@@ -1,3 +1,4 @@
 pub mod Streams
 pub mod Replay
+pub mod Drained
 pub mod Messages

@@ -126,7 +126,7 @@ fn refused_scripts(rt: HostRuntime) -> Result<(), Fail> {
     assert_eq!(rt; sink.held().len(), 0);
     let (ended, _) = replayed(rt.alloc(), &[])?;
     told(&rt, rt.alloc(), &ended, 3, "script line 1: bad header")?;
-    let (ended, _) = replayed(rt.alloc(), &["hmm 1", "frames 1", "actor 0", "evict 0"])?;
+    let (ended, _) = replayed(rt.alloc(), &["hmm 1", "frames 1", "actor 0", "evicted 0"])?;
     told(&rt, rt.alloc(), &ended, 3, "script line 4: bad word")
 }
 

@@ -1,13 +1,12 @@
 // The top call.
 ghost use Rattle.std.specs.Prelude.{◌≡◌, ◌≢◌, ◌⊎◌, ◌↔◌, ◌≤◌, IfSome, IfOk, IsTrue, Some, None, true, false, [], ◌∷◌, map, codes, string_bytes, length};
-ghost use Rattle.std.specs.List.{list_all};
 ghost use Rattle.hm_history.specs.Legal.{Legal};
 ghost use Rattle.hm_history.specs.Run as runs;
 ghost use Rattle.hm_io.specs.Streams.{Rose, Adds, AddsFront};
-ghost use Rattle.hm_machine.specs.Turning.{is_turns};
 ghost use Rattle.hm_report.specs.Counted.{EndsAreCounted};
 ghost use Rattle.hm_script.specs.Built.{IsBuilt};
 ghost use Rattle.hm_world.specs.Told.{opening};
+ghost use Rattle.hm_top.specs.Drained.{IsDrained};
 ghost use Rattle.hm_top.specs.Replay.{IsTextOf, IsRunOf, IsLegalFor, IsFullFor, IsWithin, IsRefusalOf, report_for, Replayed, HasReported, HasRun, HasEnded, IsStatus};
 ghost use Rattle.hm_top.specs.Streams.{LeftOver};
 
@@ -58,8 +57,7 @@ struct Ran {
 
 /// Makes the schedule's turns, and says whether one found the history full and an entry due.
 fn is_full(machine: &mut Machine) -> Result<bool, NoMemory>
-    requires opening { machine.old ≡ opening machine.old.script }
-    requires turns { list_all is_turns machine.old.script.schedule ≡ true }
+    requires { machine.old ≡ opening machine.old.script }
     ensures { IfOk result (Replayed machine.old machine.new) }
 {
     match machine.replay() {
@@ -78,10 +76,12 @@ fn run_script(alloc: Global, script: Script) -> Result<Ran, NoMemory>
     ensures counted { IfOk result (λ r. EndsAreCounted script r.history.entries) }
     ensures full { IfOk result (λ r. r.full ≡ true → IsFullFor (Some script) r.history.entries) }
     ensures within { IfOk result (λ r. r.full ≡ false → IsWithin (Some script)) }
+    ensures ended { IfOk result (λ r. r.full ≡ false → IsDrained (Some script) r.history.entries) }
 {
     script.fits();
     hm_laws::every_run_is_legal();
     hm_laws::history_stands();
+    hm_laws::never_stuck();
     hm_history::laws::runs_are_due();
     hm_report::ends_are_counted();
     let mut machine = Machine::new(alloc, script)?;
@@ -104,6 +104,7 @@ fn answer<K: Sink>(alloc: Global, script: Script, sink: &mut K) -> Ended
     ensures legal { HasRun result.status → Legal script result.history.entries }
     ensures full { result.status ≡ 7 → IsFullFor (Some script) result.history.entries }
     ensures within { result.status ≡ 0 → IsWithin (Some script) }
+    ensures ended { result.status ≡ 0 → IsDrained (Some script) result.history.entries }
     ensures written { HasReported result.status → Adds (K.held sink.old) (K.held sink.new) (report_for (Some script) result.history.entries) }
     ensures front { result.status ≡ 5 → AddsFront (K.held sink.old) (K.held sink.new) (report_for (Some script) result.history.entries) }
     ensures write_fault { result.status ≡ 5 → Rose (K.failures sink.old) (K.failures sink.new) }
@@ -143,6 +144,7 @@ fn replay<S: Source, K: Sink>(alloc: Global, source: &mut S, sink: &mut K) -> En
     ensures legal { HasRun result.status → IsLegalFor result.script result.history.entries }
     ensures full { result.status ≡ 7 → IsFullFor result.script result.history.entries }
     ensures fits { result.status ≡ 0 → IsWithin result.script }
+    ensures ended { result.status ≡ 0 → IsDrained result.script result.history.entries }
     ensures written { HasReported result.status → Adds (K.held sink.old) (K.held sink.new) (report_for result.script result.history.entries) }
     ensures front { result.status ≡ 5 → AddsFront (K.held sink.old) (K.held sink.new) (report_for result.script result.history.entries) }
     ensures refused { result.status ≡ 3 → IfSome (S.left source.old) (IsRefusalOf BUILT_WORDS result.refused) }
@@ -203,13 +205,15 @@ pub fn run<S: Source, K: Sink>(
 
     // At 0 and 7, and at 5 but for the end of the report: the bytes read are the text of the script in the answer,
     // nothing is left, the history is the script's run and legal for it, and the bytes written are its report. 7 comes
-    // exactly where a turn of the schedule found an entry due and the history full.
+    // exactly where a turn of the schedule found an entry due and the history full. At 0 every actor is done, where the
+    // schedule has a `drain`.
     ensures read { HasRun result.status → IfSome (S.left source.old) (IsTextOf result.script) }
     ensures rest { HasEnded result.status → IfSome (S.left source.old) (λ _. S.left source.new ≡ Some []) }
     ensures run { HasRun result.status → IsRunOf result.script result.history.entries }
     ensures legal { HasRun result.status → IsLegalFor result.script result.history.entries }
     ensures full { result.status ≡ 7 → IsFullFor result.script result.history.entries }
     ensures fits { result.status ≡ 0 → IsWithin result.script }
+    ensures ended { result.status ≡ 0 → IsDrained result.script result.history.entries }
     ensures written { HasReported result.status → Adds (K.held sink.old) (K.held sink.new) (report_for result.script result.history.entries) }
     ensures front { result.status ≡ 5 → AddsFront (K.held sink.old) (K.held sink.new) (report_for result.script result.history.entries) }
 
