@@ -172,7 +172,7 @@ impl Areas {
     pub fn copy_from(&mut self, other: &Areas)
         ensures { self.new ≡ other.now }
     {
-        self.areas.clear();
+        self.clear();
         match self.areas.extend_from_slice(&other.areas) {
             Ok(()) => (),
             Err(_) => unreachable!(),
