@@ -11,15 +11,18 @@ last_of s = s.first + s.count
 
 -- an area from a page up to another, where that is not empty
 abbrev pub part : ℕ → ℕ → Rights → List Area
-part from upto r = if nat_lt from upto then record { span = record { first = from; count = upto - from }; rights = r } ∷ [] else []
+part from upto r =
+    if nat_lt from upto then record { span = record { first = from; count = upto - from }; rights = r } ∷ [] else []
 
--- the parts of an area before, inside and after a span
+-- the part of an area before a span
 abbrev pub before : Pages → Area → List Area
 before r a = part a.span.first (min (last_of a.span) r.first) a.rights
 
+-- the part of it inside the span, with this right
 abbrev pub inside : Pages → Rights → Area → List Area
 inside r w a = part (max a.span.first r.first) (min (last_of a.span) (last_of r)) w
 
+-- the part of it after the span
 abbrev pub behind : Pages → Area → List Area
 behind r a = part (max a.span.first (last_of r)) (last_of a.span) a.rights
 

@@ -9,6 +9,7 @@ use Rattle.hm_base.specs.declared.ops.ScheduleLine.TheVariants.{Run, Drain}
 use Rattle.hm_base.specs.declared.ops.Version.{Version}
 use Rattle.hm_base.specs.declared.ops.Version.TheVariants.{One, Two}
 
+-- a script: its frames, devices, skip number, actors with their operations, and schedule
 pub record Program : Type 0 where
   pub version : Version
   pub frames : ℕ
@@ -59,6 +60,7 @@ op_bytes (Store p a b) = b
 op_bytes (DeviceStore m a b) = b
 op_bytes _ = []
 
+-- the operation's numbers are in range, its device is declared, and its bytes are bytes
 abbrev pub op_fits : ℕ → Op → Bool
 op_fits devices op = op_in_range op && (op_declared devices op && list_all (λ b. nat_lt b 256) (op_bytes op))
 
@@ -68,6 +70,7 @@ is_new_op (Exclusive m v) = true
 is_new_op (Add m a k) = true
 is_new_op _ = false
 
+-- the version with all 18 operations
 abbrev pub is_version_two : Version → Bool
 is_version_two One = false
 is_version_two Two = true

@@ -2,15 +2,25 @@
 #![tactic(auto)]
 
 ghost use Rattle.std.specs.Prelude.{◌≡◌, ◌<◌, ◌^◌, IsTrue, true};
+ghost use Rattle.hm_base.specs.declared.limits.TheConstants.{MOST_ACTORS, MOST_DEVICES, MOST_MIRRORS, MOST_PROCESSES};
 
+use std::alloc::{AllocError, AllocFailed};
 use std::marker::Model;
 
 mod area;
+mod cause;
+pub mod frames;
+mod limits;
 mod lists;
 mod ops;
 mod snap;
 
 pub use area::Area;
+pub use cause::Cause;
+pub use limits::{
+    MOST_ACTORS, MOST_AREAS, MOST_DEVICES, MOST_ENTRIES, MOST_MIRRORS, MOST_PROCESSES,
+    MOST_SCRIPT_BYTES, PAGE_BYTES,
+};
 pub use lists::{ActorLists, Bytes, DeviceList, MaskList, Masks, OpList, Schedule, Text};
 pub use ops::{Op, Rights, ScheduleLine, Script, Version};
 pub use snap::snap_code;
@@ -18,6 +28,18 @@ pub use snap::snap_code;
 /// Want of memory: the allocator gave none, and the value that was asked is as it was.
 #[derive(Clone, Copy, PartialEq, Eq, Debug)]
 pub struct NoMemory;
+
+impl From<AllocError> for NoMemory {
+    fn from(_error: AllocError) -> NoMemory {
+        NoMemory
+    }
+}
+
+impl<T: Drop> From<AllocFailed<T>> for NoMemory {
+    fn from(_failed: AllocFailed<T>) -> NoMemory {
+        NoMemory
+    }
+}
 
 /// A page number: an address divided by 4,096. It is below 2^36, four table levels of nine bits.
 #[derive(Clone, Copy, PartialEq, Eq, PartialOrd, Ord, Debug)]
@@ -36,13 +58,14 @@ impl Model for Page {
 }
 
 impl Page {
-    /// Gives the bound of a page where only its value is at hand; it does nothing.
-    pub fn below(self)
+    /// Costs nothing: it hands the prover the invariant.
+    pub fn facts(self)
         ensures { self < 2 ^ 36 }
     {
         let _ = &self.0;
     }
 
+    /// The page of this number.
     pub fn new(number: u64) -> Page
         requires { number < 2 ^ 36 }
         ensures { result ≡ number }
@@ -50,6 +73,7 @@ impl Page {
         Page(number)
     }
 
+    /// Its number.
     pub fn number(self) -> u64
         ensures same { result ≡ self }
         ensures below { result < 2 ^ 36 }
@@ -63,28 +87,38 @@ impl Page {
 pub struct Proc(u32);
 
 impl Model for Proc {
-    ghost use Rattle.std.specs.Prelude.{ℕ, ◌<◌, ◌^◌};
+    ghost use Rattle.std.specs.Prelude.{ℕ, ◌<◌};
+    ghost use Rattle.hm_base.specs.declared.limits.TheConstants.{MOST_PROCESSES};
 
     ghost Value = { ℕ };
 
     ghost view = { λ x. x.0 };
 
-    ghost invariant = { λ x. x.0 < 32 };
+    ghost invariant = { λ x. x.0 < MOST_PROCESSES };
 
     ghost inverse = { λ n. record { 0 = n } };
 }
 
 impl Proc {
+    /// The process of this number.
     pub fn new(number: u32) -> Proc
-        requires { number < 32 }
+        requires { number < MOST_PROCESSES }
         ensures { result ≡ number }
     {
         Proc(number)
     }
 
+    /// Costs nothing: it hands the prover the invariant.
+    pub fn facts(self)
+        ensures { self < MOST_PROCESSES }
+    {
+        let _ = &self.0;
+    }
+
+    /// Its number.
     pub fn number(self) -> u32
         ensures same { result ≡ self }
-        ensures below { result < 32 }
+        ensures below { result < MOST_PROCESSES }
     {
         self.0
     }
@@ -95,28 +129,31 @@ impl Proc {
 pub struct Dev(u32);
 
 impl Model for Dev {
-    ghost use Rattle.std.specs.Prelude.{ℕ, ◌<◌, ◌^◌};
+    ghost use Rattle.std.specs.Prelude.{ℕ, ◌<◌};
+    ghost use Rattle.hm_base.specs.declared.limits.TheConstants.{MOST_DEVICES};
 
     ghost Value = { ℕ };
 
     ghost view = { λ x. x.0 };
 
-    ghost invariant = { λ x. x.0 < 4 };
+    ghost invariant = { λ x. x.0 < MOST_DEVICES };
 
     ghost inverse = { λ n. record { 0 = n } };
 }
 
 impl Dev {
+    /// The device of this number.
     pub fn new(number: u32) -> Dev
-        requires { number < 4 }
+        requires { number < MOST_DEVICES }
         ensures { result ≡ number }
     {
         Dev(number)
     }
 
+    /// Its number.
     pub fn number(self) -> u32
         ensures same { result ≡ self }
-        ensures below { result < 4 }
+        ensures below { result < MOST_DEVICES }
     {
         self.0
     }
@@ -128,28 +165,31 @@ impl Dev {
 pub struct MirrorId(u32);
 
 impl Model for MirrorId {
-    ghost use Rattle.std.specs.Prelude.{ℕ, ◌<◌, ◌^◌};
+    ghost use Rattle.std.specs.Prelude.{ℕ, ◌<◌};
+    ghost use Rattle.hm_base.specs.declared.limits.TheConstants.{MOST_MIRRORS};
 
     ghost Value = { ℕ };
 
     ghost view = { λ x. x.0 };
 
-    ghost invariant = { λ x. x.0 < 32 };
+    ghost invariant = { λ x. x.0 < MOST_MIRRORS };
 
     ghost inverse = { λ n. record { 0 = n } };
 }
 
 impl MirrorId {
+    /// The mirror of this number.
     pub fn new(number: u32) -> MirrorId
-        requires { number < 32 }
+        requires { number < MOST_MIRRORS }
         ensures { result ≡ number }
     {
         MirrorId(number)
     }
 
+    /// Its number.
     pub fn number(self) -> u32
         ensures same { result ≡ self }
-        ensures below { result < 32 }
+        ensures below { result < MOST_MIRRORS }
     {
         self.0
     }
@@ -160,28 +200,31 @@ impl MirrorId {
 pub struct Actor(u32);
 
 impl Model for Actor {
-    ghost use Rattle.std.specs.Prelude.{ℕ, ◌<◌, ◌^◌};
+    ghost use Rattle.std.specs.Prelude.{ℕ, ◌<◌};
+    ghost use Rattle.hm_base.specs.declared.limits.TheConstants.{MOST_ACTORS};
 
     ghost Value = { ℕ };
 
     ghost view = { λ x. x.0 };
 
-    ghost invariant = { λ x. x.0 < 16 };
+    ghost invariant = { λ x. x.0 < MOST_ACTORS };
 
     ghost inverse = { λ n. record { 0 = n } };
 }
 
 impl Actor {
+    /// The actor of this number.
     pub fn new(number: u32) -> Actor
-        requires { number < 16 }
+        requires { number < MOST_ACTORS }
         ensures { result ≡ number }
     {
         Actor(number)
     }
 
+    /// Its number.
     pub fn number(self) -> u32
         ensures same { result ≡ self }
-        ensures below { result < 16 }
+        ensures below { result < MOST_ACTORS }
     {
         self.0
     }
@@ -225,6 +268,7 @@ impl Model for Span {
 impl Span {
     ghost use Rattle.hm_base.specs.Pages.{IsSpan};
 
+    /// So many pages from this one on.
     pub fn new(first: Page, count: u64) -> Span
         requires { IsSpan (record { first = first; count = count }) }
         ensures { result ≡ record { first = first; count = count } }
@@ -232,6 +276,14 @@ impl Span {
         Span { first, count }
     }
 
+    /// Costs nothing: it hands the prover the invariant.
+    pub fn facts(self)
+        ensures { IsSpan self }
+    {
+        let _ = &self.count;
+    }
+
+    /// The first page.
     pub fn first(self) -> Page
         ensures same { result ≡ self.first }
         ensures span { IsSpan self }
@@ -239,6 +291,7 @@ impl Span {
         self.first
     }
 
+    /// How many pages it has.
     pub fn count(self) -> u64
         ensures same { result ≡ self.count }
         ensures span { IsSpan self }
@@ -302,73 +355,27 @@ impl Place {
 
     /// The same place without the write right; an exclusive page is then a read-only system page.
     pub fn narrowed(self) -> Place
-        requires { IsTrue (writable self) }
         ensures { result ≡ narrowed self }
     {
         match self {
-            Place::Empty => Place::Empty,
-            Place::Zero => Place::Zero,
-            Place::Sys {
-                number,
-                writable: _,
-            } => Place::Sys {
+            Place::Empty | Place::Zero => self,
+            Place::Sys { number, .. } => Place::Sys {
                 number,
                 writable: false,
             },
-            Place::Own {
-                dev,
-                number,
-                writable: _,
-            } => Place::Own {
+            Place::Own { dev, number, .. } => Place::Own {
                 dev,
                 number,
                 writable: false,
             },
-            Place::Moving { frame, writable: _ } => Place::Moving {
+            Place::Moving { frame, .. } => Place::Moving {
                 frame,
                 writable: false,
             },
-            Place::Exclusive { number, actor: _ } => Place::Sys {
+            Place::Exclusive { number, .. } => Place::Sys {
                 number,
                 writable: false,
             },
         }
-    }
-}
-
-#[cfg(test)]
-mod tests {
-    use super::*;
-    use std::test::Fail;
-
-    fn own_page() -> Place
-        ensures { result ≡ Place.Own 1 7 true }
-    {
-        Place::Own {
-            dev: Dev::new(1),
-            number: 7,
-            writable: true,
-        }
-    }
-
-    #[test]
-    fn codes_of_a_snapshot(rt: HostRuntime) {
-        assert_eq!(rt; snap_code(own_page(), Dev::new(1)), 0x22);
-        assert_eq!(rt; snap_code(own_page().narrowed(), Dev::new(1)), 0x21);
-        assert_eq!(rt; snap_code(own_page(), Dev::new(0)), 0);
-        assert_eq!(rt; snap_code(Place::Zero, Dev::new(1)), 0x11);
-    }
-
-    #[test]
-    fn lists_grow(rt: HostRuntime) -> Result<(), Fail> {
-        let mut bytes = Bytes::from_slice(rt.alloc(), &[1, 2])?;
-        bytes.extend(&[3])?;
-        bytes.push(4)?;
-        assert_eq!(rt; bytes.as_slice(), [1, 2, 3, 4].as_slice());
-        let mut actors = ActorLists::new(rt.alloc());
-        actors.push(OpList::new(rt.alloc()))?;
-        actors.push_to_last(Op::Exit { proc: Proc::new(5) })?;
-        assert_eq!(rt; actors.len(), 1);
-        Ok(())
     }
 }

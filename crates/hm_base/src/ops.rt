@@ -164,8 +164,8 @@ impl Model for Script {
 impl Script {
     ghost use Rattle.hm_base.specs.Program.{IsScript};
 
-    /// Gives what keeps a script in range where only its value is at hand; it does nothing.
-    pub fn fits(&self)
+    /// Costs nothing: it hands the prover the invariant.
+    pub fn facts(&self)
         ensures { IsScript self.now }
     {
         let _ = &self.frames;

@@ -8,6 +8,7 @@ use Rattle.hm_history.specs.Going.{state_of}
 use Rattle.hm_history.specs.Due.{due, due_top, due_phase, progress}
 use Rattle.hm_history.specs.Run.{enough, has_room, added, turn, turns, turns_on, actors_of, round, drained, line_run}
 use Rattle.hm_history.specs.Laws.{DueFrom, RunsAreDue}
+use Rattle.hm_history.specs.Legal.{LegalFrom}
 use Rattle.hm_history.specs.declared.Entry.{Entry}
 use Rattle.hm_history.specs.declared.Progress.{Progress}
 use Rattle.hm_history.specs.declared.phases.Migrating.{Migrating}
@@ -74,3 +75,8 @@ lines_due c (l ∷ ls) h d = lines_due c ls (line_run c h l) (line_due c h l d)
 
 pub runs_due : RunsAreDue
 runs_due c = lines_due c c.schedule [] tt
+
+-- each entry of a legal history was due
+pub legal_due : (c : Program) (h es : List Entry) → LegalFrom c h es → DueFrom c h es
+legal_due c h [] l = l
+legal_due c h (e ∷ es) l = (l.0.is_due, legal_due c (h ++ e ∷ []) es l.1)

@@ -1,12 +1,13 @@
 -- The bytes that frames hold. No entry is due, or refused, because of them: that they are the plain bytes is a law.
-use Rattle.std.specs.Prelude.{ℕ, ◌+◌, ◌*◌, Bool, true, false, ◌&&◌, nat_le, nat_lt, if◌then◌else◌, Option, Some, None, unwrap_or, List, [], ◌∷◌}
+use Rattle.std.specs.Prelude.{ℕ, ◌+◌, ◌*◌, ◌&&◌, nat_le, nat_lt, if◌then◌else◌, Option, Some, None, unwrap_or, List, [], ◌∷◌}
 use Rattle.hm_base.specs.declared.Frame.{Frame}
 use Rattle.hm_base.specs.declared.Place.{Place}
 use Rattle.hm_history.specs.Words.{with_frame, page_of}
-use Rattle.hm_history.specs.Plain.{Plain, proc_of, mirror_proc, written}
+use Rattle.hm_history.specs.Plain.{Plain, proc_of, mirror_proc, with_bytes}
 use Rattle.hm_history.specs.Places.{Places, stands_for}
 use Rattle.hm_history.specs.declared.Kind.{Kind}
 
+-- the contents of a frame that was just taken (`clear_highpage`)
 abbrev pub zeros : ℕ → ℕ
 zeros o = 0
 
@@ -19,26 +20,29 @@ abbrev pub shown_by : (Frame → ℕ → ℕ) → Option Frame → ℕ → ℕ
 shown_by f None = zeros
 shown_by f (Some g) = f g
 
-abbrev pub shown : Places → (Frame → ℕ → ℕ) → Place → ℕ → ℕ
-shown t f x = shown_by f (backing t x)
+-- the contents that a place shows: those of the frame behind it, or zeros
+abbrev pub contents_of : Places → (Frame → ℕ → ℕ) → Place → ℕ → ℕ
+contents_of t f x = shown_by f (backing t x)
 
 -- a frame after bytes were written at an address of its page
-abbrev pub filled : (ℕ → ℕ) → ℕ → List ℕ → ℕ → ℕ
-filled f at bs o = written (λ x. f o) at bs (page_of at * 4096 + o)
+abbrev pub with_piece : (ℕ → ℕ) → ℕ → List ℕ → ℕ → ℕ
+with_piece f at bs o = with_bytes (λ x. f o) at bs (page_of at * 4096 + o)
 
+-- all contents after a store into the frame behind a place; without a frame nothing is stored
 abbrev pub stored_in : (Frame → ℕ → ℕ) → Option Frame → ℕ → List ℕ → Frame → ℕ → ℕ
 stored_in f None at bs = f
-stored_in f (Some g) at bs = with_frame f g (filled (f g) at bs)
+stored_in f (Some g) at bs = with_frame f g (with_piece (f g) at bs)
 
 -- one eighth of a frame copied, or all of it
-abbrev pub copied : (ℕ → ℕ) → (ℕ → ℕ) → Option ℕ → ℕ → ℕ
-copied from to None = from
-copied from to (Some k) = λ o. if nat_le (512 * k) o && nat_lt o (512 * k + 512) then from o else to o
+abbrev pub with_part_copied : (ℕ → ℕ) → (ℕ → ℕ) → Option ℕ → ℕ → ℕ
+with_part_copied from to None = from
+with_part_copied from to (Some k) = λ o. if nat_le (512 * k) o && nat_lt o (512 * k + 512) then from o else to o
 
 -- the contents after an entry: `take` gives zeros, a store writes the frame that its page stands for, a copy copies
 abbrev pub contents_next : Plain → Places → (Frame → ℕ → ℕ) → Kind → Frame → ℕ → ℕ
 contents_next s t f (Kind.Take g) = with_frame f g zeros
-contents_next s t f (Kind.Copied g h part) = with_frame f h (copied (f g) (f h) part)
+contents_next s t f (Kind.Copied g h part) = with_frame f h (with_part_copied (f g) (f h) part)
 contents_next s t f (Kind.Stored x at bs) = stored_in f (backing t (t.place (proc_of s x) (page_of at))) at bs
-contents_next s t f (Kind.Added m at was now) = stored_in f (backing t (t.place (mirror_proc s m) (page_of at))) at (now ∷ [])
+contents_next s t f (Kind.Added m at was now) =
+    stored_in f (backing t (t.place (mirror_proc s m) (page_of at))) at (now ∷ [])
 contents_next s t f _ = f

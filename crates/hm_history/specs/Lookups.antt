@@ -16,21 +16,26 @@ abbrev pub last_from : (Entry → Bool) → ℕ → Option ℕ → List Entry �
 last_from test at best [] = best
 last_from test at best (e ∷ es) = last_from test (at + 1) (if test e then Some at else best) es
 
+-- the position of the last entry that passes the test
 abbrev pub last_where : (Entry → Bool) → List Entry → Option ℕ
 last_where test h = last_from test 0 None h
 
-abbrev pub sets : ℕ → ℕ → Kind → Bool
-sets m v (Kind.Set k u f w from) = (k == m) && (u == v)
-sets m v _ = false
+-- the entry sets the mirror's table at the page
+abbrev pub is_set_of : ℕ → ℕ → Kind → Bool
+is_set_of m v (Kind.Set k u f w from) = (k == m) && (u == v)
+is_set_of m v _ = false
 
-abbrev pub begins : ℕ → Kind → Bool
-begins m (Kind.Begin k q) = k == m
-begins m _ = false
+-- the entry begins a look-up of the mirror
+abbrev pub is_begin_of : ℕ → Kind → Bool
+is_begin_of m (Kind.Begin k q) = k == m
+is_begin_of m _ = false
 
-abbrev pub tells : ℕ → ℕ → Kind → Bool
-tells m v (Kind.Told k r q) = (k == m) && covers r v
-tells m v _ = false
+-- the entry tells the mirror of the page
+abbrev pub is_told_of : ℕ → ℕ → Kind → Bool
+is_told_of m v (Kind.Told k r q) = (k == m) && covers r v
+is_told_of m v _ = false
 
+-- the position from which a `set` is to be untold
 abbrev pub set_from : Kind → ℕ
 set_from (Kind.Set k u f w from) = from
 set_from _ = 0
@@ -38,17 +43,25 @@ set_from _ = 0
 -- FROM of the `set` of this actor at j is j, or the actor's last `begin` of that mirror before it
 abbrev pub is_begin_before : List Entry → ℕ → ℕ → ℕ → ℕ → Bool
 is_begin_before h a m j from = (from == j)
-    || elim (last_where (λ e. (e.actor == a) && begins m e.kind) (take j h)) [ None ↦ false | Some i ↦ from == i ]
+    || elim (last_where (λ e. (e.actor == a) && is_begin_of m e.kind) (take j h)) [
+      | None ↦ false
+      | Some i ↦ from == i
+    ]
 
+-- the `set` at this position goes back to a look-up since which its page was not told
 abbrev pub at_set : List Entry → ℕ → ℕ → ℕ → List Entry → Bool
 at_set h m v j [] = false
 at_set h m v j (e ∷ es) = is_begin_before h e.actor m j (set_from e.kind)
-    && list_all (λ x. not (tells m v x.kind)) (drop (set_from e.kind + 1) h)
+    && list_all (λ x. not (is_told_of m v x.kind)) (drop (set_from e.kind + 1) h)
 
 -- the mirror's entry on the page was set after a look-up since which nobody was told
 abbrev pub is_untold : List Entry → ℕ → ℕ → Bool
-is_untold h m v = elim (last_where (λ e. sets m v e.kind) h) [ None ↦ false | Some j ↦ at_set h m v j (drop j h) ]
+is_untold h m v = elim (last_where (λ e. is_set_of m v e.kind) h) [
+  | None ↦ false
+  | Some j ↦ at_set h m v j (drop j h)
+]
 
+-- an access through a mirror uses only such a table entry
 abbrev pub uses_untold : List Entry → Kind → Bool
 uses_untold h (Kind.Loaded (Mirror m) a bs) = is_untold h m (page_of a)
 uses_untold h (Kind.Stored (Mirror m) a bs) = is_untold h m (page_of a)
@@ -71,6 +84,7 @@ loses _ x = true
 abbrev pub is_guarded : Sequences → ℕ → ℕ → ℕ → Bool
 is_guarded s a p v = guard_passes (λ g. (g.proc == p) && (covers g.span v && all_told g)) (s.guard a)
 
+-- a place that takes something away comes under a guard in which all were told
 abbrev pub narrows_guarded : Sequences → (ℕ → ℕ → Place) → ℕ → Kind → Bool
 narrows_guarded s place a (Kind.Place p v x) = not (loses (place p v) x) || is_guarded s a p v
 narrows_guarded s place a _ = true

@@ -8,6 +8,7 @@ use Rattle.hm_history.specs.declared.Entry.{Entry}
 use Rattle.hm_history.specs.declared.Progress.{Progress}
 use Rattle.hm_history.specs.Due.{due}
 
+-- the history takes one more entry
 abbrev pub has_room : List Entry → Bool
 has_room h = nat_lt (length h) 2000000
 
@@ -17,14 +18,17 @@ added h (Progress.Did e) = elim (has_room h) [ true ↦ h ++ e ∷ [] | false �
 added h (Progress.Waiting why) = h
 added h Progress.Idle = h
 
+-- the history after a turn of an actor
 abbrev pub turn : Program → List Entry → ℕ → List Entry
 turn c h a = added h (due c h a)
 
+-- after so many turns of one actor
 abbrev pub turns : Program → List Entry → ℕ → ℕ → List Entry
 turns c h a zero = h
 turns c h a (suc n) = turns c (turn c h a) a n
 
--- as many rounds, and turns of an actor in one, as a history has room for entries: each adds one, or nothing is left to do
+-- as many rounds, and turns of an actor in one, as a history has room for entries: each adds one, or nothing is left
+-- to do
 unfoldable pub enough : ℕ
 enough = 2000000
 
@@ -34,21 +38,26 @@ is_entry (Progress.Did e) = true
 is_entry (Progress.Waiting why) = false
 is_entry Progress.Idle = false
 
+-- the actor has no operation left
 abbrev pub is_idle : Progress → Bool
 is_idle (Progress.Did e) = false
 is_idle (Progress.Waiting why) = false
 is_idle Progress.Idle = true
 
+-- after the actor's turns as long as each adds an entry, at most so many
 abbrev pub turns_on : Program → List Entry → ℕ → ℕ → List Entry
 turns_on c h a zero = h
 turns_on c h a (suc n) = elim (is_entry (due c h a) && has_room h) [ true ↦ turns_on c (turn c h a) a n | false ↦ h ]
 
+-- the actors in their order
 abbrev pub actors_of : Program → List ℕ
 actors_of c = numbers 0 (length c.actors)
 
+-- a round of a drain: each actor in order goes on as long as it can
 abbrev pub round : Program → List Entry → List Entry
 round c h = fold (λ g a. turns_on c g a enough) h (actors_of c)
 
+-- no actor has an operation left
 abbrev pub all_idle : Program → List Entry → Bool
 all_idle c h = list_all (λ a. is_idle (due c h a)) (actors_of c)
 
@@ -57,9 +66,11 @@ abbrev pub drained : Program → List Entry → ℕ → List Entry
 drained c h zero = h
 drained c h (suc n) = elim (not (all_idle c h) && has_room h) [ true ↦ drained c (round c h) n | false ↦ h ]
 
+-- the history after a line of the schedule
 abbrev pub line_run : Program → List Entry → ScheduleLine → List Entry
 line_run c h (ScheduleLine.Run a n) = turns c h a n
 line_run c h ScheduleLine.Drain = drained c h enough
 
+-- the history of a script's schedule
 abbrev pub run : Program → List Entry
 run c = fold (line_run c) [] c.schedule

@@ -16,6 +16,7 @@ abbrev pub least : (ℕ → Bool) → ℕ → ℕ → Option ℕ
 least test from zero = None
 least test from (suc n) = elim (test from) [ true ↦ Some from | false ↦ least test (from + 1) n ]
 
+-- the two lists have the same bytes
 abbrev pub same_bytes : List ℕ → List ℕ → Bool
 same_bytes [] [] = true
 same_bytes (x ∷ xs) (y ∷ ys) = (x == y) && same_bytes xs ys
@@ -23,17 +24,18 @@ same_bytes _ _ = false
 
 -- the bytes from an address on, so many
 abbrev pub bytes_from : (ℕ → ℕ) → ℕ → ℕ → List ℕ
-bytes_from f a zero = []
-bytes_from f a (suc n) = f a ∷ bytes_from f (a + 1) n
+bytes_from f at zero = []
+bytes_from f at (suc n) = f at ∷ bytes_from f (at + 1) n
 
 -- the page of an address, and the pieces of an access: each has an address and a length
 abbrev pub page_of : ℕ → ℕ
-page_of a = a / 4096
+page_of at = at / 4096
 
+-- how many of the bytes lie on the first page
 abbrev pub first_len : ℕ → ℕ → ℕ
-first_len a n = if nat_le (a % 4096 + n) 4096 then n else 4096 - a % 4096
+first_len at n = if nat_le (at % 4096 + n) 4096 then n else 4096 - at % 4096
 
 -- an access has at most 4,096 bytes, so at most two pieces
 abbrev pub pieces : ℕ → ℕ → List (ℕ × ℕ)
-pieces a n = let k = first_len a n in
-    if k == n then (a, n) ∷ [] else ((a, k) ∷ (a + k, n - k) ∷ [])
+pieces at n = let k = first_len at n in
+    if k == n then (at, n) ∷ [] else ((at, k) ∷ (at + k, n - k) ∷ [])

@@ -1,5 +1,6 @@
 // A list of entries that grows, with room kept ahead.
 ghost use Rattle.std.specs.Prelude.{◌≡◌, ℕ, ◌+◌, ◌-◌, ◌<◌, ◌≤◌, [], ◌∷◌, ◌++◌, length, OnOk, OnErr, IfOk, option_copied, slice_get};
+ghost use Rattle.hm_base.specs.declared.limits.TheConstants.{MOST_ENTRIES};
 
 use crate::Entry;
 use hm_base::NoMemory;
@@ -15,9 +16,9 @@ pub struct History {
 
 impl Model for History {
     ghost use Rattle.std.specs.Prelude.{ℕ, ◌+◌, ◌-◌, ◌≤◌, vec_len, vec_capacity};
-    ghost use Rattle.hm_history.specs.Kept.{Kept};
+    ghost use Rattle.hm_history.specs.HistoryValue.{HistoryValue};
 
-    ghost Value = { Kept };
+    ghost Value = { HistoryValue };
 
     ghost view = { λ h. record { entries = h.entries.items; spare = h.room } };
 
@@ -25,6 +26,7 @@ impl Model for History {
 }
 
 impl History {
+    /// No entries, without memory.
     pub fn new(alloc: Global) -> History
         ensures entries { result.entries ≡ [] }
         ensures spare { result.spare ≡ 0 }
@@ -35,12 +37,14 @@ impl History {
         }
     }
 
+    /// How many entries there are.
     pub fn len(&self) -> u64
         ensures { result ≡ length self.now.entries }
     {
         self.entries.len() as u64
     }
 
+    /// The entry at a position, counted from 0.
     pub fn get(&self, at: u64) -> Option<&Entry>
         ensures { option_copied result ≡ slice_get self.now.entries at }
     {
@@ -61,18 +65,16 @@ impl History {
         ensures err { OnErr result (self.new ≡ self.old) }
     {
         if self.room < n {
-            match self.entries.try_reserve(n as usize) {
-                Ok(_) => (),
-                Err(_) => return Err(NoMemory),
-            }
+            self.entries.try_reserve(n as usize)?;
             self.room = n;
         }
         Ok(())
     }
 
+    /// Adds an entry for which there is room.
     pub fn push_reserved(&mut self, entry: Entry)
         requires room { 1 ≤ self.old.spare }
-        requires limit { length self.old.entries < 2000000 }
+        requires limit { length self.old.entries < MOST_ENTRIES }
         ensures entries { self.new.entries ≡ self.old.entries ++ entry ∷ [] }
         ensures spare { self.new.spare ≡ self.old.spare - 1 }
     {
@@ -81,27 +83,5 @@ impl History {
             Ok(_) => (),
             Err(_) => unreachable!(),
         }
-    }
-}
-
-#[cfg(test)]
-mod tests {
-    use super::*;
-    use crate::Kind;
-    use hm_base::{Actor, Proc};
-    use std::test::Fail;
-
-    #[test]
-    fn grows_by_an_entry(rt: HostRuntime) -> Result<(), Fail> {
-        let mut history = History::new(rt.alloc());
-        history.reserve(1)?;
-        history.push_reserved(Entry {
-            actor: Actor::new(3),
-            kind: Kind::Exited(Proc::new(1)),
-        });
-        assert_eq!(rt; history.len(), 1);
-        assert!(rt; history.get(1).is_none());
-        assert_eq!(rt; history.as_slice().len(), 1);
-        Ok(())
     }
 }

@@ -7,7 +7,10 @@ pub mod locks;
 pub mod phases;
 
 pub use history::History;
-use hm_base::{Actor, Bytes, Dev, Frame, MirrorId, NoMemory, Page, Place, Proc, Rights, Span};
+use hm_base::{
+    Actor, Bytes, Cause, Dev, Frame, MirrorId, NoMemory, Page, Place, Proc, Rights, Span,
+};
+use thiserror::Error;
 
 /// Whose access it is: a process's by the CPU, or a mirror's.
 #[derive(Clone, Copy, PartialEq, Eq, Debug)]
@@ -47,88 +50,179 @@ pub enum KeptWhy {
     Lost,
 }
 
-/// What an entry tells: one atomic event. Lengths and addresses count bytes, positions count entries from 0.
+/// What an entry tells: one atomic event. Addresses and lengths count bytes, positions count entries from 0.
 #[derive(Drop)]
 pub enum Kind {
-    /// Whose access, the address and the bytes that a piece of it read.
-    Loaded(Who, u64, Bytes),
-    /// Whose access, the address and the bytes that a piece of it wrote.
-    Stored(Who, u64, Bytes),
-    /// Whose access, the address, the length and the cause of a piece that failed: 1 unmapped, 2 forbidden, 3 no
-    /// frame is free, 4 outside the mirror.
-    Failed(Who, u64, u64, u32),
-    /// Ends `map`: the process, the span and the right of the new area.
-    Mapped(Proc, Span, Rights),
+    /// The bytes that a piece of an access read.
+    Loaded {
+        who: Who,
+        addr: u64,
+        bytes: Bytes,
+    },
+    /// The bytes that a piece of an access wrote.
+    Stored {
+        who: Who,
+        addr: u64,
+        bytes: Bytes,
+    },
+    /// A piece of an access failed, for one of the first four causes.
+    Failed {
+        who: Who,
+        addr: u64,
+        len: u64,
+        cause: Cause,
+    },
+    /// Ends `map`: the span and the right of the new area.
+    Mapped {
+        proc: Proc,
+        span: Span,
+        rights: Rights,
+    },
     /// Ends `unmap`.
-    Unmapped(Proc, Span),
+    Unmapped {
+        proc: Proc,
+        span: Span,
+    },
     /// Ends `protect`.
-    Protected(Proc, Span, Rights),
-    /// Ends `fork`: the parent, and the child, which is there from now on.
-    Forked(Proc, Proc),
+    Protected {
+        proc: Proc,
+        span: Span,
+        rights: Rights,
+    },
+    /// Ends `fork`: the child is there from now on.
+    Forked {
+        parent: Proc,
+        child: Proc,
+    },
     /// Ends `exit`: the process is not there from now on.
     Exited(Proc),
-    /// Ends `attach`: the mirror, its device, process and window, and its interval's sequence.
-    Attached(MirrorId, Dev, Proc, Span, u64),
+    /// Ends `attach`: the mirror with its device, process and window, and its interval's sequence.
+    Attached {
+        mirror: MirrorId,
+        dev: Dev,
+        proc: Proc,
+        span: Span,
+        seq: u64,
+    },
     /// The mirror is no longer attached, and its interval is removed when this sequence ends.
-    Detaching(MirrorId, u64),
+    Detaching {
+        mirror: MirrorId,
+        seq: u64,
+    },
     /// Ends `detach`.
     Detached(MirrorId),
-    /// Ends an operation: 1 unmapped, 2 forbidden, 3 no frame, 4 outside, 5 overlap, 6 too many areas, 7 name taken,
-    /// 8 no process, 9 mirror taken, 10 removed.
-    Refused(u32),
+    /// Ends an operation that was refused.
+    Refused(Cause),
     /// Ends a migration: so many pages were moved.
     Migrated(u64),
     /// A snapshot's code for a page.
-    Seen(MirrorId, Page, u8),
+    Seen {
+        mirror: MirrorId,
+        page: Page,
+        code: u8,
+    },
     /// Ends `evict`: so many frames were emptied.
     Evicted(u64),
     /// Ends `remove`.
     Removed(Dev),
-    /// The process's mmap lock is taken for reading.
+    /// The process's mmap lock is taken for reading (`mmap_read_lock`).
     Rlock(Proc),
     /// The mmap lock that was taken for reading is released.
     Runlock(Proc),
-    /// The process's mmap lock is taken for writing.
+    /// The process's mmap lock is taken for writing (`mmap_write_lock`).
     Wlock(Proc),
     /// The number of a child is given away.
-    Named(Proc, Proc),
+    Named {
+        parent: Proc,
+        child: Proc,
+    },
     /// The frame is held from now on, filled with zeros and locked by its taker.
     Take(Frame),
     /// The frame is free from now on.
     Drop(Frame),
     /// The page of the process has this place from now on.
-    Place(Proc, Page, Place),
+    Place {
+        proc: Proc,
+        page: Page,
+        place: Place,
+    },
     /// An invalidation of the span begins; the process's sequence afterwards (`mn_itree_inv_start_range`).
-    Start(Proc, Span, u64),
+    Start {
+        proc: Proc,
+        span: Span,
+        seq: u64,
+    },
     /// The mirror is told of the invalidation, and its table erased in the span; its interval's sequence.
-    Told(MirrorId, Span, u64),
+    Told {
+        mirror: MirrorId,
+        span: Span,
+        seq: u64,
+    },
     /// The invalidation ends; the process's sequence afterwards (`mn_itree_inv_end`).
-    End(Proc, Span, u64),
+    End {
+        proc: Proc,
+        span: Span,
+        seq: u64,
+    },
     /// A look-up begins with its interval's sequence (`mmu_interval_read_begin`).
-    Begin(MirrorId, u64),
+    Begin {
+        mirror: MirrorId,
+        seq: u64,
+    },
     /// The look-up is given up, since its interval was told (`mmu_interval_read_retry`).
     Retry(MirrorId),
-    /// The mirror's table has this frame for the page, none for the zero page, with this right; the position is that
+    /// The mirror's table has this frame for the page, none for the zero page, with this right. `since` is the position
     /// of the look-up's begin, or this entry's own after a migration or for an exclusive page.
-    Set(MirrorId, Page, Option<Frame>, TableRight, u64),
+    Set {
+        mirror: MirrorId,
+        page: Page,
+        target: Option<Frame>,
+        right: TableRight,
+        since: u64,
+    },
     /// An untouched page, or the zero page, was selected for migration.
-    Fresh(Proc, Page),
-    /// One eighth of the first frame was copied to the second, or all of it (a copy on write).
-    Copied(Frame, Frame, Option<u8>),
+    Fresh {
+        proc: Proc,
+        page: Page,
+    },
+    /// One eighth of a frame was copied, or all of it (a copy on write).
+    Copied {
+        from: Frame,
+        to: Frame,
+        part: Option<u8>,
+    },
     /// The contents of the first frame are the second's from now on.
-    Committed(Frame, Frame),
+    Committed {
+        from: Frame,
+        to: Frame,
+    },
     /// A page or a frame stays where it is, and why.
-    Kept(KeptAt, KeptWhy),
+    Kept {
+        at: KeptAt,
+        why: KeptWhy,
+    },
     /// The frame is no longer locked.
     Done(Frame),
     /// No frame of the device is taken from now on.
     Withdrawn(Dev),
     /// Ends `exclusive`.
-    Excluded(MirrorId, Page),
+    Excluded {
+        mirror: MirrorId,
+        page: Page,
+    },
     /// The byte that an addition read.
-    Fetched(MirrorId, u64, Bytes),
+    Fetched {
+        mirror: MirrorId,
+        addr: u64,
+        bytes: Bytes,
+    },
     /// Ends `dadd`: the byte that was read, and the byte that was written.
-    Added(MirrorId, u64, u8, u8),
+    Added {
+        mirror: MirrorId,
+        addr: u64,
+        read: u8,
+        written: u8,
+    },
 }
 
 /// One entry of a history: who added it, and what it tells.
@@ -151,7 +245,7 @@ pub enum Why {
     Invalidating(MirrorId, u64),
 }
 
-/// What a turn came to.
+/// What a turn comes to: the entry that is due, or why there is none.
 #[derive(Drop)]
 pub enum Progress {
     /// It added this entry.
@@ -167,15 +261,19 @@ pub enum Progress {
 pub struct Full(pub u64);
 
 /// Why no step was made: the history has so many entries and takes no more, or memory ran out.
-#[derive(Clone, Copy, PartialEq, Eq, Debug)]
+#[derive(Clone, Copy, PartialEq, Eq, Debug, Error)]
 pub enum StepError {
+    #[error("the history is full, with {0} entries")]
     Full(u64),
+    #[error("out of memory")]
     NoMemory,
 }
 
 /// Why an entry was not applied to a state: it may not follow, or memory ran out.
-#[derive(Clone, Copy, PartialEq, Eq, Debug)]
+#[derive(Clone, Copy, PartialEq, Eq, Debug, Error)]
 pub enum FoldError {
+    #[error("the entry may not follow those before it")]
     NotLegal,
+    #[error("out of memory")]
     NoMemory,
 }

@@ -2,6 +2,22 @@
 use crate::{KeptAt, Kind, Why};
 use hm_base::{Frame, MirrorId, Page, Place, Proc, Span};
 
+/// The steps of a migration after its setup, in order (mm/migrate_device.c, and the driver's part in lib/test_hmm.c).
+#[derive(Clone, Copy, PartialEq, Eq, Debug)]
+pub enum MoveStep {
+    /// The other mappings of each frame are frozen (`try_to_migrate`).
+    FreezeOthers,
+    /// A frame is taken for each page at the destination, and the contents are copied into it
+    /// (`dmirror_migrate_alloc_and_copy`).
+    TakeAndCopy,
+    /// Each copy is committed, and each fresh page gets its frame (`migrate_vma_pages`).
+    Commit,
+    /// The driver sets the new frames in its own table (`dmirror_migrate_finalize_and_map`).
+    SetOwnTable,
+    /// Migration entries become mappings again (`migrate_vma_finalize`).
+    Finish,
+}
+
 /// A page that a migration under way has frozen or found fresh: its frame, which a fresh page has not, the
 /// frame that was taken for it, and whether it was committed or placed.
 #[derive(Clone, Copy, PartialEq, Eq, Debug)]
@@ -129,7 +145,7 @@ pub enum Phase {
         frame: Frame,
     },
     /// A frame is being emptied: its other mappings are frozen; `at` is what is told where no frame is free.
-    Alone {
+    Emptying {
         frame: Frame,
         at: KeptAt,
     },
@@ -160,12 +176,11 @@ pub enum Phase {
     /// An eviction has come to this frame, and emptied so many.
     Frames {
         next: u64,
-        moved: u64,
+        emptied: u64,
     },
-    /// A migration is at this step (3 freezes other mappings, 4 takes frames and copies, 5 commits, 6 sets the
-    /// driver's table, 7 finishes), from this page on.
+    /// A migration is at this step, from this page on.
     Moves {
-        step: u8,
+        step: MoveStep,
         next: u64,
     },
     /// The page got a frame meanwhile, and the taken one is dropped.
