@@ -19,16 +19,17 @@ use Rattle.hm_history.specs.Operation.{op_piece, op_mirror, op_who, is_evicting,
 use Rattle.hm_history.specs.Going.{Going, op_at, touch_page}
 use Rattle.hm_history.specs.declared.Who.{Who}
 use Rattle.hm_laws.specs.Stood.{lock_on, is_moving, Matches}
-use Rattle.hm_history.specs.Due.{proc_of_op, child_of, process_seq, right_of, pool_of, is_untouched}
+use Rattle.hm_history.specs.Due.{proc_of_op, child_of, process_seq, right_of, pool_of, has_no_frame}
 use Rattle.hm_history.specs.declared.phases.Migrating.{Migrating}
+use Rattle.hm_history.specs.declared.phases.MoveStep.{MoveStep}
 use Rattle.hm_history.specs.declared.phases.Touch.{Touch}
 use Rattle.hm_history.specs.declared.phases.Body.{Body}
 use Rattle.hm_history.specs.declared.phases.Phase.{Phase}
 use Rattle.hm_laws.specs.Past.{Past}
-pub use Rattle.hm_laws.specs.Shapes.{is_cpu, is_device_access, has_piece, takes_lock, is_detach, is_snap, is_attach, begins, is_fork, takes_alone, is_add, zaps, narrows, widens, op_span, at_page, is_core, of_system, is_zero_place}
+pub use Rattle.hm_laws.specs.Shapes.{is_cpu, is_device_access, has_piece, takes_lock, is_detach, is_snap, is_attach, begins, is_fork, takes_exclusive, is_add, zaps, narrows, widens, op_span, at_page, is_core, of_system, is_zero_place}
 use Rattle.hm_laws.specs.Sound.{has_met}
 use Rattle.hm_laws.specs.Allowed.{shows, CleanBut, Clean, ReadsThere, WritesThere, HasChild, Alike, OwnsFrame, IsSource, IsFrozen}
-use Rattle.hm_laws.specs.Records.{is_past, is_nil, starts_empty, op_range, pages_below, WellListed, staged, parts_of, has_source, has_pair, has_fresh, apart_from}
+use Rattle.hm_laws.specs.Records.{same_step, is_past, is_nil, starts_empty, op_range, pages_below, WellListed, staged, parts_of, has_source, has_pair, has_fresh, apart_from}
 use Rattle.hm_laws.specs.Moves.{Parts, IsReturning, IsReturned}
 
 pub data Fact : Type 0 where
@@ -68,20 +69,22 @@ pub data Fact : Type 0 where
   Own_at : (who : Who) → (page : ℕ) → (frame : Frame) → Fact
   Lands_on : (op : Op) → (frame : Frame) → Fact
   Windowed : (mirror page : ℕ) → Fact
-  Touched : (who : Who) → (page : ℕ) → Fact
+  Framed : (who : Who) → (page : ℕ) → Fact
   Windowed_all : (mirror : ℕ) → (span : Pages) → Fact
   Over_span : (proc : ℕ) → (span : Pages) → (who : Who) → (whole : Pages) → Fact
   Listed : (records : List Migrating) → Fact
   Never : Fact
 
 -- the guard that an actor has under way, whose mirrors are told up to this one
-pub record Guarding (guard : ℕ → Option Guarded) (a p : ℕ) (r : Pages) (overlapped : Bool) (last : Option ℕ) : Type 0 where
+pub record Guarding (guard : ℕ → Option Guarded) (a p : ℕ) (r : Pages) (overlapped : Bool)
+    (last : Option ℕ) : Type 0 where
   pub given : Guarded
   pub is : guard a ≡ Some given
   pub proc : given.proc ≡ p
   pub span : given.span ≡ r
   pub met_some : has_met given ≡ overlapped
-  pub upto : (m : ℕ) → list_any (λ k. k == m) given.met ≡ true → is_above last m ≡ false → list_any (λ k. k == m) given.told ≡ true
+  pub upto : (m : ℕ) → list_any (λ k. k == m) given.met ≡ true → is_above last m ≡ false
+      → list_any (λ k. k == m) given.told ≡ true
   pub below : list_all (λ k. not (is_above last k)) given.told ≡ true
 
 -- the pages of the span below this one have no place, or no write right
@@ -107,17 +110,22 @@ Within s m v = mirror_passes (λ x. covers x.window v) (s.mirrors m) ≡ true
 -- a look-up under way, begun at this position with this sequence: that is below its process's, and as long as it is
 -- the interval's nobody was told since
 abbrev pub Looks : After → Past → ℕ → ℕ → ℕ → ℕ → Type 0
-Looks s t a m at q = (t.begun a m ≡ Some at) × (q < process_seq s m) × (interval_seq s.sequences m ≡ q → (v : ℕ) → t.told m v ≤ at)
+Looks s t a m at q =
+    (t.begun a m ≡ Some at) × (q < process_seq s m) × (interval_seq s.sequences m ≡ q → (v : ℕ) → t.told m v ≤ at)
 
 -- an access by the CPU, or through a mirror after a look-up began
 abbrev pub Touches : After → Past → ℕ → Op → Touch → Type 0
 Touches s t a o (Touch.Cpu k) = (is_cpu o && has_piece o k) ≡ true
-Touches s t a o (Touch.Walk k at q) = ((is_device_access o && has_piece o k) ≡ true) × Within s.plain (op_mirror o) (touch_page o (Touch.Walk k at q)) × Looks s t a (op_mirror o) at q
-Touches s t a o Touch.Sole = (takes_alone o ≡ true) × Within s.plain (op_mirror o) (touch_page o Touch.Sole)
+Touches s t a o (Touch.Walk k at q) =
+    ((is_device_access o && has_piece o k) ≡ true) × Within s.plain (op_mirror o) (touch_page o (Touch.Walk k at q))
+    × Looks s t a (op_mirror o) at q
+Touches s t a o Touch.Sole = (takes_exclusive o ≡ true) × Within s.plain (op_mirror o) (touch_page o Touch.Sole)
 
 -- what was noted is what the page's place stands for, which is no migration entry, and allows no more
 abbrev pub StandsStill : After → ℕ → ℕ → Place → Type 0
-StandsStill s m v x = Matches s.places.moved_to (names x) (right_of (writable x)) (s.places.place (mirror_proc s.plain m) v) × (is_moving (s.places.place (mirror_proc s.plain m) v) ≡ false)
+StandsStill s m v x =
+    Matches s.places.committed_to (names x) (right_of (writable x)) (s.places.place (mirror_proc s.plain m) v)
+    × (is_moving (s.places.place (mirror_proc s.plain m) v) ≡ false)
 
 -- a frame is free, or the actor is emptying it; a removal has come to this frame of a device that is withdrawn
 abbrev pub Clear : After → ℕ → Frame → Type 0
@@ -135,13 +143,19 @@ abbrev pub Holds : After → Past → ℕ → Fact → Type 0
 Holds s t a (Is b) = b ≡ true
 Holds s t a No_map_lock = s.locks.map a ≡ None
 Holds s t a (Read_locked x) = HasProc s.plain x × (s.locks.map a ≡ lock_on (proc_of s.plain x) false)
-Holds s t a (May_store x v) = HasProc s.plain x × ReadsThere s a (proc_of s.plain x) × (is_read_write (rights_of s.plain (proc_of s.plain x) v) ≡ true)
+Holds s t a (May_store x v) =
+    HasProc s.plain x × ReadsThere s a (proc_of s.plain x)
+    × (is_read_write (rights_of s.plain (proc_of s.plain x) v) ≡ true)
 Holds s t a (Writes p) = WritesThere s a p × Clean s p
 Holds s t a (Not_refused o) = WritesThere s a (proc_of_op o) × (area_refusal s.plain o ≡ None)
 Holds s t a (Emptying p r n) = WritesThere s a p × CleanBut s p r × EmptyBelow s p r n
 Holds s t a (Narrowing p r n) = WritesThere s a p × Clean s p × NarrowBelow s p r n
-Holds s t a (Forking p d n) = WritesThere s a p × Clean s p × HasChild s t a d × ((u : ℕ) → u < n → Alike s p d u) × ((u : ℕ) → n ≤ u → is_empty_place (s.places.place d u) ≡ true)
-Holds s t a (Halfway half p v) = WritesThere s a p × (half ≡ true → (writable (s.places.place p v) ≡ false) × (is_empty_place (s.places.place p v) ≡ false))
+Holds s t a (Forking p d n) =
+    WritesThere s a p × Clean s p × HasChild s t a d × ((u : ℕ) → u < n → Alike s p d u)
+    × ((u : ℕ) → n ≤ u → is_empty_place (s.places.place d u) ≡ true)
+Holds s t a (Halfway half p v) =
+    WritesThere s a p
+    × (half ≡ true → (writable (s.places.place p v) ≡ false) × (is_empty_place (s.places.place p v) ≡ false))
 Holds s t a No_guard = s.sequences.guard a ≡ None
 Holds s t a (In_guard p r met told) = Guarding s.sequences.guard a p r met told
 Holds s t a (Over p r q whole) = (p ≡ q) × (r ≡ whole)
@@ -149,7 +163,9 @@ Holds s t a (Over_page p r x v) = HasProc s.plain x × (p ≡ proc_of s.plain x)
 Holds s t a (Locks_only l) = (f : Frame) → s.locks.frame f ≡ Some a → list_any (same_frame f) l ≡ true
 Holds s t a (Owns f) = OwnsFrame s a f
 Holds s t a (Zeroed f) = OwnsFrame s a f × (s.contents f ≡ zeros)
-Holds s t a (Copy_of f x v) = HasProc s.plain x × ReadsThere s a (proc_of s.plain x) × OwnsFrame s a f × (writable (s.places.place (proc_of s.plain x) v) ≡ false → ShownIn s f (s.places.place (proc_of s.plain x) v))
+Holds s t a (Copy_of f x v) =
+    HasProc s.plain x × ReadsThere s a (proc_of s.plain x) × OwnsFrame s a f
+    × (writable (s.places.place (proc_of s.plain x) v) ≡ false → ShownIn s f (s.places.place (proc_of s.plain x) v))
 Holds s t a (Sourced f) = IsSource s a f
 Holds s t a (Copying f g k) = IsFrozen s a f × OwnsFrame s a g × Parts s f g k × (f ≡ g → ⊥)
 Holds s t a (Coming_back f g) = IsReturning s a f g
@@ -157,20 +173,33 @@ Holds s t a (Back g) = IsReturned s a g
 Holds s t a (Clearing o v) = ClearTo s a o v
 Holds s t a (Gone o) = GoneFor s o
 Holds s t a (Emptied n) = n ≤ s.length
-Holds s t a (May_read x v) = HasProc s.plain x × ReadsThere s a (proc_of s.plain x) × (is_some (rights_of s.plain (proc_of s.plain x) v) ≡ true)
+Holds s t a (May_read x v) =
+    HasProc s.plain x × ReadsThere s a (proc_of s.plain x)
+    × (is_some (rights_of s.plain (proc_of s.plain x) v) ≡ true)
 Holds s t a (Leaving m) = (t.leaver m ≡ Some a) × (mirror_passes is_detaching_state (s.plain.mirrors m) ≡ true)
 Holds s t a (Touching o touch) = Touches s t a o touch
-Holds s t a (Noted m v q x) = Within s.plain m v × (q < process_seq s m) × (is_for_device (names x) (mirror_dev s.plain m) ≡ true) × (is_attached s.plain m ≡ true → interval_seq s.sequences m ≡ q → StandsStill s m v x)
+Holds s t a (Noted m v q x) =
+    Within s.plain m v × (q < process_seq s m) × (is_for_device (names x) (mirror_dev s.plain m) ≡ true)
+    × (is_attached s.plain m ≡ true → interval_seq s.sequences m ≡ q → StandsStill s m v x)
 Holds s t a (Frozen f) = IsFrozen s a f
-Holds s t a (Frozen_at x v f) = HasProc s.plain x × ReadsThere s a (proc_of s.plain x) × (s.locks.frame f ≡ Some a) × (moving_frame (s.places.place (proc_of s.plain x) v) ≡ Some f)
-Holds s t a (Own_at x v g) = HasProc s.plain x × ReadsThere s a (proc_of s.plain x) × (s.locks.frame g ≡ Some a) × (of_system g ≡ false) × (names_directly (s.places.place (proc_of s.plain x) v) ≡ Some g)
+Holds s t a (Frozen_at x v f) =
+    HasProc s.plain x × ReadsThere s a (proc_of s.plain x) × (s.locks.frame f ≡ Some a)
+    × (moving_frame (s.places.place (proc_of s.plain x) v) ≡ Some f)
+Holds s t a (Own_at x v g) =
+    HasProc s.plain x × ReadsThere s a (proc_of s.plain x) × (s.locks.frame g ≡ Some a) × (of_system g ≡ false)
+    × (names_directly (s.places.place (proc_of s.plain x) v) ≡ Some g)
 Holds s t a (Lands_on o g) = HasProc s.plain (Who.Mirror (op_mirror o)) × (g.pool ≡ pool_of s o)
 Holds s t a (Windowed m v) = Within s.plain m v
-Holds s t a (Touched x v) = HasProc s.plain x × ReadsThere s a (proc_of s.plain x) × (is_untouched (s.places.place (proc_of s.plain x) v) ≡ false)
+Holds s t a (Framed x v) =
+    HasProc s.plain x × ReadsThere s a (proc_of s.plain x)
+    × (has_no_frame (s.places.place (proc_of s.plain x) v) ≡ false)
 Holds s t a (Windowed_all m r) = (v : ℕ) → covers r v ≡ true → Within s.plain m v
 Holds s t a (Over_span p r x whole) = HasProc s.plain x × (p ≡ proc_of s.plain x) × (r ≡ whole)
 Holds s t a (Listed xs) = WellListed xs
-Holds s t a (Fetched_at m at was) = HasProc s.plain (Who.Mirror m) × (is_exclusive_by (s.places.place (mirror_proc s.plain m) (page_of at)) a ≡ true → s.plain.bytes (mirror_proc s.plain m) at ≡ was)
+Holds s t a (Fetched_at m at was) =
+    HasProc s.plain (Who.Mirror m)
+    × (is_exclusive_by (s.places.place (mirror_proc s.plain m) (page_of at)) a ≡ true
+    → s.plain.bytes (mirror_proc s.plain m) at ≡ was)
 Holds s t a Never = ⊥
 
 -- between operations and pieces an actor holds nothing
@@ -182,10 +211,12 @@ deciding o touch = Touching o touch ∷ Read_locked (op_who o) ∷ No_guard ∷ 
 
 -- an operation under the write lock, before and in its guard
 abbrev pub zapping : Op → ℕ → List Fact
-zapping o n = Is (zaps o) ∷ Is (nat_le (op_span o).first n) ∷ Not_refused o ∷ Emptying (proc_of_op o) (op_span o) n ∷ []
+zapping o n =
+    Is (zaps o) ∷ Is (nat_le (op_span o).first n) ∷ Not_refused o ∷ Emptying (proc_of_op o) (op_span o) n ∷ []
 
 abbrev pub narrowing : Op → ℕ → List Fact
-narrowing o n = Is (narrows o) ∷ Is (nat_le (op_span o).first n) ∷ Not_refused o ∷ Narrowing (proc_of_op o) (op_span o) n ∷ []
+narrowing o n =
+    Is (narrows o) ∷ Is (nat_le (op_span o).first n) ∷ Not_refused o ∷ Narrowing (proc_of_op o) (op_span o) n ∷ []
 
 abbrev pub widening : Op → List Fact
 widening o = Is (widens o) ∷ Not_refused o ∷ Writes (proc_of_op o) ∷ []
@@ -230,19 +261,36 @@ abbrev pub returns_to : Op → Frame → Bool
 returns_to o g = of_system g || is_migration o
 
 -- what a record says of its page: whose place it has, and which frames are the migration's
-abbrev pub known_of : Op → ℕ → Option Frame → Option Frame → Bool → Bool → Bool → Bool → Option (Frame × ℕ) → List Fact
-known_of o v None None moved p3 p5 p7 hand = May_read (Who.Mirror (op_mirror o)) v ∷ []
-known_of o v None (Some g) false p3 p5 p7 hand = if p5 then [] else Zeroed g ∷ May_read (Who.Mirror (op_mirror o)) v ∷ Lands_on o g ∷ []
-known_of o v None (Some g) true p3 p5 p7 hand = if p7 then [] else Back g ∷ Own_at (Who.Mirror (op_mirror o)) v g ∷ Lands_on o g ∷ []
-known_of o v (Some f) None moved p3 p5 p7 hand = if p7 then [] else (if p3 then Frozen f else Sourced f) ∷ Frozen_at (Who.Mirror (op_mirror o)) v f ∷ []
-known_of o v (Some f) (Some g) false p3 p5 p7 hand = if p7 then [] else Copying f g (parts_of hand g) ∷ Frozen_at (Who.Mirror (op_mirror o)) v f ∷ Lands_on o g ∷ []
-known_of o v (Some f) (Some g) true p3 p5 p7 hand = if p7 then [] else Coming_back f g ∷ Frozen_at (Who.Mirror (op_mirror o)) v f ∷ Lands_on o g ∷ []
+abbrev pub known_of : Op → ℕ → Option Frame → Option Frame → Bool → Bool → Bool → Bool → Option (Frame × ℕ)
+    → List Fact
+known_of o v None None _ _ _ _ _ = May_read (Who.Mirror (op_mirror o)) v ∷ []
+known_of o v None (Some g) false _ past_commit _ _ =
+    if past_commit then [] else Zeroed g ∷ May_read (Who.Mirror (op_mirror o)) v ∷ Lands_on o g ∷ []
+known_of o v None (Some g) true _ _ past_finish _ =
+    if past_finish then [] else Back g ∷ Own_at (Who.Mirror (op_mirror o)) v g ∷ Lands_on o g ∷ []
+known_of o v (Some f) None _ past_freezing _ past_finish _ =
+    if past_finish then []
+    else (if past_freezing then Frozen f else Sourced f) ∷ Frozen_at (Who.Mirror (op_mirror o)) v f ∷ []
+known_of o v (Some f) (Some g) false _ _ past_finish hand =
+    if past_finish then [] else Copying f g (parts_of hand g)
+    ∷ Frozen_at (Who.Mirror (op_mirror o)) v f
+    ∷ Lands_on o g
+    ∷ []
+known_of o v (Some f) (Some g) true _ _ past_finish _ =
+    if past_finish then [] else Coming_back f g ∷ Frozen_at (Who.Mirror (op_mirror o)) v f ∷ Lands_on o g ∷ []
 
-abbrev pub record_facts : Op → ℕ → ℕ → Option (Frame × ℕ) → Migrating → List Fact
+-- of a record for whose page so many steps are past: of a migration that has come to a page in a step
+abbrev pub facts_past : Op → Bool → Bool → Bool → Bool → Option (Frame × ℕ) → Migrating → List Fact
+facts_past o past_freezing past_taking past_commit past_finish hand x =
+    Is (staged o past_taking past_commit x) ∷ Windowed (op_mirror o) x.page
+    ∷ known_of o x.page x.source x.dest x.moved past_freezing past_commit past_finish hand
+
+abbrev pub record_facts : Op → MoveStep → ℕ → Option (Frame × ℕ) → Migrating → List Fact
 record_facts o step next hand x =
-    Is (staged o (is_past step next 4 x.page) (is_past step next 5 x.page) x) ∷ Windowed (op_mirror o) x.page ∷ known_of o x.page x.source x.dest x.moved (is_past step next 3 x.page) (is_past step next 5 x.page) (is_past step next 7 x.page) hand
+    facts_past o (is_past step next MoveStep.FreezeOthers x.page) (is_past step next MoveStep.TakeAndCopy x.page)
+    (is_past step next MoveStep.Commit x.page) (is_past step next MoveStep.Finish x.page) hand x
 
-abbrev pub records : Op → ℕ → ℕ → Option (Frame × ℕ) → List Migrating → List Fact
+abbrev pub records : Op → MoveStep → ℕ → Option (Frame × ℕ) → List Migrating → List Fact
 records o step next hand [] = []
 records o step next hand (x ∷ xs) = record_facts o step next hand x ++ records o step next hand xs
 
@@ -263,11 +311,12 @@ frames_of (x ∷ l) = fact_frames x ++ frames_of l
 
 -- a migration that has come to a page in a step: the process is locked for reading, and of each page's record what the
 -- steps so far made of it
-abbrev pub migrating : Op → List Migrating → ℕ → ℕ → Option (Frame × ℕ) → List Fact
-migrating o xs step next hand = Is (is_migration o) ∷ Is (nat_le 3 step) ∷ Listed xs ∷ Read_locked (Who.Mirror (op_mirror o)) ∷ records o step next hand xs
+abbrev pub migrating : Op → List Migrating → MoveStep → ℕ → Option (Frame × ℕ) → List Fact
+migrating o xs step next hand =
+    Is (is_migration o) ∷ Listed xs ∷ Read_locked (Who.Mirror (op_mirror o)) ∷ records o step next hand xs
 
 -- the frames of its records that it has locked
-abbrev pub held : Op → List Migrating → ℕ → ℕ → Option (Frame × ℕ) → List Frame
+abbrev pub held : Op → List Migrating → MoveStep → ℕ → Option (Frame × ℕ) → List Frame
 held o xs step next hand = frames_of (records o step next hand xs)
 
 -- what stands below while the pages of a frame return, beside frames in hand: one of those, or a migration
@@ -276,7 +325,8 @@ held_under o xs (Phase.Moves step v ∷ []) = held o xs step v None
 held_under o xs below = []
 
 abbrev pub beneath : Op → List Migrating → List Frame → List Phase → List Fact
-beneath o xs l (Phase.Moves step v ∷ []) = Is (step == 7) ∷ Is (apart_from l (held o xs step v None)) ∷ migrating o xs step v None
+beneath o xs l (Phase.Moves step v ∷ []) =
+    Is (same_step step MoveStep.Finish) ∷ Is (apart_from l (held o xs step v None)) ∷ migrating o xs step v None
 beneath o xs l below = under o below
 
 -- before the first guard of a migration
@@ -290,59 +340,182 @@ abbrev pub facts : Op → List Migrating → List Phase → List Fact
 facts o xs [] = nothing_held
 facts o xs (Phase.Begin ∷ []) = Is (begins o && starts_empty o xs) ∷ nothing_held
 facts o xs (Phase.Detaching q ∷ []) = Is (is_detach o) ∷ Leaving (op_mirror o) ∷ nothing_held
-facts o xs (Phase.Pages v ∷ []) = Is (is_snap o) ∷ Read_locked (Who.Mirror (op_mirror o)) ∷ No_guard ∷ Locks_only [] ∷ []
+facts o xs (Phase.Pages v ∷ []) =
+    Is (is_snap o) ∷ Read_locked (Who.Mirror (op_mirror o)) ∷ No_guard ∷ Locks_only [] ∷ []
 facts o xs (Phase.Locked ∷ []) = No_guard ∷ Locks_only [] ∷ Is (takes_lock o) ∷ Writes (proc_of_op o) ∷ []
 facts o xs (Phase.Ready ∷ []) = No_guard ∷ Locks_only [] ∷ readying o xs
 facts o xs (Phase.Answer ∷ []) = No_guard ∷ Locks_only [] ∷ answering o
-facts o xs (Phase.Guard q r met told (Body.Zap n) ∷ Phase.Answer ∷ []) = In_guard q r met told ∷ Locks_only [] ∷ Over q r (proc_of_op o) (op_span o) ∷ zapping o n
-facts o xs (Phase.Drop f ∷ Phase.Guard q r met told (Body.Zap n) ∷ Phase.Answer ∷ []) = Owns f ∷ In_guard q r met told ∷ Locks_only (f ∷ []) ∷ Over q r (proc_of_op o) (op_span o) ∷ zapping o n
-facts o xs (Phase.Guard q r met told (Body.Narrow n) ∷ Phase.Answer ∷ []) = In_guard q r met told ∷ Locks_only [] ∷ Over q r (proc_of_op o) (op_span o) ∷ narrowing o n
-facts o xs (Phase.Guard q r met told (Body.Fork n half) ∷ Phase.Answer ∷ []) = In_guard q r met told ∷ Locks_only [] ∷ Over q r (proc_of_op o) (op_span o) ∷ forking o n half
-facts o xs (Phase.Guard q r met told Body.Nothing ∷ Phase.Answer ∷ []) = In_guard q r met told ∷ Locks_only [] ∷ Over q r (proc_of_op o) (op_span o) ∷ widening o
+facts o xs (Phase.Guard q r met told (Body.Zap n) ∷ Phase.Answer ∷ []) =
+    In_guard q r met told ∷ Locks_only [] ∷ Over q r (proc_of_op o) (op_span o) ∷ zapping o n
+facts o xs (Phase.Drop f ∷ Phase.Guard q r met told (Body.Zap n) ∷ Phase.Answer ∷ []) =
+    Owns f ∷ In_guard q r met told ∷ Locks_only (f ∷ []) ∷ Over q r (proc_of_op o) (op_span o) ∷ zapping o n
+facts o xs (Phase.Guard q r met told (Body.Narrow n) ∷ Phase.Answer ∷ []) =
+    In_guard q r met told ∷ Locks_only [] ∷ Over q r (proc_of_op o) (op_span o) ∷ narrowing o n
+facts o xs (Phase.Guard q r met told (Body.Fork n half) ∷ Phase.Answer ∷ []) =
+    In_guard q r met told ∷ Locks_only [] ∷ Over q r (proc_of_op o) (op_span o) ∷ forking o n half
+facts o xs (Phase.Guard q r met told Body.Nothing ∷ Phase.Answer ∷ []) =
+    In_guard q r met told ∷ Locks_only [] ∷ Over q r (proc_of_op o) (op_span o) ∷ widening o
 facts o xs (Phase.Piece k ∷ []) = Is (has_piece o k) ∷ nothing_held
 facts o xs (Phase.Fetched was ∷ []) = Is (is_add o) ∷ Fetched_at (op_mirror o) (op_piece o 0).0 was ∷ nothing_held
 facts o xs (Phase.Begun k at q ∷ []) = Touching o (Touch.Walk k at q) ∷ nothing_held
-facts o xs (Phase.Noted k at q x ∷ []) = Touching o (Touch.Walk k at q) ∷ Noted (op_mirror o) (at_page o k) q x ∷ nothing_held
+facts o xs (Phase.Noted k at q x ∷ []) =
+    Touching o (Touch.Walk k at q) ∷ Noted (op_mirror o) (at_page o k) q x ∷ nothing_held
 facts o xs (Phase.Decide touch ∷ []) = deciding o touch
 facts o xs (Phase.Taken touch g Place.Zero ∷ []) = Never ∷ []
 facts o xs (Phase.Taken touch g over ∷ []) =
-    Touching o touch ∷ May_store (op_who o) (touch_page o touch) ∷ No_guard ∷ Locks_only (g ∷ []) ∷ Zeroed g ∷ Is (is_core over) ∷ Is (not (writable over)) ∷ Is (of_system g) ∷ []
+    Touching o touch
+    ∷ May_store (op_who o) (touch_page o touch)
+    ∷ No_guard
+    ∷ Locks_only (g ∷ [])
+    ∷ Zeroed g
+    ∷ Is (is_core over)
+    ∷ Is (not (writable over))
+    ∷ Is (of_system g)
+    ∷ []
 facts o xs (Phase.Armed touch g over ∷ []) =
-    Touching o touch ∷ May_store (op_who o) (touch_page o touch) ∷ No_guard ∷ Locks_only (g ∷ []) ∷ Copy_of g (op_who o) (touch_page o touch) ∷ Is (is_core over) ∷ Is (not (writable over)) ∷ Is (of_system g) ∷ []
+    Touching o touch
+    ∷ May_store (op_who o) (touch_page o touch)
+    ∷ No_guard
+    ∷ Locks_only (g ∷ [])
+    ∷ Copy_of g (op_who o) (touch_page o touch)
+    ∷ Is (is_core over)
+    ∷ Is (not (writable over))
+    ∷ Is (of_system g)
+    ∷ []
 facts o xs (Phase.Guard q r met told (Body.Replace over g) ∷ Phase.Decide touch ∷ []) =
-    In_guard q r met told ∷ Locks_only (g ∷ []) ∷ Over_page q r (op_who o) (touch_page o touch) ∷ Touching o touch ∷ May_store (op_who o) (touch_page o touch) ∷ Copy_of g (op_who o) (touch_page o touch) ∷ Is (is_core over) ∷ Is (not (writable over)) ∷ Is (of_system g) ∷ []
+    In_guard q r met told
+    ∷ Locks_only (g ∷ [])
+    ∷ Over_page q r (op_who o) (touch_page o touch)
+    ∷ Touching o touch
+    ∷ May_store (op_who o) (touch_page o touch)
+    ∷ Copy_of g (op_who o) (touch_page o touch)
+    ∷ Is (is_core over)
+    ∷ Is (not (writable over))
+    ∷ Is (of_system g)
+    ∷ []
 facts o xs (Phase.Guard q r met told Body.Nothing ∷ Phase.Decide touch ∷ []) =
-    In_guard q r met told ∷ Locks_only [] ∷ Over_page q r (op_who o) (touch_page o touch) ∷ Touching o touch ∷ Read_locked (op_who o) ∷ []
+    In_guard q r met told
+    ∷ Locks_only []
+    ∷ Over_page q r (op_who o) (touch_page o touch)
+    ∷ Touching o touch
+    ∷ Read_locked (op_who o)
+    ∷ []
 facts o xs (Phase.Guard q r met told Body.Restore ∷ Phase.Decide touch ∷ []) =
-    In_guard q r met told ∷ Locks_only [] ∷ Over_page q r (op_who o) (touch_page o touch) ∷ Touching o touch ∷ Read_locked (op_who o) ∷ []
+    In_guard q r met told
+    ∷ Locks_only []
+    ∷ Over_page q r (op_who o) (touch_page o touch)
+    ∷ Touching o touch
+    ∷ Read_locked (op_who o)
+    ∷ []
 facts o xs (Phase.Guard q r met told (Body.Seize f) ∷ Phase.Decide touch ∷ []) =
-    In_guard q r met told ∷ Locks_only [] ∷ Over_page q r (op_who o) (touch_page o touch) ∷ Touching o touch ∷ Read_locked (op_who o) ∷ []
+    In_guard q r met told
+    ∷ Locks_only []
+    ∷ Over_page q r (op_who o) (touch_page o touch)
+    ∷ Touching o touch
+    ∷ Read_locked (op_who o)
+    ∷ []
 facts o xs (Phase.Drop f ∷ Phase.Guard q r met told Body.Nothing ∷ Phase.Decide touch ∷ []) =
-    Owns f ∷ In_guard q r met told ∷ Locks_only (f ∷ []) ∷ Over_page q r (op_who o) (touch_page o touch) ∷ Touching o touch ∷ Read_locked (op_who o) ∷ []
-facts o xs (Phase.Drop f ∷ Phase.Decide touch ∷ []) = Owns f ∷ No_guard ∷ Locks_only (f ∷ []) ∷ Touching o touch ∷ Read_locked (op_who o) ∷ []
+    Owns f
+    ∷ In_guard q r met told
+    ∷ Locks_only (f ∷ [])
+    ∷ Over_page q r (op_who o) (touch_page o touch)
+    ∷ Touching o touch
+    ∷ Read_locked (op_who o)
+    ∷ []
+facts o xs (Phase.Drop f ∷ Phase.Decide touch ∷ []) =
+    Owns f ∷ No_guard ∷ Locks_only (f ∷ []) ∷ Touching o touch ∷ Read_locked (op_who o) ∷ []
 facts o xs (Phase.Frames v n ∷ []) = Is (is_evicting o) ∷ Clearing o v ∷ Emptied n ∷ nothing_held
 facts o xs (Phase.GiveUp touch ∷ []) = No_guard ∷ Locks_only [] ∷ under o (Phase.GiveUp touch ∷ [])
-facts o xs (Phase.Guard q r met told (Body.Catch f) ∷ below) = In_guard q r met told ∷ Locks_only [] ∷ Is (nat_lt 0 r.count) ∷ Is (catches o f below) ∷ under o below
-facts o xs (Phase.Guard q r met told (Body.Freeze f) ∷ Phase.Alone g at ∷ below) = In_guard q r met told ∷ Locks_only (g ∷ []) ∷ Is (nat_lt 0 r.count) ∷ Is (same_frame f g) ∷ Sourced g ∷ under o below
-facts o xs (Phase.Guard q r met told Body.Nothing ∷ Phase.Alone f at ∷ below) = In_guard q r met told ∷ Locks_only (f ∷ []) ∷ Sourced f ∷ under o below
-facts o xs (Phase.Alone f at ∷ below) = No_guard ∷ Locks_only (f ∷ []) ∷ Sourced f ∷ under o below
-facts o xs (Phase.Copy f g k ∷ Phase.Copied i j ∷ below) = Is (same_frame f i) ∷ Is (same_frame g j) ∷ Is (nat_le k 7) ∷ No_guard ∷ Locks_only (i ∷ j ∷ []) ∷ Copying i j k ∷ Is (of_system j) ∷ under o below
-facts o xs (Phase.Copied f g ∷ below) = No_guard ∷ Locks_only (f ∷ g ∷ []) ∷ Copying f g 8 ∷ Is (of_system g) ∷ under o below
-facts o xs (Phase.Finish f None ∷ below) = No_guard ∷ Locks_only (f ∷ held_under o xs below) ∷ Sourced f ∷ Is (keeps_on o below) ∷ beneath o xs (f ∷ []) below
-facts o xs (Phase.Finish f (Some g) ∷ below) = No_guard ∷ Locks_only (f ∷ g ∷ held_under o xs below) ∷ Coming_back f g ∷ Is (returns_to o g) ∷ beneath o xs (f ∷ g ∷ []) below
-facts o xs (Phase.Settle g ∷ below) = No_guard ∷ Locks_only (g ∷ held_under o xs below) ∷ Back g ∷ Is (returns_to o g) ∷ beneath o xs (g ∷ []) below
+facts o xs (Phase.Guard q r met told (Body.Catch f) ∷ below) =
+    In_guard q r met told ∷ Locks_only [] ∷ Is (nat_lt 0 r.count) ∷ Is (catches o f below) ∷ under o below
+facts o xs (Phase.Guard q r met told (Body.Freeze f) ∷ Phase.Emptying g at ∷ below) =
+    In_guard q r met told
+    ∷ Locks_only (g ∷ [])
+    ∷ Is (nat_lt 0 r.count)
+    ∷ Is (same_frame f g)
+    ∷ Sourced g
+    ∷ under o below
+facts o xs (Phase.Guard q r met told Body.Nothing ∷ Phase.Emptying f at ∷ below) =
+    In_guard q r met told ∷ Locks_only (f ∷ []) ∷ Sourced f ∷ under o below
+facts o xs (Phase.Emptying f at ∷ below) = No_guard ∷ Locks_only (f ∷ []) ∷ Sourced f ∷ under o below
+facts o xs (Phase.Copy f g k ∷ Phase.Copied i j ∷ below) =
+    Is (same_frame f i)
+    ∷ Is (same_frame g j)
+    ∷ Is (nat_le k 7)
+    ∷ No_guard
+    ∷ Locks_only (i ∷ j ∷ [])
+    ∷ Copying i j k
+    ∷ Is (of_system j)
+    ∷ under o below
+facts o xs (Phase.Copied f g ∷ below) =
+    No_guard ∷ Locks_only (f ∷ g ∷ []) ∷ Copying f g 8 ∷ Is (of_system g) ∷ under o below
+facts o xs (Phase.Finish f None ∷ below) =
+    No_guard
+    ∷ Locks_only (f ∷ held_under o xs below)
+    ∷ Sourced f
+    ∷ Is (keeps_on o below)
+    ∷ beneath o xs (f ∷ []) below
+facts o xs (Phase.Finish f (Some g) ∷ below) =
+    No_guard
+    ∷ Locks_only (f ∷ g ∷ held_under o xs below)
+    ∷ Coming_back f g
+    ∷ Is (returns_to o g)
+    ∷ beneath o xs (f ∷ g ∷ []) below
+facts o xs (Phase.Settle g ∷ below) =
+    No_guard ∷ Locks_only (g ∷ held_under o xs below) ∷ Back g ∷ Is (returns_to o g) ∷ beneath o xs (g ∷ []) below
 facts o xs (Phase.Moves step v ∷ []) = No_guard ∷ Locks_only (held o xs step v None) ∷ migrating o xs step v None
 facts o xs (Phase.Guard q r met told (Body.Select n) ∷ Phase.Moves step v ∷ []) =
-    In_guard q r met told ∷ Locks_only (held o xs step v None) ∷ Over_span q r (Who.Mirror (op_mirror o)) (op_range o) ∷ Is ((step == 3) && (v == r.first)) ∷ Is (nat_le v n) ∷ Is (pages_below n xs) ∷ Windowed_all (op_mirror o) r ∷ migrating o xs step v None
+    In_guard q r met told
+    ∷ Locks_only (held o xs step v None)
+    ∷ Over_span q r (Who.Mirror (op_mirror o)) (op_range o)
+    ∷ Is (same_step step MoveStep.FreezeOthers)
+    ∷ Is (v == r.first)
+    ∷ Is (nat_le v n)
+    ∷ Is (pages_below n xs)
+    ∷ Windowed_all (op_mirror o) r
+    ∷ migrating o xs step v None
 facts o xs (Phase.Guard q r met told (Body.Freeze f) ∷ Phase.Moves step v ∷ []) =
-    In_guard q r met told ∷ Locks_only (held o xs step v None) ∷ Is (nat_lt 0 r.count) ∷ Is (step == 3) ∷ Is (has_source f v xs) ∷ migrating o xs step v None
-facts o xs (Phase.Guard q r met told Body.Nothing ∷ Phase.Moves step v ∷ []) = In_guard q r met told ∷ Locks_only (held o xs step v None) ∷ migrating o xs step v None
-facts o xs (Phase.Copy f g k ∷ Phase.Moves step v ∷ []) = No_guard ∷ Locks_only (held o xs step v (Some (g, k))) ∷ Is (step == 4) ∷ Is (nat_le k 7) ∷ Is (has_pair f g xs) ∷ migrating o xs step v (Some (g, k))
+    In_guard q r met told
+    ∷ Locks_only (held o xs step v None)
+    ∷ Is (nat_lt 0 r.count)
+    ∷ Is (same_step step MoveStep.FreezeOthers)
+    ∷ Is (has_source f v xs)
+    ∷ migrating o xs step v None
+facts o xs (Phase.Guard q r met told Body.Nothing ∷ Phase.Moves step v ∷ []) =
+    In_guard q r met told ∷ Locks_only (held o xs step v None) ∷ migrating o xs step v None
+facts o xs (Phase.Copy f g k ∷ Phase.Moves step v ∷ []) =
+    No_guard
+    ∷ Locks_only (held o xs step v (Some (g, k)))
+    ∷ Is (same_step step MoveStep.TakeAndCopy)
+    ∷ Is (nat_le k 7)
+    ∷ Is (has_pair f g xs)
+    ∷ migrating o xs step v (Some (g, k))
 facts o xs (Phase.Guard q r met told (Body.Fresh g) ∷ Phase.Moves step v ∷ []) =
-    In_guard q r met told ∷ Locks_only (g ∷ held o xs step v None) ∷ Is (apart_from (g ∷ []) (held o xs step v None)) ∷ Is ((step == 5) && nat_lt r.first v) ∷ Is (has_fresh r.first g xs) ∷ Over_page q r (Who.Mirror (op_mirror o)) r.first ∷ Zeroed g ∷ May_read (Who.Mirror (op_mirror o)) r.first ∷ Lands_on o g ∷ migrating o xs step v None
+    In_guard q r met told
+    ∷ Locks_only (g ∷ held o xs step v None)
+    ∷ Is (apart_from (g ∷ []) (held o xs step v None))
+    ∷ Is (same_step step MoveStep.Commit)
+    ∷ Is (nat_lt r.first v)
+    ∷ Is (has_fresh r.first g xs)
+    ∷ Over_page q r (Who.Mirror (op_mirror o)) r.first
+    ∷ Zeroed g
+    ∷ May_read (Who.Mirror (op_mirror o)) r.first
+    ∷ Lands_on o g
+    ∷ migrating o xs step v None
 facts o xs (Phase.Lost u g ∷ Phase.Moves step v ∷ []) =
-    No_guard ∷ Locks_only (g ∷ held o xs step v None) ∷ Is (apart_from (g ∷ []) (held o xs step v None)) ∷ Is (was_fresh u xs) ∷ Touched (Who.Mirror (op_mirror o)) u ∷ Owns g ∷ migrating o xs step v None
-facts o xs (Phase.Drop g ∷ Phase.Moves step v ∷ []) = No_guard ∷ Locks_only (g ∷ held o xs step v None) ∷ Is (apart_from (g ∷ []) (held o xs step v None)) ∷ Owns g ∷ migrating o xs step v None
+    No_guard
+    ∷ Locks_only (g ∷ held o xs step v None)
+    ∷ Is (apart_from (g ∷ []) (held o xs step v None))
+    ∷ Is (was_fresh u xs)
+    ∷ Framed (Who.Mirror (op_mirror o)) u
+    ∷ Owns g
+    ∷ migrating o xs step v None
+facts o xs (Phase.Drop g ∷ Phase.Moves step v ∷ []) =
+    No_guard
+    ∷ Locks_only (g ∷ held o xs step v None)
+    ∷ Is (apart_from (g ∷ []) (held o xs step v None))
+    ∷ Owns g
+    ∷ migrating o xs step v None
 facts o xs _ = Never ∷ []
 
 abbrev pub facts_of : Option Op → List Migrating → List Phase → List Fact

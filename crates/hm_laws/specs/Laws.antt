@@ -2,11 +2,11 @@
 use Rattle.std.specs.Prelude.{◌≡◌, ℕ, ◌%◌, false, true, Some, is_some, List, [], IsTrue}
 use Rattle.hm_base.specs.Program.{Program, IsScript}
 use Rattle.hm_history.specs.Words.{page_of, is_empty_place}
-use Rattle.hm_history.specs.Plain.{rights_of, plain_takes, mirror_proc}
-use Rattle.hm_history.specs.Places.{places_take}
-use Rattle.hm_history.specs.Sequences.{sequences_take}
+use Rattle.hm_history.specs.Plain.{rights_of, plain_accepts, mirror_proc}
+use Rattle.hm_history.specs.Places.{places_accept}
+use Rattle.hm_history.specs.Sequences.{sequences_accept}
 use Rattle.hm_history.specs.Lookups.{narrows_guarded}
-use Rattle.hm_history.specs.Contents.{shown}
+use Rattle.hm_history.specs.Contents.{contents_of}
 use Rattle.hm_history.specs.After.{After, after}
 use Rattle.hm_history.specs.Legal.{Legal}
 use Rattle.hm_history.specs.Run.{run}
@@ -27,25 +27,32 @@ HistoryIsLegal = (c : Program) → IsScript c → (h : List Entry) → DueFrom c
 -- a page with a place shows its plain bytes, and one with an area and no place has zeros, unless somebody has the
 -- process's mmap lock for writing and is emptying it
 pub record ReadsRight (s : After) : Type 0 where
-  pub placed : (p a : ℕ) → s.plain.there p ≡ true → is_empty_place (s.places.place p (page_of a)) ≡ false → shown s.places s.contents (s.places.place p (page_of a)) (a % 4096) ≡ s.plain.bytes p a
-  pub untouched : (p a : ℕ) → s.plain.there p ≡ true → ((b : ℕ) → s.locks.map b ≡ Some (record { proc = p; writes = true }) → ⊥) → is_empty_place (s.places.place p (page_of a)) ≡ true → is_some (rights_of s.plain p (page_of a)) ≡ true → s.plain.bytes p a ≡ 0
+  pub placed : (p a : ℕ) → s.plain.there p ≡ true → is_empty_place (s.places.place p (page_of a)) ≡ false
+      → contents_of s.places s.contents (s.places.place p (page_of a)) (a % 4096) ≡ s.plain.bytes p a
+  pub untouched : (p a : ℕ) → s.plain.there p ≡ true
+      → ((b : ℕ) → s.locks.map b ≡ Some (record { proc = p; writes = true }) → ⊥)
+      → is_empty_place (s.places.place p (page_of a)) ≡ true → is_some (rights_of s.plain p (page_of a)) ≡ true
+      → s.plain.bytes p a ≡ 0
 
 abbrev pub FramesRead : Type 0
 FramesRead = (c : Program) → IsScript c → (h : List Entry) → DueFrom c [] h → ReadsRight (after h)
 
 -- an allowed entry of any kind keeps the rules
 abbrev pub RulesAreKept : Type 0
-RulesAreKept = (c : Program) (s : After) (t : Past) (a : ℕ) (k : Kind) → Sound c s t → Allowed c s t a k → Sound c (next s a k) (past_next t s.length a k)
+RulesAreKept =
+    (c : Program) (s : After) (t : Past) (a : ℕ) (k : Kind) → Sound c s t → Allowed c s t a k
+    → Sound c (next s a k) (past_next t s.length a k)
 
 -- the entry passes the tests that legality makes of a state
 pub record MayStand (c : Program) (s : After) (a : ℕ) (k : Kind) : Type 0 where
-  pub answers : IsTrue (plain_takes s.plain k)
-  pub places : IsTrue (places_take c (mirror_proc s.plain) s.places a k)
-  pub sequences : IsTrue (sequences_take s.sequences a k)
+  pub answers : IsTrue (plain_accepts s.plain k)
+  pub places : IsTrue (places_accept c (mirror_proc s.plain) s.places a k)
+  pub sequences : IsTrue (sequences_accept s.sequences a k)
   pub guarded : IsTrue (narrows_guarded s.sequences s.places.place a k)
 
 abbrev pub AllowedMayStand : Type 0
-AllowedMayStand = (c : Program) (s : After) (t : Past) (a : ℕ) (k : Kind) → Sound c s t → Allowed c s t a k → MayStand c s a k
+AllowedMayStand =
+    (c : Program) (s : After) (t : Past) (a : ℕ) (k : Kind) → Sound c s t → Allowed c s t a k → MayStand c s a k
 
 abbrev pub HistoryStands : Type 0
 HistoryStands = (c : Program) → IsScript c → (h : List Entry) → DueFrom c [] h → Stands c h

@@ -15,7 +15,8 @@ pub record Past : Type 0 where
   pub rightly : ℕ → ℕ → Bool
 
 abbrev pub past_start : Past
-past_start = record { namer = λ c. None; leaver = λ m. None; told = λ m v. 0; begun = λ a m. None; rightly = λ m v. false }
+past_start =
+    record { namer = λ c. None; leaver = λ m. None; told = λ m v. 0; begun = λ a m. None; rightly = λ m v. false }
 
 abbrev pub is_position : Option ℕ → ℕ → Bool
 is_position None i = false
@@ -33,5 +34,6 @@ past_next t n a (Kind.Named p c) = record t { namer = with_at t.namer c (Some a)
 past_next t n a (Kind.Detaching m q) = record t { leaver = with_at t.leaver m (Some a) }
 past_next t n a (Kind.Told m r q) = record t { told = told_next t.told m r (n + 1) }
 past_next t n a (Kind.Begin m q) = record t { begun = with_pair t.begun a m (Some n) }
-past_next t n a (Kind.Set m v f w from) = record t { rightly = with_pair t.rightly m v ((from == n) || is_position (t.begun a m) from) }
+past_next t n a (Kind.Set m v f w from) =
+    record t { rightly = with_pair t.rightly m v ((from == n) || is_position (t.begun a m) from) }
 past_next t n a _ = t

@@ -7,10 +7,31 @@ use Rattle.hm_base.specs.declared.ops.Op.{Op}
 use Rattle.hm_history.specs.Words.{same_frame, is_frame}
 use Rattle.hm_history.specs.Operation.{is_to_device, is_migration}
 use Rattle.hm_history.specs.declared.phases.Migrating.{Migrating}
+use Rattle.hm_history.specs.declared.phases.MoveStep.{MoveStep}
 
--- a migration that has come to a page in a step is past a step for a page
-abbrev pub is_past : ℕ → ℕ → ℕ → ℕ → Bool
-is_past step next k v = nat_lt k step || ((k == step) && nat_lt v next)
+-- the steps of a migration: one is the other, or comes before it
+abbrev pub same_step : MoveStep → MoveStep → Bool
+same_step MoveStep.FreezeOthers MoveStep.FreezeOthers = true
+same_step MoveStep.TakeAndCopy MoveStep.TakeAndCopy = true
+same_step MoveStep.Commit MoveStep.Commit = true
+same_step MoveStep.SetOwnTable MoveStep.SetOwnTable = true
+same_step MoveStep.Finish MoveStep.Finish = true
+same_step _ _ = false
+
+abbrev pub comes_before : MoveStep → MoveStep → Bool
+comes_before _ MoveStep.FreezeOthers = false
+comes_before MoveStep.FreezeOthers _ = true
+comes_before _ MoveStep.TakeAndCopy = false
+comes_before MoveStep.TakeAndCopy _ = true
+comes_before _ MoveStep.Commit = false
+comes_before MoveStep.Commit _ = true
+comes_before _ MoveStep.SetOwnTable = false
+comes_before MoveStep.SetOwnTable _ = true
+comes_before _ _ = false
+
+-- a migration that has come to a page in a step is past another step for a page
+abbrev pub is_past : MoveStep → ℕ → MoveStep → ℕ → Bool
+is_past step next other v = comes_before other step || (same_step other step && nat_lt v next)
 
 abbrev pub is_nil : List Migrating → Bool
 is_nil [] = true
@@ -46,10 +67,27 @@ pub record WellListed (xs : List Migrating) : Type 0 where
   pub apart : (y z : Migrating) (f : Frame) → Among xs y → Among xs z → is_of y f ≡ true → is_of z f ≡ true → y ≡ z
   pub own : (y : Migrating) (f : Frame) → Among xs y → y.source ≡ Some f → y.dest ≡ Some f → ⊥
 
--- a record has what the steps that are past gave it: a frame in step 4, its commit in step 5. Only a migration to a
--- device has pages with no frame
+-- a page that no frame has is only in a migration to a device
+abbrev pub has_ground : Op → Migrating → Bool
+has_ground o x = is_some x.source || is_to_device o
+
+-- a new frame comes with the step of taking
+abbrev pub is_taken_in_time : Bool → Migrating → Bool
+is_taken_in_time past_taking x = is_none x.dest || past_taking
+
+-- what moved, was committed to a new frame
+abbrev pub is_moved_in_time : Bool → Migrating → Bool
+is_moved_in_time past_commit x = not x.moved || (past_commit && is_some x.dest)
+
+-- after the commit, what has both an old frame and a new one moved
+abbrev pub is_moved_at_last : Bool → Migrating → Bool
+is_moved_at_last past_commit x = not past_commit || (is_none x.dest || (x.moved || is_none x.source))
+
+-- a record has what the steps that are past gave it
 abbrev pub staged : Op → Bool → Bool → Migrating → Bool
-staged o p4 p5 x = (is_some x.source || is_to_device o) && ((is_none x.dest || p4) && ((not x.moved || (p5 && is_some x.dest)) && (not p5 || (is_none x.dest || (x.moved || is_none x.source)))))
+staged o past_taking past_commit x =
+    has_ground o x
+    && (is_taken_in_time past_taking x && (is_moved_in_time past_commit x && is_moved_at_last past_commit x))
 
 -- so many eighths are copied into the frame, of all but one that is in hand
 abbrev pub parts_of : Option (Frame × ℕ) → Frame → ℕ

@@ -44,10 +44,10 @@ is_attach (Op.Attach m d p r) = true
 is_attach o = false
 
 -- operations that take a page for their actor alone; the second adds to a byte of it
-abbrev pub takes_alone : Op → Bool
-takes_alone (Op.Exclusive m v) = true
-takes_alone (Op.Add m a n) = true
-takes_alone o = false
+abbrev pub takes_exclusive : Op → Bool
+takes_exclusive (Op.Exclusive m v) = true
+takes_exclusive (Op.Add m a n) = true
+takes_exclusive o = false
 
 abbrev pub is_add : Op → Bool
 is_add (Op.Add m a n) = true

@@ -30,16 +30,19 @@ pub record PlaceRules (place : ℕ → ℕ → Place) (placed : List (ℕ × ℕ
 -- a place names and stands for held frames, each on one page number; what a writable place stands for no other stands
 -- for; a held frame is named or locked; a frame of a migration entry, and what that stands for, is locked; a frame that
 -- is named directly was not committed
-pub record FrameRules (place : ℕ → ℕ → Place) (held : Frame → Bool) (to : Frame → Option Frame) (lock : Frame → Option ℕ) : Type 0 where
+pub record FrameRules (place : ℕ → ℕ → Place) (held : Frame → Bool) (to : Frame → Option Frame)
+    (lock : Frame → Option ℕ) : Type 0 where
   pub names_held : (p v : ℕ) (f : Frame) → names (place p v) ≡ Some f → held f ≡ true
   pub stands_held : (p v : ℕ) (f : Frame) → stood to (place p v) ≡ Some f → held f ≡ true
   pub one_page : (p v q u : ℕ) (f : Frame) → names (place p v) ≡ Some f → names (place q u) ≡ Some f → u ≡ v
   pub stood_page : (p v q u : ℕ) (f : Frame) → stood to (place p v) ≡ Some f → stood to (place q u) ≡ Some f → u ≡ v
-  pub alone : (p v q u : ℕ) (f : Frame) → writable (place p v) ≡ true → stood to (place p v) ≡ Some f → stood to (place q u) ≡ Some f → (q ≡ p) × (u ≡ v)
+  pub alone : (p v q u : ℕ) (f : Frame) → writable (place p v) ≡ true → stood to (place p v) ≡ Some f
+      → stood to (place q u) ≡ Some f → (q ≡ p) × (u ≡ v)
   pub locked_held : (f : Frame) (b : ℕ) → lock f ≡ Some b → held f ≡ true
   pub held_used : (f : Frame) → held f ≡ true → lock f ≡ None → IsNamed place f
   pub moving_locked : (p v : ℕ) (f : Frame) → moving_frame (place p v) ≡ Some f → is_some (lock f) ≡ true
-  pub stands_locked : (p v : ℕ) (f : Frame) → is_moving (place p v) ≡ true → stood to (place p v) ≡ Some f → is_some (lock f) ≡ true
+  pub stands_locked : (p v : ℕ) (f : Frame) → is_moving (place p v) ≡ true → stood to (place p v) ≡ Some f
+      → is_some (lock f) ≡ true
   pub direct_fresh : (p v : ℕ) (f : Frame) → names_directly (place p v) ≡ Some f → to f ≡ None
 
 -- held frames are the pools', and a removed device has none
@@ -57,19 +60,26 @@ pub record ProcessRules (there been named : ℕ → Bool) (areas : ℕ → List 
   pub namer_named : (p : ℕ) → named p ≡ false → namer p ≡ None
 
 -- a page with a place has an area, but in the child of a fork under way; a writable place has a writable area
-pub record AreaRules (there been : ℕ → Bool) (areas : ℕ → List Area) (namer : ℕ → Option ℕ) (place : ℕ → ℕ → Place) : Type 0 where
-  pub in_area : (p v : ℕ) → there p ≡ true → is_empty_place (place p v) ≡ false → is_some (rights_at (areas p) v) ≡ true
-  pub may_write : (p v : ℕ) → writable (place p v) ≡ true → (there p ≡ true) × (is_read_write (rights_at (areas p) v) ≡ true)
+pub record AreaRules (there been : ℕ → Bool) (areas : ℕ → List Area) (namer : ℕ → Option ℕ)
+    (place : ℕ → ℕ → Place) : Type 0 where
+  pub in_area : (p v : ℕ) → there p ≡ true → is_empty_place (place p v) ≡ false
+      → is_some (rights_at (areas p) v) ≡ true
+  pub may_write : (p v : ℕ) → writable (place p v) ≡ true
+      → (there p ≡ true) × (is_read_write (rights_at (areas p) v) ≡ true)
   pub absent : (p v : ℕ) → there p ≡ false → been p ≡ true → is_empty_place (place p v) ≡ true
   pub unborn : (p v : ℕ) → namer p ≡ None → been p ≡ false → is_empty_place (place p v) ≡ true
 
 -- a page with a place reads as its process does
-pub record ContentsRules (there : ℕ → Bool) (bytes : ℕ → ℕ → ℕ) (place : ℕ → ℕ → Place) (to : Frame → Option Frame) (contents : Frame → ℕ → ℕ) : Type 0 where
-  pub reads : (p a : ℕ) → there p ≡ true → is_empty_place (place p (page_of a)) ≡ false → shown_by contents (stood to (place p (page_of a))) (a % 4096) ≡ bytes p a
+pub record ContentsRules (there : ℕ → Bool) (bytes : ℕ → ℕ → ℕ) (place : ℕ → ℕ → Place)
+    (to : Frame → Option Frame) (contents : Frame → ℕ → ℕ) : Type 0 where
+  pub reads : (p a : ℕ) → there p ≡ true → is_empty_place (place p (page_of a)) ≡ false
+      → shown_by contents (stood to (place p (page_of a))) (a % 4096) ≡ bytes p a
 
 -- a page with an area and no place reads zeros, unless somebody empties the process
-pub record UntouchedRules (there : ℕ → Bool) (areas : ℕ → List Area) (bytes : ℕ → ℕ → ℕ) (place : ℕ → ℕ → Place) (map : ℕ → Option MapLock) : Type 0 where
-  pub untouched : (p a : ℕ) → there p ≡ true → is_empty_place (place p (page_of a)) ≡ true → is_some (rights_at (areas p) (page_of a)) ≡ true → (bytes p a ≡ 0) ⊎ ((b : ℕ) × (map b ≡ lock_on p true))
+pub record UntouchedRules (there : ℕ → Bool) (areas : ℕ → List Area) (bytes : ℕ → ℕ → ℕ)
+    (place : ℕ → ℕ → Place) (map : ℕ → Option MapLock) : Type 0 where
+  pub untouched : (p a : ℕ) → there p ≡ true → is_empty_place (place p (page_of a)) ≡ true
+      → is_some (rights_at (areas p) (page_of a)) ≡ true → (bytes p a ≡ 0) ⊎ ((b : ℕ) × (map b ≡ lock_on p true))
 
 -- a mirror and its interval
 abbrev pub stands_so : Attachment → Stage → Bool
@@ -83,7 +93,7 @@ stands_so x y = false
 pub record Pairing (x : MirrorState) (y : Interval) (d : ℕ) : Type 0 where
   pub proc : y.proc ≡ x.proc
   pub window : y.window ≡ x.window
-  pub standing : stands_so x.standing y.standing ≡ true
+  pub stage : stands_so x.stage y.stage ≡ true
   pub device : d ≡ x.dev
 
 abbrev pub Paired : Option MirrorState → Option Interval → ℕ → Type 0
@@ -91,7 +101,8 @@ Paired None None d = Unit {0}
 Paired (Some x) (Some y) d = Pairing x y d
 Paired x y d = ⊥
 
-pub record MirrorRules (mirrors : ℕ → Option MirrorState) (interval : ℕ → Option Interval) (device : ℕ → ℕ) : Type 0 where
+pub record MirrorRules (mirrors : ℕ → Option MirrorState) (interval : ℕ → Option Interval)
+    (device : ℕ → ℕ) : Type 0 where
   pub paired : (m : ℕ) → Paired (mirrors m) (interval m) (device m)
 
 -- a mirror's process was there when it came
@@ -118,8 +129,10 @@ pub record SequenceRules (s : Sequences) : Type 0 where
   pub few : (m : ℕ) (y : Interval) → s.interval m ≡ Some y → m < 32
   pub not_above : (m : ℕ) (y : Interval) → s.interval m ≡ Some y → y.seq ≤ s.seq y.proc
   pub odd_seq : (m : ℕ) (y : Interval) → s.interval m ≡ Some y → is_odd y.seq ≡ true
-  pub deferred : (m : ℕ) (y : Interval) → s.interval m ≡ Some y → deferred_state y.standing ≡ true → (y.seq ≡ s.seq y.proc) × (is_odd (s.seq y.proc) ≡ true)
-  pub leaving : (m : ℕ) (y : Interval) → s.interval m ≡ Some y → is_leaving y.standing ≡ true → is_odd (s.seq y.proc) ≡ true
+  pub deferred : (m : ℕ) (y : Interval) → s.interval m ≡ Some y → deferred_state y.stage ≡ true
+      → (y.seq ≡ s.seq y.proc) × (is_odd (s.seq y.proc) ≡ true)
+  pub leaving : (m : ℕ) (y : Interval) → s.interval m ≡ Some y → is_leaving y.stage ≡ true
+      → is_odd (s.seq y.proc) ≡ true
   pub met_odd : (a : ℕ) (g : Guarded) → s.guard a ≡ Some g → has_met g ≡ true → is_odd (s.seq g.proc) ≡ true
   pub met_now : (a : ℕ) (g : Guarded) → s.guard a ≡ Some g → has_met g ≡ true → overlapping s g.proc g.span ≡ g.met
   pub counted : (p : ℕ) → s.active p ≡ count_guards s.guard p 16
@@ -132,7 +145,8 @@ abbrev pub Pending : Guarded → ℕ → Type 0
 Pending g m = (list_any (λ k. k == m) g.met ≡ true) × (list_any (λ k. k == m) g.told ≡ false)
 
 abbrev pub Blocked : (ℕ → ℕ) → (ℕ → ℕ → Option TableEntry) → ℕ → Interval → Pages → Type 0
-Blocked seq table m y r = (y.seq ≡ seq y.proc) × (is_odd (seq y.proc) ≡ true) × ((v : ℕ) → covers r v ≡ true → table m v ≡ None)
+Blocked seq table m y r =
+    (y.seq ≡ seq y.proc) × (is_odd (seq y.proc) ≡ true) × ((v : ℕ) → covers r v ≡ true → table m v ≡ None)
 
 abbrev pub listens : Stage → Bool
 listens InTree = true
@@ -142,19 +156,24 @@ listens Removed = false
 listens Out = false
 
 pub record GuardRules (s : Sequences) (table : ℕ → ℕ → Option TableEntry) : Type 0 where
-  pub waits : (m v : ℕ) (y : Interval) → s.interval m ≡ Some y → deferred_state y.standing ≡ true → table m v ≡ None
-  pub guarded : (a m : ℕ) (g : Guarded) (y : Interval) → s.guard a ≡ Some g → s.interval m ≡ Some y → listens y.standing ≡ true → y.proc ≡ g.proc → overlap y.window g.span ≡ true → Pending g m ⊎ Blocked s.seq table m y g.span
+  pub waits : (m v : ℕ) (y : Interval) → s.interval m ≡ Some y → deferred_state y.stage ≡ true → table m v ≡ None
+  pub guarded : (a m : ℕ) (g : Guarded) (y : Interval) → s.guard a ≡ Some g → s.interval m ≡ Some y
+      → listens y.stage ≡ true → y.proc ≡ g.proc → overlap y.window g.span ≡ true
+      → Pending g m ⊎ Blocked s.seq table m y g.span
 
 -- the tables of mirrors: only attached ones have entries, each in the window, of what the place stands for, and of the
 -- system's frames and the mirror's device
-pub record Entered (to : Frame → Option Frame) (x : MirrorState) (e : TableEntry) (v : ℕ) (place : Place) : Type 0 where
+pub record Entered (to : Frame → Option Frame) (x : MirrorState) (e : TableEntry) (v : ℕ)
+    (place : Place) : Type 0 where
   pub in_window : covers x.window v ≡ true
   pub matches : Matches to e.target e.right place
   pub own_device : is_for_device e.target x.dev ≡ true
 
-pub record TableRules (mirrors : ℕ → Option MirrorState) (table : ℕ → ℕ → Option TableEntry) (place : ℕ → ℕ → Place) (to : Frame → Option Frame) : Type 0 where
+pub record TableRules (mirrors : ℕ → Option MirrorState) (table : ℕ → ℕ → Option TableEntry)
+    (place : ℕ → ℕ → Place) (to : Frame → Option Frame) : Type 0 where
   pub unattached : (m v : ℕ) → mirror_passes is_attached_state (mirrors m) ≡ false → table m v ≡ None
-  pub entered : (m v : ℕ) (e : TableEntry) (x : MirrorState) → table m v ≡ Some e → mirrors m ≡ Some x → Entered to x e v (place x.proc v)
+  pub entered : (m v : ℕ) (e : TableEntry) (x : MirrorState) → table m v ≡ Some e → mirrors m ≡ Some x
+      → Entered to x e v (place x.proc v)
 
 -- a table entry stands from its look-up, since which nobody was told
 pub record PastRules (n : ℕ) (past : Past) : Type 0 where
@@ -168,16 +187,16 @@ pub record UntoldRules (table : ℕ → ℕ → Option TableEntry) (told : ℕ �
 pub record Sound (c : Program) (s : After) (t : Past) : Type 0 where
   pub locks : LockRules s.locks.map
   pub places : PlaceRules s.places.place s.places.placed
-  pub frames : FrameRules s.places.place s.places.held s.places.moved_to s.locks.frame
+  pub frames : FrameRules s.places.place s.places.held s.places.committed_to s.locks.frame
   pub pools : PoolRules c s.places.held s.places.withdrawn s.places.removed
   pub processes : ProcessRules s.plain.there s.plain.been s.plain.named s.plain.areas t.namer
   pub areas : AreaRules s.plain.there s.plain.been s.plain.areas t.namer s.places.place
-  pub reads : ContentsRules s.plain.there s.plain.bytes s.places.place s.places.moved_to s.contents
+  pub reads : ContentsRules s.plain.there s.plain.bytes s.places.place s.places.committed_to s.contents
   pub untouched : UntouchedRules s.plain.there s.plain.areas s.plain.bytes s.places.place s.locks.map
   pub mirrors : MirrorRules s.plain.mirrors s.sequences.interval s.places.device
   pub arrivals : ArrivalRules s.plain.been s.plain.mirrors
   pub sequences : SequenceRules s.sequences
   pub guards : GuardRules s.sequences s.places.table
-  pub tables : TableRules s.plain.mirrors s.places.table s.places.place s.places.moved_to
+  pub tables : TableRules s.plain.mirrors s.places.table s.places.place s.places.committed_to
   pub past : PastRules s.length t
   pub untold : UntoldRules s.places.table t.told t.rightly

@@ -9,7 +9,8 @@ use Rattle.hm_laws.specs.Stood.{stood}
 
 -- the entry is not about the frame: a page that named it keeps its place, and no new place names it or stands for it
 abbrev pub Apart : After → Kind → Frame → Type 0
-Apart s (Kind.Place p v x) f = (names (s.places.place p v) ≡ Some f → ⊥) × (names x ≡ Some f → ⊥) × (stood s.places.moved_to x ≡ Some f → ⊥)
+Apart s (Kind.Place p v x) f =
+    (names (s.places.place p v) ≡ Some f → ⊥) × (names x ≡ Some f → ⊥) × (stood s.places.committed_to x ≡ Some f → ⊥)
 Apart s (Kind.Drop g) f = f ≡ g → ⊥
 Apart s (Kind.Done g) f = f ≡ g → ⊥
 Apart s (Kind.Copied i g part) f = f ≡ g → ⊥

@@ -38,6 +38,7 @@ pub record Stands (c : Program) (h : List Entry) : Type 0 where
   pub order : OrderRules (after h).plain.areas
   pub known : (a : ℕ) → Knows c (after h) past a ((state_of c h).going a)
   pub same_after : (state_of c h).after ≡ after h
-  pub allows : (e : Entry) → due c h e.actor ≡ Progress.Did e → Allowed c (after h) past e.actor e.kind  -- so what is due may be added
+  -- so what is due may be added
+  pub allows : (e : Entry) → due c h e.actor ≡ Progress.Did e → Allowed c (after h) past e.actor e.kind
   pub copies : (e : Entry) → due c h e.actor ≡ Progress.Did e → CopiesRightly (after h) e.kind
   pub meets_nobody : length c.actors ≤ 1 → MeetsNobody (after h)

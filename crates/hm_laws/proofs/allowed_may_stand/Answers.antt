@@ -1,4 +1,4 @@
-use Rattle.hm_laws.proofs.Standings.{allowed_may_stand}
+use Rattle.hm_laws.proofs.Histories.Stands.{allowed_may_stand}
 use Rattle.hm_laws.proofs.allowed_may_stand.Goals as goal
 
 pub returns : goal.returns

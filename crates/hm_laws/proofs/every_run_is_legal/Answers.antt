@@ -1,4 +1,4 @@
-use Rattle.hm_laws.proofs.Standings.{run_is_legal}
+use Rattle.hm_laws.proofs.Histories.Stands.{run_is_legal}
 use Rattle.hm_laws.proofs.every_run_is_legal.Goals as goal
 
 pub returns : goal.returns

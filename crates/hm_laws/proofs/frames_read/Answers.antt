@@ -1,4 +1,4 @@
-use Rattle.hm_laws.proofs.Standings.{frames_read}
+use Rattle.hm_laws.proofs.Histories.Stands.{frames_read}
 use Rattle.hm_laws.proofs.frames_read.Goals as goal
 
 pub returns : goal.returns

@@ -1,4 +1,4 @@
-use Rattle.hm_laws.proofs.Standings.{history_stands}
+use Rattle.hm_laws.proofs.Histories.Stands.{history_stands}
 use Rattle.hm_laws.proofs.history_stands.Goals as goal
 
 pub returns : goal.returns

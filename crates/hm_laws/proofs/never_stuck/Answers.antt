@@ -1,4 +1,4 @@
-use Rattle.hm_laws.proofs.NeverStuck.{never_stuck}
+use Rattle.hm_laws.proofs.Waits.NeverStuck.{never_stuck}
 use Rattle.hm_laws.proofs.never_stuck.Goals as goal
 
 pub returns : goal.returns

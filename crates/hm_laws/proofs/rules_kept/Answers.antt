@@ -1,4 +1,4 @@
-use Rattle.hm_laws.proofs.Standings.{rules_kept}
+use Rattle.hm_laws.proofs.Histories.Stands.{rules_kept}
 use Rattle.hm_laws.proofs.rules_kept.Goals as goal
 
 pub returns : goal.returns

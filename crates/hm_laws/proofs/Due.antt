@@ -1,0 +1,23 @@
+-- What is due at a stack of phases is allowed, and leads to what is known at the next.
+pub mod Access
+pub mod Adds
+pub mod Areas
+pub mod Cpu
+pub mod Decide
+pub mod EachGood
+pub mod Empties
+pub mod Exclusive
+pub mod Faults
+pub mod Fork
+pub mod Frames
+pub mod Freezes
+pub mod Good
+pub mod Guards
+pub mod LeftFrames
+pub mod Lookups
+pub mod MirrorPieces
+pub mod Mirrors
+pub mod Places
+pub mod Restores
+pub mod Returns
+pub mod Spans

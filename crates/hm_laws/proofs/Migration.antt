@@ -1,0 +1,20 @@
+-- The same for migrations: what is due at each of their steps is good.
+pub mod Coming
+pub mod Commit
+pub mod CopyParts
+pub mod EachStep
+pub mod FreezeOthers
+pub mod Fresh
+pub mod FreshPlaces
+pub mod FreshRecords
+pub mod Good
+pub mod Lost
+pub mod OwnTable
+pub mod PageEnds
+pub mod PagePast
+pub mod Places
+pub mod Records
+pub mod Select
+pub mod Setup
+pub mod TakeAndCopy
+pub mod TakingFacts
