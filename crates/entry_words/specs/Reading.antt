@@ -16,7 +16,8 @@ abbrev pub place_from : ℕ → Bool → ℕ → ℕ → ℕ → Option Place
 place_from kind w pool n rest =
     if kind == 2 then (if (pool == 0) && (rest == 0) then Some (Sys n w) else None)
     else if kind == 3 then (if nat_le 1 pool && (nat_le pool 4 && (rest == 0)) then Some (Own (pool - 1) n w) else None)
-    else if kind == 4 then (if nat_le pool 4 && (rest == 0) then Some (Moving (record { pool = pool_from pool; number = n }) w) else None)
+    else if kind == 4 then
+    (if nat_le pool 4 && (rest == 0) then Some (Moving (record { pool = pool_from pool; number = n }) w) else None)
     else if kind == 5 then (if not w && ((pool == 0) && nat_lt rest 16) then Some (Exclusive n rest) else None)
     else None
 

@@ -7,7 +7,8 @@ use Rattle.hm_base.specs.declared.Place.{Place}
 use Rattle.hm_base.specs.declared.Place.TheVariants.{Empty, Zero, Sys, Own, Moving, Exclusive}
 
 abbrev pub word : ℕ → Bool → ℕ → ℕ → ℕ → ℕ
-word kind writable pool number actor = kind + (if writable then 8 else 0) + 16 * pool + 2 ^ 8 * number + 2 ^ 40 * actor
+word kind writable pool number actor =
+    kind + (if writable then 8 else 0) + 16 * pool + 2 ^ 8 * number + 2 ^ 40 * actor
 
 -- pool 0 is the system's, pool 1 + d is that of device d
 abbrev pub pool_field : PoolId → ℕ

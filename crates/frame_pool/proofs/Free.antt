@@ -3,7 +3,7 @@ use Rattle.std.proofs.Common.{◌≡◌, ◌≢◌, ◌⊎◌, inl, inr, ℕ, ze
 use Rattle.std.specs.List.{position, position_or_len}
 use Rattle.std.specs.Prelude.{option_map}
 use Rattle.std.proofs.lemmas.List.{length-map, map-set, get_or-map, length-set, length-replicate, get_or-set_same, get_or-set_other, get_or_past}
-use Rattle.std.proofs.lemmas.Bool.{cases_eq, cases_lt}
+use Rattle.std.proofs.lemmas.Bool.{cases_eq, cases_lt, not-true}
 use Rattle.std.proofs.lemmas.List.Quantifiers.{position-Some}
 use Rattle.frame_pool.specs.Bits.{next_true}
 use Rattle.frame_pool.specs.Frames.{Frames, IsFrames, fresh, taken, dropped, is_held, lowest_free, lowest_taken, zero_frame, overwritten}
@@ -35,12 +35,8 @@ first_free free held e = rw (e, same_first held, length-map held not) (from_star
 pub lowest_is : (f : Frames) (n : ℕ) → lowest_free f ≡ Some n → (n < length f.held) × (is_held f n ≡ false)
 lowest_is f n e = by f.withdrawn e
   where
-    negated : (b : Bool) → not b ≡ true → b ≡ false
-    negated true e = cc
-    negated false e = refl
-
     at : position not f.held ≡ Some n → (n < length f.held) × (is_held f n ≡ false)
-    at e = let p = position-Some not f.held n false e in (p.0, negated _ p.1)
+    at e = let p = position-Some not f.held n false e in (p.0, not-true _ p.1)
 
     by : (w : Bool) → cond w None (position not f.held) ≡ Some n → (n < length f.held) × (is_held f n ≡ false)
     by true e = cc
@@ -78,10 +74,6 @@ is_taken f g n held bytes e p q = rw (p, q) (ap (λ (x : Frames). taken x n) e)
 
 pub live : (withdrawn : Bool) (o : Option ℕ) → withdrawn ≡ false → o ≡ cond withdrawn None o
 live withdrawn o e = rw e refl
-
--- what is held after a take
-pub taken_held : (f g : Frames) (n : ℕ) → lowest_free f ≡ Some n → g ≡ taken f n → is_held g n ≡ true
-taken_held f g n e p = ap (λ (x : Frames). is_held x n) p ∙ get_or-set_same f.held n true false ((lowest_is f n e).0)
 
 pub held_stays : (f g : Frames) (r : Option ℕ) (k : ℕ) → g ≡ lowest_taken f r → is_held f k ≡ true → is_held g k ≡ true
 held_stays f g None k p h = ap (λ (x : Frames). is_held x k) p ∙ h

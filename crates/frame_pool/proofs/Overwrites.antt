@@ -1,5 +1,5 @@
 -- Bytes that were written over.
-use Rattle.std.proofs.Common.{◌≡◌, ℕ, ◌+◌, ◌-◌, ◌<◌, ◌≤◌, List, length, get_or, take, drop, ◌++◌, replicate, refl, ap, ◌∙◌, arith}
+use Rattle.std.proofs.Common.{◌≡◌, ℕ, ◌+◌, ◌-◌, ◌<◌, ◌≤◌, List, length, get_or, take, drop, ◌++◌, refl, ap, ◌∙◌, arith}
 use Rattle.std.proofs.lemmas.Grind.{common_steps}
 use Rattle.std.proofs.lemmas.List.{length-take, get_or-take, get_or-drop, get_or_append_left, get_or-append_right, length-replicate}
 use Rattle.frame_pool.specs.Frames.{overwritten, zero_frame}
@@ -27,10 +27,6 @@ get_overwritten_past xs at ys k l m =
     back at n k m = omega arith
 
 -- a frame of zeros
-pub zero_frame_is : replicate 4096 0 ≡ zero_frame
-unfolding zero_frame
-zero_frame_is = refl
-
 pub zero_frame_length : length zero_frame ≡ 4096
 unfolding zero_frame
 zero_frame_length = length-replicate {A = ℕ} 4096 0

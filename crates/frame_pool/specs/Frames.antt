@@ -4,7 +4,8 @@ use Rattle.std.specs.List.{position, splice}
 use Rattle.frame_pool.specs.declared.pool.Piece.{Piece}
 use Rattle.frame_pool.specs.declared.pool.Piece.TheVariants.{All, Part}
 
--- by a frame's number: whether it is held, its bytes in a row with those of the others, and the actor that has it locked
+-- by a frame's number: whether it is held, its bytes in a row with those of the others, and the actor that has it
+-- locked
 pub record Frames : Type 0 where
   pub held : List Bool
   pub bytes : List ℕ
@@ -18,7 +19,8 @@ pub record IsFrames (f : Frames) : Type 0 where
 
 -- a pool of so many frames, none of which is held
 abbrev pub fresh : ℕ → Frames
-fresh n = record { held = replicate n false; bytes = replicate (n * 4096) 0; locks = replicate n None; withdrawn = false }
+fresh n =
+    record { held = replicate n false; bytes = replicate (n * 4096) 0; locks = replicate n None; withdrawn = false }
 
 abbrev pub is_held : Frames → ℕ → Bool
 is_held f n = slice_index_or f.held n false

@@ -1,4 +1,5 @@
-// Frames of memory: which are held, what they contain and who has them locked.
+// Frames of memory: which are held, what they contain and who has them locked (`alloc_page` and `put_page` of
+// mm/page_alloc.c, `trylock_page` of include/linux/pagemap.h).
 #![tactic(auto)]
 
 mod bits;

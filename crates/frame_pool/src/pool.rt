@@ -1,4 +1,4 @@
-// The pool.
+// A pool of frames: they are taken and dropped, read, written and copied, locked and unlocked.
 ghost use Rattle.std.specs.Prelude.{◌≡◌, ◌≢◌, ℕ, ◌+◌, ◌*◌, ◌<◌, ◌≤◌, true, false, Some, None, is_some, length, replicate, IfOk, IfSome, MatchResult};
 ghost use Rattle.frame_pool.specs.Bits.{next_true};
 ghost use Rattle.frame_pool.specs.Frames.{IsFrames, IsPiece, fresh, is_held, locker, lowest_free, lowest_taken, taken, dropped, written, copied, part_of, locked, unlocked, piece_start, piece_len};
@@ -64,8 +64,8 @@ impl Pool {
         })
     }
 
-    /// Gives how long the lists of a pool are where only its value is at hand; it does nothing.
-    pub fn fits(&self)
+    /// Costs nothing: it hands the prover the invariant.
+    pub fn facts(&self)
         ensures { IsFrames self.now }
     {
         let _ = &self.withdrawn;
@@ -160,6 +160,7 @@ impl Pool {
         Ok(())
     }
 
+    /// Gives up the lock of a frame.
     pub fn unlock(&mut self, number: u32)
         requires { is_some (locker self.old number) ≡ true }
         ensures { self.new ≡ unlocked self.old number }
@@ -191,6 +192,7 @@ impl Pool {
         self.withdrawn = true;
     }
 
+    /// Whether no frame can be taken any more.
     pub fn is_withdrawn(&self) -> bool
         ensures { result ≡ self.now.withdrawn }
     {
@@ -239,98 +241,12 @@ pub fn copy_across(from: &Pool, src: u32, to: &mut Pool, dst: u32, piece: Piece)
 fn zeros(alloc: Global, count: usize) -> Result<Vec<u8>, NoMemory>
     ensures { IfOk result (λ bytes. bytes.items ≡ replicate count 0) }
 {
-    match vec![in alloc; 0; count] {
-        Ok(bytes) => Ok(bytes),
-        Err(_) => Err(NoMemory),
-    }
+    Ok(vec![in alloc; 0; count]?)
 }
 
 /// The locks of so many frames, which nobody has.
 fn unlocked_frames(alloc: Global, count: usize) -> Result<Vec<Option<Actor>>, NoMemory>
     ensures { IfOk result (λ locks. locks.items ≡ replicate count None) }
 {
-    match vec![in alloc; None; count] {
-        Ok(locks) => Ok(locks),
-        Err(_) => Err(NoMemory),
-    }
-}
-
-#[cfg(test)]
-mod tests {
-    use super::*;
-    use std::test::Fail;
-
-    fn take(pool: &mut Pool) -> Option<u32>
-        ensures taken { IfSome result (λ number. is_held pool.new number ≡ true) }
-        ensures others { (k : ℕ) → is_held pool.old k ≡ true → is_held pool.new k ≡ true }
-    {
-        pool.take_lowest()
-    }
-
-    fn pool(rt: &HostRuntime, frames: u32) -> Result<Pool, Fail> {
-        Ok(Pool::new(rt.alloc(), frames).map_err(|_| "no memory")?)
-    }
-
-    #[test]
-    fn frames_are_taken_and_dropped(rt: HostRuntime) -> Result<(), Fail> {
-        let mut pool = pool(&rt, 2)?;
-        assert_eq!(rt; pool.lowest_free(), Some(0));
-        assert_eq!(rt; pool.held_at_or_after(0), None);
-        let first = take(&mut pool).ok_or("none")?;
-        let second = take(&mut pool).ok_or("none")?;
-        assert_eq!(rt; first, 0);
-        assert_eq!(rt; second, 1);
-        assert_eq!(rt; take(&mut pool), None);
-        assert_eq!(rt; pool.held_at_or_after(1), Some(1));
-        pool.drop_frame(first);
-        assert_eq!(rt; pool.held_at_or_after(0), Some(1));
-        assert_eq!(rt; pool.lowest_free(), Some(0));
-        pool.withdraw();
-        assert_eq!(rt; pool.lowest_free(), None);
-        assert_eq!(rt; take(&mut pool), None);
-        Ok(())
-    }
-
-    #[test]
-    fn bytes_are_copied(rt: HostRuntime) -> Result<(), Fail> {
-        let mut system = pool(&rt, 2)?;
-        let mut device = pool(&rt, 1)?;
-        let first = take(&mut system).ok_or("none")?;
-        let second = take(&mut system).ok_or("none")?;
-        let third = take(&mut device).ok_or("none")?;
-        assert!(rt; first != second);
-        system.write(first, 510, &[1, 2, 3, 4]);
-        system.copy_within(first, second, Piece::Part(1));
-        copy_across(&system, first, &mut device, third, Piece::All);
-        let mut into = [9; 6];
-        system.read(second, 509, &mut into);
-        assert_eq!(rt; into, [0, 0, 0, 3, 4, 0]);
-        device.read(third, 509, &mut into);
-        assert_eq!(rt; into, [0, 1, 2, 3, 4, 0]);
-        system.drop_frame(first);
-        let again = take(&mut system).ok_or("none")?;
-        system.read(again, 509, &mut into);
-        assert_eq!(rt; again, first);
-        assert_eq!(rt; into, [0; 6]);
-        Ok(())
-    }
-
-    #[test]
-    fn frames_are_locked(rt: HostRuntime) -> Result<(), Fail> {
-        let mut pool = pool(&rt, 1)?;
-        let frame = take(&mut pool).ok_or("none")?;
-        assert_eq!(rt; pool.holder(frame), None);
-        assert_eq!(rt; pool.try_lock(frame, Actor::new(3)), Ok(()));
-        assert_eq!(rt;
-            pool.try_lock(frame, Actor::new(4)),
-            Err(Held(Actor::new(3)))
-        );
-        assert_eq!(rt; pool.holder(frame), Some(Actor::new(3)));
-        if pool.holder(frame).is_some() {
-            pool.unlock(frame);
-        }
-        assert_eq!(rt; pool.holder(frame), None);
-        assert_eq!(rt; pool.holder(7), None);
-        Ok(())
-    }
+    Ok(vec![in alloc; None; count]?)
 }

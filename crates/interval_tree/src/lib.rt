@@ -1,4 +1,5 @@
-// Intervals of pages, found by overlap: a balanced search tree with room reserved ahead.
+// Intervals of pages, found by overlap: a balanced search tree with room reserved ahead (lib/interval_tree.c,
+// `interval_tree_iter_first`).
 #![tactic(auto)]
 
 ghost use Rattle.std.specs.Prelude.{◌≡◌, ◌+◌, ◌-◌, ◌≤◌, ◌<◌, None, Some, IsSome, OnOk, length, slice_set, replicate};
@@ -10,8 +11,6 @@ use std::alloc::Global;
 use std::marker::Model;
 
 mod node;
-#[cfg(test)]
-mod tests;
 
 /// The windows of mirrors, by their numbers: the interval tree of a process's invalidations
 /// (`mmu_notifier_subscriptions` of mm/mmu_notifier.c). An insert and a remove take time in the
@@ -132,11 +131,6 @@ fn push_node(spare: &mut Vec<Box<Inner>>, alloc: Global) -> Result<(), NoMemory>
     ensures kept { length spare.old.items ≤ length spare.new.items }
 {
     let blank = Inner::alone(MirrorId::new(0), Span::new(Page::new(0), 1));
-    match Box::new(alloc, blank) {
-        Ok(node) => match spare.push(node) {
-            Ok(()) => Ok(()),
-            Err(_) => Err(NoMemory),
-        },
-        Err(_) => Err(NoMemory),
-    }
+    spare.push(Box::new(alloc, blank)?)?;
+    Ok(())
 }

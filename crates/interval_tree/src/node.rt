@@ -180,7 +180,8 @@ impl Tree {
     // The node of the first interval, out of the tree; None where there is none.
     fn take_first(&mut self) -> Option<Box<Inner>>
         requires { length self.old.items < 2 ^ 50 }
-        ensures first { MatchOption result ((self.old.items ≡ []) × (self.new ≡ self.old)) (λ first. self.old.items ≡ first.value.interval ∷ self.new.items) }
+        ensures first { MatchOption result ((self.old.items ≡ []) × (self.new ≡ self.old))
+            (λ first. self.old.items ≡ first.value.interval ∷ self.new.items) }
         ensures not_higher { self.new.height ≤ self.old.height }
         ensures at_most_one_lower { self.old.height ≤ self.new.height + 1 }
     {

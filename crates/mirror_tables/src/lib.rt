@@ -1,4 +1,5 @@
-// The table of a mirror: what a device's page table has for the pages of a window of a process.
+// The table of a mirror: what a device's page table has for the pages of a window of a process (`pt` of `struct
+// dmirror`, lib/test_hmm.c).
 #![tactic(auto)]
 
 mod entry;

@@ -1,4 +1,4 @@
-// The table.
+// The entries of the pages that a mirror may use, in rising order of their pages.
 ghost use Rattle.std.specs.Prelude.{◌≡◌, ℕ, ◌+◌, ◌-◌, ◌<◌, ◌≤◌, [], true, length, take, drop, ◌++◌, slice_index, nat_lt, ◌==◌, ◌&&◌, vec_len, vec_capacity, OnOk, OnErr};
 ghost use Rattle.hm_base.specs.Pages.{covers};
 ghost use Rattle.mirror_tables.specs.Entries.{IsTable, entry_at, with_entry, without_span, changed, keys};
@@ -8,9 +8,6 @@ use crate::entry::MirrorEntry;
 use hm_base::{NoMemory, Page, Span};
 use std::alloc::Global;
 use std::marker::Model;
-
-#[cfg(test)]
-mod tests;
 
 /// The entries of the pages of a window (`pt` of `struct dmirror` in lib/test_hmm.c).
 #[derive(Drop)]
@@ -45,8 +42,8 @@ impl MirrorTable {
         }
     }
 
-    /// Gives the order of the entries where only their value is at hand; it does nothing.
-    pub fn fits(&self)
+    /// Costs nothing: it hands the prover the invariant.
+    pub fn facts(&self)
         ensures { IsTable self.now.window self.now.entries }
     {
         let _ = &self.entries;
@@ -59,10 +56,8 @@ impl MirrorTable {
         ensures ok { OnOk result (1 ≤ self.new.room) }
         ensures err { OnErr result (self.new ≡ self.old) }
     {
-        match self.entries.reserve(1) {
-            Ok(()) => Ok(()),
-            Err(_) => Err(NoMemory),
-        }
+        self.entries.reserve(1)?;
+        Ok(())
     }
 
     /// Sets the entry of a page of the window for which there is room.
@@ -108,7 +103,8 @@ impl MirrorTable {
 
 /// The place of a page among the entries, found by halving.
 fn place(entries: &[(Page, MirrorEntry)], page: u64) -> usize
-    requires { (i j : ℕ) → i < j → j < length entries.now → slice_index (keys entries.now) i < slice_index (keys entries.now) j }
+    requires { (i j : ℕ) → i < j → j < length entries.now
+        → slice_index (keys entries.now) i < slice_index (keys entries.now) j }
     ensures { IsPlace entries.now page result }
 {
     let mut low = 0;

@@ -45,24 +45,24 @@ abbrev pub interval_at : Sequences → ℕ → Option Interval
 interval_at s m = slice_index_or s.intervals m None
 
 abbrev pub in_tree : Sequences → ℕ → Bool
-in_tree s m = interval_passes (λ x. in_tree_state x.standing) (interval_at s m)
+in_tree s m = interval_passes (λ x. in_tree_state x.stage) (interval_at s m)
 
 abbrev pub insert_deferred : Sequences → ℕ → Bool
-insert_deferred s m = interval_passes (λ x. deferred_state x.standing) (interval_at s m)
+insert_deferred s m = interval_passes (λ x. deferred_state x.stage) (interval_at s m)
 
 abbrev pub is_leaving : Sequences → ℕ → Bool
-is_leaving s m = interval_passes (λ x. leaving_state x.standing) (interval_at s m)
+is_leaving s m = interval_passes (λ x. leaving_state x.stage) (interval_at s m)
 
 -- in the tree, or inserted and deferred
 abbrev pub is_present : Sequences → ℕ → Bool
-is_present s m = interval_passes (λ x. in_tree_state x.standing || deferred_state x.standing) (interval_at s m)
+is_present s m = interval_passes (λ x. in_tree_state x.stage || deferred_state x.stage) (interval_at s m)
 
 abbrev pub interval_seq : Sequences → ℕ → ℕ
 interval_seq s m = elim (interval_at s m) [ None ↦ 0 | Some x ↦ x.seq ]
 
 -- the interval in the tree overlaps the span
 abbrev pub overlaps : Sequences → Pages → ℕ → Bool
-overlaps s r m = interval_passes (λ x. in_tree_state x.standing && overlap x.window r) (interval_at s m)
+overlaps s r m = interval_passes (λ x. in_tree_state x.stage && overlap x.window r) (interval_at s m)
 
 -- the mirrors whose interval overlaps the span, in rising number
 abbrev pub overlapping : Sequences → Pages → List ℕ
@@ -95,23 +95,23 @@ abbrev pub interval_inserted : Sequences → ℕ
 interval_inserted s = if is_odd s.seq then s.seq else if nat_lt 0 s.active then s.seq + 1 else (s.seq - 1)
 
 -- the deferred inserts and removes are made
-abbrev pub settled_state : Stage → Stage
-settled_state InTree = InTree
-settled_state InsertDeferred = InTree
-settled_state RemoveDeferred = Out
-settled_state Out = Out
+abbrev pub settled_stage : Stage → Stage
+settled_stage InTree = InTree
+settled_stage InsertDeferred = InTree
+settled_stage RemoveDeferred = Out
+settled_stage Out = Out
 
 abbrev pub settled : Option Interval → Option Interval
 settled None = None
-settled (Some x) = Some (record x { standing = settled_state x.standing })
+settled (Some x) = Some (record x { stage = settled_stage x.stage })
 
 abbrev pub with_seq : ℕ → Option Interval → Option Interval
 with_seq q None = None
 with_seq q (Some x) = Some (record x { seq = q })
 
-abbrev pub with_standing : Stage → Option Interval → Option Interval
-with_standing t None = None
-with_standing t (Some x) = Some (record x { standing = t })
+abbrev pub with_stage : Stage → Option Interval → Option Interval
+with_stage t None = None
+with_stage t (Some x) = Some (record x { stage = t })
 
 -- what each call leaves
 abbrev pub started : Sequences → Pages → Sequences
@@ -121,16 +121,27 @@ abbrev pub told : Sequences → ℕ → ℕ → Sequences
 told s m q = record s { intervals = slice_set s.intervals m (with_seq q (interval_at s m)) }
 
 abbrev pub ended : Sequences → Sequences
-ended s = record { seq = seq_ended s; active = s.active - 1; intervals = if moves_on s then map settled s.intervals else s.intervals }
+ended s =
+    record {
+      seq = seq_ended s;
+      active = s.active - 1;
+      intervals = if moves_on s then map settled s.intervals else s.intervals;
+    }
 
 abbrev pub inserted : Sequences → ℕ → Pages → Sequences
 inserted s m r = record s {
   seq = seq_inserted s;
-  intervals = slice_set s.intervals m (Some (record { window = r; seq = interval_inserted s; standing = if is_odd s.seq then InsertDeferred else InTree }));
+  intervals =
+      slice_set s.intervals m
+      (Some (record {
+        window = r;
+        seq = interval_inserted s;
+        stage = if is_odd s.seq then InsertDeferred else InTree;
+      }));
 }
 
-abbrev pub standing_at : Sequences → ℕ → Stage → Sequences
-standing_at s m t = record s { intervals = slice_set s.intervals m (with_standing t (interval_at s m)) }
+abbrev pub at_stage : Sequences → ℕ → Stage → Sequences
+at_stage s m t = record s { intervals = slice_set s.intervals m (with_stage t (interval_at s m)) }
 
 -- a remove waits exactly where the sequence is odd and the interval is in the tree
 abbrev pub removal_waits : Sequences → ℕ → Bool
@@ -140,7 +151,7 @@ abbrev pub removal_of : Sequences → ℕ → Removal
 removal_of s m = if removal_waits s m then WaitFor s.seq else Removed
 
 abbrev pub removed : Sequences → ℕ → Sequences
-removed s m = standing_at s m (if removal_waits s m then RemoveDeferred else Out)
+removed s m = at_stage s m (if removal_waits s m then RemoveDeferred else Out)
 
 -- a look-up waits exactly where the interval was told in the invalidation under way
 abbrev pub begin_of : Sequences → ℕ → Begin

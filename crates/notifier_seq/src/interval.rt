@@ -1,7 +1,7 @@
 // The interval of a mirror, and where it is.
 ghost use Rattle.std.specs.Prelude.{◌≡◌, Some};
-ghost use Rattle.notifier_seq.specs.Sequences.{settled, with_seq, with_standing};
-ghost use Rattle.notifier_seq.specs.Kept.{standing_of, due};
+ghost use Rattle.notifier_seq.specs.Sequences.{settled, with_seq, with_stage};
+ghost use Rattle.notifier_seq.specs.Kept.{stage_of, due};
 ghost use Rattle.notifier_seq.specs.declared.interval.Interval.{Interval as AnyInterval};
 
 use hm_base::Span;
@@ -23,7 +23,7 @@ pub enum Stage {
 pub struct Interval {
     pub window: Span,
     pub seq: u64,
-    pub standing: Stage,
+    pub stage: Stage,
 }
 
 // What is due of an interval when the sequence moves.
@@ -43,11 +43,11 @@ pub fn seq_of(interval: &Option<Interval>) -> u64
     }
 }
 
-pub fn standing_of(interval: &Option<Interval>) -> Stage
-    ensures { result ≡ standing_of interval.now }
+pub fn stage_of(interval: &Option<Interval>) -> Stage
+    ensures { result ≡ stage_of interval.now }
 {
     match interval {
-        Some(interval) => interval.standing,
+        Some(interval) => interval.stage,
         None => Stage::Out,
     }
 }
@@ -56,7 +56,7 @@ pub fn what_is_due(interval: &Option<Interval>) -> Due
     ensures { result ≡ due interval.now }
 {
     match interval {
-        Some(interval) => match interval.standing {
+        Some(interval) => match interval.stage {
             Stage::InTree | Stage::Out => Due::Nothing,
             Stage::InsertDeferred => Due::Insert(interval.window),
             Stage::RemoveDeferred => Due::Remove,
@@ -72,7 +72,7 @@ pub fn settled(interval: &Option<Interval>) -> Option<Interval>
         Some(interval) => Some(Interval {
             window: interval.window,
             seq: interval.seq,
-            standing: match interval.standing {
+            stage: match interval.stage {
                 Stage::InTree | Stage::InsertDeferred => Stage::InTree,
                 Stage::RemoveDeferred | Stage::Out => Stage::Out,
             },
@@ -88,20 +88,20 @@ pub fn with_seq(interval: &Option<Interval>, seq: u64) -> Option<Interval>
         Some(interval) => Some(Interval {
             window: interval.window,
             seq,
-            standing: interval.standing,
+            stage: interval.stage,
         }),
         None => None,
     }
 }
 
-pub fn with_standing(interval: &Option<Interval>, standing: Stage) -> Option<Interval>
-    ensures { result ≡ with_standing standing interval.now }
+pub fn with_stage(interval: &Option<Interval>, stage: Stage) -> Option<Interval>
+    ensures { result ≡ with_stage stage interval.now }
 {
     match interval {
         Some(interval) => Some(Interval {
             window: interval.window,
             seq: interval.seq,
-            standing,
+            stage,
         }),
         None => None,
     }

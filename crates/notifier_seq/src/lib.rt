@@ -1,5 +1,24 @@
-// The invalidations, intervals and sequences of one process (mm/mmu_notifier.c): a look-up of a mirror
-// is good where the sequence of its interval has not moved since it began.
+// The invalidations, intervals and sequences of one process: `struct mmu_notifier_subscriptions` and the interval
+// notifiers of mm/mmu_notifier.c.
+//
+// A process has one sequence and a count of the invalidations under way. Each mirror has an interval, its window, with
+// a sequence of its own. The rules, and what they are for:
+//
+// - A *start* raises the count. If an interval in the tree overlaps the span, the sequence becomes odd: an odd sequence
+//   means that an invalidation is under way that some mirror has to know of. If none overlaps, nobody is told.
+// - *Telling* a mirror gives its interval the process's sequence. So the two are equal exactly while the mirror was
+//   told by an invalidation that is still under way, and a look-up that would begin then waits.
+// - An *end* lowers the count. The last one, if the sequence is odd, makes it even again and applies what was deferred.
+//   An earlier end leaves the sequence odd, since another invalidation is still under way.
+// - A look-up *begins* by reading its interval's sequence, and is to be *repeated* exactly where that has changed when
+//   it would commit. A sequence never goes back, so no telling in between is missed.
+// - The tree does not change while the sequence is odd, since an invalidation walks it. An *insert* is then deferred,
+//   with the process's sequence as its own, so that no look-up begins before the invalidation has ended; a *remove* is
+//   deferred too, and its caller waits, but a deferred insert is cancelled at once. While invalidations are under way
+//   that met nobody (the sequence is even), an insert makes the sequence odd, so that their ends know of it.
+//
+// The caller's locks keep an interval's table and its sequence together: a table is erased when its mirror is told, and
+// an entry is set only by a look-up that was compared. hm_laws proves from these rules that no told entry is ever used.
 #![tactic(auto)]
 
 ghost use Rattle.std.specs.Prelude.{◌≡◌, ◌==◌, ◌&&◌, ◌+◌, ◌^◌, ◌<◌, ◌≤◌, ◌-◌, nat_lt, not, IfOk, IsTrue, IsSome, None, false, option_map, if◌then◌else◌};
@@ -7,7 +26,7 @@ ghost use Rattle.notifier_seq.specs.Sequences.{sequences_start, is_odd, in_tree,
 ghost use Rattle.notifier_seq.specs.declared.interval.Interval.{Interval as AnyInterval};
 
 use hm_base::{MirrorId, NoMemory, Span};
-use interval::{seq_of, standing_of, with_seq, with_standing};
+use interval::{seq_of, stage_of, with_seq, with_stage};
 pub use interval::{Interval, Stage};
 use interval_tree::IntervalTree;
 use settling::settle_all;
@@ -170,7 +189,7 @@ impl Notifiers {
             self.intervals[at] = Some(Interval {
                 window: span,
                 seq: self.seq,
-                standing: Stage::InsertDeferred,
+                stage: Stage::InsertDeferred,
             });
             return self.seq;
         }
@@ -180,7 +199,7 @@ impl Notifiers {
         self.intervals[at] = Some(Interval {
             window: span,
             seq,
-            standing: Stage::InTree,
+            stage: Stage::InTree,
         });
         seq
     }
@@ -194,20 +213,20 @@ impl Notifiers {
         ensures state { self.new ≡ removed self.old id }
     {
         let at = id.number() as usize;
-        match standing_of(&self.intervals[at]) {
+        match stage_of(&self.intervals[at]) {
             Stage::InTree => {
                 if is_odd(self.seq) {
                     self.deferred = true;
-                    self.intervals[at] = with_standing(&self.intervals[at], Stage::RemoveDeferred);
+                    self.intervals[at] = with_stage(&self.intervals[at], Stage::RemoveDeferred);
                     Removal::WaitFor(self.seq)
                 } else {
                     self.tree.remove(id);
-                    self.intervals[at] = with_standing(&self.intervals[at], Stage::Out);
+                    self.intervals[at] = with_stage(&self.intervals[at], Stage::Out);
                     Removal::Removed
                 }
             }
             _ => {
-                self.intervals[at] = with_standing(&self.intervals[at], Stage::Out);
+                self.intervals[at] = with_stage(&self.intervals[at], Stage::Out);
                 Removal::Removed
             }
         }
@@ -218,7 +237,7 @@ impl Notifiers {
         ensures { result ≡ is_present self.now id }
     {
         match &self.intervals[id.number() as usize] {
-            Some(interval) => !matches!(interval.standing, Stage::Out),
+            Some(interval) => !matches!(interval.stage, Stage::Out),
             None => false,
         }
     }
@@ -252,7 +271,7 @@ impl Notifiers {
         ensures { result ≡ in_tree self.now id }
     {
         match &self.intervals[id.number() as usize] {
-            Some(interval) => matches!(interval.standing, Stage::InTree | Stage::RemoveDeferred),
+            Some(interval) => matches!(interval.stage, Stage::InTree | Stage::RemoveDeferred),
             None => false,
         }
     }
@@ -262,7 +281,7 @@ impl Notifiers {
         ensures { result ≡ insert_deferred self.now id }
     {
         match &self.intervals[id.number() as usize] {
-            Some(interval) => matches!(interval.standing, Stage::InsertDeferred),
+            Some(interval) => matches!(interval.stage, Stage::InsertDeferred),
             None => false,
         }
     }

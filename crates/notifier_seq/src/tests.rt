@@ -44,7 +44,7 @@ fn is_leaving(notifiers: &Notifiers, id: MirrorId) -> bool
     ensures { result ≡ is_leaving notifiers.now id }
 {
     match &notifiers.intervals[id.number() as usize] {
-        Some(interval) => matches!(interval.standing, Stage::RemoveDeferred),
+        Some(interval) => matches!(interval.stage, Stage::RemoveDeferred),
         None => false,
     }
 }

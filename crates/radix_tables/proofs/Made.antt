@@ -82,17 +82,6 @@ lowest_kept l m at t c g u b d z =
     child_keeps l.pmd.items m.pmd.items l.pte.items m.pte.items (l.pud.items ∷ l.pgd.items ∷ []) at t c b d
     (sym (ap (λ (zs : List ℕ). walk (m.pmd.items ∷ m.pud.items ∷ zs ∷ []) b) g ∙ ap (λ (zs : List ℕ). walk (m.pmd.items ∷ zs ∷ l.pgd.items ∷ []) b) u) ∙ z)
 
--- nothing was made
-pub equal_same : (l m : Levels) → IsLevels l → m.pgd.items ≡ l.pgd.items → m.pud.items ≡ l.pud.items → m.pmd.items ≡ l.pmd.items → m.pte.items ≡ l.pte.items → IsSame l m
-equal_same l m h g u d t = record {
-  levels = record { root = rw g h.root; pgd = rw (g, u) h.pgd; pud = rw (u, d) h.pud; pmd = rw (d, t) h.pmd; pte = rw t h.pte };
-  words = same_with l.pte.items m.pte.items (l.pmd.items ∷ l.pud.items ∷ l.pgd.items ∷ []) (m.pmd.items ∷ m.pud.items ∷ m.pgd.items ∷ []) (equal t) tables;
-  tables = tables;
-}
-  where
-    tables : Same (m.pmd.items ∷ m.pud.items ∷ m.pgd.items ∷ []) (l.pmd.items ∷ l.pud.items ∷ l.pgd.items ∷ [])
-    tables = same_with l.pmd.items m.pmd.items (l.pud.items ∷ l.pgd.items ∷ []) (m.pud.items ∷ m.pgd.items ∷ []) (equal d) (same_with l.pud.items m.pud.items (l.pgd.items ∷ []) (m.pgd.items ∷ []) (equal u) (same_with l.pgd.items m.pgd.items [] [] (equal g) same_root))
-
 pub made_over : {T E : Type 0} (l m n : Levels) (block : ℕ) (r : Result T E) → IsSame l m → MatchResult r (λ _. IsMade m n block) (λ _. IsSame m n) → MatchResult r (λ _. IsMade l n block) (λ _. IsSame l n)
 made_over l m n block (Ok x) p q = record { levels = q.levels; words = λ v. q.words v ∙ p.words v; made = q.made; kept = λ b d. q.kept b (λ z. d (sym (p.tables b) ∙ z)) }
 made_over l m n block (Err e) p q = same_over l m n p q

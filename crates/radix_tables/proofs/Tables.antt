@@ -1,7 +1,6 @@
 -- Walks over levels of tables, and what an entry that is set does to them.
-use Rattle.std.proofs.Common.{◌≡◌, ◌≢◌, ℕ, zero, suc, ◌+◌, ◌-◌, ◌*◌, ◌/◌, ◌%◌, ◌<◌, ◌≤◌, eqb, cond, List, [], ◌∷◌, ◌++◌, length, get_or, set, replicate, refl, sym, ap, subst, ◌∙◌, arith, ◌⊎◌, inl, inr}
+use Rattle.std.proofs.Common.{◌≡◌, ◌≢◌, ℕ, zero, suc, ◌+◌, ◌-◌, ◌*◌, ◌/◌, ◌%◌, ◌<◌, ◌≤◌, List, ◌∷◌, ◌++◌, length, get_or, set, replicate, refl, sym, ap, subst, ◌∙◌, arith, ◌⊎◌, inl, inr}
 use Rattle.std.proofs.lemmas.Bool.{cases_eq, cases_lt}
-use Rattle.std.proofs.lemmas.Bool.Decides.{nat_tests}
 use Rattle.std.proofs.lemmas.List.{get_or-set_same, get_or-set_other, length-set, get_or_append_left, get_or-append_right, get_or_past}
 use Rattle.radix_tables.specs.Walks.{walk, IsWhole, IsTables}
 use Rattle.radix_tables.specs.Levels.{IsLonger, IsChild}
@@ -78,17 +77,6 @@ pub same_with : (xs ys : List ℕ) (a b : List (List ℕ)) → ((i : ℕ) → ge
 same_with xs ys a b h s n = ap (λ k. get_or ys (k * 512 + n % 512) 0) (s (n / 512)) ∙ h (walk a (n / 512) * 512 + n % 512)
 
 -- no two numbers have one table
-abbrev pub IsApart : List (List ℕ) → Type 0
-IsApart a = (p q : ℕ) → walk a p ≡ walk a q → walk a p ≢ 0 → p ≡ q
-
-pub apart_root : IsApart []
-apart_root p q e d = by (cases_eq p 0) (cases_eq q 0)
-  where
-    by : (p ≡ 0) ⊎ (p ≢ 0) → (q ≡ 0) ⊎ (q ≢ 0) → p ≡ q
-    by (inl x) (inl y) = x ∙ sym y
-    by (inr x) y = absurd (d (grind (arith, nat_tests)))
-    by (inl x) (inr y) = absurd (d (e ∙ grind (arith, nat_tests)))
-
 -- an entry that is not empty stands in a table that is there
 pub above_some : (xs : List ℕ) (a : List (List ℕ)) (p : ℕ) → IsWhole xs → walk (xs ∷ a) p ≢ 0 → walk a (p / 512) ≢ 0
 above_some xs a p w d e = d (ap (λ k. get_or xs (k * 512 + p % 512) 0) e ∙ w.empty (0 * 512 + p % 512) (omega arith))
@@ -98,26 +86,6 @@ above_none xs a p w e = ap (λ k. get_or xs (k * 512 + p % 512) 0) e ∙ w.empty
 
 same_place : (a b p q : ℕ) → a * 512 + p % 512 ≡ b * 512 + q % 512 → (a ≡ b) × (p % 512 ≡ q % 512)
 same_place a b p q e = (omega arith, omega arith)
-
-whole_number : (p q : ℕ) → p / 512 ≡ q / 512 → p % 512 ≡ q % 512 → p ≡ q
-whole_number p q e f = omega arith
-
--- the entries of two numbers stand apart
-pub place_apart : (a : List (List ℕ)) (p q : ℕ) → IsApart a → walk a (p / 512) ≢ 0 → walk a (p / 512) * 512 + p % 512 ≡ walk a (q / 512) * 512 + q % 512 → p ≡ q
-place_apart a p q h d e = let s = same_place (walk a (p / 512)) (walk a (q / 512)) p q e in whole_number p q (h (p / 512) (q / 512) s.0 d) s.1
-
-pub apart_with : (xs : List ℕ) (n : ℕ) (a : List (List ℕ)) → IsTables xs n → IsApart a → IsApart (xs ∷ a)
-apart_with xs n a t h p q e d = place_apart a p q h (above_some xs a p t.tables d) (t.apart _ _ e d)
-
--- the entry of a number is set
-pub walk_set : (xs : List ℕ) (a : List (List ℕ)) (p w : ℕ) → IsApart a → walk a (p / 512) ≢ 0 → walk a (p / 512) * 512 + p % 512 < length xs →
-    (q : ℕ) → walk (set xs (walk a (p / 512) * 512 + p % 512) w ∷ a) q ≡ cond (eqb q p) w (walk (xs ∷ a) q)
-walk_set xs a p w h d l q = by (cases_eq q p)
-  where
-    by : (q ≡ p) ⊎ (q ≢ p) → walk (set xs (walk a (p / 512) * 512 + p % 512) w ∷ a) q ≡ cond (eqb q p) w (walk (xs ∷ a) q)
-    by (inl e) = rw (e, get_or-set_same xs (walk a (p / 512) * 512 + p % 512) w 0 l) (grind (arith, nat_tests))
-    by (inr e) = get_or-set_other xs (walk a (p / 512) * 512 + p % 512) (walk a (q / 512) * 512 + q % 512) w 0 (λ z. e (sym (place_apart a p q h d (sym z))))
-        ∙ grind (arith, nat_tests)
 
 -- a table of a level comes in where there was none: nothing changes a level further down
 pub child_walk : (xs ys below now : List ℕ) (a : List (List ℕ)) (at t : ℕ) → IsWhole below → IsChild xs ys below now at t → Same (now ∷ ys ∷ a) (below ∷ xs ∷ a)

@@ -23,7 +23,8 @@ pub record IsChild (entries now below below_now : List ℕ) (at table : ℕ) : T
   pub some : table ≢ 0
   pub named : slice_index now at ≡ table
   pub step : ((slice_index entries at ≢ 0) × (now ≡ entries) × (below_now ≡ below)) ⊎
-      ((slice_index entries at ≡ 0) × (now ≡ slice_set entries at table) × (length below ≤ table * 512) × (length below_now ≡ table * 512 + 512) × IsLonger below below_now)
+      ((slice_index entries at ≡ 0) × (now ≡ slice_set entries at table) × (length below ≤ table * 512)
+      × (length below_now ≡ table * 512 + 512) × IsLonger below below_now)
 
 -- the tables of the upper two levels below the root
 abbrev pub upper_of : Levels → ℕ → ℕ

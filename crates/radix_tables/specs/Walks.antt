@@ -1,8 +1,8 @@
 -- Tables of 512 entries in a row, a level at a time: an entry names a table of the level below, or is a word.
 use Rattle.std.specs.Prelude.{◌≡◌, ◌≢◌, ℕ, ◌+◌, ◌*◌, ◌/◌, ◌%◌, ◌<◌, ◌≤◌, ◌==◌, if◌then◌else◌, List, [], ◌∷◌, length, slice_index}
 
--- what these levels, the lowest first, have for a number. Above the highest there is the root, which is table 1; table 0 of each
--- level is empty and stands for every table that is not there
+-- what these levels, the lowest first, have for a number. Above the highest there is the root, which is table 1; table
+-- 0 of each level is empty and stands for every table that is not there
 abbrev pub walk : List (List ℕ) → ℕ → ℕ
 walk [] n = if n == 0 then 1 else 0
 walk (entries ∷ above) n = slice_index entries (walk above (n / 512) * 512 + n % 512)

@@ -197,7 +197,8 @@ impl Levels {
         requires page { page < 2 ^ 36 }
         requires table { IsStep self.now page (Step.Table table) }
         ensures { MatchOption result ((v : ℕ) → page ≤ v → v < (page / 512 + 1) * 512 → word_of self.now v ≡ 0)
-            (λ e. (page ≤ e.0) × (e.0 < 2 ^ 36) × (word_of self.now e.0 ≡ e.1) × (e.1 ≢ 0) × ((v : ℕ) → page ≤ v → v < e.0 → word_of self.now v ≡ 0)) }
+            (λ e. (page ≤ e.0) × (e.0 < 2 ^ 36) × (word_of self.now e.0 ≡ e.1) × (e.1 ≢ 0)
+            × ((v : ℕ) → page ≤ v → v < e.0 → word_of self.now v ≡ 0)) }
     {
         for at in page..(page / ENTRIES + 1) * ENTRIES {
             let word = entry(&self.pte, table, at);
@@ -231,14 +232,15 @@ fn entry(entries: &[u64], table: u64, number: u64) -> u64
 /// Adds an empty table, and gives its number, which is not 0.
 fn add_table(entries: &mut Vec<u64>) -> Result<u64, NoMemory>
     requires { length entries.old.items % 512 ≡ 0 }
-    ensures entries { MatchResult result (λ table. IsLonger entries.old.items entries.new.items) (λ _. entries.new.items ≡ entries.old.items) }
-    ensures number { IfOk result (λ table. (table ≢ 0) × (length entries.old.items ≤ table * 512) × (length entries.new.items ≡ table * 512 + 512)) }
+    ensures entries { MatchResult result (λ table. IsLonger entries.old.items entries.new.items)
+        (λ _. entries.new.items ≡ entries.old.items) }
+    ensures number { IfOk result
+        (λ table. (table ≢ 0) × (length entries.old.items ≤ table * 512)
+        × (length entries.new.items ≡ table * 512 + 512)) }
 {
     let tables = (entries.len() / ENTRIES as usize).max(1);
-    match entries.resize((tables + 1) * ENTRIES as usize, 0) {
-        Ok(()) => Ok(tables as u64),
-        Err(_) => Err(NoMemory),
-    }
+    entries.resize((tables + 1) * ENTRIES as usize, 0)?;
+    Ok(tables as u64)
 }
 
 /// The table that an entry names, which is made where it names none.

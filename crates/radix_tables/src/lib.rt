@@ -1,4 +1,4 @@
-// A map from pages to words in four levels of tables.
+// A map from pages to words in four levels of tables, as the page tables of mm/memory.c are (`__pte_alloc`).
 #![tactic(auto)]
 
 mod levels;

@@ -3,9 +3,10 @@ use Rattle.std.proofs.Common.{◌≡◌, ℕ, suc, ◌+◌, ◌-◌, ◌<◌, �
 use Rattle.std.proofs.Common.{Result, Ok, Err, IsOk, is_ok}
 use Rattle.std.specs.List.{insert, remove, position_or_len}
 use Rattle.std.proofs.lemmas.List.Sums.{position_or_len_is}
+use Rattle.std.proofs.lemmas.Bool.{and_parts}
 use Rattle.rev_maps.specs.declared.uses.Use.{Use}
 use Rattle.rev_maps.specs.Uses.{Uses, precedes, is_by, has_use, all_after, is_rising, with_use, without_use, with_moving, added, removed}
-use Rattle.rev_maps.proofs.Rising.{front, back, after_is_another}
+use Rattle.rev_maps.proofs.Rising.{after_is_another}
 
 one-add : (n : ℕ) → 1 + n ≡ suc n
 one-add n = omega arith
@@ -18,33 +19,33 @@ inserted n (u ∷ us) = by (precedes n u) refl (inserted n us)
     by true e h = rw e refl
     by false e h = rw (e, one-add) (ap (λ l. u ∷ l) h)
 
-none_left : (proc page : ℕ) (u : Use) (us : List Use) → is_by proc page u ≡ true → all_after u us ≡ true → without_use proc page us ≡ us
+pub none_left : (proc page : ℕ) (u : Use) (us : List Use) → is_by proc page u ≡ true → all_after u us ≡ true → without_use proc page us ≡ us
 none_left proc page u [] e h = refl
 none_left proc page u (w ∷ ws) e h =
-    rw (after_is_another proc page u w (front (precedes u w) (all_after u ws) h) e) (ap (λ l. w ∷ l) (none_left proc page u ws e (back (precedes u w) (all_after u ws) h)))
+    rw (after_is_another proc page u w (and_parts (precedes u w) (all_after u ws) h).0 e) (ap (λ l. w ∷ l) (none_left proc page u ws e (and_parts (precedes u w) (all_after u ws) h).1))
 
 pub removed_at : (proc page : ℕ) (us : List Use) → is_rising us ≡ true → remove us (position_or_len (is_by proc page) us) ≡ without_use proc page us
 removed_at proc page [] h = refl
-removed_at proc page (u ∷ us) h = by (is_by proc page u) refl (removed_at proc page us (back (all_after u us) (is_rising us) h))
+removed_at proc page (u ∷ us) h = by (is_by proc page u) refl (removed_at proc page us (and_parts (all_after u us) (is_rising us) h).1)
   where
     by : (b : Bool) → is_by proc page u ≡ b → remove us (position_or_len (is_by proc page) us) ≡ without_use proc page us → remove (u ∷ us) (position_or_len (is_by proc page) (u ∷ us)) ≡ without_use proc page (u ∷ us)
-    by true e r = rw e (sym (none_left proc page u us e (front (all_after u us) (is_rising us) h)))
+    by true e r = rw e (sym (none_left proc page u us e (and_parts (all_after u us) (is_rising us) h).0))
     by false e r = rw (e, one-add) (ap (λ l. u ∷ l) r)
 
 none_marked : (proc page : ℕ) (u : Use) (us : List Use) → is_by proc page u ≡ true → all_after u us ≡ true → with_moving proc page us ≡ us
 none_marked proc page u [] e h = refl
 none_marked proc page u (w ∷ ws) e h =
-    rw (after_is_another proc page u w (front (precedes u w) (all_after u ws) h) e) (ap (λ l. w ∷ l) (none_marked proc page u ws e (back (precedes u w) (all_after u ws) h)))
+    rw (after_is_another proc page u w (and_parts (precedes u w) (all_after u ws) h).0 e) (ap (λ l. w ∷ l) (none_marked proc page u ws e (and_parts (precedes u w) (all_after u ws) h).1))
 
 pub marked_at : (proc page : ℕ) (us : List Use) (d : Use) → is_rising us ≡ true → has_use proc page us ≡ true →
     set us (position_or_len (is_by proc page) us) (record (get_or us (position_or_len (is_by proc page) us) d) { moving = true }) ≡ with_moving proc page us
 marked_at proc page [] d h t = cc
-marked_at proc page (u ∷ us) d h t = by (is_by proc page u) refl t (marked_at proc page us d (back (all_after u us) (is_rising us) h))
+marked_at proc page (u ∷ us) d h t = by (is_by proc page u) refl t (marked_at proc page us d (and_parts (all_after u us) (is_rising us) h).1)
   where
     by : (b : Bool) → is_by proc page u ≡ b → (b || has_use proc page us) ≡ true →
         (has_use proc page us ≡ true → set us (position_or_len (is_by proc page) us) (record (get_or us (position_or_len (is_by proc page) us) d) { moving = true }) ≡ with_moving proc page us) →
         set (u ∷ us) (position_or_len (is_by proc page) (u ∷ us)) (record (get_or (u ∷ us) (position_or_len (is_by proc page) (u ∷ us)) d) { moving = true }) ≡ with_moving proc page (u ∷ us)
-    by true e t r = rw e (ap (λ (l : List Use). record u { moving = true } ∷ l) (sym (none_marked proc page u us e (front (all_after u us) (is_rising us) h))))
+    by true e t r = rw e (ap (λ (l : List Use). record u { moving = true } ∷ l) (sym (none_marked proc page u us e (and_parts (all_after u us) (is_rising us) h).0)))
     by false e t r = rw (e, one-add) (ap (λ l. u ∷ l) (r t))
 
 pub first_at : (test : Use → Bool) (us : List Use) (i : ℕ) (x : Use) → x ≡ get_or us i x → i < length us → test x ≡ true → ((k : ℕ) (d : Use) → k < i → test (get_or us k d) ≡ false) → i ≡ position_or_len test us

@@ -1,4 +1,4 @@
-// Reverse maps: which page table entries name a frame.
+// Reverse maps: which page table entries name a frame (mm/rmap.c, `rmap_walk`).
 #![tactic(auto)]
 
 mod maps;

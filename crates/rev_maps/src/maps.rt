@@ -7,9 +7,6 @@ use hm_base::{NoMemory, Page, Proc};
 use std::alloc::Global;
 use std::marker::Model;
 
-#[cfg(test)]
-mod tests;
-
 /// The uses of each frame of a pool, by the frame's number.
 #[derive(Drop)]
 pub struct RevMaps {
@@ -30,10 +27,7 @@ impl RevMaps {
     pub fn new(alloc: Global, frames: u32) -> Result<RevMaps, NoMemory>
         ensures { IfOk result (λ maps. maps ≡ replicate frames unused) }
     {
-        let mut lists = match Vec::with_capacity(alloc, frames as usize) {
-            Ok(lists) => lists,
-            Err(_) => return Err(NoMemory),
-        };
+        let mut lists = Vec::with_capacity(alloc, frames as usize)?;
         for _frame in 0..frames {
             if let Err(_) = lists.push(UseList::new(alloc)) {
                 return Err(NoMemory);
@@ -123,7 +117,7 @@ impl RevMaps {
         ensures { is_rising (uses_of self.now number).list ≡ true }
     {
         if let Some(uses) = self.frames.get(number as usize) {
-            uses.rising();
+            uses.facts();
         }
     }
 }

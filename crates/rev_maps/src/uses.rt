@@ -50,6 +50,7 @@ impl Use {
 }
 
 impl UseList {
+    /// No uses, without memory.
     pub fn new(alloc: Global) -> UseList
         ensures { result ≡ unused }
     {
@@ -58,25 +59,25 @@ impl UseList {
         }
     }
 
-    /// Gives the order of the uses where only their value is at hand; it does nothing.
-    pub fn rising(&self)
+    /// Costs nothing: it hands the prover the invariant.
+    pub fn facts(&self)
         ensures { is_rising self.now.list ≡ true }
     {
         let _ = &self.uses;
     }
 
+    /// Makes room for one more use.
     pub fn reserve(&mut self) -> Result<(), NoMemory>
         ensures list { self.new.list ≡ self.old.list }
         ensures more { self.old.room ≤ self.new.room }
         ensures ok { OnOk result (1 ≤ self.new.room) }
         ensures err { OnErr result (self.new ≡ self.old) }
     {
-        match self.uses.reserve(1) {
-            Ok(()) => Ok(()),
-            Err(_) => Err(NoMemory),
-        }
+        self.uses.reserve(1)?;
+        Ok(())
     }
 
+    /// Adds a use for which there is room, in its order.
     pub fn add_reserved(&mut self, used: Use)
         requires room { 1 ≤ self.old.room }
         requires new { has_use used.proc used.page self.old.list ≡ false }
@@ -86,6 +87,7 @@ impl UseList {
         let _ = self.uses.insert(at, used);
     }
 
+    /// Takes out the use by that page of the process.
     pub fn remove(&mut self, proc: Proc, page: Page)
         requires { has_use proc page self.old.list ≡ true }
         ensures { self.new ≡ removed proc page self.old }
@@ -94,6 +96,7 @@ impl UseList {
         let _ = self.uses.remove(at);
     }
 
+    /// The use by that page of the process is a migration entry from now on.
     pub fn set_moving(&mut self, proc: Proc, page: Page)
         requires { has_use proc page self.old.list ≡ true }
         ensures { self.new ≡ record self.old { list = with_moving proc page self.old.list } }
@@ -102,6 +105,7 @@ impl UseList {
         self.uses[at].moving = true;
     }
 
+    /// The lowest page that names the frame directly.
     pub fn lowest_direct(&self) -> Option<(Proc, Page)>
         ensures { result ≡ first_use (λ u. not u.moving) self.now.list }
     {
@@ -109,6 +113,7 @@ impl UseList {
         Some((used.proc, used.page))
     }
 
+    /// The lowest page whose place is a migration entry for the frame.
     pub fn lowest_moving(&self) -> Option<(Proc, Page)>
         ensures { result ≡ first_use (λ u. u.moving) self.now.list }
     {
@@ -116,13 +121,15 @@ impl UseList {
         Some((used.proc, used.page))
     }
 
+    /// The lowest page that names the frame.
     pub fn lowest_named(&self) -> Option<(Proc, Page)>
         ensures { result ≡ first_use (λ u. true) self.now.list }
     {
-        let used = self.uses.iter().find(|_used| true)?;
+        let used = self.uses.first()?;
         Some((used.proc, used.page))
     }
 
+    /// How many pages name the frame.
     pub fn count(&self) -> u64
         ensures { result ≡ length self.now.list }
     {
@@ -154,12 +161,4 @@ fn position(uses: &[Use], proc: Proc, page: Page) -> usize
         }
     }
     uses.len()
-}
-
-/// Whether the page of the process has a use.
-#[cfg(test)]
-pub fn has(list: &UseList, proc: Proc, page: Page) -> bool
-    ensures { result ≡ has_use proc page list.now.list }
-{
-    list.uses.iter().any(|used| used.is_by(proc, page))
 }

@@ -1,4 +1,5 @@
-// The areas of a process: spans of pages with a right each, disjoint and in rising order, at most 64.
+// The areas of a process: spans of pages with a right each, disjoint and in rising order, at most 64 (`struct
+// vm_area_struct`, cut as `__split_vma` of mm/mmap.c and mm/mprotect.c cut it).
 #![tactic(auto)]
 
 ghost use Rattle.std.specs.Prelude.{◌≡◌, ◌+◌, ◌-◌, ◌^◌, ◌≤◌, ◌<◌, ◌++◌, [], ◌∷◌, length, vec_len, vec_capacity, nat_le, min, max, sum_by, flat_map, is_ok, slice_get, if◌then◌else◌, None, IfOk, IsTrue};
@@ -14,9 +15,6 @@ use hm_base::{Area, NoMemory, Page, Rights, Span};
 use std::alloc::Global;
 use std::marker::Model;
 use std::mem;
-
-#[cfg(test)]
-mod tests;
 
 // The most areas of a process (as the kernel's vm.max_map_count limits mmap; the number is this project's).
 const MOST: usize = 64;
@@ -67,8 +65,8 @@ impl Areas {
         }
     }
 
-    /// Gives what holds of all areas where only their list is at hand; it does nothing.
-    pub fn fits(&self)
+    /// Costs nothing: it hands the prover the invariant.
+    pub fn facts(&self)
         ensures { IsAreas self.now }
     {
         let _ = &self.areas;
@@ -135,7 +133,8 @@ impl Areas {
     /// An area more, as `mmap` makes one.
     pub fn insert(&mut self, span: Span, rights: Rights) -> Result<(), AreaRefusal>
         ensures refusal { result_err result ≡ insert_refusal span self.old }
-        ensures areas { self.new ≡ (if is_ok result then with_area (record { span = span; rights = rights }) self.old else self.old) }
+        ensures areas { self.new
+            ≡ (if is_ok result then with_area (record { span = span; rights = rights }) self.old else self.old) }
     {
         if let Some(refusal) = self.insert_refusal(span) {
             return Err(refusal);
