@@ -15,6 +15,7 @@ use Rattle.hm_history.specs.declared.phases.Seen.{Seen}
 use Rattle.hm_history.specs.declared.phases.Phase.{Phase}
 use Rattle.hm_actors.specs.Actors.{TaskValue, nobody, task_of, going_of, goings, ActorsShown, IsSeen, ActorsFit, task_start, first_tasks, actors_start, task_next, task_top, actors_next}
 use Rattle.hm_actors.proofs.TaskKept.{nobody_past}
+use Rattle.hm_history.proofs.Updates.{other_at}
 
 -- one task after its entry is where the state has its actor
 next_at : (c : Program) (s : After) (a : ℕ) (k : Kind) (seen : Seen) (d : TaskValue) (o : Op) (st : List Phase) → d.going.stack ≡ st → op_at c a d.going.index ≡ Some o → IsSeen c s a d.going k seen →
@@ -44,9 +45,6 @@ len_set x a d n e = grind (arith, common_steps)
 at_here : (f : ℕ → Going) (a b : ℕ) (g : Going) → b ≡ a → with_at f a g b ≡ g
 at_here f a b g e = grind (arith, nat_tests)
 
-at_there : (f : ℕ → Going) (a b : ℕ) (g : Going) → (b ≡ a → ⊥) → with_at f a g b ≡ f b
-at_there f a b g e = grind (arith, nat_tests)
-
 pub actors_kept : (c : Program) (s : State) (a : ℕ) (k : Kind) (seen : Seen) (n : ℕ) (x : List TaskValue) → IsSeen c s.after a (s.going a) k seen → ActorsShown n s.going x →
     ActorsShown n (state_next c s (record { actor = a; kind = k })).going (actors_next c a k seen x)
 actors_kept c s a k seen n x q h = record { len = len_set x a _ n h.len; at = λ b l. by b l (cases_eq b a) }
@@ -56,7 +54,7 @@ actors_kept c s a k seen n x q h = record { len = len_set x a _ n h.len; at = λ
 
     by : (b : ℕ) → b < n → (b ≡ a) ⊎ (b ≡ a → ⊥) → going_of (actors_next c a k seen x) b ≡ with_at s.going a (going_next c s.after a (s.going a) k) b
     by b l (inl e) = ap (λ (d : TaskValue). d.going) (set_here x a b _ (omega (arith, h.len)) e) ∙ moved_going c s a k seen (task_of x a) (h.at a (omega arith)) q ∙ sym (at_here s.going a b _ e)
-    by b l (inr e) = ap (λ (d : TaskValue). d.going) (set_there x a b _ (omega (arith, h.len)) e) ∙ h.at b l ∙ sym (at_there s.going a b _ e)
+    by b l (inr e) = ap (λ (d : TaskValue). d.going) (set_there x a b _ (omega (arith, h.len)) e) ∙ h.at b l ∙ sym (other_at s.going a b _ e)
 
 -- the start
 first_len : (c : Program) (n : ℕ) → length (first_tasks c n) ≡ n
@@ -107,14 +105,3 @@ op_below c a i o e = by (cases_lt a (length c.actors))
     by : (a < length c.actors) ⊎ (length c.actors ≤ a) → a < length c.actors
     by (inl l) = l
     by (inr l) = let q : op_at c a i ≡ None = no_ops c a i l in cc
-
--- what is read
-pub going_shown : (c : Program) (going : ℕ → Going) (x : List TaskValue) (a i : ℕ) (o : Op) → ActorsShown (length c.actors) going x → op_at c a i ≡ Some o → going_of x a ≡ going a
-going_shown c going x a i o h e = h.at a (op_below c a i o e)
-
-pub op_shown : (c : Program) (going : ℕ → Going) (x : List TaskValue) (a : ℕ) → ActorsShown (length c.actors) going x → op_at c a (going_of x a).index ≡ op_at c a (going a).index
-op_shown c going x a h = by (cases_lt a (length c.actors))
-  where
-    by : (a < length c.actors) ⊎ (length c.actors ≤ a) → op_at c a (going_of x a).index ≡ op_at c a (going a).index
-    by (inl l) = ap (λ (g : Going). op_at c a g.index) (h.at a l)
-    by (inr l) = no_ops c a (going_of x a).index l ∙ sym (no_ops c a (going a).index l)

@@ -1,10 +1,11 @@
 -- The search for the page to which a migration has come, and the definition of the history.
-use Rattle.std.proofs.Common.{◌≡◌, ℕ, zero, suc, ◌+◌, ◌-◌, ◌<◌, Bool, true, false, ◌&&◌, nat_le, Option, Some, None, List, [], ◌∷◌, refl, sym, ap, ◌∙◌, arith}
+use Rattle.std.proofs.Common.{◌≡◌, ℕ, Bool, true, false, ◌&&◌, nat_le, Option, Some, None, List, [], ◌∷◌, refl, sym, ap, ◌∙◌}
 use Rattle.std.specs.Prelude.{find}
 use Rattle.hm_base.specs.declared.ops.Op.{Op}
 use Rattle.hm_history.specs.After.{After}
 use Rattle.hm_history.specs.Going.{concerns, come_to}
 use Rattle.hm_history.specs.declared.phases.Migrating.{Migrating}
+use Rattle.hm_history.specs.declared.phases.MoveStep.{MoveStep}
 use Rattle.hm_actors.specs.Coming.{first_from, come_by}
 
 -- a list searched from an element on
@@ -17,17 +18,13 @@ not_here p x xs true e t = cc
 not_here p x xs false e t = rw (e, find) refl
 
 -- one step of the search
-step_of : (test : ℕ → Migrating → Bool) (xs : List Migrating) (n m step next : ℕ) → m ≡ suc n → come_by test xs m step next ≡ come_by test xs (suc n) step next
-step_of test xs n m step next e = ap (λ (k : ℕ). come_by test xs k step next) e
+pub came : (test : MoveStep → Migrating → Bool) (xs : List Migrating) (step : MoveStep) (steps : List MoveStep) (next : ℕ) (x : Migrating) →
+    first_from (test step) next xs ≡ Some x → come_by test xs (step ∷ steps) next ≡ Some (step, x)
+came test xs step steps next x e = rw (e, come_by) refl
 
-came : (test : ℕ → Migrating → Bool) (xs : List Migrating) (n step next : ℕ) (x : Migrating) → first_from (test step) next xs ≡ Some x → come_by test xs (suc n) step next ≡ (step, Some x)
-came test xs n step next x e = rw (e, come_by) refl
-
-came_not : (test : ℕ → Migrating → Bool) (xs : List Migrating) (n step next : ℕ) → first_from (test step) next xs ≡ None → come_by test xs (suc n) step next ≡ come_by test xs n (step + 1) 0
-came_not test xs n step next e = rw (e, come_by) refl
-
-pub come_on : (test : ℕ → Migrating → Bool) (xs : List Migrating) (at next : ℕ) → at < 8 → first_from (test at) next xs ≡ None → come_by test xs (8 - at) at next ≡ come_by test xs (8 - (at + 1)) (at + 1) 0
-come_on test xs at next l e = step_of test xs (8 - (at + 1)) (8 - at) at next (omega arith) ∙ came_not test xs (8 - (at + 1)) at next e
+pub came_not : (test : MoveStep → Migrating → Bool) (xs : List Migrating) (step : MoveStep) (steps : List MoveStep) (next : ℕ) →
+    first_from (test step) next xs ≡ None → come_by test xs (step ∷ steps) next ≡ come_by test xs steps 0
+came_not test xs step steps next e = rw (e, come_by) refl
 
 -- tests that agree
 find_same : (p q : Migrating → Bool) (xs : List Migrating) → ((x : Migrating) → p x ≡ q x) → find p xs ≡ find q xs
@@ -40,14 +37,15 @@ find_same p q (x ∷ xs) e = by (p x) refl (q x) refl (e x) (find_same p q xs e)
     by false i true j r h = cc
     by false i false j r h = not_here p x xs (p x) refl i ∙ h ∙ sym (not_here q x xs (q x) refl j)
 
-pub come_by_shown : (s : After) (o : Op) (test : ℕ → Migrating → Bool) → ((step : ℕ) (x : Migrating) → test step x ≡ concerns s o step x) →
-    (xs : List Migrating) (n step next : ℕ) → come_by test xs n step next ≡ come_to s o xs n step next
-come_by_shown s o test e xs zero step next = refl
-come_by_shown s o test e xs (suc n) step next = by (first_from (concerns s o step) next xs) refl (come_by_shown s o test e xs n (step + 1) 0)
+pub come_by_shown : (s : After) (o : Op) (test : MoveStep → Migrating → Bool) → ((step : MoveStep) (x : Migrating) → test step x ≡ concerns s o step x) →
+    (xs : List Migrating) (steps : List MoveStep) (next : ℕ) → come_by test xs steps next ≡ come_to s o xs steps next
+come_by_shown s o test e xs [] next = refl
+come_by_shown s o test e xs (step ∷ steps) next = by (first_from (concerns s o step) next xs) refl (come_by_shown s o test e xs steps 0)
   where
     same : first_from (test step) next xs ≡ first_from (concerns s o step) next xs
     same = find_same (λ x. nat_le next x.page && test step x) (λ x. nat_le next x.page && concerns s o step x) xs (λ x. ap (λ (b : Bool). nat_le next x.page && b) (e step x))
 
-    by : (r : Option Migrating) → first_from (concerns s o step) next xs ≡ r → come_by test xs n (step + 1) 0 ≡ come_to s o xs n (step + 1) 0 → come_by test xs (suc n) step next ≡ come_to s o xs (suc n) step next
-    by (Some x) i h = came test xs n step next x (same ∙ i) ∙ sym (rw (i, come_to) refl)
-    by None i h = came_not test xs n step next (same ∙ i) ∙ h ∙ sym (rw (i, come_to) refl)
+    by : (r : Option Migrating) → first_from (concerns s o step) next xs ≡ r → come_by test xs steps 0 ≡ come_to s o xs steps 0 →
+        come_by test xs (step ∷ steps) next ≡ come_to s o xs (step ∷ steps) next
+    by (Some x) i h = came test xs step steps next x (same ∙ i) ∙ sym (rw (i, come_to) refl)
+    by None i h = came_not test xs step steps next (same ∙ i) ∙ h ∙ sym (rw (i, come_to) refl)

@@ -5,7 +5,7 @@ use Rattle.std.proofs.lemmas.List.{get_or_past}
 use Rattle.std.proofs.lemmas.Grind.{elements}
 use Rattle.hm_base.specs.Program.{Program}
 use Rattle.hm_base.specs.declared.ops.Op.{Op}
-use Rattle.hm_history.specs.Moved.{moved}
+use Rattle.hm_history.specs.Stacks.{stack_after}
 use Rattle.hm_history.specs.Going.{Going, going_from, going_on, op_at, recorded}
 use Rattle.hm_history.specs.declared.Kind.{Kind}
 use Rattle.hm_history.specs.declared.phases.Seen.{Seen}
@@ -31,7 +31,7 @@ goings_same xs ys e i t u p q = map-set_same (λ (d : TaskValue). d.going) xs i 
 
 -- the entry at the top phase ends the operation, or does not
 of_top : (c : Program) (a : ℕ) (d : TaskValue) (o : Op) (k : Kind) (seen : Seen) (st : List Phase) (top : Phase) → Some top ≡ slice_get st 0 →
-    task_top c a d o st k seen ≡ record { going = going_on c a d.going.index (moved o d.going.stack k seen) (recorded top seen.page d.going.pages k); spare = spare_next top k d.spare }
+    task_top c a d o st k seen ≡ record { going = going_on c a d.going.index (stack_after o d.going.stack k seen) (recorded top seen.page d.going.pages k); spare = spare_next top k d.spare }
 of_top c a d o k seen [] top e = cc
 of_top c a d o k seen (x ∷ below) top e = let q : x ≡ top = cc in rw q refl
 
@@ -41,7 +41,7 @@ is_empty (x ∷ below) e = cc
 
 pub ends : (c : Program) (a i : ℕ) (st new : List Phase) (rs next : RecordsValue) (d : TaskValue) (o : Op) (top : Phase) (k : Kind) (seen : Seen) →
     record { going = record { index = i; stack = st; pages = rs.items }; spare = rs.spare } ≡ d → Some top ≡ slice_get st 0 →
-    next ≡ record { items = recorded top seen.page rs.items k; spare = spare_next top k rs.spare } → new ≡ moved o st k seen → true ≡ is_none (slice_get new 0) →
+    next ≡ record { items = recorded top seen.page rs.items k; spare = spare_next top k rs.spare } → new ≡ stack_after o st k seen → true ≡ is_none (slice_get new 0) →
     record { going = going_from c a (i + 1); spare = next.spare } ≡ task_top c a d o d.going.stack k seen
 ends c a i st new rs next d o top k seen e p n m z =
     rw (← e) (sym (of_top c a (record { going = record { index = i; stack = st; pages = rs.items }; spare = rs.spare }) o k seen st top p
@@ -55,7 +55,7 @@ goes_by c a i (x ∷ below) next e = refl
 
 pub goes_on : (c : Program) (a i : ℕ) (st new : List Phase) (rs next : RecordsValue) (d : TaskValue) (o : Op) (top : Phase) (k : Kind) (seen : Seen) →
     record { going = record { index = i; stack = st; pages = rs.items }; spare = rs.spare } ≡ d → Some top ≡ slice_get st 0 →
-    next ≡ record { items = recorded top seen.page rs.items k; spare = spare_next top k rs.spare } → new ≡ moved o st k seen → false ≡ is_none (slice_get new 0) →
+    next ≡ record { items = recorded top seen.page rs.items k; spare = spare_next top k rs.spare } → new ≡ stack_after o st k seen → false ≡ is_none (slice_get new 0) →
     record { going = record { index = i; stack = new; pages = next.items }; spare = next.spare } ≡ task_top c a d o d.going.stack k seen
 goes_on c a i st new rs next d o top k seen e p n m z =
     rw (← e) (sym (of_top c a (record { going = record { index = i; stack = st; pages = rs.items }; spare = rs.spare }) o k seen st top p

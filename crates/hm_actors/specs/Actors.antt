@@ -4,7 +4,7 @@ use Rattle.std.specs.Prelude.{◌≡◌, ℕ, zero, suc, ◌-◌, ◌<◌, ◌�
 use Rattle.hm_base.specs.Program.{Program}
 use Rattle.hm_base.specs.declared.ops.Op.{Op}
 use Rattle.hm_history.specs.After.{After}
-use Rattle.hm_history.specs.Moved.{moved}
+use Rattle.hm_history.specs.Stacks.{stack_after}
 use Rattle.hm_history.specs.Going.{Going, going_from, going_seen, op_at, seen_at}
 use Rattle.hm_history.specs.declared.Kind.{Kind}
 use Rattle.hm_history.specs.declared.phases.Migrating.{Migrating}
@@ -76,7 +76,8 @@ spare_next top k n = if adds_at top k then n - 1 else n
 
 -- an actor after its entry
 abbrev pub task_seen : Program → ℕ → TaskValue → Op → Phase → Kind → Seen → TaskValue
-task_seen c a d o top k seen = record { going = going_seen c a d.going o top k seen; spare = spare_next top k d.spare }
+task_seen c a d o top k seen =
+    record { going = going_seen c a d.going o top k seen; spare = spare_next top k d.spare }
 
 abbrev pub task_top : Program → ℕ → TaskValue → Op → List Phase → Kind → Seen → TaskValue
 task_top c a d o [] k seen = d
@@ -90,11 +91,13 @@ actors_next c a k seen x = slice_set x a (task_next c a (task_of x a) k seen)
 
 -- what was seen is what the state has, for an actor in an operation
 abbrev pub IsSeen : Program → After → ℕ → Going → Kind → Seen → Type 0
-IsSeen c s a g k seen = (o : Op) (top : Phase) (below : List Phase) → op_at c a g.index ≡ Some o → g.stack ≡ top ∷ below → seen ≡ seen_at s o g.pages top k
+IsSeen c s a g k seen =
+    (o : Op) (top : Phase) (below : List Phase) → op_at c a g.index ≡ Some o → g.stack ≡ top
+    ∷ below → seen ≡ seen_at s o g.pages top k
 
 -- what a step asks: the stack has room for what the entry puts on it, and a count of frames for one more
 pub record StackFits (o : Op) (st : List Phase) (k : Kind) (seen : Seen) : Type 0 where
-  pub few : length (moved o st k seen) ≤ 3
+  pub few : length (stack_after o st k seen) ≤ 3
   pub counted : IsTrue (below_takes_count st)
 
 abbrev pub ActorsFit : Program → ℕ → Going → Kind → Seen → Type 0

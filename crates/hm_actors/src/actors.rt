@@ -30,14 +30,11 @@ impl Actors {
     pub fn new(alloc: Global, script: &Script) -> Result<Actors, NoMemory>
         ensures { IfOk result (λ x. x ≡ actors_start script.now) }
     {
-        script.fits();
+        script.facts();
         let count = script.actors.len() as u32;
         let mut tasks = Vec::new(alloc);
         for at in 0..count {
-            match tasks.push(Task::start(alloc, script, Actor::new(at))?) {
-                Ok(()) => (),
-                Err(_) => return Err(NoMemory),
-            }
+            tasks.push(Task::start(alloc, script, Actor::new(at))?)?;
         }
         Ok(Actors { tasks })
     }
@@ -89,13 +86,6 @@ impl Actors {
         op_at(script, actor, self.index(actor))
     }
 
-    /// Whether the actor has no operation left.
-    pub fn has_ended(&self, script: &Script, actor: Actor) -> bool
-        ensures { result ≡ is_none (op_at script.now actor (going_of self.now actor).index) }
-    {
-        self.op(script, actor).is_none()
-    }
-
     /// The phase that the actor is in.
     pub fn top(&self, actor: Actor) -> Option<&Phase>
         ensures { option_copied result ≡ slice_get (going_of self.now actor).stack 0 }
@@ -135,7 +125,7 @@ fn is_found(kind: &Kind) -> bool
     ensures { result ≡ is_found kind.now }
 {
     match kind {
-        Kind::Fresh(..) | Kind::Place(..) => true,
+        Kind::Fresh { .. } | Kind::Place { .. } => true,
         _ => false,
     }
 }

@@ -1,15 +1,17 @@
 // The page to which a migration has come.
-ghost use Rattle.std.specs.Prelude.{◌≡◌, ℕ, ◌-◌, ◌≤◌, Bool, length};
+ghost use Rattle.std.specs.Prelude.{◌≡◌, Bool};
+ghost use Rattle.hm_history.specs.Going.{steps_from};
 ghost use Rattle.hm_history.specs.declared.phases.Migrating.{Migrating as Record};
+ghost use Rattle.hm_history.specs.declared.phases.MoveStep.{MoveStep as Step};
 ghost use Rattle.hm_actors.specs.Coming.{first_from, come_by};
 
-use hm_history::phases::Migrating;
+use hm_history::phases::{Migrating, MoveStep};
 
 /// What tells whether a step of a migration has an entry for a record now.
 pub trait Concerns {
-    ghost concerns: { Self → ℕ → Record → Bool };
+    ghost concerns: { Self → Step → Record → Bool };
 
-    fn concerns(&self, step: u8, migrating: &Migrating) -> bool
+    fn concerns(&self, step: MoveStep, migrating: &Migrating) -> bool
         ensures { result ≡ concerns self.now step migrating.now };
 }
 
@@ -17,7 +19,7 @@ pub trait Concerns {
 fn first_from<C: Concerns>(
     records: &[Migrating],
     concerns: &C,
-    step: u8,
+    step: MoveStep,
     next: u64,
 ) -> Option<Migrating>
     ensures { result ≡ first_from (C.concerns concerns.now step) next records.now }
@@ -30,22 +32,45 @@ fn first_from<C: Concerns>(
     None
 }
 
-/// The step, from this one on, and the record that the migration has come to; step 8 and none at its end.
+// The steps from one on, in their order.
+fn steps_from(step: MoveStep) -> &'static [MoveStep]
+    ensures { result.now ≡ steps_from step }
+{
+    match step {
+        MoveStep::FreezeOthers => &[
+            MoveStep::FreezeOthers,
+            MoveStep::TakeAndCopy,
+            MoveStep::Commit,
+            MoveStep::SetOwnTable,
+            MoveStep::Finish,
+        ],
+        MoveStep::TakeAndCopy => &[
+            MoveStep::TakeAndCopy,
+            MoveStep::Commit,
+            MoveStep::SetOwnTable,
+            MoveStep::Finish,
+        ],
+        MoveStep::Commit => &[MoveStep::Commit, MoveStep::SetOwnTable, MoveStep::Finish],
+        MoveStep::SetOwnTable => &[MoveStep::SetOwnTable, MoveStep::Finish],
+        MoveStep::Finish => &[MoveStep::Finish],
+    }
+}
+
+/// The step, from this one on, and the record that the migration has come to; none at its end.
 pub fn come_to<C: Concerns>(
     records: &[Migrating],
     concerns: &C,
-    step: u8,
+    step: MoveStep,
     next: u64,
-) -> (u8, Option<Migrating>)
-    requires { step ≤ 8 }
-    ensures { result ≡ come_by (C.concerns concerns.now) records.now (8 - step) step next }
+) -> Option<(MoveStep, Migrating)>
+    ensures { result ≡ come_by (C.concerns concerns.now) records.now (steps_from step) next }
 {
     let mut from = next;
-    for at in step..8 {
-        match first_from(records, concerns, at, from) {
-            Some(migrating) => return (at, Some(migrating)),
+    for at in steps_from(step) {
+        match first_from(records, concerns, *at, from) {
+            Some(migrating) => return Some((*at, migrating)),
             None => from = 0,
         }
     }
-    (8, None)
+    None
 }

@@ -1,6 +1,7 @@
 // The records of a migration, with room kept ahead.
 ghost use Rattle.std.specs.Prelude.{◌≡◌, ℕ, ◌+◌, ◌-◌, ◌≤◌, [], ◌∷◌, ◌++◌, ◌==◌, true, false, None, length, map, OnOk, OnErr, if◌then◌else◌};
-ghost use Rattle.hm_history.specs.Going.{with_record, found, recorded_at, recorded_body, recorded};
+ghost use Rattle.hm_history.specs.Going.{with_record, recorded_at, recorded_body, recorded};
+ghost use Rattle.hm_base.specs.PlaceWords.{moving_frame};
 ghost use Rattle.hm_actors.specs.Actors.{adds_to, adds_at, spare_next};
 
 use hm_base::{Frame, NoMemory, Page, Place};
@@ -28,7 +29,7 @@ impl Model for Records {
 }
 
 fn frame_found(place: &Place) -> Option<Frame>
-    ensures { (v : ℕ) → result ≡ found v place.now }
+    ensures { result ≡ moving_frame place.now }
 {
     match place {
         Place::Moving { frame, writable: _ } => Some(*frame),
@@ -80,10 +81,7 @@ impl Records {
         ensures err { OnErr result (self.new ≡ self.old) }
     {
         if self.room == 0 {
-            match self.items.try_reserve(1) {
-                Ok(_) => (),
-                Err(_) => return Err(NoMemory),
-            }
+            self.items.try_reserve(1)?;
             self.room = 1;
         }
         Ok(())
@@ -91,7 +89,12 @@ impl Records {
 
     fn push(&mut self, page: Page, source: Option<Frame>)
         requires { 1 ≤ self.old.spare }
-        ensures { self.new ≡ record { items = self.old.items ++ record { page = page; source = source; dest = None; moved = false } ∷ []; spare = self.old.spare - 1 } }
+        ensures { self.new
+            ≡ record {
+              items = self.old.items ++ record { page = page; source = source; dest = None; moved = false }
+                  ∷ [];
+              spare = self.old.spare - 1;
+            } }
     {
         self.room -= 1;
         match self.items.push(Migrating {
@@ -121,7 +124,7 @@ impl Records {
                     migrating.dest = Some(*frame);
                     self.put(migrating);
                 }
-                Kind::Committed(..) => {
+                Kind::Committed { .. } => {
                     migrating.moved = true;
                     self.put(migrating);
                 }
@@ -132,15 +135,30 @@ impl Records {
 
     fn step_body(&mut self, body: &Body, kind: &Kind)
         requires { adds_to body.now kind.now ≡ true → 1 ≤ self.old.spare }
-        ensures { self.new ≡ record { items = recorded_body body.now self.old.items kind.now; spare = if adds_to body.now kind.now then self.old.spare - 1 else self.old.spare } }
+        ensures { self.new
+            ≡ record {
+              items = recorded_body body.now self.old.items kind.now;
+              spare = if adds_to body.now kind.now then self.old.spare - 1 else self.old.spare;
+            } }
     {
         match (body, kind) {
-            (Body::Select { .. }, Kind::Fresh(_, page)) => self.push(*page, None),
-            (Body::Select { .. }, Kind::Place(_, page, place)) => self.push(
-                *page,
-                frame_found(place),
-            ),
-            (Body::Fresh { by }, Kind::Place(_, page, _)) => self.put(Migrating {
+            (Body::Select { .. }, Kind::Fresh { proc: _, page }) => self.push(*page, None),
+            (
+                Body::Select { .. },
+                Kind::Place {
+                    proc: _,
+                    page,
+                    place,
+                },
+            ) => self.push(*page, frame_found(place)),
+            (
+                Body::Fresh { by },
+                Kind::Place {
+                    proc: _,
+                    page,
+                    place: _,
+                },
+            ) => self.put(Migrating {
                 page: *page,
                 source: None,
                 dest: Some(*by),
@@ -153,7 +171,11 @@ impl Records {
     /// The records after an entry at this phase, where the migration has come to this record.
     pub fn step(&mut self, top: &Phase, page: Option<Migrating>, kind: &Kind)
         requires room { adds_at top.now kind.now ≡ true → 1 ≤ self.old.spare }
-        ensures { self.new ≡ record { items = recorded top.now page self.old.items kind.now; spare = spare_next top.now kind.now self.old.spare } }
+        ensures { self.new
+            ≡ record {
+              items = recorded top.now page self.old.items kind.now;
+              spare = spare_next top.now kind.now self.old.spare;
+            } }
     {
         match top {
             Phase::Guard {

@@ -118,7 +118,8 @@ impl Task {
     // The operation of this number, from its first phase on.
     fn begin(&mut self, script: &Script, actor: Actor)
         requires { self.old.going.stack ≡ [] }
-        ensures { self.new ≡ record { going = going_from script.now actor self.old.going.index; spare = self.old.spare } }
+        ensures { self.new
+            ≡ record { going = going_from script.now actor self.old.going.index; spare = self.old.spare } }
     {
         self.records.clear();
         if let Some(op) = op_at(script, actor, self.index) {

@@ -4,36 +4,36 @@ use Rattle.std.proofs.lemmas.Bool.{cases_eq, cases_lt}
 use Rattle.std.proofs.lemmas.Bool.Decides.{nat_tests}
 use Rattle.std.proofs.lemmas.List.{get_or-take, get_or-drop, length-take, length-drop}
 use Rattle.hm_history.specs.Words.{with_at, bytes_from, page_of}
-use Rattle.hm_history.specs.Plain.{written}
-use Rattle.hm_history.specs.Contents.{filled, copied, zeros}
+use Rattle.hm_history.specs.Plain.{with_bytes}
+use Rattle.hm_history.specs.Contents.{with_piece, with_part_copied, zeros}
 use Rattle.frame_pool.specs.Frames.{overwritten, part_of, zero_frame}
 use Rattle.frame_pool.proofs.Overwrites.{get_overwritten_below, get_overwritten_in, get_overwritten_past, zero_frame_length}
 
-written_below : (f : ℕ → ℕ) (at : ℕ) (ys : List ℕ) (k : ℕ) → k < at → written f at ys k ≡ f k
+written_below : (f : ℕ → ℕ) (at : ℕ) (ys : List ℕ) (k : ℕ) → k < at → with_bytes f at ys k ≡ f k
 written_below f at ys k l = grind (arith, nat_tests)
 
-written_in : (f : ℕ → ℕ) (at : ℕ) (ys : List ℕ) (k : ℕ) → at ≤ k → k < at + length ys → written f at ys k ≡ get_or ys (k - at) 0
+written_in : (f : ℕ → ℕ) (at : ℕ) (ys : List ℕ) (k : ℕ) → at ≤ k → k < at + length ys → with_bytes f at ys k ≡ get_or ys (k - at) 0
 written_in f at ys k l m = grind (arith, nat_tests)
 
-written_past : (f : ℕ → ℕ) (at : ℕ) (ys : List ℕ) (k : ℕ) → at + length ys ≤ k → written f at ys k ≡ f k
+written_past : (f : ℕ → ℕ) (at : ℕ) (ys : List ℕ) (k : ℕ) → at + length ys ≤ k → with_bytes f at ys k ≡ f k
 written_past f at ys k l = grind (arith, nat_tests)
 
-pub get_overwritten : (xs : List ℕ) (at : ℕ) (ys : List ℕ) (k : ℕ) → at + length ys ≤ length xs → get_or (overwritten xs at ys) k 0 ≡ written (λ i. get_or xs i 0) at ys k
+pub get_overwritten : (xs : List ℕ) (at : ℕ) (ys : List ℕ) (k : ℕ) → at + length ys ≤ length xs → get_or (overwritten xs at ys) k 0 ≡ with_bytes (λ i. get_or xs i 0) at ys k
 get_overwritten xs at ys k l = by (cases_lt k at) (cases_lt k (at + length ys))
   where
-    by : (k < at) ⊎ (at ≤ k) → (k < at + length ys) ⊎ (at + length ys ≤ k) → get_or (overwritten xs at ys) k 0 ≡ written (λ i. get_or xs i 0) at ys k
+    by : (k < at) ⊎ (at ≤ k) → (k < at + length ys) ⊎ (at + length ys ≤ k) → get_or (overwritten xs at ys) k 0 ≡ with_bytes (λ i. get_or xs i 0) at ys k
     by (inl p) q = get_overwritten_below xs at ys k (omega arith) p ∙ sym (written_below (λ i. get_or xs i 0) at ys k p)
     by (inr p) (inl q) = get_overwritten_in xs at ys k (omega arith) p q ∙ sym (written_in (λ i. get_or xs i 0) at ys k p q)
     by (inr p) (inr q) = get_overwritten_past xs at ys k (omega arith) q ∙ sym (written_past (λ i. get_or xs i 0) at ys k q)
 
 -- a write in the row of all frames is one at the frame's own offsets
-shift_written : (f g : ℕ → ℕ) (base at : ℕ) (ys : List ℕ) (o : ℕ) → f (base + o) ≡ g o → written f (base + at) ys (base + o) ≡ written g at ys o
+shift_written : (f g : ℕ → ℕ) (base at : ℕ) (ys : List ℕ) (o : ℕ) → f (base + o) ≡ g o → with_bytes f (base + at) ys (base + o) ≡ with_bytes g at ys o
 shift_written f g base at ys o e = by (cases_lt o at) (cases_lt o (at + length ys))
   where
     back : base + o - (base + at) ≡ o - at
     back = omega arith
 
-    by : (o < at) ⊎ (at ≤ o) → (o < at + length ys) ⊎ (at + length ys ≤ o) → written f (base + at) ys (base + o) ≡ written g at ys o
+    by : (o < at) ⊎ (at ≤ o) → (o < at + length ys) ⊎ (at + length ys ≤ o) → with_bytes f (base + at) ys (base + o) ≡ with_bytes g at ys o
     by (inl p) q = written_below f (base + at) ys (base + o) (omega arith) ∙ e ∙ sym (written_below g at ys o p)
     by (inr p) (inl q) = written_in f (base + at) ys (base + o) (omega arith) (omega arith) ∙ ap (λ i. get_or ys i 0) back ∙ sym (written_in g at ys o p q)
     by (inr p) (inr q) = written_past f (base + at) ys (base + o) (omega arith) ∙ e ∙ sym (written_past g at ys o q)
@@ -46,7 +46,7 @@ other_past m b o at n l k = omega arith
 
 -- the bytes of frame b after a write in frame m, where h is what the write leaves there
 pub in_frame : (xs ys : List ℕ) (m at : ℕ) (g : ℕ → ℕ → ℕ) (h : ℕ → ℕ) (b o : ℕ) → m * 4096 + 4096 ≤ length xs → at + length ys ≤ 4096 → o < 4096 →
-    ((n i : ℕ) → i < 4096 → get_or xs (n * 4096 + i) 0 ≡ g n i) → ((i : ℕ) → i < 4096 → h i ≡ written (g m) at ys i) →
+    ((n i : ℕ) → i < 4096 → get_or xs (n * 4096 + i) 0 ≡ g n i) → ((i : ℕ) → i < 4096 → h i ≡ with_bytes (g m) at ys i) →
     get_or (overwritten xs (m * 4096 + at) ys) (b * 4096 + o) 0 ≡ with_at g m h b o
 in_frame xs ys m at g h b o e l k s w = get_overwritten xs (m * 4096 + at) ys (b * 4096 + o) (omega arith) ∙ by (cases_eq b m) (cases_lt b m)
   where
@@ -59,7 +59,7 @@ in_frame xs ys m at g h b o e l k s w = get_overwritten xs (m * 4096 + at) ys (b
     other : b ≢ m → with_at g m h b o ≡ g b o
     other d = grind (arith, nat_tests)
 
-    by : (b ≡ m) ⊎ (b ≢ m) → (b < m) ⊎ (m ≤ b) → written raw (m * 4096 + at) ys (b * 4096 + o) ≡ with_at g m h b o
+    by : (b ≡ m) ⊎ (b ≢ m) → (b < m) ⊎ (m ≤ b) → with_bytes raw (m * 4096 + at) ys (b * 4096 + o) ≡ with_at g m h b o
     by (inl p) q = rw p (shift_written raw (g m) (m * 4096) at ys o (s m o k) ∙ sym (w o k) ∙ sym here)
     by (inr p) (inl q) = written_below raw (m * 4096 + at) ys (b * 4096 + o) (other_below m b o at q k) ∙ s b o k ∙ sym (other p)
     by (inr p) (inr q) = written_past raw (m * 4096 + at) ys (b * 4096 + o) (other_past m b o at (length ys) (omega arith) l) ∙ s b o k ∙ sym (other p)
@@ -75,11 +75,11 @@ zero_frame_at : (k : ℕ) → get_or zero_frame k 0 ≡ 0
 unfolding zero_frame
 zero_frame_at k = zeros_at 4096 k
 
-pub zeroed : (f : ℕ → ℕ) (o : ℕ) → o < 4096 → zeros o ≡ written f 0 zero_frame o
+pub zeroed : (f : ℕ → ℕ) (o : ℕ) → o < 4096 → zeros o ≡ with_bytes f 0 zero_frame o
 zeroed f o l = sym (written_in f 0 zero_frame o (omega arith) (omega (arith, zero_frame_length)) ∙ zero_frame_at (o - 0))
 
-pub stored : (f : ℕ → ℕ) (at : ℕ) (bs : List ℕ) (o : ℕ) → filled f at bs o ≡ written f (at % 4096) bs o
-stored f at bs o = ap (λ i. written (λ x. f o) i bs (page_of at * 4096 + o)) split ∙ shift_written (λ x. f o) f (page_of at * 4096) (at % 4096) bs o refl
+pub stored : (f : ℕ → ℕ) (at : ℕ) (bs : List ℕ) (o : ℕ) → with_piece f at bs o ≡ with_bytes f (at % 4096) bs o
+stored f at bs o = ap (λ i. with_bytes (λ x. f o) i bs (page_of at * 4096 + o)) split ∙ shift_written (λ x. f o) f (page_of at * 4096) (at % 4096) bs o refl
   where
     split : at ≡ page_of at * 4096 + at % 4096
     split = omega arith
@@ -92,16 +92,16 @@ pub length_part : (xs : List ℕ) (at n : ℕ) → at + n ≤ length xs → leng
 length_part xs at n l = omega (arith, length-take (at + n - at) (drop at xs), length-drop at xs)
 
 -- a piece that was copied
-pub copied_whole : (f g : ℕ → ℕ) (ys : List ℕ) (o : ℕ) → length ys ≡ 4096 → o < 4096 → ((k : ℕ) → k < 4096 → get_or ys k 0 ≡ f k) → copied f g None o ≡ written g 0 ys o
+pub copied_whole : (f g : ℕ → ℕ) (ys : List ℕ) (o : ℕ) → length ys ≡ 4096 → o < 4096 → ((k : ℕ) → k < 4096 → get_or ys k 0 ≡ f k) → with_part_copied f g None o ≡ with_bytes g 0 ys o
 copied_whole f g ys o e l h = sym (written_in g 0 ys o (omega arith) (omega arith) ∙ h (o - 0) (omega arith) ∙ ap f back)
   where
     back : o - 0 ≡ o
     back = omega arith
 
-pub copied_part : (f g : ℕ → ℕ) (ys : List ℕ) (p o : ℕ) → length ys ≡ 512 → ((k : ℕ) → k < 512 → get_or ys k 0 ≡ f (p * 512 + k)) → copied f g (Some p) o ≡ written g (p * 512) ys o
+pub copied_part : (f g : ℕ → ℕ) (ys : List ℕ) (p o : ℕ) → length ys ≡ 512 → ((k : ℕ) → k < 512 → get_or ys k 0 ≡ f (p * 512 + k)) → with_part_copied f g (Some p) o ≡ with_bytes g (p * 512) ys o
 copied_part f g ys p o e h = by (cases_lt o (p * 512)) (cases_lt o (p * 512 + 512))
   where
-    by : (o < p * 512) ⊎ (p * 512 ≤ o) → (o < p * 512 + 512) ⊎ (p * 512 + 512 ≤ o) → copied f g (Some p) o ≡ written g (p * 512) ys o
+    by : (o < p * 512) ⊎ (p * 512 ≤ o) → (o < p * 512 + 512) ⊎ (p * 512 + 512 ≤ o) → with_part_copied f g (Some p) o ≡ with_bytes g (p * 512) ys o
     by (inl a) b = grind (arith, nat_tests, written_below g (p * 512) ys o a)
     by (inr a) (inl b) = let back : p * 512 + (o - p * 512) ≡ o = omega arith in
         grind (arith, nat_tests) ∙ sym (written_in g (p * 512) ys o a (omega arith) ∙ h (o - p * 512) (omega arith) ∙ ap f back)

@@ -11,11 +11,11 @@ use Rattle.hm_base.specs.declared.Place.{Place}
 use Rattle.hm_base.specs.declared.Place.TheVariants.{Sys, Moving}
 use Rattle.hm_base.specs.Program.{Program, IsScript}
 use Rattle.hm_history.specs.Words.{with_at, with_frame, sys_frame, names}
-use Rattle.hm_history.specs.Plain.{written}
+use Rattle.hm_history.specs.Plain.{with_bytes}
 use Rattle.hm_history.specs.Places.{Places, pool_size, lowest_named, places_next}
 use Rattle.hm_history.specs.Locks.{Locks, frame_placed, with_lock, is_locker, orphan, left_behind}
 use Rattle.hm_history.specs.Contents as contents
-use Rattle.hm_history.specs.Contents.{copied, filled, zeros, backing}
+use Rattle.hm_history.specs.Contents.{with_part_copied, with_piece, zeros, backing}
 use Rattle.hm_history.specs.After.{After, after_entry, after_nothing}
 use Rattle.hm_history.specs.declared.Kind.{Kind}
 use Rattle.frame_pool.specs.Frames.{Frames, part_of, IsPiece}
@@ -66,7 +66,7 @@ locked {c} {h} {m} {w} {g} {l} {b} x f a s e =
     (λ r n t. refl) (λ r n t. refl) (at_other l f (Some a)) (λ r n t. refl)
 
 wrote : {c : Program} {h : Frame → Bool} {m : Frame → Option Frame} {w g : ℕ → Bool} {l : Frame → Option ℕ} {b : Frame → ℕ → ℕ} (x : PoolsState) (f : Frame) (at : ℕ) (ys : List ℕ) (new : ℕ → ℕ) → PoolsShown c h m w g l b x → h f ≡ true →
-    at + length ys ≤ 4096 → ((o : ℕ) → o < 4096 → new o ≡ written (b f) at ys o) → PoolsShown c h m w g l (with_frame b f new) (with_pool x f.pool (pool_written (pool_at x f.pool) f.number at ys))
+    at + length ys ≤ 4096 → ((o : ℕ) → o < 4096 → new o ≡ with_bytes (b f) at ys o) → PoolsShown c h m w g l (with_frame b f new) (with_pool x f.pool (pool_written (pool_at x f.pool) f.number at ys))
 wrote {c} {h} {m} {w} {g} {l} {b} x f at ys new s e lies is =
     let lt : f.number < length (pool_at x f.pool).frames.held = number_below x f s e in
     replaced x f.pool (pool_written (pool_at x f.pool) f.number at ys) s (pool_below x f.pool f.number lt) refl refl
@@ -133,11 +133,11 @@ orphan_named s t (Some k) f e = by (is_none (s.frame k) && is_none (lowest_named
 stores : {c : Program} {h : Frame → Bool} {m : Frame → Option Frame} {w g : ℕ → Bool} {l : Frame → Option ℕ} {b : Frame → ℕ → ℕ} (x : PoolsState) (o : Option Frame) (at : ℕ) (bs : List ℕ) → PoolsShown c h m w g l b x → ((f : Frame) → o ≡ Some f → h f ≡ true) → at % 4096 + length bs ≤ 4096 →
     PoolsShown c h m w g l (contents.stored_in b o at bs) (stored_in x o at bs)
 stores x None at bs s e lies = s
-stores {b} x (Some f) at bs s e lies = wrote x f (at % 4096) bs (filled (b f) at bs) s (e f refl) lies (λ o k. stored (b f) at bs o)
+stores {b} x (Some f) at bs s e lies = wrote x f (at % 4096) bs (with_piece (b f) at bs) s (e f refl) lies (λ o k. stored (b f) at bs o)
 
 -- a piece of one frame is copied over that of another
 copies : {c : Program} {h : Frame → Bool} {m : Frame → Option Frame} {w g : ℕ → Bool} {l : Frame → Option ℕ} {b : Frame → ℕ → ℕ} (x : PoolsState) (f to : Frame) (part : Option ℕ) → PoolsShown c h m w g l b x → h f ≡ true → h to ≡ true → IsPiece (piece_of_part part) →
-    PoolsShown c h m w g l (with_frame b to (copied (b f) (b to) part)) (copied_in x f to (piece_of_part part))
+    PoolsShown c h m w g l (with_frame b to (with_part_copied (b f) (b to) part)) (copied_in x f to (piece_of_part part))
 copies {c} {h} {m} {w} {g} {l} {b} x f to part s ef et is = by part is
   where
     y : Frames
@@ -153,11 +153,11 @@ copies {c} {h} {m} {w} {g} {l} {b} x f to part s ef et is = by part is
     len : (start n : ℕ) → start + n ≤ 4096 → length (part_of y.bytes (f.number * 4096 + start) n) ≡ n
     len start n lies = length_part y.bytes (f.number * 4096 + start) n (omega (arith, inside))
 
-    by : (part : Option ℕ) → IsPiece (piece_of_part part) → PoolsShown c h m w g l (with_frame b to (copied (b f) (b to) part)) (copied_in x f to (piece_of_part part))
-    by None is = wrote x to 0 (part_of y.bytes (f.number * 4096 + 0) 4096) (copied (b f) (b to) None) s et (omega (arith, len 0 4096 (omega arith)))
+    by : (part : Option ℕ) → IsPiece (piece_of_part part) → PoolsShown c h m w g l (with_frame b to (with_part_copied (b f) (b to) part)) (copied_in x f to (piece_of_part part))
+    by None is = wrote x to 0 (part_of y.bytes (f.number * 4096 + 0) 4096) (with_part_copied (b f) (b to) None) s et (omega (arith, len 0 4096 (omega arith)))
         (λ o lt. copied_whole (b f) (b to) (part_of y.bytes (f.number * 4096 + 0) 4096) o (len 0 4096 (omega arith)) lt (λ k l. bytes 0 4096 k l (omega arith) ∙ (let e : 0 + k ≡ k = omega arith in ap (b f) e)))
     by (Some p) is = let lies : p * 512 + 512 ≤ 4096 = omega (arith, is) in
-        wrote x to (p * 512) (part_of y.bytes (f.number * 4096 + p * 512) 512) (copied (b f) (b to) (Some p)) s et (omega (arith, lies, len (p * 512) 512 lies))
+        wrote x to (p * 512) (part_of y.bytes (f.number * 4096 + p * 512) 512) (with_part_copied (b f) (b to) (Some p)) s et (omega (arith, lies, len (p * 512) 512 lies))
         (λ o lt. copied_part (b f) (b to) (part_of y.bytes (f.number * 4096 + p * 512) 512) p o (len (p * 512) 512 lies) (λ k l. bytes (p * 512) 512 k l lies))
 
 -- no frame of the device is given out any more
@@ -210,9 +210,9 @@ removed {c} {h} {m} {w} {g} {l} {b} x d s = record {
     by e lt (inr p) = get_or-set_other x.removed d e true false p ∙ s.removed e lt ∙ sym (other e p)
 
 as_backing : (c : Program) (s : After) (x : PoolsState) (old : Place) (at : ℕ) (bs : List ℕ) → FramesShown c s x → ((f : Frame) → backing s.places old ≡ Some f → s.places.held f ≡ true) → at % 4096 + length bs ≤ 4096 →
-    PoolsShown c s.places.held s.places.moved_to s.places.withdrawn s.places.removed s.locks.frame (contents.stored_in s.contents (backing s.places old) at bs) (stored_in x (backing_in x old) at bs)
+    PoolsShown c s.places.held s.places.committed_to s.places.withdrawn s.places.removed s.locks.frame (contents.stored_in s.contents (backing s.places old) at bs) (stored_in x (backing_in x old) at bs)
 as_backing c s x old at bs h e lies =
-    subst (λ (o : Option Frame). PoolsShown c s.places.held s.places.moved_to s.places.withdrawn s.places.removed s.locks.frame (contents.stored_in s.contents (backing s.places old) at bs) (stored_in x o at bs))
+    subst (λ (o : Option Frame). PoolsShown c s.places.held s.places.committed_to s.places.withdrawn s.places.removed s.locks.frame (contents.stored_in s.contents (backing s.places old) at bs) (stored_in x o at bs))
     (sym (backing_shown c s x old h)) (stores x (backing s.places old) at bs h e lies)
 
 -- the pools after an entry, where the place before it and the orphan are those of the definitions

@@ -5,7 +5,7 @@ use Rattle.std.proofs.lemmas.Bool.Decides.{nat_tests}
 use Rattle.std.proofs.lemmas.List.{get_or-set_same, get_or-set_other, get_or_past, length-set, length-replicate}
 use Rattle.hm_base.specs.declared.Frame.{Frame}
 use Rattle.hm_history.specs.Words.{with_at}
-use Rattle.hm_history.specs.Plain.{written}
+use Rattle.hm_history.specs.Plain.{with_bytes}
 use Rattle.hm_history.specs.Contents.{zeros}
 use Rattle.frame_pool.specs.Frames.{Frames, IsFrames, fresh, is_held, locker, lowest_free, overwritten, zero_frame}
 use Rattle.frame_pool.specs.Frames as pool
@@ -50,7 +50,7 @@ pub shown_as : {h i : ℕ → Bool} {m k : ℕ → Option Frame} {l j : ℕ → 
 shown_as s p q r t = record {
   fits = s.fits;
   held = λ n. s.held n ∙ p n;
-  moved_to = λ n. s.moved_to n ∙ q n;
+  committed_to = λ n. s.committed_to n ∙ q n;
   locked = λ n. s.locked n ∙ r n;
   byte = λ n o l. s.byte n o l ∙ t n o;
 }
@@ -59,7 +59,7 @@ pub fresh_shown : (n : ℕ) → n < 2 ^ 32 → PoolShown (λ k. false) (λ k. No
 fresh_shown n l = record {
   fits = record { frames = fits_fresh n l; moved_len = length-replicate {A = Option Frame} n None ∙ sym (length-replicate n false) };
   held = nothing n false;
-  moved_to = nothing n None;
+  committed_to = nothing n None;
   locked = nothing n None;
   byte = λ k o m. nothing (n * 4096) 0 (k * 4096 + o);
 }
@@ -78,10 +78,10 @@ pub taken_shown : {h : ℕ → Bool} {m : ℕ → Option Frame} {l : ℕ → Opt
 taken_shown {h} {m} {l} {c} y n a s below = record {
   fits = record {
     frames = record { bytes_len = t.bytes_len; locks_len = length-set y.frames.locks n (Some a) ∙ t.locks_len; few = t.few };
-    moved_len = length-set y.moved_to n None ∙ s.fits.moved_len ∙ sym (length-set y.frames.held n true);
+    moved_len = length-set y.committed_to n None ∙ s.fits.moved_len ∙ sym (length-set y.frames.held n true);
   };
   held = at_set h y.frames.held n true false below s.held;
-  moved_to = at_set m y.moved_to n None None (omega (arith, s.fits.moved_len)) s.moved_to;
+  committed_to = at_set m y.committed_to n None None (omega (arith, s.fits.moved_len)) s.committed_to;
   locked = at_set l y.frames.locks n (Some a) None (omega (arith, s.fits.frames.locks_len)) s.locked;
   byte = λ b o k. ap (λ i. get_or (overwritten y.frames.bytes i zero_frame) (b * 4096 + o) 0) at ∙
       in_frame y.frames.bytes zero_frame n 0 c zeros b o (room y.frames n s.fits.frames below) (omega (arith, zero_frame_length)) k s.byte (zeroed (c n));
@@ -98,7 +98,7 @@ pub dropped_shown : {h : ℕ → Bool} {m : ℕ → Option Frame} {l : ℕ → O
 dropped_shown {h} {m} {l} {c} y n s below = record {
   fits = record { frames = fits_dropped y.frames n s.fits.frames; moved_len = s.fits.moved_len ∙ sym (length-set y.frames.held n false) };
   held = at_set h y.frames.held n false false below s.held;
-  moved_to = s.moved_to;
+  committed_to = s.committed_to;
   locked = at_set l y.frames.locks n None None (omega (arith, s.fits.frames.locks_len)) s.locked;
   byte = s.byte;
 }
@@ -112,7 +112,7 @@ relocked {h} {m} {l} {c} y n k s below = record {
     moved_len = s.fits.moved_len;
   };
   held = s.held;
-  moved_to = s.moved_to;
+  committed_to = s.committed_to;
   locked = at_set l y.frames.locks n k None (omega (arith, s.fits.frames.locks_len)) s.locked;
   byte = s.byte;
 }
@@ -126,14 +126,14 @@ pub unlocked_shown : {h : ℕ → Bool} {m : ℕ → Option Frame} {l : ℕ → 
 unlocked_shown y n s below = relocked y n None s below
 
 pub written_shown : {h : ℕ → Bool} {m : ℕ → Option Frame} {l : ℕ → Option ℕ} {c : ℕ → ℕ → ℕ} (y : PoolState) (n at : ℕ) (ys : List ℕ) (f : ℕ → ℕ) → PoolShown h m l c y → n < length y.frames.held →
-    at + length ys ≤ 4096 → ((o : ℕ) → o < 4096 → f o ≡ written (c n) at ys o) → PoolShown h m l (with_at c n f) (pool_written y n at ys)
+    at + length ys ≤ 4096 → ((o : ℕ) → o < 4096 → f o ≡ with_bytes (c n) at ys o) → PoolShown h m l (with_at c n f) (pool_written y n at ys)
 written_shown {h} {m} {l} {c} y n at ys f s below lies w = record {
   fits = record {
     frames = record { bytes_len = length-overwritten y.frames.bytes (n * 4096 + at) ys (omega (arith, space)) ∙ s.fits.frames.bytes_len; locks_len = s.fits.frames.locks_len; few = s.fits.frames.few };
     moved_len = s.fits.moved_len;
   };
   held = s.held;
-  moved_to = s.moved_to;
+  committed_to = s.committed_to;
   locked = s.locked;
   byte = λ b o k. in_frame y.frames.bytes ys n at c f b o space lies k s.byte w;
 }
@@ -144,9 +144,9 @@ written_shown {h} {m} {l} {c} y n at ys f s below lies w = record {
 pub committed_shown : {h : ℕ → Bool} {m : ℕ → Option Frame} {l : ℕ → Option ℕ} {c : ℕ → ℕ → ℕ} (y : PoolState) (n : ℕ) (g : Frame) → PoolShown h m l c y → n < length y.frames.held →
     PoolShown h (with_at m n (Some g)) l c (pool_committed y n g)
 committed_shown {h} {m} {l} {c} y n g s below = record {
-  fits = record { frames = s.fits.frames; moved_len = length-set y.moved_to n (Some g) ∙ s.fits.moved_len };
+  fits = record { frames = s.fits.frames; moved_len = length-set y.committed_to n (Some g) ∙ s.fits.moved_len };
   held = s.held;
-  moved_to = at_set m y.moved_to n (Some g) None (omega (arith, s.fits.moved_len)) s.moved_to;
+  committed_to = at_set m y.committed_to n (Some g) None (omega (arith, s.fits.moved_len)) s.committed_to;
   locked = s.locked;
   byte = s.byte;
 }
@@ -155,7 +155,7 @@ pub withdrawn_shown : {h : ℕ → Bool} {m : ℕ → Option Frame} {l : ℕ →
 withdrawn_shown y s = record {
   fits = record { frames = record { bytes_len = s.fits.frames.bytes_len; locks_len = s.fits.frames.locks_len; few = s.fits.frames.few }; moved_len = s.fits.moved_len };
   held = s.held;
-  moved_to = s.moved_to;
+  committed_to = s.committed_to;
   locked = s.locked;
   byte = s.byte;
 }

@@ -1,5 +1,5 @@
 -- What is read of the pools is what the definitions give.
-use Rattle.std.proofs.Common.{◌≡◌, ℕ, zero, suc, ◌+◌, ◌-◌, ◌*◌, ◌<◌, ◌≤◌, Bool, true, false, not, ◌==◌, cond, Option, Some, None, unwrap_or, List, ◌∷◌, length, get_or, replicate, refl, sym, ap, ◌∙◌, arith, ◌⊎◌, inl, inr}
+use Rattle.std.proofs.Common.{◌≡◌, ℕ, zero, suc, ◌+◌, ◌-◌, ◌*◌, ◌<◌, ◌≤◌, Bool, true, false, not, cond, Option, Some, None, unwrap_or, List, ◌∷◌, length, get_or, replicate, refl, sym, ap, ◌∙◌, arith, ◌⊎◌, inl, inr}
 use Rattle.std.specs.List.{position}
 use Rattle.std.proofs.lemmas.Bool.{cases_lt}
 use Rattle.std.proofs.lemmas.List.{get_or_past}
@@ -11,13 +11,12 @@ use Rattle.hm_base.specs.declared.Place.TheVariants.{Moving}
 use Rattle.hm_base.specs.Program.{Program}
 use Rattle.hm_history.specs.Words.{least, bytes_from}
 use Rattle.hm_history.specs.Places.{frame_of, pool_size, is_withdrawn, lowest_free, held_from, stands_for}
-use Rattle.hm_history.specs.Locks.{other_locker}
-use Rattle.hm_history.specs.Contents.{backing, shown, shown_by, zeros}
+use Rattle.hm_history.specs.Contents.{backing, contents_of, shown_by, zeros}
 use Rattle.hm_history.specs.After.{After}
 use Rattle.frame_pool.specs.Frames.{Frames, is_held, locker, part_of}
 use Rattle.frame_pool.specs.Frames as pool
 use Rattle.frame_pool.proofs.Free.{lowest_is}
-use Rattle.hm_frames.specs.Pools.{PoolState, PoolsState, fresh_pool, pool_at, is_held_in, locker_in, other_locker_in, moved_to_in, lowest_free_in, frame_in, held_from_in, is_withdrawn_in, is_removed_in, bytes_in, shown_by_in, shown_in, stands_for_in, backing_in}
+use Rattle.hm_frames.specs.Pools.{PoolState, PoolsState, fresh_pool, pool_at, is_held_in, locker_in, committed_to_in, lowest_free_in, frame_in, held_from_in, bytes_in, shown_by_in, shown_in, stands_for_in, backing_in}
 use Rattle.hm_frames.specs.Shown.{PoolsShown, FramesShown}
 use Rattle.hm_frames.proofs.Searches.{next_least, free_least}
 use Rattle.hm_frames.proofs.Bytes.{get_part, length_part, bytes_are}
@@ -32,20 +31,8 @@ lock_shown x f s = (s.pool f.pool).locked f.number
 pub is_held_shown : (c : Program) (s : After) (x : PoolsState) (f : Frame) → FramesShown c s x → is_held_in x f ≡ s.places.held f
 is_held_shown c s x f h = held_shown x f h
 
-pub locker_shown : (c : Program) (s : After) (x : PoolsState) (f : Frame) → FramesShown c s x → locker_in x f ≡ s.locks.frame f
-locker_shown c s x f h = lock_shown x f h
-
-pub other_locker_shown : (c : Program) (s : After) (x : PoolsState) (f : Frame) (a : ℕ) → FramesShown c s x → other_locker_in x f a ≡ other_locker s.locks f a
-other_locker_shown c s x f a h = ap (λ (o : Option ℕ). elim o as (λ v. Option ℕ) [ None ↦ None | Some b ↦ cond (a == b) None (Some b) ]) (lock_shown x f h)
-
-pub moved_to_shown : (c : Program) (s : After) (x : PoolsState) (f : Frame) → FramesShown c s x → moved_to_in x f ≡ s.places.moved_to f
-moved_to_shown c s x f h = (h.pool f.pool).moved_to f.number
-
-pub is_withdrawn_shown : (c : Program) (s : After) (x : PoolsState) (d : ℕ) → d < 4 → FramesShown c s x → is_withdrawn_in x d ≡ s.places.withdrawn d
-is_withdrawn_shown c s x d l h = h.withdrawn d l
-
-pub is_removed_shown : (c : Program) (s : After) (x : PoolsState) (d : ℕ) → d < 4 → FramesShown c s x → is_removed_in x d ≡ s.places.removed d
-is_removed_shown c s x d l h = h.removed d l
+pub committed_to_shown : (c : Program) (s : After) (x : PoolsState) (f : Frame) → FramesShown c s x → committed_to_in x f ≡ s.places.committed_to f
+committed_to_shown c s x f h = (h.pool f.pool).committed_to f.number
 
 pub held_from_shown : (c : Program) (s : After) (x : PoolsState) (d from : ℕ) → FramesShown c s x → held_from_in x d from ≡ held_from c s.places d from
 held_from_shown c s x d from h =
@@ -106,7 +93,7 @@ lowest_number c s x f h e = by (pool.lowest_free (pool_at x f.pool).frames) refl
         number (Some g) = g.number
 
 pub stands_for_shown : (c : Program) (s : After) (x : PoolsState) (place : Place) → FramesShown c s x → stands_for_in x place ≡ stands_for s.places place
-stands_for_shown c s x (Moving f w) h = ap (λ (o : Option Frame). Some (Some (unwrap_or o f))) (moved_to_shown c s x f h)
+stands_for_shown c s x (Moving f w) h = ap (λ (o : Option Frame). Some (Some (unwrap_or o f))) (committed_to_shown c s x f h)
 stands_for_shown c s x place h = refl
 
 pub backing_shown : (c : Program) (s : After) (x : PoolsState) (place : Place) → FramesShown c s x → backing_in x place ≡ backing s.places place
@@ -138,7 +125,7 @@ zero_bytes (suc n) from = ap (λ (xs : List ℕ). 0 ∷ xs) (zero_bytes n (from 
 
 -- what a page shows
 pub show_shown : (c : Program) (s : After) (x : PoolsState) (place : Place) (offset n : ℕ) → FramesShown c s x → ((f : Frame) → backing_in x place ≡ Some f → is_held_in x f ≡ true) → offset + n ≤ 4096 →
-    shown_in x place offset n ≡ bytes_from (shown s.places s.contents place) offset n
+    shown_in x place offset n ≡ bytes_from (contents_of s.places s.contents place) offset n
 show_shown c s x place offset n h held lies = by (backing_in x place) held ∙ ap (λ (o : Option Frame). bytes_from (shown_by s.contents o) offset n) (backing_shown c s x place h)
   where
     by : (o : Option Frame) → ((f : Frame) → o ≡ Some f → is_held_in x f ≡ true) → shown_by_in x o offset n ≡ bytes_from (shown_by s.contents o) offset n

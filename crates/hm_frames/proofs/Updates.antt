@@ -14,10 +14,7 @@ use Rattle.frame_pool.specs.Frames.{is_held, locker}
 use Rattle.hm_frames.specs.Pools.{PoolState, PoolsState, fresh_pool, pool_index, pool_at, with_pool, is_held_in, pool_settled, pool_unlocked}
 use Rattle.hm_frames.specs.Shown.{PoolShown, PoolsShown}
 use Rattle.hm_frames.proofs.PoolKept.{shown_as}
-
-same_pool_refl : (q : PoolId) → same_pool q q ≡ true
-same_pool_refl System = refl
-same_pool_refl (Device d) = grind (arith, nat_tests)
+use Rattle.hm_history.proofs.Frames.{pool_itself}
 
 pool_tells : (r q : PoolId) → ((same_pool r q ≡ true) × (r ≡ q)) ⊎ ((same_pool r q ≡ false) × (pool_index r ≢ pool_index q))
 pool_tells System System = inl (refl, refl)
@@ -31,7 +28,7 @@ pool_tells (Device d) (Device e) = by (cases_eq d e)
 
 -- a function that differs at one frame, in the pool of that frame and in others
 pub at_pool : {X : Type 0} (g : Frame → X) (f : Frame) (x : X) (n : ℕ) → with_at (λ k. g (frame_of f.pool k)) f.number x n ≡ with_frame g f x (frame_of f.pool n)
-at_pool g f x n = rw (same_pool_refl f.pool) refl
+at_pool g f x n = rw (pool_itself f.pool) refl
 
 pub at_other : {X : Type 0} (g : Frame → X) (f : Frame) (x : X) (r : PoolId) (n : ℕ) → same_pool r f.pool ≡ false → g (frame_of r n) ≡ with_frame g f x (frame_of r n)
 at_other g f x r n e = rw e refl

@@ -4,6 +4,7 @@ use Rattle.frame_pool.specs.Frames.{Frames, fresh, is_held, locker, lowest_free,
 use Rattle.frame_pool.specs.Bits.{next_true}
 use Rattle.frame_pool.specs.declared.pool.Piece.{Piece}
 use Rattle.frame_pool.specs.declared.pool.Piece.TheVariants.{All, Part}
+pub use Rattle.hm_base.specs.PlaceWords.{pool_index}
 use Rattle.hm_base.specs.declared.PoolId.{PoolId}
 use Rattle.hm_base.specs.declared.PoolId.TheVariants.{System, Device}
 use Rattle.hm_base.specs.declared.Frame.{Frame}
@@ -18,7 +19,7 @@ use Rattle.hm_history.specs.declared.Kind.{Kind}
 -- the frames of a pool, and where each was committed to since it was last taken
 pub record PoolState : Type 0 where
   pub frames : Frames
-  pub moved_to : List (Option Frame)
+  pub committed_to : List (Option Frame)
 
 -- the system's pool and then those of the devices, and which devices are removed
 pub record PoolsState : Type 0 where
@@ -26,7 +27,7 @@ pub record PoolsState : Type 0 where
   pub removed : List Bool
 
 abbrev pub fresh_pool : ℕ → PoolState
-fresh_pool n = record { frames = fresh n; moved_to = replicate n None }
+fresh_pool n = record { frames = fresh n; committed_to = replicate n None }
 
 -- a device that is not declared has no frames
 abbrev pub frames_of_device : List ℕ → ℕ → ℕ
@@ -34,13 +35,15 @@ frames_of_device devices d = slice_index_or devices d 0
 
 abbrev pub fresh_pools : Program → PoolsState
 fresh_pools c = record {
-  pools = fresh_pool c.frames ∷ fresh_pool (frames_of_device c.devices 0) ∷ fresh_pool (frames_of_device c.devices 1) ∷ fresh_pool (frames_of_device c.devices 2) ∷ fresh_pool (frames_of_device c.devices 3) ∷ [];
+  pools =
+      fresh_pool c.frames
+      ∷ fresh_pool (frames_of_device c.devices 0)
+      ∷ fresh_pool (frames_of_device c.devices 1)
+      ∷ fresh_pool (frames_of_device c.devices 2)
+      ∷ fresh_pool (frames_of_device c.devices 3)
+      ∷ [];
   removed = false ∷ false ∷ false ∷ false ∷ [];
 }
-
-abbrev pub pool_index : PoolId → ℕ
-pool_index System = 0
-pool_index (Device d) = d + 1
 
 abbrev pub pool_at : PoolsState → PoolId → PoolState
 pool_at x q = slice_index_or x.pools (pool_index q) (fresh_pool 0)
@@ -51,7 +54,7 @@ with_pool x q y = record x { pools = slice_set x.pools (pool_index q) y }
 -- one pool after a change of one of its frames
 
 abbrev pub pool_taken : PoolState → ℕ → ℕ → PoolState
-pool_taken y n a = record { frames = locked (taken y.frames n) n a; moved_to = slice_set y.moved_to n None }
+pool_taken y n a = record { frames = locked (taken y.frames n) n a; committed_to = slice_set y.committed_to n None }
 
 abbrev pub pool_dropped : PoolState → ℕ → PoolState
 pool_dropped y n = record y { frames = dropped y.frames n }
@@ -66,7 +69,7 @@ abbrev pub pool_written : PoolState → ℕ → ℕ → List ℕ → PoolState
 pool_written y n offset bs = record y { frames = written y.frames n offset bs }
 
 abbrev pub pool_committed : PoolState → ℕ → Frame → PoolState
-pool_committed y n g = record y { moved_to = slice_set y.moved_to n (Some g) }
+pool_committed y n g = record y { committed_to = slice_set y.committed_to n (Some g) }
 
 -- the lock is given up where the actor has it
 abbrev pub pool_settled : PoolState → ℕ → ℕ → PoolState
@@ -87,8 +90,8 @@ locker_in x f = locker (pool_at x f.pool).frames f.number
 abbrev pub other_locker_in : PoolsState → Frame → ℕ → Option ℕ
 other_locker_in x f a = elim (locker_in x f) [ None ↦ None | Some b ↦ if a == b then None else Some b ]
 
-abbrev pub moved_to_in : PoolsState → Frame → Option Frame
-moved_to_in x f = slice_index_or (pool_at x f.pool).moved_to f.number None
+abbrev pub committed_to_in : PoolsState → Frame → Option Frame
+committed_to_in x f = slice_index_or (pool_at x f.pool).committed_to f.number None
 
 abbrev pub frame_in : PoolId → Option ℕ → Option Frame
 frame_in q None = None
@@ -116,7 +119,7 @@ stands_for_in x Empty = None
 stands_for_in x Zero = Some None
 stands_for_in x (Sys n w) = Some (Some (sys_frame n))
 stands_for_in x (Own d n w) = Some (Some (dev_frame d n))
-stands_for_in x (Moving f w) = Some (Some (unwrap_or (moved_to_in x f) f))
+stands_for_in x (Moving f w) = Some (Some (unwrap_or (committed_to_in x f) f))
 stands_for_in x (Exclusive n a) = Some (Some (sys_frame n))
 
 abbrev pub backing_in : PoolsState → Place → Option Frame
@@ -155,7 +158,10 @@ piece_of_part None = All
 piece_of_part (Some k) = Part k
 
 abbrev pub copied_in : PoolsState → Frame → Frame → Piece → PoolsState
-copied_in x f g piece = with_pool x g.pool (pool_written (pool_at x g.pool) g.number (piece_start piece) (piece_of (pool_at x f.pool).frames f.number piece))
+copied_in x f g piece =
+    with_pool x g.pool
+    (pool_written (pool_at x g.pool) g.number (piece_start piece)
+    (piece_of (pool_at x f.pool).frames f.number piece))
 
 abbrev pub withdrawn_in : PoolState → PoolState
 withdrawn_in y = record y { frames = record y.frames { withdrawn = true } }

@@ -18,28 +18,33 @@ use Rattle.hm_frames.specs.Pools.{PoolState, PoolsState, pool_at, is_held_in, lo
 -- the lists of a pool fit each other
 pub record IsPoolState (y : PoolState) : Type 0 where
   pub frames : IsFrames y.frames
-  pub moved_len : length y.moved_to ≡ length y.frames.held
+  pub moved_len : length y.committed_to ≡ length y.frames.held
 
 -- a pool shows the frames of that pool, by their numbers; those beyond its size are held and locked by nobody
-pub record PoolShown (holds : ℕ → Bool) (to : ℕ → Option Frame) (lock : ℕ → Option ℕ) (contents : ℕ → ℕ → ℕ) (y : PoolState) : Type 0 where
+pub record PoolShown (holds : ℕ → Bool) (to : ℕ → Option Frame) (lock : ℕ → Option ℕ) (contents : ℕ → ℕ → ℕ)
+    (y : PoolState) : Type 0 where
   pub fits : IsPoolState y
   pub held : (n : ℕ) → is_held y.frames n ≡ holds n
-  pub moved_to : (n : ℕ) → slice_index_or y.moved_to n None ≡ to n
+  pub committed_to : (n : ℕ) → slice_index_or y.committed_to n None ≡ to n
   pub locked : (n : ℕ) → locker y.frames n ≡ lock n
   pub byte : (n o : ℕ) → o < 4096 → slice_index y.frames.bytes (n * 4096 + o) ≡ contents n o
 
 -- the pools show the frames of a state of the script
-pub record PoolsShown (c : Program) (holds : Frame → Bool) (to : Frame → Option Frame) (closed gone : ℕ → Bool) (lock : Frame → Option ℕ) (contents : Frame → ℕ → ℕ) (x : PoolsState) : Type 0 where
+pub record PoolsShown (c : Program) (holds : Frame → Bool) (to : Frame → Option Frame) (closed gone : ℕ → Bool)
+    (lock : Frame → Option ℕ) (contents : Frame → ℕ → ℕ) (x : PoolsState) : Type 0 where
   pub count : length x.pools ≡ 5
   pub removed_len : length x.removed ≡ 4
   pub size : (q : PoolId) → length (pool_at x q).frames.held ≡ pool_size c q
-  pub pool : (q : PoolId) → PoolShown (λ n. holds (frame_of q n)) (λ n. to (frame_of q n)) (λ n. lock (frame_of q n)) (λ n. contents (frame_of q n)) (pool_at x q)
+  pub pool : (q : PoolId)
+      → PoolShown (λ n. holds (frame_of q n)) (λ n. to (frame_of q n)) (λ n. lock (frame_of q n))
+      (λ n. contents (frame_of q n)) (pool_at x q)
   pub system : (pool_at x System).frames.withdrawn ≡ false
   pub withdrawn : (d : ℕ) → d < 4 → is_withdrawn_in x d ≡ closed d
   pub removed : (d : ℕ) → d < 4 → is_removed_in x d ≡ gone d
 
 abbrev pub FramesShown : Program → After → PoolsState → Type 0
-FramesShown c s x = PoolsShown c s.places.held s.places.moved_to s.places.withdrawn s.places.removed s.locks.frame s.contents x
+FramesShown c s x =
+    PoolsShown c s.places.held s.places.committed_to s.places.withdrawn s.places.removed s.locks.frame s.contents x
 
 -- the place that an entry is about, before it
 abbrev pub entry_place : Plain → Places → Kind → Place
@@ -60,9 +65,16 @@ abbrev pub FramesFit : Program → After → Kind → Type 0
 FramesFit c s (Kind.Take f) = lowest_free c s.places f.pool ≡ Some f
 FramesFit c s (Kind.Drop f) = s.places.held f ≡ true
 FramesFit c s (Kind.Done f) = is_some (s.locks.frame f) ≡ true
-FramesFit c s (Kind.Place p v x) = ((f : Frame) → names x ≡ Some f → s.places.held f ≡ true) × ((f : Frame) → names (s.places.place p v) ≡ Some f → s.places.held f ≡ true)
-FramesFit c s (Kind.Stored who at bs) = ((f : Frame) → backing s.places (entry_place s.plain s.places (Kind.Stored who at bs)) ≡ Some f → s.places.held f ≡ true) × (at % 4096 + length bs ≤ 4096)
-FramesFit c s (Kind.Added m at was now) = (f : Frame) → backing s.places (entry_place s.plain s.places (Kind.Added m at was now)) ≡ Some f → s.places.held f ≡ true
+FramesFit c s (Kind.Place p v x) =
+    ((f : Frame) → names x ≡ Some f → s.places.held f ≡ true)
+    × ((f : Frame) → names (s.places.place p v) ≡ Some f → s.places.held f ≡ true)
+FramesFit c s (Kind.Stored who at bs) =
+    ((f : Frame) → backing s.places (entry_place s.plain s.places (Kind.Stored who at bs)) ≡ Some f → s.places.held f
+    ≡ true)
+    × (at % 4096 + length bs ≤ 4096)
+FramesFit c s (Kind.Added m at was now) =
+    (f : Frame) → backing s.places (entry_place s.plain s.places (Kind.Added m at was now)) ≡ Some f
+    → s.places.held f ≡ true
 FramesFit c s (Kind.Copied f g part) = CopyFits s.places.held f g part
 FramesFit c s (Kind.Committed f g) = s.places.held f ≡ true
 FramesFit c s k = Unit {0}
@@ -72,8 +84,10 @@ abbrev pub StepFits : Kind → Place → Option Frame → PoolsState → Type 0
 StepFits (Kind.Take f) old orphan x = lowest_free_in x f.pool ≡ Some f
 StepFits (Kind.Drop f) old orphan x = is_held_in x f ≡ true
 StepFits (Kind.Done f) old orphan x = is_some (locker_in x f) ≡ true
-StepFits (Kind.Place p v y) old orphan x = ((f : Frame) → names y ≡ Some f → is_held_in x f ≡ true) × ((f : Frame) → orphan ≡ Some f → is_held_in x f ≡ true)
-StepFits (Kind.Stored who at bs) old orphan x = ((f : Frame) → backing_in x old ≡ Some f → is_held_in x f ≡ true) × (at % 4096 + length bs ≤ 4096)
+StepFits (Kind.Place p v y) old orphan x =
+    ((f : Frame) → names y ≡ Some f → is_held_in x f ≡ true) × ((f : Frame) → orphan ≡ Some f → is_held_in x f ≡ true)
+StepFits (Kind.Stored who at bs) old orphan x =
+    ((f : Frame) → backing_in x old ≡ Some f → is_held_in x f ≡ true) × (at % 4096 + length bs ≤ 4096)
 StepFits (Kind.Added m at was now) old orphan x = (f : Frame) → backing_in x old ≡ Some f → is_held_in x f ≡ true
 StepFits (Kind.Copied f g part) old orphan x = CopyFits (is_held_in x) f g part
 StepFits (Kind.Committed f g) old orphan x = is_held_in x f ≡ true

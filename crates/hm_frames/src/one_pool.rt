@@ -1,4 +1,4 @@
-// One pool.
+// The frames of one pool, and for each the frame to which its contents were committed.
 ghost use Rattle.std.specs.Prelude.{◌≡◌, ◌≢◌, ℕ, ◌+◌, ◌*◌, ◌<◌, ◌≤◌, true, Some, None, is_some, length, replicate, slice_index_or, IfOk};
 ghost use Rattle.frame_pool.specs.Bits.{next_true};
 ghost use Rattle.frame_pool.specs.Frames.{IsPiece, is_held, locker, locked, unlocked, lowest_free, part_of, piece_of, piece_start};
@@ -13,7 +13,7 @@ use std::marker::Model;
 #[derive(Drop)]
 pub struct OnePool {
     pool: Pool,
-    moved_to: Vec<Option<Frame>>,
+    committed_to: Vec<Option<Frame>>,
 }
 
 impl Model for OnePool {
@@ -22,9 +22,9 @@ impl Model for OnePool {
 
     ghost Value = { PoolState };
 
-    ghost view = { λ p. record { frames = p.pool; moved_to = p.moved_to.items } };
+    ghost view = { λ p. record { frames = p.pool; committed_to = p.committed_to.items } };
 
-    ghost invariant = { λ p. length p.moved_to.items ≡ length p.pool.held };
+    ghost invariant = { λ p. length p.committed_to.items ≡ length p.pool.held };
 }
 
 impl OnePool {
@@ -33,8 +33,8 @@ impl OnePool {
         ensures { IfOk result (λ pool. pool ≡ fresh_pool frames) }
     {
         let pool = Pool::new(alloc, frames)?;
-        let moved_to = nones(alloc, frames as usize)?;
-        Ok(OnePool { pool, moved_to })
+        let committed_to = nones(alloc, frames as usize)?;
+        Ok(OnePool { pool, committed_to })
     }
 
     /// Takes the frame, which is the lowest that is free, and locks it for its taker.
@@ -44,7 +44,7 @@ impl OnePool {
     {
         let _ = self.pool.take_lowest();
         lock(&mut self.pool, number, actor);
-        self.moved_to[number as usize] = None;
+        self.committed_to[number as usize] = None;
     }
 
     /// Gives the frame back; it is then not locked.
@@ -122,7 +122,7 @@ impl OnePool {
         requires { is_held self.old.frames number ≡ true }
         ensures { self.new ≡ pool_committed self.old number to }
     {
-        self.moved_to[number as usize] = Some(to);
+        self.committed_to[number as usize] = Some(to);
     }
 
     pub fn withdraw(&mut self)
@@ -149,10 +149,10 @@ impl OnePool {
         self.pool.holder(number)
     }
 
-    pub fn moved_to(&self, number: u32) -> Option<Frame>
-        ensures { result ≡ slice_index_or self.now.moved_to number None }
+    pub fn committed_to(&self, number: u32) -> Option<Frame>
+        ensures { result ≡ slice_index_or self.now.committed_to number None }
     {
-        match self.moved_to.get(number as usize) {
+        match self.committed_to.get(number as usize) {
             Some(to) => *to,
             None => None,
         }
@@ -168,7 +168,7 @@ impl OnePool {
         ensures { result ≡ next_true self.now.frames.held from }
     {
         if from > u64::from(u32::MAX) {
-            self.pool.fits();
+            self.pool.facts();
             return None;
         }
         self.pool.held_at_or_after(from as u32)
@@ -205,8 +205,5 @@ fn unlock(pool: &mut Pool, number: u32)
 fn nones<T: Copy + Drop>(alloc: Global, count: usize) -> Result<Vec<Option<T>>, NoMemory>
     ensures { IfOk result (λ nones. nones.items ≡ replicate count None) }
 {
-    match vec![in alloc; None; count] {
-        Ok(nones) => Ok(nones),
-        Err(_) => Err(NoMemory),
-    }
+    Ok(vec![in alloc; None; count]?)
 }

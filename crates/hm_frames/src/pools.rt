@@ -1,14 +1,16 @@
-// All pools.
+// The pools of the system and of all devices, with a step for every kind of entry.
 ghost use Rattle.std.specs.Prelude.{◌≡◌, ◌≢◌, ℕ, ◌+◌, ◌*◌, ◌%◌, ◌<◌, ◌≤◌, true, Some, None, is_some, unwrap_or, if◌then◌else◌, length, replicate, IfOk};
 ghost use Rattle.frame_pool.specs.Frames.{IsPiece};
-ghost use Rattle.hm_base.specs.PlaceWords.{names, sys_frame};
+ghost use Rattle.hm_base.specs.PlaceWords.{names};
+ghost use Rattle.hm_base.specs.declared.limits.TheConstants.{MOST_DEVICES};
 ghost use Rattle.hm_base.specs.declared.Frame.{Frame};
 ghost use Rattle.hm_base.specs.declared.PoolId.{PoolId};
-ghost use Rattle.hm_frames.specs.Pools.{fresh_pool, fresh_pools, frames_of_device, pool_index, pool_at, with_pool, pool_taken, pool_dropped, pool_locked, pool_unlocked, pool_settled, pool_frozen, pool_committed, withdrawn_in, is_held_in, locker_in, other_locker_in, moved_to_in, lowest_free_in, held_from_in, is_withdrawn_in, is_removed_in, bytes_in, shown_in, stands_for_in, backing_in, is_moving, placed_in, locked_in, stored_in, piece_of_part, copied_in, frames_next};
+ghost use Rattle.hm_frames.specs.Pools.{fresh_pool, fresh_pools, frames_of_device, pool_at, with_pool, pool_taken, pool_dropped, pool_locked, pool_unlocked, pool_settled, pool_frozen, pool_committed, withdrawn_in, is_held_in, locker_in, other_locker_in, committed_to_in, lowest_free_in, held_from_in, is_withdrawn_in, is_removed_in, bytes_in, shown_in, stands_for_in, backing_in, is_moving, placed_in, locked_in, stored_in, piece_of_part, copied_in, frames_next};
 ghost use Rattle.hm_frames.specs.Shown.{StepFits};
 
 use crate::one_pool::OnePool;
 use frame_pool::Piece;
+use hm_base::frames::{pool_index, sys_frame};
 use hm_base::{Actor, Dev, DeviceList, Frame, NoMemory, Place, PoolId, Script};
 use hm_history::Kind;
 use std::alloc::Global;
@@ -56,11 +58,24 @@ impl FramePools {
             Kind::Take(frame) => self.take(*frame, actor),
             Kind::Drop(frame) => self.drop_frame(*frame),
             Kind::Done(frame) => self.unlock(*frame),
-            Kind::Place(_, _, place) => self.place(old, actor, place, orphan),
-            Kind::Stored(_, at, bytes) => self.store(old, *at, bytes.as_slice()),
-            Kind::Added(_, at, _, now) => self.store(old, *at, &[*now]),
-            Kind::Copied(from, to, part) => self.copy(*from, *to, piece_of_part(*part)),
-            Kind::Committed(from, to) => self.commit(*from, *to),
+            Kind::Place {
+                proc: _,
+                page: _,
+                place,
+            } => self.place(old, actor, place, orphan),
+            Kind::Stored {
+                who: _,
+                addr: at,
+                bytes,
+            } => self.store(old, *at, bytes.as_slice()),
+            Kind::Added {
+                mirror: _,
+                addr: at,
+                read: _,
+                written: now,
+            } => self.store(old, *at, &[*now]),
+            Kind::Copied { from, to, part } => self.copy(*from, *to, piece_of_part(*part)),
+            Kind::Committed { from, to } => self.commit(*from, *to),
             Kind::Withdrawn(dev) => self.withdraw(*dev),
             Kind::Removed(dev) => self.removed[dev.number() as usize] = true,
             _ => (),
@@ -69,7 +84,8 @@ impl FramePools {
 
     fn take(&mut self, frame: Frame, actor: Actor)
         requires { lowest_free_in self.old frame.pool ≡ Some frame }
-        ensures { self.new ≡ with_pool self.old frame.pool (pool_taken (pool_at self.old frame.pool) frame.number actor) }
+        ensures { self.new
+            ≡ with_pool self.old frame.pool (pool_taken (pool_at self.old frame.pool) frame.number actor) }
     {
         self.pools[pool_index(&frame.pool)].take(frame.number, actor);
     }
@@ -117,7 +133,10 @@ impl FramePools {
     }
 
     fn settle(&mut self, old: Place, number: u32, actor: Actor)
-        ensures { self.new ≡ (if is_moving old then self.old else with_pool self.old PoolId.System (pool_settled (pool_at self.old PoolId.System) number actor)) }
+        ensures { self.new
+            ≡
+            (if is_moving old then self.old else with_pool self.old PoolId.System
+            (pool_settled (pool_at self.old PoolId.System) number actor)) }
     {
         if !is_moving(old) {
             self.pools[0].settle(number, actor);
@@ -126,14 +145,16 @@ impl FramePools {
 
     fn freeze(&mut self, frame: Frame, actor: Actor)
         requires { is_held_in self.old frame ≡ true }
-        ensures { self.new ≡ with_pool self.old frame.pool (pool_frozen (pool_at self.old frame.pool) frame.number actor) }
+        ensures { self.new
+            ≡ with_pool self.old frame.pool (pool_frozen (pool_at self.old frame.pool) frame.number actor) }
     {
         self.pools[pool_index(&frame.pool)].freeze(frame.number, actor);
     }
 
     fn lock(&mut self, frame: Frame, actor: Actor)
         requires { is_held_in self.old frame ≡ true }
-        ensures { self.new ≡ with_pool self.old frame.pool (pool_locked (pool_at self.old frame.pool) frame.number actor) }
+        ensures { self.new
+            ≡ with_pool self.old frame.pool (pool_locked (pool_at self.old frame.pool) frame.number actor) }
     {
         self.pools[pool_index(&frame.pool)].lock(frame.number, actor);
     }
@@ -177,11 +198,13 @@ impl FramePools {
     }
 
     fn withdraw(&mut self, dev: Dev)
-        ensures { self.new ≡ with_pool self.old (PoolId.Device dev) (withdrawn_in (pool_at self.old (PoolId.Device dev))) }
+        ensures { self.new
+            ≡ with_pool self.old (PoolId.Device dev) (withdrawn_in (pool_at self.old (PoolId.Device dev))) }
     {
         self.pools[pool_index(&PoolId::Device(dev))].withdraw();
     }
 
+    /// Whether the frame was taken and not dropped since.
     pub fn is_held(&self, frame: &Frame) -> bool
         ensures { result ≡ is_held_in self.now frame.now }
     {
@@ -206,10 +229,10 @@ impl FramePools {
     }
 
     /// Where the frame was committed to since it was last taken.
-    pub fn moved_to(&self, frame: &Frame) -> Option<Frame>
-        ensures { result ≡ moved_to_in self.now frame.now }
+    pub fn committed_to(&self, frame: &Frame) -> Option<Frame>
+        ensures { result ≡ committed_to_in self.now frame.now }
     {
-        self.pools[pool_index(&frame.pool)].moved_to(frame.number)
+        self.pools[pool_index(&frame.pool)].committed_to(frame.number)
     }
 
     /// The lowest frame of the pool that is free, unless the pool gives out none any more.
@@ -234,15 +257,16 @@ impl FramePools {
 
     /// Whether no frame of the device can be taken any more.
     pub fn is_withdrawn(&self, dev: Dev) -> bool
-        ensures told { result ≡ is_withdrawn_in self.now dev }
-        ensures below { dev < 4 }
+        ensures same { result ≡ is_withdrawn_in self.now dev }
+        ensures below { dev < MOST_DEVICES }
     {
         self.pools[pool_index(&PoolId::Device(dev))].is_withdrawn()
     }
 
+    /// Whether the device was removed.
     pub fn is_removed(&self, dev: Dev) -> bool
-        ensures told { result ≡ is_removed_in self.now dev }
-        ensures below { dev < 4 }
+        ensures same { result ≡ is_removed_in self.now dev }
+        ensures below { dev < MOST_DEVICES }
     {
         self.removed[dev.number() as usize]
     }
@@ -257,7 +281,7 @@ impl FramePools {
             Place::Sys {
                 number,
                 writable: _,
-            } => Some(Some(system_frame(*number))),
+            } => Some(Some(sys_frame(*number))),
             Place::Own {
                 dev,
                 number,
@@ -267,15 +291,15 @@ impl FramePools {
                 number: *number,
             })),
             Place::Moving { frame, writable: _ } => Some(Some(self.destination(frame))),
-            Place::Exclusive { number, actor: _ } => Some(Some(system_frame(*number))),
+            Place::Exclusive { number, actor: _ } => Some(Some(sys_frame(*number))),
         }
     }
 
     /// Where the contents of a migrating frame are.
     fn destination(&self, frame: &Frame) -> Frame
-        ensures { result ≡ unwrap_or (moved_to_in self.now frame.now) frame.now }
+        ensures { result ≡ unwrap_or (committed_to_in self.now frame.now) frame.now }
     {
-        match self.moved_to(frame) {
+        match self.committed_to(frame) {
             Some(to) => to,
             None => *frame,
         }
@@ -329,26 +353,6 @@ fn device_pool(alloc: Global, devices: &DeviceList, number: u64) -> Result<OnePo
     }
 }
 
-/// Where the pool stands.
-fn pool_index(pool: &PoolId) -> usize
-    ensures same { result ≡ pool_index pool.now }
-    ensures below { result < 5 }
-{
-    match pool {
-        PoolId::System => 0,
-        PoolId::Device(dev) => dev.number() as usize + 1,
-    }
-}
-
-fn system_frame(number: u32) -> Frame
-    ensures { result ≡ sys_frame number }
-{
-    Frame {
-        pool: PoolId::System,
-        number,
-    }
-}
-
 fn is_moving(place: Place) -> bool
     ensures { result ≡ is_moving place }
 {
@@ -361,100 +365,5 @@ fn piece_of_part(part: Option<u8>) -> Piece
     match part {
         None => Piece::All,
         Some(part) => Piece::Part(part),
-    }
-}
-
-#[cfg(test)]
-mod tests {
-    use super::*;
-    use hm_base::{ActorLists, Bytes, Proc, Schedule, Version};
-    use hm_history::Who;
-    use std::test::Fail;
-
-    fn script(rt: &HostRuntime) -> Result<Script, Fail> {
-        let mut devices = DeviceList::new(rt.alloc());
-        devices.push(1).map_err(|_| "no memory")?;
-        Ok(Script {
-            version: Version::One,
-            frames: 2,
-            devices,
-            skip: 0,
-            actors: ActorLists::new(rt.alloc()),
-            schedule: Schedule::new(rt.alloc()),
-        })
-    }
-
-    /// Takes the frame where it is the lowest that is free.
-    fn take(pools: &mut FramePools, frame: &Frame) -> bool {
-        let is_lowest = pools.lowest_free(&frame.pool) == Some(*frame);
-        if is_lowest {
-            pools.step(Actor::new(3), &Kind::Take(*frame), Place::Empty, None);
-        }
-        is_lowest
-    }
-
-    #[test]
-    fn frames_are_taken_and_dropped(rt: HostRuntime) -> Result<(), Fail> {
-        let script = script(&rt)?;
-        let mut pools = FramePools::new(rt.alloc(), &script).map_err(|_| "no memory")?;
-        let frame = system_frame(0);
-        assert!(rt; take(&mut pools, &frame));
-        assert!(rt; !take(&mut pools, &frame));
-        assert_eq!(rt; pools.locker(&frame), Some(Actor::new(3)));
-        assert_eq!(rt; pools.other_locker(&frame, Actor::new(3)), None);
-        assert_eq!(rt;
-            pools.other_locker(&frame, Actor::new(4)),
-            Some(Actor::new(3))
-        );
-        assert_eq!(rt; pools.lowest_free(&PoolId::System), Some(system_frame(1)));
-        assert_eq!(rt; pools.lowest_free(&PoolId::Device(Dev::new(1))), None);
-        assert_eq!(rt; pools.held_from(Dev::new(0), 0), None);
-        if pools.is_held(&frame) {
-            pools.step(Actor::new(3), &Kind::Drop(frame), Place::Empty, None);
-        }
-        assert_eq!(rt; pools.locker(&system_frame(0)), None);
-        Ok(())
-    }
-
-    /// Stores the two bytes in the system's first frame, where it is held.
-    fn store(rt: &HostRuntime, pools: &mut FramePools, place: &Place) -> Result<(), Fail> {
-        let bytes = Bytes::from_slice(rt.alloc(), &[1, 2]).map_err(|_| "no memory")?;
-        if bytes.len() == 2 && backs_held(pools, place) {
-            let kind = Kind::Stored(Who::Cpu(Proc::new(0)), 0x1005, bytes);
-            pools.step(Actor::new(3), &kind, *place, None);
-        }
-        Ok(())
-    }
-
-    /// Whether the place stands for no frame, or for one that is held.
-    fn backs_held(pools: &FramePools, place: &Place) -> bool
-        ensures { result ≡ true → (f : Frame) → backing_in pools.now place.now ≡ Some f → is_held_in pools.now f ≡ true }
-    {
-        match pools.backing(place) {
-            Some(frame) => pools.is_held(&frame),
-            None => true,
-        }
-    }
-
-    #[test]
-    fn bytes_are_stored_and_shown(rt: HostRuntime) -> Result<(), Fail> {
-        let script = script(&rt)?;
-        let mut pools = FramePools::new(rt.alloc(), &script).map_err(|_| "no memory")?;
-        let place = Place::Sys {
-            number: 0,
-            writable: true,
-        };
-        assert!(rt; take(&mut pools, &system_frame(0)));
-        store(&rt, &mut pools, &place)?;
-        let mut into = [9; 4];
-        if backs_held(&pools, &place) {
-            pools.show(&place, 4, &mut into);
-        }
-        assert_eq!(rt; into, [0, 1, 2, 0]);
-        if backs_held(&pools, &Place::Zero) {
-            pools.show(&Place::Zero, 4, &mut into);
-        }
-        assert_eq!(rt; into, [0; 4]);
-        Ok(())
     }
 }

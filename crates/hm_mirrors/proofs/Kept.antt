@@ -4,7 +4,7 @@ use Rattle.std.specs.Prelude.{option_map}
 use Rattle.hm_base.specs.Pages.{Pages, covers}
 use Rattle.hm_base.specs.declared.Frame.{Frame}
 use Rattle.hm_history.specs.Words.{with_at}
-use Rattle.hm_history.specs.Plain.{Plain, MirrorState, mirror_passes, with_standing, plain_next}
+use Rattle.hm_history.specs.Plain.{Plain, MirrorState, mirror_passes, with_attachment, plain_next}
 use Rattle.hm_history.specs.Places.{Places, TableEntry, with_entry, erased_table, places_next}
 use Rattle.hm_history.specs.declared.Kind.{Kind}
 use Rattle.hm_history.specs.declared.TableRight.{TableRight}
@@ -13,10 +13,10 @@ use Rattle.mirror_tables.specs.declared.entry.MirrorEntry.{MirrorEntry}
 use Rattle.hm_mirrors.specs.Entries.{entry_for, shown_entry, is_kept_right}
 use Rattle.hm_mirrors.specs.Mirrors.{mirror_at, entry_in, with_mirror, attached, standing_as, erased_in, set_in, with_room, changed_mirror, mirrors_next, reserved}
 use Rattle.hm_mirrors.specs.Shown.{attachment_of, state_of, HasWindow, MirrorsShown, MirrorsFit}
-use Rattle.hm_mirrors.specs.declared.info.Standing.{Standing}
+use Rattle.hm_mirrors.specs.declared.info.MirrorStage.{MirrorStage}
 use Rattle.hm_mirrors.specs.declared.info.Mirror.{Mirror}
-use Rattle.hm_mirrors.proofs.Updates.{other_at, here_at, with_case, at_set, len_set}
 use Rattle.hm_mirrors.proofs.Tables.{entry_set, entry_erased, shown_kept, erased_here, erased_else, set_here, set_else}
+use Rattle.hm_history.proofs.Updates.{other_at, here_at, with_case, at_set, len_set}
 
 -- what one mirror shows
 abbrev pub state_in : Option Mirror → Option MirrorState
@@ -59,7 +59,7 @@ none_in None e = refl
 none_in (Some x) e = absurd (let b : ⊥ = cc in b)
 
 attached_kept : (s : Plain) (t : Places) (m d p : ℕ) (r : Pages) (xs : List (Option Mirror)) → MirrorsShown s.mirrors t.table t.device xs → is_none (s.mirrors m) ≡ true
-    → MirrorsShown (with_at s.mirrors m (Some (record { dev = d; proc = p; window = r; standing = attachment_of Standing.Attached }))) t.table (with_at t.device m d) (with_mirror xs m (Some (attached d p r)))
+    → MirrorsShown (with_at s.mirrors m (Some (record { dev = d; proc = p; window = r; stage = attachment_of MirrorStage.Attached }))) t.table (with_at t.device m d) (with_mirror xs m (Some (attached d p r)))
 attached_kept s t m d p r xs h f = changed m (Some (attached d p r)) s.mirrors _ t.table t.table t.device _ xs h (record {
   state_here = λ l. sym (here_at s.mirrors m _);
   window_here = λ l. refl;
@@ -71,26 +71,26 @@ attached_kept s t m d p r xs h f = changed m (Some (attached d p r)) s.mirrors _
 })
 
 -- a mirror goes
-standing_state : (a : Standing) (o : Option Mirror) → state_in (option_map (standing_as a) o) ≡ with_standing (attachment_of a) (state_in o)
+standing_state : (a : MirrorStage) (o : Option Mirror) → state_in (option_map (standing_as a) o) ≡ with_attachment (attachment_of a) (state_in o)
 standing_state a None = refl
 standing_state a (Some x) = refl
 
-standing_window : (a : Standing) (o : Option Mirror) → HasWindow (option_map (standing_as a) o)
+standing_window : (a : MirrorStage) (o : Option Mirror) → HasWindow (option_map (standing_as a) o)
 standing_window a None = tt
 standing_window a (Some x) = refl
 
-standing_entry : (a : Standing) (v : ℕ) (o : Option Mirror) → shown_in v (option_map (standing_as a) o) ≡ None
+standing_entry : (a : MirrorStage) (v : ℕ) (o : Option Mirror) → shown_in v (option_map (standing_as a) o) ≡ None
 standing_entry a v None = refl
 standing_entry a v (Some x) = refl
 
-standing_device : (a : Standing) (o : Option Mirror) → device_in (option_map (standing_as a) o) ≡ device_in o
+standing_device : (a : MirrorStage) (o : Option Mirror) → device_in (option_map (standing_as a) o) ≡ device_in o
 standing_device a None = refl
 standing_device a (Some x) = refl
 
-standing_kept : (s : Plain) (t : Places) (a : Standing) (m : ℕ) (xs : List (Option Mirror)) → MirrorsShown s.mirrors t.table t.device xs
-    → MirrorsShown (with_at s.mirrors m (with_standing (attachment_of a) (s.mirrors m))) (erased_table t.table m (λ v. true)) t.device (changed_mirror (standing_as a) xs m)
+standing_kept : (s : Plain) (t : Places) (a : MirrorStage) (m : ℕ) (xs : List (Option Mirror)) → MirrorsShown s.mirrors t.table t.device xs
+    → MirrorsShown (with_at s.mirrors m (with_attachment (attachment_of a) (s.mirrors m))) (erased_table t.table m (λ v. true)) t.device (changed_mirror (standing_as a) xs m)
 standing_kept s t a m xs h = changed m (option_map (standing_as a) (mirror_at xs m)) s.mirrors _ t.table _ t.device t.device xs h (record {
-  state_here = λ l. standing_state a (mirror_at xs m) ∙ ap (with_standing (attachment_of a)) (h.infos m l) ∙ sym (here_at s.mirrors m _);
+  state_here = λ l. standing_state a (mirror_at xs m) ∙ ap (with_attachment (attachment_of a)) (h.infos m l) ∙ sym (here_at s.mirrors m _);
   window_here = λ l. standing_window a (mirror_at xs m);
   entry_here = λ v l. standing_entry a v (mirror_at xs m) ∙ sym (erased_here t.table m (λ v. true) v);
   device_here = λ l. standing_device a (mirror_at xs m) ∙ h.devices m l;
@@ -166,8 +166,8 @@ set_kept s t room m page f w from xs h i k = table_kept s t m room (λ x. kept.w
 pub mirrors_kept : (s : Plain) (t : Places) (k : Kind) (room : ℕ) (xs : List (Option Mirror)) → MirrorsShown s.mirrors t.table t.device xs → MirrorsFit s.mirrors k
     → MirrorsShown (plain_next s k).mirrors (places_next t k).table (places_next t k).device (mirrors_next room k xs)
 mirrors_kept s t (Kind.Attached m d p r q) room xs h f = attached_kept s t m d p r xs h f
-mirrors_kept s t (Kind.Detaching m q) room xs h f = standing_kept s t Standing.Detaching m xs h
-mirrors_kept s t (Kind.Detached m) room xs h f = standing_kept s t Standing.Gone m xs h
+mirrors_kept s t (Kind.Detaching m q) room xs h f = standing_kept s t MirrorStage.Detaching m xs h
+mirrors_kept s t (Kind.Detached m) room xs h f = standing_kept s t MirrorStage.Gone m xs h
 mirrors_kept s t (Kind.Told m r q) room xs h f = told_kept s t room m r xs h
 mirrors_kept s t (Kind.Set m v g w from) room xs h f = set_kept s t room m v g w from xs h f.0 f.1
 mirrors_kept s t k room xs h f = h

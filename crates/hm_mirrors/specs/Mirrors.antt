@@ -7,7 +7,7 @@ use Rattle.hm_history.specs.declared.Who.{Who}
 use Rattle.mirror_tables.specs.Entries.{Table, entry_at, with_entry, without_span, changed}
 use Rattle.mirror_tables.specs.declared.entry.MirrorEntry.{MirrorEntry}
 use Rattle.hm_mirrors.specs.Entries.{entry_for, shown_entry}
-use Rattle.hm_mirrors.specs.declared.info.Standing.{Standing}
+use Rattle.hm_mirrors.specs.declared.info.MirrorStage.{MirrorStage}
 use Rattle.hm_mirrors.specs.declared.info.MirrorInfo.{MirrorInfo}
 use Rattle.hm_mirrors.specs.declared.info.Mirror.{Mirror}
 
@@ -25,16 +25,16 @@ abbrev pub info_passes : (MirrorInfo → Bool) → Option MirrorInfo → Bool
 info_passes test None = false
 info_passes test (Some x) = test x
 
-abbrev pub stands_attached : Standing → Bool
-stands_attached Standing.Attached = true
-stands_attached Standing.Detaching = false
-stands_attached Standing.Gone = false
+abbrev pub stands_attached : MirrorStage → Bool
+stands_attached MirrorStage.Attached = true
+stands_attached MirrorStage.Detaching = false
+stands_attached MirrorStage.Gone = false
 
 abbrev pub is_attached_of : List (Option Mirror) → ℕ → Bool
-is_attached_of xs m = info_passes (λ x. stands_attached x.standing) (info_of xs m)
+is_attached_of xs m = info_passes (λ x. stands_attached x.stage) (info_of xs m)
 
 abbrev pub in_window_of : List (Option Mirror) → ℕ → Pages → Bool
-in_window_of xs m r = info_passes (λ x. stands_attached x.standing && lies_in r x.window) (info_of xs m)
+in_window_of xs m r = info_passes (λ x. stands_attached x.stage && lies_in r x.window) (info_of xs m)
 
 abbrev pub proc_of : List (Option Mirror) → ℕ → ℕ
 proc_of xs m = elim (info_of xs m) [ None ↦ 0 | Some x ↦ x.process ]
@@ -69,11 +69,15 @@ with_table x t = record x { table = t }
 abbrev pub empty_table : Pages → Table
 empty_table r = record { window = r; entries = []; room = 0 }
 
-abbrev pub standing_as : Standing → Mirror → Mirror
-standing_as t x = record { info = record x.info { standing = t }; table = empty_table x.info.window }
+abbrev pub standing_as : MirrorStage → Mirror → Mirror
+standing_as t x = record { info = record x.info { stage = t }; table = empty_table x.info.window }
 
 abbrev pub attached : ℕ → ℕ → Pages → Mirror
-attached d p r = record { info = record { device = d; process = p; window = r; standing = Standing.Attached }; table = empty_table r }
+attached d p r =
+    record {
+      info = record { device = d; process = p; window = r; stage = MirrorStage.Attached };
+      table = empty_table r;
+    }
 
 -- the room that a table has after a change is left open
 abbrev pub set_in : ℕ → ℕ → MirrorEntry → Mirror → Mirror
@@ -95,8 +99,8 @@ changed_mirror f xs m = with_mirror xs m (option_map f (mirror_at xs m))
 -- the mirrors after an entry; `room` is that of its mirror's table then
 abbrev pub mirrors_next : ℕ → Kind → List (Option Mirror) → List (Option Mirror)
 mirrors_next room (Kind.Attached m d p r q) xs = with_mirror xs m (Some (attached d p r))
-mirrors_next room (Kind.Detaching m q) xs = changed_mirror (standing_as Standing.Detaching) xs m
-mirrors_next room (Kind.Detached m) xs = changed_mirror (standing_as Standing.Gone) xs m
+mirrors_next room (Kind.Detaching m q) xs = changed_mirror (standing_as MirrorStage.Detaching) xs m
+mirrors_next room (Kind.Detached m) xs = changed_mirror (standing_as MirrorStage.Gone) xs m
 mirrors_next room (Kind.Told m r q) xs = changed_mirror (erased_in room r) xs m
 mirrors_next room (Kind.Set m v f w from) xs = changed_mirror (set_in room v (entry_for f w from)) xs m
 mirrors_next room k xs = xs

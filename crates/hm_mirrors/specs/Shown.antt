@@ -6,32 +6,34 @@ use Rattle.hm_history.specs.Places.{TableEntry}
 use Rattle.hm_history.specs.declared.Kind.{Kind}
 use Rattle.hm_mirrors.specs.Entries.{is_kept_right}
 use Rattle.hm_mirrors.specs.Mirrors.{mirror_at, info_of, device_of, table_of}
-use Rattle.hm_mirrors.specs.declared.info.Standing.{Standing}
+use Rattle.hm_mirrors.specs.declared.info.MirrorStage.{MirrorStage}
 use Rattle.hm_mirrors.specs.declared.info.MirrorInfo.{MirrorInfo}
 use Rattle.hm_mirrors.specs.declared.info.Mirror.{Mirror}
 
-abbrev pub attachment_of : Standing → Attachment
-attachment_of Standing.Attached = Attached
-attachment_of Standing.Detaching = Detaching
-attachment_of Standing.Gone = Gone
+abbrev pub attachment_of : MirrorStage → Attachment
+attachment_of MirrorStage.Attached = Attached
+attachment_of MirrorStage.Detaching = Detaching
+attachment_of MirrorStage.Gone = Gone
 
 abbrev pub state_of : MirrorInfo → MirrorState
-state_of x = record { dev = x.device; proc = x.process; window = x.window; standing = attachment_of x.standing }
+state_of x = record { dev = x.device; proc = x.process; window = x.window; stage = attachment_of x.stage }
 
 abbrev pub HasWindow : Option Mirror → Type 0
 HasWindow None = ⊤
 HasWindow (Some x) = x.table.window ≡ x.info.window
 
-pub record MirrorsShown (mirrors : ℕ → Option MirrorState) (table : ℕ → ℕ → Option TableEntry) (device : ℕ → ℕ) (xs : List (Option Mirror)) : Type 0 where
+pub record MirrorsShown (mirrors : ℕ → Option MirrorState) (table : ℕ → ℕ → Option TableEntry) (device : ℕ → ℕ)
+    (xs : List (Option Mirror)) : Type 0 where
   pub len : length xs ≡ 32
   pub infos : (m : ℕ) → m < 32 → option_map state_of (info_of xs m) ≡ mirrors m
   pub windows : (m : ℕ) → m < 32 → HasWindow (mirror_at xs m)
   pub entries : (m v : ℕ) → m < 32 → table_of xs m v ≡ table m v
   pub devices : (m : ℕ) → m < 32 → device_of xs m ≡ device m
 
--- what a change asks of the state: a mirror that comes was not there, and an entry is set in the window of a mirror that
--- is there
+-- what a change asks of the state: a mirror that comes was not there, and an entry is set in the window of a mirror
+-- that is there
 abbrev pub MirrorsFit : (ℕ → Option MirrorState) → Kind → Type 0
 MirrorsFit mirrors (Kind.Attached m d p r q) = is_none (mirrors m) ≡ true
-MirrorsFit mirrors (Kind.Set m v f w from) = (mirror_passes (λ x. covers x.window v) (mirrors m) ≡ true) × (is_kept_right f w ≡ true)
+MirrorsFit mirrors (Kind.Set m v f w from) =
+    (mirror_passes (λ x. covers x.window v) (mirrors m) ≡ true) × (is_kept_right f w ≡ true)
 MirrorsFit mirrors k = ⊤

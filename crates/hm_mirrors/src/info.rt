@@ -4,7 +4,7 @@ use mirror_tables::MirrorTable;
 
 /// Whether a mirror is attached, or its interval waits to leave, or it is gone for good.
 #[derive(Clone, Copy, PartialEq, Eq, Debug)]
-pub enum Standing {
+pub enum MirrorStage {
     Attached,
     Detaching,
     Gone,
@@ -16,7 +16,7 @@ pub struct MirrorInfo {
     pub device: Dev,
     pub process: Proc,
     pub window: Span,
-    pub standing: Standing,
+    pub stage: MirrorStage,
 }
 
 /// A mirror with its table, which is empty but while it is attached.

@@ -6,7 +6,7 @@ ghost use Rattle.hm_history.specs.Due.{is_usable};
 ghost use Rattle.hm_base.specs.Pages.{lies_in};
 ghost use Rattle.hm_mirrors.specs.Entries.{entry_for, target_for};
 
-use crate::info::{Mirror, MirrorInfo, Standing};
+use crate::info::{Mirror, MirrorInfo, MirrorStage};
 use hm_base::{Dev, Frame, MirrorId, NoMemory, Page, Proc, Span};
 use hm_history::{Kind, TableRight, Who};
 use mirror_tables::{MirrorEntry, MirrorTable, Target};
@@ -38,10 +38,7 @@ impl Mirrors {
     {
         let mut mirrors = Vec::new(alloc);
         for _mirror in 0..32u32 {
-            match mirrors.push(None) {
-                Ok(()) => (),
-                Err(_) => return Err(NoMemory),
-            }
+            mirrors.push(None)?;
         }
         Ok(Mirrors { mirrors, alloc })
     }
@@ -53,7 +50,13 @@ impl Mirrors {
         ensures err { OnErr result (self.new ≡ self.old) }
     {
         match kind {
-            Kind::Set(mirror, page, _, _, _) => self.reserve_entry(*mirror, *page),
+            Kind::Set {
+                mirror,
+                page,
+                target: _,
+                right: _,
+                since: _,
+            } => self.reserve_entry(*mirror, *page),
             _ => Ok(()),
         }
     }
@@ -65,13 +68,29 @@ impl Mirrors {
         ensures { self.new ≡ mirrors_next (room_for kind.now self.new) kind.now self.old }
     {
         match kind {
-            Kind::Attached(mirror, device, proc, window, _) => {
+            Kind::Attached {
+                mirror,
+                dev: device,
+                proc,
+                span: window,
+                seq: _,
+            } => {
                 self.attach(*mirror, *device, *proc, *window);
             }
-            Kind::Detaching(mirror, _) => self.stand(*mirror, Standing::Detaching),
-            Kind::Detached(mirror) => self.stand(*mirror, Standing::Gone),
-            Kind::Told(mirror, span, _) => self.erase(*mirror, *span),
-            Kind::Set(mirror, page, target, right, from) => {
+            Kind::Detaching { mirror, seq: _ } => self.stand(*mirror, MirrorStage::Detaching),
+            Kind::Detached(mirror) => self.stand(*mirror, MirrorStage::Gone),
+            Kind::Told {
+                mirror,
+                span,
+                seq: _,
+            } => self.erase(*mirror, *span),
+            Kind::Set {
+                mirror,
+                page,
+                target,
+                right,
+                since: from,
+            } => {
                 self.set(*mirror, *page, entry_for(*target, *right, *from));
             }
             _ => (),
@@ -97,18 +116,18 @@ impl Mirrors {
                 device,
                 process,
                 window,
-                standing: Standing::Attached,
+                stage: MirrorStage::Attached,
             },
             table: MirrorTable::new(self.alloc, window),
         });
     }
 
     // A mirror that is no longer attached has no entry, and never has one again.
-    fn stand(&mut self, mirror: MirrorId, standing: Standing)
-        ensures { self.new ≡ changed_mirror (standing_as standing) self.old mirror }
+    fn stand(&mut self, mirror: MirrorId, stage: MirrorStage)
+        ensures { self.new ≡ changed_mirror (standing_as stage) self.old mirror }
     {
         if let Some(kept) = &mut self.mirrors[mirror.number() as usize] {
-            kept.info.standing = standing;
+            kept.info.stage = stage;
             kept.table = MirrorTable::new(self.alloc, kept.info.window);
         }
     }
@@ -153,7 +172,7 @@ impl Mirrors {
         ensures { result ≡ is_attached_of self.now mirror }
     {
         match self.info(mirror) {
-            Some(info) => matches!(info.standing, Standing::Attached),
+            Some(info) => matches!(info.stage, MirrorStage::Attached),
             None => false,
         }
     }
@@ -164,7 +183,7 @@ impl Mirrors {
     {
         match self.info(mirror) {
             Some(info) => {
-                matches!(info.standing, Standing::Attached) && lies_in(span, info.window)
+                matches!(info.stage, MirrorStage::Attached) && lies_in(span, info.window)
             }
             None => false,
         }

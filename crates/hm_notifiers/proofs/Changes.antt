@@ -5,10 +5,10 @@ use Rattle.hm_history.specs.Words.{with_at}
 use Rattle.hm_history.specs.Sequences.{Interval}
 use Rattle.notifier_seq.specs.declared.interval.Interval.{Interval as Kept}
 use Rattle.notifier_seq.specs.Sequences as one
-use Rattle.hm_notifiers.specs.Subscriptions.{Subscriptions, of_proc, with_proc, nothing}
-use Rattle.hm_notifiers.specs.Shown.{interval_of, kept_of, IsBounded, SubscriptionsShown}
-use Rattle.hm_notifiers.proofs.Updates.{other_at, here_at, with_case, at_set, len_set}
+use Rattle.hm_notifiers.specs.NotifiersValue.{NotifiersValue, of_proc, with_proc, nothing}
+use Rattle.hm_notifiers.specs.Shown.{interval_of, kept_of, IsBounded, NotifiersValueShown}
 use Rattle.hm_notifiers.proofs.Intervals.{mine, not_mine}
+use Rattle.hm_history.proofs.Updates.{other_at, here_at, with_case, at_set, len_set}
 
 -- from one state to another the notifiers of process p change to y
 pub record IsChange (n p : ℕ) (y : one.Sequences) (seq active : ℕ → ℕ) (interval : ℕ → Option Interval) (next_seq next_active : ℕ → ℕ) (next_interval : ℕ → Option Interval) : Type 0 where
@@ -22,20 +22,20 @@ pub record IsChange (n p : ℕ) (y : one.Sequences) (seq active : ℕ → ℕ) (
   pub in_range : (m : ℕ) (z : Interval) → next_interval m ≡ Some z → (m < 32) × (z.proc < 32)
   pub next_bounded : IsBounded (n + 1) next_seq next_active
 
-abbrev one_with : Subscriptions → ℕ → one.Sequences → List (Option ℕ) → Subscriptions
+abbrev one_with : NotifiersValue → ℕ → one.Sequences → List (Option ℕ) → NotifiersValue
 one_with x p y zs = record { of_process = slice_set x.of_process p y; procs = zs }
 
 -- what holds of each process holds of each after the change
-each_of : (P : ℕ → one.Sequences → Type 0) (x : Subscriptions) (p : ℕ) (y : one.Sequences) (zs : List (Option ℕ)) → length x.of_process ≡ 32 → (p < 32 → P p y) → ((q : ℕ) → (q ≡ p → ⊥) → q < 32 → P q (of_proc x q))
+each_of : (P : ℕ → one.Sequences → Type 0) (x : NotifiersValue) (p : ℕ) (y : one.Sequences) (zs : List (Option ℕ)) → length x.of_process ≡ 32 → (p < 32 → P p y) → ((q : ℕ) → (q ≡ p → ⊥) → q < 32 → P q (of_proc x q))
     → (q : ℕ) → q < 32 → P q (of_proc (one_with x p y zs) q)
 each_of P x p y zs n here other q l =
     subst (P q) (sym (at_set (of_proc x) x.of_process p y nothing q (omega (arith, n)) refl))
     (with_case P (of_proc x) p y q (λ e. here (omega arith)) (λ ne. other q ne l))
 
-pub changed : (n p : ℕ) (y : one.Sequences) (seq active : ℕ → ℕ) (interval : ℕ → Option Interval) (next_seq next_active : ℕ → ℕ) (next_interval : ℕ → Option Interval) (x : Subscriptions) (zs : List (Option ℕ))
-    → SubscriptionsShown n seq active interval x → IsChange n p y seq active interval next_seq next_active next_interval
+pub changed : (n p : ℕ) (y : one.Sequences) (seq active : ℕ → ℕ) (interval : ℕ → Option Interval) (next_seq next_active : ℕ → ℕ) (next_interval : ℕ → Option Interval) (x : NotifiersValue) (zs : List (Option ℕ))
+    → NotifiersValueShown n seq active interval x → IsChange n p y seq active interval next_seq next_active next_interval
     → length zs ≡ 32 → ((m : ℕ) → m < 32 → slice_index_or zs m None ≡ option_map (λ z. z.proc) (next_interval m))
-    → SubscriptionsShown (n + 1) next_seq next_active next_interval (record { of_process = slice_set x.of_process p y; procs = zs })
+    → NotifiersValueShown (n + 1) next_seq next_active next_interval (record { of_process = slice_set x.of_process p y; procs = zs })
 changed n p y seq active interval next_seq next_active next_interval x zs h c l at = record {
   processes = len_set x.of_process p y 32 h.processes;
   mirrors = l;
@@ -83,8 +83,8 @@ bounded_seq n seq active p v h i = record {
 }
 
 -- a change that is not kept, and one that is
-pub unseen : (n : ℕ) (seq active : ℕ → ℕ) (interval : ℕ → Option Interval) (x : Subscriptions) (m : ℕ) (y z : Interval) → SubscriptionsShown n seq active interval x → interval m ≡ Some y → z.proc ≡ y.proc → kept_of z ≡ kept_of y
-    → SubscriptionsShown (n + 1) seq active (with_at interval m (Some z)) x
+pub unseen : (n : ℕ) (seq active : ℕ → ℕ) (interval : ℕ → Option Interval) (x : NotifiersValue) (m : ℕ) (y z : Interval) → NotifiersValueShown n seq active interval x → interval m ≡ Some y → z.proc ≡ y.proc → kept_of z ≡ kept_of y
+    → NotifiersValueShown (n + 1) seq active (with_at interval m (Some z)) x
 unseen n seq active interval x m y z h e p k = record {
   processes = h.processes;
   mirrors = h.mirrors;
@@ -100,8 +100,8 @@ unseen n seq active interval x m y z h e p k = record {
     same : (q : ℕ) → interval_of q (Some z) ≡ interval_of q (Some y)
     same q = ap (λ i. if i == q then Some (kept_of z) else None) p ∙ ap (λ (w : Kept). if y.proc == q then Some w else None) k
 
-pub interval_changed : (n : ℕ) (seq active : ℕ → ℕ) (interval : ℕ → Option Interval) (x : Subscriptions) (m : ℕ) (y z : Interval) → SubscriptionsShown n seq active interval x → interval m ≡ Some y → z.proc ≡ y.proc
-    → SubscriptionsShown (n + 1) seq active (with_at interval m (Some z)) (with_proc x y.proc (with_kept (of_proc x y.proc) m z))
+pub interval_changed : (n : ℕ) (seq active : ℕ → ℕ) (interval : ℕ → Option Interval) (x : NotifiersValue) (m : ℕ) (y z : Interval) → NotifiersValueShown n seq active interval x → interval m ≡ Some y → z.proc ≡ y.proc
+    → NotifiersValueShown (n + 1) seq active (with_at interval m (Some z)) (with_proc x y.proc (with_kept (of_proc x y.proc) m z))
 interval_changed n seq active interval x m y z h e p =
     changed n y.proc (with_kept (of_proc x y.proc) m z) seq active interval seq active (with_at interval m (Some z)) x x.procs h (record {
       seq_here = h.seqs y.proc;

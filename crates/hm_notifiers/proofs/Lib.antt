@@ -1,5 +1,4 @@
 pub mod Start
-pub mod Updates
 pub mod Intervals
 pub mod Changes
 pub mod Kept

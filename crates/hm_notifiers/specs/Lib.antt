@@ -1,2 +1,2 @@
-pub mod Subscriptions
+pub mod NotifiersValue
 pub mod Shown

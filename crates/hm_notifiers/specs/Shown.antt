@@ -5,7 +5,7 @@ use Rattle.hm_history.specs.declared.Kind.{Kind}
 use Rattle.notifier_seq.specs.declared.interval.Interval.{Interval as Kept}
 use Rattle.notifier_seq.specs.declared.interval.Stage.{Stage as Position}
 use Rattle.notifier_seq.specs.Sequences as one
-use Rattle.hm_notifiers.specs.Subscriptions.{Subscriptions, of_proc, proc_at}
+use Rattle.hm_notifiers.specs.NotifiersValue.{NotifiersValue, of_proc, proc_at}
 
 -- whether the detach of an interval that is out has answered is not kept
 abbrev pub position_of : Stage → Position
@@ -16,7 +16,7 @@ position_of Removed = Position.Out
 position_of Out = Position.Out
 
 abbrev pub kept_of : Interval → Kept
-kept_of y = record { window = y.window; seq = y.seq; standing = position_of y.standing }
+kept_of y = record { window = y.window; seq = y.seq; stage = position_of y.stage }
 
 -- an interval lies with its own process
 abbrev pub interval_of : ℕ → Option Interval → Option Kept
@@ -29,7 +29,8 @@ pub record IsBounded (n : ℕ) (seq active : ℕ → ℕ) : Type 0 where
   pub few : (p : ℕ) → active p ≤ n
 
 -- after n entries
-pub record SubscriptionsShown (n : ℕ) (seq active : ℕ → ℕ) (interval : ℕ → Option Interval) (x : Subscriptions) : Type 0 where
+pub record NotifiersValueShown (n : ℕ) (seq active : ℕ → ℕ) (interval : ℕ → Option Interval)
+    (x : NotifiersValue) : Type 0 where
   pub processes : length x.of_process ≡ 32
   pub mirrors : length x.procs ≡ 32
   pub numbers : (p : ℕ) → p < 32 → length (of_proc x p).intervals ≡ 32
@@ -51,11 +52,13 @@ leaves_now RemoveDeferred odd = false
 leaves_now _ odd = true
 
 -- what a change asks of the state after n entries
-abbrev pub SubscriptionsFit : ℕ → Sequences → Kind → Type 0
-SubscriptionsFit n s (Kind.Start p r q) = n < 2 ^ 62
-SubscriptionsFit n s (Kind.Told m r q) = is_some (s.interval m) ≡ true
-SubscriptionsFit n s (Kind.End p r q) = (n < 2 ^ 62) × (1 ≤ s.active p)
-SubscriptionsFit n s (Kind.Attached m d p r q) = s.interval m ≡ None
-SubscriptionsFit n s (Kind.Detaching m q) = interval_passes (λ y. leaves_later y.standing (is_odd (s.seq y.proc))) (s.interval m) ≡ true
-SubscriptionsFit n s (Kind.Detached m) = interval_passes (λ y. leaves_now y.standing (is_odd (s.seq y.proc))) (s.interval m) ≡ true
-SubscriptionsFit n s k = ⊤
+abbrev pub NotifiersValueFit : ℕ → Sequences → Kind → Type 0
+NotifiersValueFit n s (Kind.Start p r q) = n < 2 ^ 62
+NotifiersValueFit n s (Kind.Told m r q) = is_some (s.interval m) ≡ true
+NotifiersValueFit n s (Kind.End p r q) = (n < 2 ^ 62) × (1 ≤ s.active p)
+NotifiersValueFit n s (Kind.Attached m d p r q) = s.interval m ≡ None
+NotifiersValueFit n s (Kind.Detaching m q) =
+    interval_passes (λ y. leaves_later y.stage (is_odd (s.seq y.proc))) (s.interval m) ≡ true
+NotifiersValueFit n s (Kind.Detached m) =
+    interval_passes (λ y. leaves_now y.stage (is_odd (s.seq y.proc))) (s.interval m) ≡ true
+NotifiersValueFit n s k = ⊤

@@ -1,9 +1,9 @@
-// The invalidations of all processes: each process's notifiers, and whose each mirror's interval is. It keeps step
-// with a history, entry by entry.
+// The invalidations of all processes: each process's notifiers (mm/mmu_notifier.c), and whose each mirror's interval
+// is. It keeps step with a history, entry by entry.
 #![tactic(auto)]
 
 ghost use Rattle.std.specs.Prelude.{◌≡◌, ◌<◌, ◌≤◌, ◌^◌, IfOk, IsSome, None, Some, false};
-ghost use Rattle.hm_notifiers.specs.Subscriptions.{all_start, subscriptions_start, subscriptions_next, CanStep, InRange, of_proc, of_mirror, proc_of, seq_of, active_of, interval_seq_of, in_tree_of, insert_deferred_of, next_told_of, some_overlap_of, seq_started_of, seq_ended_of, interval_inserted_of, with_proc, with_interval, without_interval};
+ghost use Rattle.hm_notifiers.specs.NotifiersValue.{all_start, notifiers_start, notifiers_next, CanStep, InRange, of_proc, of_mirror, proc_of, seq_of, active_of, interval_seq_of, in_tree_of, insert_deferred_of, next_told_of, some_overlap_of, seq_started_of, seq_ended_of, interval_inserted_of, with_proc, with_interval, without_interval};
 ghost use Rattle.notifier_seq.specs.Sequences as one;
 
 use hm_base::{MirrorId, NoMemory, Proc, Span};
@@ -12,35 +12,32 @@ use notifier_seq::Notifiers;
 use std::alloc::Global;
 use std::marker::Model;
 
-#[cfg(test)]
-mod tests;
-
 /// The notifiers of the 32 processes (`mmu_notifier_subscriptions` of each `struct mm_struct`), and the
 /// process of each mirror's interval from its attach on.
 #[derive(Drop)]
-pub struct Invalidations {
+pub struct AllNotifiers {
     of_process: Vec<Notifiers>,
     procs: [Option<Proc>; 32],
 }
 
-impl Model for Invalidations {
+impl Model for AllNotifiers {
     ghost use Rattle.std.specs.Prelude.{◌≡◌, length};
-    ghost use Rattle.hm_notifiers.specs.Subscriptions.{Subscriptions};
+    ghost use Rattle.hm_notifiers.specs.NotifiersValue.{NotifiersValue};
 
-    ghost Value = { Subscriptions };
+    ghost Value = { NotifiersValue };
 
     ghost view = { λ n. record { of_process = n.of_process.items; procs = n.procs } };
 
     ghost invariant = { λ n. length n.of_process.items ≡ 32 };
 }
 
-impl Invalidations {
+impl AllNotifiers {
     /// No invalidation and no interval. It takes all the memory that it will need.
-    pub fn new(alloc: Global) -> Result<Invalidations, NoMemory>
-        ensures { IfOk result (λ x. x ≡ subscriptions_start) }
+    pub fn new(alloc: Global) -> Result<AllNotifiers, NoMemory>
+        ensures { IfOk result (λ x. x ≡ notifiers_start) }
     {
         let of_process = all_notifiers(alloc)?;
-        Ok(Invalidations {
+        Ok(AllNotifiers {
             of_process,
             procs: [None; 32],
         })
@@ -49,15 +46,29 @@ impl Invalidations {
     /// The state after an entry.
     pub fn step(&mut self, kind: &Kind)
         requires { CanStep kind.now self.old }
-        ensures next { self.new ≡ subscriptions_next kind.now self.old }
+        ensures next { self.new ≡ notifiers_next kind.now self.old }
         ensures range { InRange kind.now }
     {
         match kind {
-            Kind::Start(proc, span, _) => self.start(*proc, *span),
-            Kind::Told(mirror, _, _) => self.tell(*mirror),
-            Kind::End(proc, _, _) => self.end(*proc),
-            Kind::Attached(mirror, _, proc, span, _) => self.attach(*mirror, *proc, *span),
-            Kind::Detaching(mirror, _) | Kind::Detached(mirror) => self.detach(*mirror),
+            Kind::Start { proc, span, seq: _ } => self.start(*proc, *span),
+            Kind::Told {
+                mirror,
+                span: _,
+                seq: _,
+            } => self.tell(*mirror),
+            Kind::End {
+                proc,
+                span: _,
+                seq: _,
+            } => self.end(*proc),
+            Kind::Attached {
+                mirror,
+                dev: _,
+                proc,
+                span,
+                seq: _,
+            } => self.attach(*mirror, *proc, *span),
+            Kind::Detaching { mirror, seq: _ } | Kind::Detached(mirror) => self.detach(*mirror),
             _ => (),
         }
     }
@@ -72,7 +83,9 @@ impl Invalidations {
 
     fn tell(&mut self, mirror: MirrorId)
         requires { IsSome (one.interval_at (of_mirror self.old mirror) mirror) }
-        ensures { self.new ≡ with_proc self.old (proc_of self.old mirror) (one.told (of_mirror self.old mirror) mirror (of_mirror self.old mirror).seq) }
+        ensures { self.new
+            ≡ with_proc self.old (proc_of self.old mirror)
+            (one.told (of_mirror self.old mirror) mirror (of_mirror self.old mirror).seq) }
     {
         let proc = self.interval_proc(mirror);
         let notifiers = &mut self.of_process[proc.number() as usize];
@@ -231,10 +244,7 @@ fn all_notifiers(alloc: Global) -> Result<Vec<Notifiers>, NoMemory>
     let mut all = Vec::new(alloc);
     for _process in 0..32u32 {
         let notifiers = Notifiers::new(alloc)?;
-        match all.push(notifiers) {
-            Ok(()) => (),
-            Err(_) => return Err(NoMemory),
-        }
+        all.push(notifiers)?;
     }
     Ok(all)
 }

@@ -2,7 +2,7 @@
 ghost use Rattle.std.specs.Prelude.{◌≡◌, length, slice_index};
 ghost use Rattle.hm_history.specs.Words.{pieces};
 ghost use Rattle.hm_history.specs.Operation.{op_pieces};
-ghost use Rattle.hm_history.specs.Moved as table;
+ghost use Rattle.hm_history.specs.Stacks as spec;
 ghost use Rattle.hm_phases.specs.Items.{phases_of};
 
 use crate::guards::opened;
@@ -43,7 +43,7 @@ fn piece_count(op: &Op) -> u32
 }
 
 fn piece_ends(op: &Op, piece: u32) -> Items
-    ensures { phases_of result ≡ table.piece_ends op.now piece }
+    ensures { phases_of result ≡ spec.piece_ends op.now piece }
 {
     let count = piece_count(op);
     if piece < count && piece + 1 < count {
@@ -54,7 +54,7 @@ fn piece_ends(op: &Op, piece: u32) -> Items
 }
 
 fn piece_of(touch: Touch) -> u32
-    ensures { result ≡ table.piece_of touch }
+    ensures { result ≡ spec.piece_of touch }
 {
     match touch {
         Touch::Cpu { piece } => piece,
@@ -68,7 +68,7 @@ fn piece_of(touch: Touch) -> u32
 }
 
 pub fn first_touch(op: &Op, piece: u32) -> Touch
-    ensures { result ≡ table.first_touch op.now piece }
+    ensures { result ≡ spec.first_touch op.now piece }
 {
     match op {
         Op::Add { .. } => Touch::Sole,
@@ -85,17 +85,21 @@ fn first_byte(bytes: &Bytes) -> u8
     }
 }
 
-pub fn moved_piece(op: &Op, piece: u32, touch: Touch, kind: &Kind, seen: Seen) -> Items
-    ensures { phases_of result ≡ table.moved_piece op.now piece touch kind.now seen }
+pub fn after_piece(op: &Op, piece: u32, touch: Touch, kind: &Kind, seen: Seen) -> Items
+    ensures { phases_of result ≡ spec.after_piece op.now piece touch kind.now seen }
 {
     match kind {
-        Kind::Loaded(..) | Kind::Stored(..) | Kind::Failed(..) => piece_ends(op, piece),
-        Kind::Begin(_, seq) => Items::One(Phase::Begun {
+        Kind::Loaded { .. } | Kind::Stored { .. } | Kind::Failed { .. } => piece_ends(op, piece),
+        Kind::Begin { mirror: _, seq } => Items::One(Phase::Begun {
             piece,
             since: seen.at,
             seq: *seq,
         }),
-        Kind::Fetched(_, _, bytes) => Items::One(Phase::Fetched {
+        Kind::Fetched {
+            mirror: _,
+            addr: _,
+            bytes,
+        } => Items::One(Phase::Fetched {
             old: first_byte(bytes),
         }),
         Kind::Rlock(_) => Items::One(Phase::Decide { touch }),
@@ -104,26 +108,26 @@ pub fn moved_piece(op: &Op, piece: u32, touch: Touch, kind: &Kind, seen: Seen) -
 }
 
 fn is_added(kind: &Kind) -> bool
-    ensures { result ≡ table.is_added kind.now }
+    ensures { result ≡ spec.is_added kind.now }
 {
     match kind {
-        Kind::Added(..) => true,
+        Kind::Added { .. } => true,
         _ => false,
     }
 }
 
-pub fn moved_fetched(op: &Op, kind: &Kind, seen: Seen) -> Items
-    ensures { phases_of result ≡ table.moved_fetched op.now kind.now seen }
+pub fn after_fetched(op: &Op, kind: &Kind, seen: Seen) -> Items
+    ensures { phases_of result ≡ spec.after_fetched op.now kind.now seen }
 {
     if is_added(kind) {
         Items::Zero
     } else {
-        moved_piece(op, 0, Touch::Sole, kind, seen)
+        after_piece(op, 0, Touch::Sole, kind, seen)
     }
 }
 
 fn noted(touch: Touch, place: Place) -> Phase
-    ensures { result ≡ table.noted touch place }
+    ensures { result ≡ spec.after_walk touch place }
 {
     match touch {
         Touch::Walk { piece, since, seq } => Phase::Noted {
@@ -139,7 +143,7 @@ fn noted(touch: Touch, place: Place) -> Phase
 }
 
 fn taken(touch: Touch, by: Frame, over: Place) -> Phase
-    ensures { result ≡ table.taken touch by over }
+    ensures { result ≡ spec.with_frame_taken touch by over }
 {
     match over {
         Place::Zero => Phase::Armed { touch, by, over },
@@ -148,7 +152,7 @@ fn taken(touch: Touch, by: Frame, over: Place) -> Phase
 }
 
 fn caught(place: Place) -> Body
-    ensures { result ≡ table.caught place }
+    ensures { result ≡ spec.body_of_fault place }
 {
     match place {
         Place::Own {
@@ -175,19 +179,19 @@ fn caught(place: Place) -> Body
     }
 }
 
-pub fn moved_decide(op: &Op, touch: Touch, kind: &Kind, seen: Seen) -> Items
-    ensures { phases_of result ≡ table.moved_decide op.now touch kind.now seen }
+pub fn after_decide(op: &Op, touch: Touch, kind: &Kind, seen: Seen) -> Items
+    ensures { phases_of result ≡ spec.after_decide op.now touch kind.now seen }
 {
     match kind {
-        Kind::Failed(..) => piece_ends(op, piece_of(touch)),
+        Kind::Failed { .. } => piece_ends(op, piece_of(touch)),
         Kind::Retry(_) => Items::One(Phase::Piece {
             piece: piece_of(touch),
         }),
         Kind::Runlock(_) => Items::One(noted(touch, seen.place)),
-        Kind::Set(..) => Items::One(Phase::Answer),
-        Kind::Place(..) => Items::One(Phase::Decide { touch }),
+        Kind::Set { .. } => Items::One(Phase::Answer),
+        Kind::Place { .. } => Items::One(Phase::Decide { touch }),
         Kind::Take(frame) => Items::One(taken(touch, *frame, seen.place)),
-        Kind::Start(..) => opened(
+        Kind::Start { .. } => opened(
             kind,
             seen,
             caught(seen.place),
@@ -197,17 +201,17 @@ pub fn moved_decide(op: &Op, touch: Touch, kind: &Kind, seen: Seen) -> Items
     }
 }
 
-pub fn moved_taken(touch: Touch, by: Frame, over: Place, kind: &Kind) -> Items
-    ensures { phases_of result ≡ table.moved_taken touch by over kind.now }
+pub fn after_taken(touch: Touch, by: Frame, over: Place, kind: &Kind) -> Items
+    ensures { phases_of result ≡ spec.after_taken touch by over kind.now }
 {
     match kind {
-        Kind::Copied(..) => Items::One(Phase::Armed { touch, by, over }),
+        Kind::Copied { .. } => Items::One(Phase::Armed { touch, by, over }),
         _ => Items::One(Phase::Decide { touch }),
     }
 }
 
 fn piece_of_given_up(touch: Option<Touch>) -> u32
-    ensures { result ≡ table.piece_of_given_up touch }
+    ensures { result ≡ spec.piece_of_given_up touch }
 {
     match touch {
         None => 0,
@@ -215,11 +219,11 @@ fn piece_of_given_up(touch: Option<Touch>) -> u32
     }
 }
 
-pub fn moved_give_up(op: &Op, touch: Option<Touch>, kind: &Kind) -> Items
-    ensures { phases_of result ≡ table.moved_give_up op.now touch kind.now }
+pub fn after_give_up(op: &Op, touch: Option<Touch>, kind: &Kind) -> Items
+    ensures { phases_of result ≡ spec.after_give_up op.now touch kind.now }
 {
     match kind {
-        Kind::Failed(..) => piece_ends(op, piece_of_given_up(touch)),
+        Kind::Failed { .. } => piece_ends(op, piece_of_given_up(touch)),
         _ => Items::Zero,
     }
 }

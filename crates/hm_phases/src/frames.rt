@@ -2,12 +2,13 @@
 ghost use Rattle.std.specs.Prelude.{◌≡◌, ◌≤◌, ◌<◌, ◌∷◌, length, IsTrue};
 ghost use Rattle.hm_history.specs.Words.{names};
 ghost use Rattle.hm_history.specs.Operation.{is_remove};
-ghost use Rattle.hm_history.specs.Moved as table;
+ghost use Rattle.hm_history.specs.Stacks as spec;
 ghost use Rattle.hm_phases.specs.Items.{phases_of, first_takes_count};
 
 use crate::guards::{opened, past_frame};
 use crate::items::{Items, put};
-use hm_base::{Frame, Op, Place, PoolId};
+use hm_base::frames::names;
+use hm_base::{Frame, Op};
 use hm_history::phases::{Body, Phase, Seen};
 use hm_history::{KeptAt, Kind};
 
@@ -21,7 +22,7 @@ fn removes(op: &Op) -> bool
 }
 
 fn giving_up(op: &Op, top: &Phase) -> Option<Phase>
-    ensures { result ≡ table.giving_up op.now top.now }
+    ensures { result ≡ spec.giving_up op.now top.now }
 {
     match top {
         Phase::Decide { touch } => Some(Phase::GiveUp {
@@ -39,7 +40,7 @@ fn giving_up(op: &Op, top: &Phase) -> Option<Phase>
 }
 
 fn gives_up(op: &Op, below: Items) -> Items
-    ensures { phases_of result ≡ table.gives_up op.now (phases_of below) }
+    ensures { phases_of result ≡ spec.gives_up op.now (phases_of below) }
 {
     match below {
         Items::Zero => Items::Zero,
@@ -74,7 +75,7 @@ fn copy_phases(from: &Frame, to: &Frame, below: Items) -> Items
     put(copy, put(copied, below))
 }
 
-pub fn moved_alone(
+pub fn after_emptying(
     op: &Op,
     frame: &Frame,
     at: KeptAt,
@@ -82,15 +83,15 @@ pub fn moved_alone(
     kind: &Kind,
     seen: Seen,
 ) -> Items
-    requires { length (table.moved_alone op.now frame.now at (phases_of below) kind.now seen) ≤ 3 }
-    ensures { phases_of result ≡ table.moved_alone op.now frame.now at (phases_of below) kind.now seen }
+    requires { length (spec.after_emptying op.now frame.now at (phases_of below) kind.now seen) ≤ 3 }
+    ensures { phases_of result ≡ spec.after_emptying op.now frame.now at (phases_of below) kind.now seen }
 {
     match kind {
-        Kind::Start(..) => opened(
+        Kind::Start { .. } => opened(
             kind,
             seen,
             Body::Freeze { frame: *frame },
-            put(Phase::Alone { frame: *frame, at }, below),
+            put(Phase::Emptying { frame: *frame, at }, below),
         ),
         Kind::Take(to) => copy_phases(frame, to, below),
         _ => put(
@@ -105,24 +106,24 @@ pub fn moved_alone(
 
 pub fn counted(below: Items) -> Items
     requires { IsTrue (first_takes_count (phases_of below)) }
-    ensures { phases_of result ≡ table.counted (phases_of below) }
+    ensures { phases_of result ≡ spec.with_one_more (phases_of below) }
 {
     match below {
-        Items::One(Phase::Frames { next, moved }) => Items::One(Phase::Frames {
+        Items::One(Phase::Frames { next, emptied }) => Items::One(Phase::Frames {
             next,
-            moved: moved + 1,
+            emptied: emptied + 1,
         }),
-        Items::Two(Phase::Frames { next, moved }, b) => Items::Two(
+        Items::Two(Phase::Frames { next, emptied }, b) => Items::Two(
             Phase::Frames {
                 next,
-                moved: moved + 1,
+                emptied: emptied + 1,
             },
             b,
         ),
-        Items::Three(Phase::Frames { next, moved }, b, c) => Items::Three(
+        Items::Three(Phase::Frames { next, emptied }, b, c) => Items::Three(
             Phase::Frames {
                 next,
-                moved: moved + 1,
+                emptied: emptied + 1,
             },
             b,
             c,
@@ -131,9 +132,9 @@ pub fn counted(below: Items) -> Items
     }
 }
 
-pub fn moved_copy(from: Frame, to: Frame, part: u8, below: Items) -> Items
-    requires { length (table.moved_copy from to part (phases_of below)) ≤ 3 }
-    ensures { phases_of result ≡ table.moved_copy from to part (phases_of below) }
+pub fn after_copy(from: Frame, to: Frame, part: u8, below: Items) -> Items
+    requires { length (spec.after_copy from to part (phases_of below)) ≤ 3 }
+    ensures { phases_of result ≡ spec.after_copy from to part (phases_of below) }
 {
     if part < 7 {
         put(
@@ -149,48 +150,26 @@ pub fn moved_copy(from: Frame, to: Frame, part: u8, below: Items) -> Items
     }
 }
 
-pub fn moved_finish(from: Frame, to: Option<Frame>, below: Items, kind: &Kind) -> Items
-    requires { length (table.moved_finish from to (phases_of below) kind.now) ≤ 3 }
-    ensures { phases_of result ≡ table.moved_finish from to (phases_of below) kind.now }
+pub fn after_finish(from: Frame, to: Option<Frame>, below: Items, kind: &Kind) -> Items
+    requires { length (spec.after_finish from to (phases_of below) kind.now) ≤ 3 }
+    ensures { phases_of result ≡ spec.after_finish from to (phases_of below) kind.now }
 {
     match (kind, to) {
-        (Kind::Place(_, _, _), _) => put(Phase::Finish { from, to }, below),
+        (
+            Kind::Place {
+                proc: _,
+                page: _,
+                place: _,
+            },
+            _,
+        ) => put(Phase::Finish { from, to }, below),
         (Kind::Drop(_), Some(by)) => put(Phase::Settle { frame: by }, below),
         _ => below,
     }
 }
 
-fn frame_named(place: Place) -> Option<Frame>
-    ensures { result ≡ names place }
-{
-    match place {
-        Place::Empty => None,
-        Place::Zero => None,
-        Place::Sys {
-            number,
-            writable: _,
-        } => Some(Frame {
-            pool: PoolId::System,
-            number,
-        }),
-        Place::Own {
-            dev,
-            number,
-            writable: _,
-        } => Some(Frame {
-            pool: PoolId::Device(dev),
-            number,
-        }),
-        Place::Moving { frame, writable: _ } => Some(frame),
-        Place::Exclusive { number, actor: _ } => Some(Frame {
-            pool: PoolId::System,
-            number,
-        }),
-    }
-}
-
 fn number_of(frame: &Option<Frame>) -> u64
-    ensures { result ≡ table.number_of frame.now }
+    ensures { result ≡ spec.number_of frame.now }
 {
     match frame {
         None => 0,
@@ -199,7 +178,7 @@ fn number_of(frame: &Option<Frame>) -> u64
 }
 
 fn catching(frame: Option<Frame>) -> Body
-    ensures { result ≡ table.catching frame }
+    ensures { result ≡ spec.catching frame }
 {
     match frame {
         None => Body::Nothing,
@@ -207,22 +186,26 @@ fn catching(frame: Option<Frame>) -> Body
     }
 }
 
-pub fn moved_frames(next: u64, moved: u64, kind: &Kind, seen: Seen) -> Items
-    ensures { phases_of result ≡ table.moved_frames next moved kind.now seen }
+pub fn after_frames(next: u64, emptied: u64, kind: &Kind, seen: Seen) -> Items
+    ensures { phases_of result ≡ spec.after_frames next emptied kind.now seen }
 {
     match kind {
-        Kind::Start(..) => {
-            let frame = frame_named(seen.place);
+        Kind::Start { .. } => {
+            let frame = names(&seen.place);
             let next = number_of(&frame);
             opened(
                 kind,
                 seen,
                 catching(frame),
-                Items::One(Phase::Frames { next, moved }),
+                Items::One(Phase::Frames { next, emptied }),
             )
         }
-        Kind::Kept(KeptAt::Frame(frame), _) => Items::One(past_frame(frame, moved)),
-        Kind::Withdrawn(_) => Items::One(Phase::Frames { next, moved }),
+        Kind::Kept {
+            at: KeptAt::Frame(frame),
+            why: _,
+        } => Items::One(past_frame(frame, emptied)),
+        Kind::Drop(frame) => Items::One(past_frame(frame, emptied)),
+        Kind::Withdrawn(_) => Items::One(Phase::Frames { next, emptied }),
         _ => Items::Zero,
     }
 }

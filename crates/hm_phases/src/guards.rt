@@ -1,7 +1,7 @@
 // A guard: the mirrors told, its body, its end.
 ghost use Rattle.std.specs.Prelude.{◌≡◌, ◌+◌, ◌≤◌, ◌<◌, ◌^◌, length};
 ghost use Rattle.hm_history.specs.Operation.{is_evicting};
-ghost use Rattle.hm_history.specs.Moved as table;
+ghost use Rattle.hm_history.specs.Stacks as spec;
 ghost use Rattle.hm_phases.specs.Items.{phases_of};
 ghost use Rattle.hm_history.specs.declared.KeptAt.{KeptAt};
 
@@ -11,11 +11,11 @@ use hm_history::phases::{Body, Phase, Seen};
 use hm_history::{KeptAt, Kind};
 
 pub fn opened(kind: &Kind, seen: Seen, body: Body, below: Items) -> Items
-    requires { length (table.opened kind.now seen body (phases_of below)) ≤ 3 }
-    ensures { phases_of result ≡ table.opened kind.now seen body (phases_of below) }
+    requires { length (spec.with_guard kind.now seen body (phases_of below)) ≤ 3 }
+    ensures { phases_of result ≡ spec.with_guard kind.now seen body (phases_of below) }
 {
     match kind {
-        Kind::Start(proc, span, _) => put(
+        Kind::Start { proc, span, seq: _ } => put(
             Phase::Guard {
                 proc: *proc,
                 span: *span,
@@ -30,28 +30,39 @@ pub fn opened(kind: &Kind, seen: Seen, body: Body, below: Items) -> Items
 }
 
 fn page_of_entry(kind: &Kind) -> u64
-    ensures same { result ≡ table.page_of_entry kind.now }
+    ensures same { result ≡ spec.page_of_entry kind.now }
     ensures below { result < 2 ^ 36 }
 {
     match kind {
-        Kind::Place(_, page, _) => page.number(),
-        Kind::Fresh(_, page) => page.number(),
-        Kind::Kept(KeptAt::Page(page), _) => page.number(),
+        Kind::Place {
+            proc: _,
+            page,
+            place: _,
+        } => page.number(),
+        Kind::Fresh { proc: _, page } => page.number(),
+        Kind::Kept {
+            at: KeptAt::Page(page),
+            why: _,
+        } => page.number(),
         _ => 0,
     }
 }
 
 fn is_place_of(kind: &Kind, proc: Proc) -> bool
-    ensures { result ≡ table.is_place_of kind.now proc }
+    ensures { result ≡ spec.is_place_of kind.now proc }
 {
     match kind {
-        Kind::Place(of, _, _) => *of == proc,
+        Kind::Place {
+            proc: of,
+            page: _,
+            place: _,
+        } => *of == proc,
         _ => false,
     }
 }
 
 fn body_next(body: Body, proc: Proc, kind: &Kind) -> Body
-    ensures { result ≡ table.body_next body proc kind.now }
+    ensures { result ≡ spec.body_next body proc kind.now }
 {
     match body {
         Body::Zap { .. } => Body::Zap {
@@ -81,8 +92,8 @@ fn body_next(body: Body, proc: Proc, kind: &Kind) -> Body
 }
 
 fn ended(body: Body, span: Span, below: Items) -> Items
-    requires { length (table.ended body span (phases_of below)) ≤ 3 }
-    ensures { phases_of result ≡ table.ended body span (phases_of below) }
+    requires { length (spec.after_body body span (phases_of below)) ≤ 3 }
+    ensures { phases_of result ≡ spec.after_body body span (phases_of below) }
 {
     match body {
         Body::Replace { over: _, by } => put(Phase::Drop { frame: by }, below),
@@ -98,8 +109,8 @@ fn ended(body: Body, span: Span, below: Items) -> Items
 }
 
 pub fn dropping(orphan: Option<Frame>, below: Items) -> Items
-    requires { length (table.dropping orphan (phases_of below)) ≤ 3 }
-    ensures { phases_of result ≡ table.dropping orphan (phases_of below) }
+    requires { length (spec.dropping orphan (phases_of below)) ≤ 3 }
+    ensures { phases_of result ≡ spec.dropping orphan (phases_of below) }
 {
     match orphan {
         None => below,
@@ -108,13 +119,16 @@ pub fn dropping(orphan: Option<Frame>, below: Items) -> Items
 }
 
 fn frames_past(frame: &Frame, below: Items) -> Items
-    ensures { phases_of result ≡ table.frames_past frame.now (phases_of below) }
+    ensures { phases_of result ≡ spec.frames_past frame.now (phases_of below) }
 {
     match below {
-        Items::One(Phase::Frames { next: _, moved }) => Items::One(past_frame(frame, moved)),
-        Items::Two(Phase::Frames { next: _, moved }, b) => Items::Two(past_frame(frame, moved), b),
-        Items::Three(Phase::Frames { next: _, moved }, b, c) => Items::Three(
-            past_frame(frame, moved),
+        Items::One(Phase::Frames { next: _, emptied }) => Items::One(past_frame(frame, emptied)),
+        Items::Two(Phase::Frames { next: _, emptied }, b) => Items::Two(
+            past_frame(frame, emptied),
+            b,
+        ),
+        Items::Three(Phase::Frames { next: _, emptied }, b, c) => Items::Three(
+            past_frame(frame, emptied),
             b,
             c,
         ),
@@ -122,19 +136,19 @@ fn frames_past(frame: &Frame, below: Items) -> Items
     }
 }
 
-pub fn past_frame(frame: &Frame, moved: u64) -> Phase
-    ensures { result ≡ Phase.Frames (frame.now.number + 1) moved }
+pub fn past_frame(frame: &Frame, emptied: u64) -> Phase
+    ensures { result ≡ Phase.Frames (frame.now.number + 1) emptied }
 {
     Phase::Frames {
         next: u64::from(frame.number) + 1,
-        moved,
+        emptied,
     }
 }
 
 fn alone_for_frame(frame: &Frame) -> Phase
-    ensures { result ≡ Phase.Alone frame.now (KeptAt.Frame frame.now) }
+    ensures { result ≡ Phase.Emptying frame.now (KeptAt.Frame frame.now) }
 {
-    Phase::Alone {
+    Phase::Emptying {
         frame: *frame,
         at: KeptAt::Frame(*frame),
     }
@@ -150,14 +164,14 @@ fn evicts(op: &Op) -> bool
 }
 
 fn caught_next(op: &Op, frame: &Frame, span: Span, below: Items) -> Items
-    requires { length (table.caught_next op.now frame.now span (phases_of below)) ≤ 3 }
-    ensures { phases_of result ≡ table.caught_next op.now frame.now span (phases_of below) }
+    requires { length (spec.caught_next op.now frame.now span (phases_of below)) ≤ 3 }
+    ensures { phases_of result ≡ spec.caught_next op.now frame.now span (phases_of below) }
 {
     if evicts(op) {
         put(alone_for_frame(frame), frames_past(frame, below))
     } else {
         put(
-            Phase::Alone {
+            Phase::Emptying {
                 frame: *frame,
                 at: KeptAt::Page(span.first()),
             },
@@ -167,8 +181,8 @@ fn caught_next(op: &Op, frame: &Frame, span: Span, below: Items) -> Items
 }
 
 fn below_next(op: &Op, body: Body, span: Span, below: Items) -> Items
-    requires { length (table.below_next op.now body span (phases_of below)) ≤ 3 }
-    ensures { phases_of result ≡ table.below_next op.now body span (phases_of below) }
+    requires { length (spec.below_next op.now body span (phases_of below)) ≤ 3 }
+    ensures { phases_of result ≡ spec.below_next op.now body span (phases_of below) }
 {
     match body {
         Body::Catch { frame } => caught_next(op, &frame, span, below),
@@ -187,19 +201,23 @@ pub struct Guarding {
 }
 
 fn told_mirror(kind: &Kind) -> Option<MirrorId>
-    ensures { result ≡ table.told_mirror kind.now }
+    ensures { result ≡ spec.told_mirror kind.now }
 {
     match kind {
-        Kind::Told(mirror, _, _) => Some(*mirror),
+        Kind::Told {
+            mirror,
+            span: _,
+            seq: _,
+        } => Some(*mirror),
         _ => None,
     }
 }
 
 fn is_end(kind: &Kind) -> bool
-    ensures { result ≡ table.is_end kind.now }
+    ensures { result ≡ spec.is_end kind.now }
 {
     match kind {
-        Kind::End(..) => true,
+        Kind::End { .. } => true,
         _ => false,
     }
 }
@@ -217,8 +235,13 @@ fn guard_phase(guard: &Guarding, told: Option<MirrorId>, body: Body) -> Phase
 }
 
 fn guard_goes_on(op: &Op, guard: &Guarding, below: Items, kind: &Kind, seen: Seen) -> Items
-    requires { length (table.guard_goes_on op.now guard.now.proc guard.now.span guard.now.overlapped guard.now.told guard.now.body (phases_of below) kind.now seen) ≤ 3 }
-    ensures { phases_of result ≡ table.guard_goes_on op.now guard.now.proc guard.now.span guard.now.overlapped guard.now.told guard.now.body (phases_of below) kind.now seen }
+    requires { length
+        (spec.guard_goes_on op.now guard.now.proc guard.now.span guard.now.overlapped guard.now.told guard.now.body
+        (phases_of below) kind.now seen)
+        ≤ 3 }
+    ensures { phases_of result
+        ≡ spec.guard_goes_on op.now guard.now.proc guard.now.span guard.now.overlapped guard.now.told guard.now.body
+        (phases_of below) kind.now seen }
 {
     let next = guard_phase(guard, guard.told, body_next(guard.body, guard.proc, kind));
     dropping(
@@ -227,9 +250,14 @@ fn guard_goes_on(op: &Op, guard: &Guarding, below: Items, kind: &Kind, seen: See
     )
 }
 
-pub fn moved_guard(op: &Op, guard: &Guarding, below: Items, kind: &Kind, seen: Seen) -> Items
-    requires { length (table.moved_guard op.now guard.now.proc guard.now.span guard.now.overlapped guard.now.told guard.now.body (phases_of below) kind.now seen) ≤ 3 }
-    ensures { phases_of result ≡ table.moved_guard op.now guard.now.proc guard.now.span guard.now.overlapped guard.now.told guard.now.body (phases_of below) kind.now seen }
+pub fn after_guard(op: &Op, guard: &Guarding, below: Items, kind: &Kind, seen: Seen) -> Items
+    requires { length
+        (spec.after_guard op.now guard.now.proc guard.now.span guard.now.overlapped guard.now.told guard.now.body
+        (phases_of below) kind.now seen)
+        ≤ 3 }
+    ensures { phases_of result
+        ≡ spec.after_guard op.now guard.now.proc guard.now.span guard.now.overlapped guard.now.told guard.now.body
+        (phases_of below) kind.now seen }
 {
     match told_mirror(kind) {
         Some(mirror) => put(guard_phase(guard, Some(mirror), guard.body), below),

@@ -1,9 +1,10 @@
 // An actor's place within its operation: a stack of at most three phases. Each function has the contract that it is
-// the definition of the same name in hm_history's specs/Moved.
+// the definition of the same name in hm_history's specs/Stacks. What is due at a phase is hm_steps; hm_actors keeps
+// the stack of each actor.
 #![tactic(auto)]
 
 ghost use Rattle.std.specs.Prelude.{◌≡◌, ℕ, ◌+◌, ◌≤◌, ◌<◌, [], ◌∷◌, length, IfOk, IsTrue, IsOk, option_copied, slice_get};
-ghost use Rattle.hm_history.specs.Moved.{first_phase, moved};
+ghost use Rattle.hm_history.specs.Stacks.{first_phase, stack_after};
 ghost use Rattle.hm_phases.specs.Items.{below_takes_count};
 
 use hm_base::{NoMemory, Op};
@@ -72,45 +73,10 @@ impl Stack {
     /// What the stack is after the actor's entry, given what the world showed just before it; empty where the entry
     /// ends the operation.
     pub fn moved(&mut self, op: &Op, kind: &Kind, seen: Seen)
-        requires room { length (moved op.now self.old kind.now seen) ≤ 3 }
+        requires room { length (stack_after op.now self.old kind.now seen) ≤ 3 }
         requires counted { IsTrue (below_takes_count self.old) }
-        ensures { self.new ≡ moved op.now self.old kind.now seen }
+        ensures { self.new ≡ stack_after op.now self.old kind.now seen }
     {
         self.items = moves::moved(op, self.items, kind, seen);
-    }
-}
-
-#[cfg(test)]
-mod tests {
-    use super::*;
-    use hm_base::{Page, Place, Proc, Rights, Span};
-    use std::test::Fail;
-
-    fn nothing_seen() -> Seen {
-        Seen {
-            at: 0,
-            overlapped: false,
-            place: Place::Empty,
-            orphan: None,
-            page: None,
-        }
-    }
-
-    #[test]
-    fn a_map_from_begin_to_end(rt: HostRuntime) -> Result<(), Fail> {
-        let op = Op::Map {
-            proc: Proc::new(0),
-            span: Span::new(Page::new(16), 1),
-            rights: Rights::Read,
-        };
-        let mut stack = Stack::new(rt.alloc())?;
-        assert!(rt; stack.top().is_none());
-        stack.begin(&op);
-        assert!(rt; stack.top() == Some(&Phase::Begin));
-        stack.moved(&op, &Kind::Wlock(Proc::new(0)), nothing_seen());
-        assert!(rt; stack.top() == Some(&Phase::Locked));
-        stack.moved(&op, &Kind::Refused(5), nothing_seen());
-        assert!(rt; stack.top().is_none());
-        Ok(())
     }
 }

@@ -1,24 +1,23 @@
 // The steps of a migration after its setup.
 ghost use Rattle.std.specs.Prelude.{◌≡◌, ◌+◌, ◌≤◌, [], ◌∷◌, length};
-ghost use Rattle.hm_history.specs.Moved as table;
+ghost use Rattle.hm_history.specs.Stacks as spec;
 ghost use Rattle.hm_phases.specs.Items.{phases_of};
 
-use crate::frames::moved_finish;
+use crate::frames::after_finish;
 use crate::guards::{dropping, opened};
 use crate::items::{Items, put};
 use hm_base::Frame;
-use hm_history::phases::{Body, Migrating, Phase, Seen};
+use hm_history::phases::{Body, Migrating, MoveStep, Phase, Seen};
 use hm_history::{KeptWhy, Kind};
 
-fn freezing(step: u8, source: Option<Frame>, dest: Option<Frame>) -> Body
-    ensures { result ≡ table.freezing step source dest }
+fn freezing(step: MoveStep, source: Option<Frame>, dest: Option<Frame>) -> Body
+    ensures { result ≡ spec.freezing step source dest }
 {
     match (source, dest) {
         (Some(frame), _) => {
-            if step == 3 {
-                Body::Freeze { frame }
-            } else {
-                Body::Nothing
+            match step {
+                MoveStep::FreezeOthers => Body::Freeze { frame },
+                _ => Body::Nothing,
             }
         }
         (None, Some(by)) => Body::Fresh { by },
@@ -27,8 +26,8 @@ fn freezing(step: u8, source: Option<Frame>, dest: Option<Frame>) -> Body
 }
 
 fn copying(source: Option<Frame>, to: Frame, below: Items) -> Items
-    requires { length (table.copying source to (phases_of below)) ≤ 3 }
-    ensures { phases_of result ≡ table.copying source to (phases_of below) }
+    requires { length (spec.copying source to (phases_of below)) ≤ 3 }
+    ensures { phases_of result ≡ spec.copying source to (phases_of below) }
 {
     match source {
         None => below,
@@ -37,17 +36,27 @@ fn copying(source: Option<Frame>, to: Frame, below: Items) -> Items
 }
 
 fn kept_on(why: KeptWhy, page: Migrating) -> Items
-    ensures { phases_of result ≡ table.dropping_lost why page.dest (Phase.Moves (table.kept_step why) (page.page + 1) ∷ []) }
+    ensures { phases_of result
+        ≡ spec.dropping_lost why page.dest (Phase.Moves (spec.kept_step why) (page.page + 1) ∷ []) }
 {
     let next = page.page.number() + 1;
     match why {
-        KeptWhy::Lost => dropping(page.dest, Items::One(Phase::Moves { step: 5, next })),
-        _ => Items::One(Phase::Moves { step: 4, next }),
+        KeptWhy::Lost => dropping(
+            page.dest,
+            Items::One(Phase::Moves {
+                step: MoveStep::Commit,
+                next,
+            }),
+        ),
+        _ => Items::One(Phase::Moves {
+            step: MoveStep::TakeAndCopy,
+            next,
+        }),
     }
 }
 
 fn finishing(page: Migrating, kind: &Kind) -> Items
-    ensures { phases_of result ≡ table.finishing page kind.now }
+    ensures { phases_of result ≡ spec.finishing page kind.now }
 {
     let Migrating {
         page,
@@ -56,29 +65,30 @@ fn finishing(page: Migrating, kind: &Kind) -> Items
         moved,
     } = page;
     let below = Items::One(Phase::Moves {
-        step: 7,
+        step: MoveStep::Finish,
         next: page.number() + 1,
     });
     match source {
         None => below,
-        Some(from) => moved_finish(from, if moved { dest } else { None }, below, kind),
+        Some(from) => after_finish(from, if moved { dest } else { None }, below, kind),
     }
 }
 
-fn migration_starts(step: u8, page: Migrating, kind: &Kind, seen: Seen) -> Items
-    ensures { phases_of result ≡ table.opened kind.now seen (table.freezing step page.source page.dest) (table.moves_on step page.page ∷ []) }
+fn migration_starts(step: MoveStep, page: Migrating, kind: &Kind, seen: Seen) -> Items
+    ensures { phases_of result
+        ≡ spec.with_guard kind.now seen (spec.freezing step page.source page.dest)
+        (spec.next_cursor step page.page ∷ []) }
 {
     let number = page.page.number();
-    let on = if step == 3 {
-        Phase::Moves {
-            step: 3,
+    let on = match step {
+        MoveStep::FreezeOthers => Phase::Moves {
+            step: MoveStep::FreezeOthers,
             next: number,
-        }
-    } else {
-        Phase::Moves {
-            step: 5,
+        },
+        _ => Phase::Moves {
+            step: MoveStep::Commit,
             next: number + 1,
-        }
+        },
     };
     opened(
         kind,
@@ -88,25 +98,38 @@ fn migration_starts(step: u8, page: Migrating, kind: &Kind, seen: Seen) -> Items
     )
 }
 
-fn moved_moves(step: u8, page: Migrating, kind: &Kind, seen: Seen) -> Items
-    ensures { phases_of result ≡ table.moved_moves step page kind.now seen }
+fn after_moves(step: MoveStep, page: Migrating, kind: &Kind, seen: Seen) -> Items
+    ensures { phases_of result ≡ spec.after_moves step page kind.now seen }
 {
     let next = page.page.number() + 1;
     match kind {
-        Kind::Start(..) => migration_starts(step, page, kind, seen),
-        Kind::Take(to) => copying(page.source, *to, Items::One(Phase::Moves { step: 4, next })),
-        Kind::Kept(_, why) => kept_on(*why, page),
-        Kind::Committed(..) => Items::One(Phase::Moves { step: 5, next }),
-        Kind::Set(..) => Items::One(Phase::Moves { step: 6, next }),
+        Kind::Start { .. } => migration_starts(step, page, kind, seen),
+        Kind::Take(to) => copying(
+            page.source,
+            *to,
+            Items::One(Phase::Moves {
+                step: MoveStep::TakeAndCopy,
+                next,
+            }),
+        ),
+        Kind::Kept { at: _, why } => kept_on(*why, page),
+        Kind::Committed { .. } => Items::One(Phase::Moves {
+            step: MoveStep::Commit,
+            next,
+        }),
+        Kind::Set { .. } => Items::One(Phase::Moves {
+            step: MoveStep::SetOwnTable,
+            next,
+        }),
         _ => finishing(page, kind),
     }
 }
 
-pub fn moved_migration(step: u8, page: Option<Migrating>, kind: &Kind, seen: Seen) -> Items
-    ensures { phases_of result ≡ table.moved_migration step page kind.now seen }
+pub fn after_migration(step: MoveStep, page: Option<Migrating>, kind: &Kind, seen: Seen) -> Items
+    ensures { phases_of result ≡ spec.after_migration step page kind.now seen }
 {
     match page {
         None => Items::Zero,
-        Some(page) => moved_moves(step, page, kind, seen),
+        Some(page) => after_moves(step, page, kind, seen),
     }
 }

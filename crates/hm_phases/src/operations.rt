@@ -1,28 +1,31 @@
 // The first steps of an operation, and the operations on areas and snapshots.
 ghost use Rattle.std.specs.Prelude.{◌≡◌};
-ghost use Rattle.hm_history.specs.Moved as table;
+ghost use Rattle.hm_history.specs.Stacks as spec;
 ghost use Rattle.hm_phases.specs.Items.{phases_of};
 
 use crate::guards::opened;
 use crate::items::Items;
 use hm_base::{Op, Rights, Span};
 use hm_history::Kind;
-use hm_history::phases::{Body, Phase, Seen, Touch};
+use hm_history::phases::{Body, MoveStep, Phase, Seen, Touch};
 
 pub fn first_phase(op: &Op) -> Phase
-    ensures { result ≡ table.first_phase op.now }
+    ensures { result ≡ spec.first_phase op.now }
 {
     match op {
         Op::Load { .. } | Op::Store { .. } | Op::DeviceLoad { .. } | Op::DeviceStore { .. } =>
             Phase::Piece { piece: 0 },
         Op::Add { .. } => Phase::Piece { piece: 0 },
-        Op::Evict { .. } | Op::Remove { .. } => Phase::Frames { next: 0, moved: 0 },
+        Op::Evict { .. } | Op::Remove { .. } => Phase::Frames {
+            next: 0,
+            emptied: 0,
+        },
         _ => Phase::Begin,
     }
 }
 
 fn read_locked(op: &Op) -> Phase
-    ensures { result ≡ table.read_locked op.now }
+    ensures { result ≡ spec.read_locked op.now }
 {
     match op {
         Op::Snap { mirror: _, span } => Phase::Pages {
@@ -33,19 +36,19 @@ fn read_locked(op: &Op) -> Phase
     }
 }
 
-pub fn moved_begin(op: &Op, kind: &Kind) -> Items
-    ensures { phases_of result ≡ table.moved_begin op.now kind.now }
+pub fn after_begin(op: &Op, kind: &Kind) -> Items
+    ensures { phases_of result ≡ spec.after_begin op.now kind.now }
 {
     match kind {
         Kind::Wlock(_) => Items::One(Phase::Locked),
         Kind::Rlock(_) => Items::One(read_locked(op)),
-        Kind::Detaching(_, seq) => Items::One(Phase::Detaching { seq: *seq }),
+        Kind::Detaching { mirror: _, seq } => Items::One(Phase::Detaching { seq: *seq }),
         _ => Items::Zero,
     }
 }
 
 fn body_of(op: &Op, span: Span) -> Body
-    ensures { result ≡ table.body_of op.now span }
+    ensures { result ≡ spec.body_of op.now span }
 {
     match op {
         Op::Protect {
@@ -66,23 +69,25 @@ fn body_of(op: &Op, span: Span) -> Body
     }
 }
 
-pub fn moved_locked(op: &Op, kind: &Kind, seen: Seen) -> Items
-    ensures { phases_of result ≡ table.moved_locked op.now kind.now seen }
+pub fn after_locked(op: &Op, kind: &Kind, seen: Seen) -> Items
+    ensures { phases_of result ≡ spec.after_locked op.now kind.now seen }
 {
     match kind {
-        Kind::Named(_, _) => Items::One(Phase::Ready),
-        Kind::Start(_, span, _) => opened(
-            kind,
-            seen,
-            body_of(op, *span),
-            Items::One(Phase::Answer),
-        ),
+        Kind::Named {
+            parent: _,
+            child: _,
+        } => Items::One(Phase::Ready),
+        Kind::Start {
+            proc: _,
+            span,
+            seq: _,
+        } => opened(kind, seen, body_of(op, *span), Items::One(Phase::Answer)),
         _ => Items::Zero,
     }
 }
 
-pub fn moved_ready(op: &Op, kind: &Kind, seen: Seen) -> Items
-    ensures { phases_of result ≡ table.moved_ready op.now kind.now seen }
+pub fn after_ready(op: &Op, kind: &Kind, seen: Seen) -> Items
+    ensures { phases_of result ≡ spec.after_ready op.now kind.now seen }
 {
     match op {
         Op::Fork { .. } => opened(
@@ -100,7 +105,10 @@ pub fn moved_ready(op: &Op, kind: &Kind, seen: Seen) -> Items
                 kind,
                 seen,
                 Body::Select { next },
-                Items::One(Phase::Moves { step: 3, next }),
+                Items::One(Phase::Moves {
+                    step: MoveStep::FreezeOthers,
+                    next,
+                }),
             )
         }
         Op::ToSystem { mirror: _, span } => {
@@ -109,15 +117,18 @@ pub fn moved_ready(op: &Op, kind: &Kind, seen: Seen) -> Items
                 kind,
                 seen,
                 Body::Select { next },
-                Items::One(Phase::Moves { step: 3, next }),
+                Items::One(Phase::Moves {
+                    step: MoveStep::FreezeOthers,
+                    next,
+                }),
             )
         }
         _ => Items::Zero,
     }
 }
 
-pub fn moved_answer(kind: &Kind) -> Items
-    ensures { phases_of result ≡ table.moved_answer kind.now }
+pub fn after_answer(kind: &Kind) -> Items
+    ensures { phases_of result ≡ spec.after_answer kind.now }
 {
     match kind {
         Kind::Runlock(_) => Items::One(Phase::Piece { piece: 0 }),
@@ -125,11 +136,15 @@ pub fn moved_answer(kind: &Kind) -> Items
     }
 }
 
-pub fn moved_pages(kind: &Kind) -> Items
-    ensures { phases_of result ≡ table.moved_pages kind.now }
+pub fn after_pages(kind: &Kind) -> Items
+    ensures { phases_of result ≡ spec.after_pages kind.now }
 {
     match kind {
-        Kind::Seen(_, page, _) => Items::One(Phase::Pages {
+        Kind::Seen {
+            mirror: _,
+            page,
+            code: _,
+        } => Items::One(Phase::Pages {
             next: page.number() + 1,
         }),
         _ => Items::Zero,

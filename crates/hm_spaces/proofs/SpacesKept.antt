@@ -4,16 +4,17 @@ use Rattle.std.specs.Bool.{if◌then◌else◌}
 use Rattle.std.proofs.lemmas.Bool.{cases_eq}
 use Rattle.std.proofs.lemmas.Bool.Decides.{nat_tests}
 use Rattle.std.proofs.lemmas.List.{length-replicate, get_or-replicate}
-use Rattle.std.proofs.lemmas.Grind.{elements, common_steps}
+use Rattle.std.proofs.lemmas.Grind.{elements}
 use Rattle.hm_base.specs.declared.area.Area.{Area}
 use Rattle.hm_base.specs.declared.ops.Op.{Op}
 use Rattle.hm_history.specs.Words.{with_at}
-use Rattle.hm_history.specs.Plain.{Plain, plain_start, plain_next, plain_takes, area_refusal, without, with_rights, with_area}
+use Rattle.hm_history.specs.Plain.{Plain, plain_start, plain_next, plain_accepts, area_refusal, without, with_rights, with_area}
 use Rattle.hm_history.specs.Locks.{Locks, locks_start, map_next, releases}
 use Rattle.hm_history.specs.After.{After, after_entry}
 use Rattle.hm_history.specs.declared.locks.MapLock.{MapLock}
 use Rattle.hm_history.specs.declared.Kind.{Kind}
 use Rattle.hm_spaces.specs.Spaces.{SpacesValue, SpacesShown, SpacesFit, plain_of, spaces_start, spaces_next, there_next, named_next, areas_next, map_locks_next, HasParent}
+use Rattle.hm_history.proofs.Updates.{len_set}
 
 -- below n, a list has what a function gives
 record Lists {X : Type 0} (d : X) (n : ℕ) (g : ℕ → X) (xs : List X) : Type 0 where
@@ -26,9 +27,6 @@ set_here g xs a x y d b l e q = grind (arith, nat_tests, elements)
 
 set_there : {X : Type 0} (g : ℕ → X) (xs : List X) (a : ℕ) (x y d : X) (b : ℕ) → b < length xs → (b ≡ a → ⊥) → slice_index_or xs b d ≡ g b → slice_index_or (slice_set xs a x) b d ≡ with_at g a y b
 set_there g xs a x y d b l e q = grind (arith, nat_tests, elements)
-
-len_set : {X : Type 0} (xs : List X) (a : ℕ) (x : X) (n : ℕ) → length xs ≡ n → length (slice_set xs a x) ≡ n
-len_set xs a x n e = grind (arith, common_steps)
 
 written : {X : Type 0} (d : X) (n : ℕ) (g : ℕ → X) (xs : List X) (a : ℕ) (x y : X) → (a < n → x ≡ y) → Lists d n g xs → Lists d n (with_at g a y) (slice_set xs a x)
 written d n g xs a x y e h = record { len = len_set xs a x n h.len; at = λ b l. by b l (cases_eq b a) }
@@ -107,13 +105,13 @@ spaces_fit s map (Kind.Unmapped p r) x h f = λ l. rw (h.areas_at p l) (f l)
 spaces_fit s map (Kind.Protected p r w) x h f = λ l. rw (h.areas_at p l) (f l)
 spaces_fit s map k x h f = f
 
-none_of : (b : Bool) (x : Option ℕ) → (b && is_none x) ≡ true → x ≡ None
+none_of : {X : Type 0} (b : Bool) (x : Option X) → (b && is_none x) ≡ true → x ≡ None
 none_of true None e = refl
 none_of true (Some n) e = cc
 none_of false x e = cc
 
 -- an entry that the plain state takes fits
-pub taken_fits : (s : Plain) (k : Kind) → plain_takes s k ≡ true → SpacesFit s k
+pub taken_fits : (s : Plain) (k : Kind) → plain_accepts s k ≡ true → SpacesFit s k
 taken_fits s (Kind.Mapped p r w) e = λ l. none_of (s.there p) (area_refusal s (Op.Map p r w)) e
 taken_fits s (Kind.Unmapped p r) e = λ l. none_of (s.there p) (area_refusal s (Op.Unmap p r)) e
 taken_fits s (Kind.Protected p r w) e = λ l. none_of (s.there p) (area_refusal s (Op.Protect p r w)) e

@@ -1,6 +1,7 @@
 -- The areas of one process of a list, and the changes of them that are not refused.
-use Rattle.std.specs.Prelude.{ℕ, List, [], slice_index_or}
+use Rattle.std.specs.Prelude.{List, [], slice_index_or}
 use Rattle.hm_base.specs.declared.area.Area.{Area}
+use Rattle.hm_base.specs.declared.cause.Cause.{Cause}
 use Rattle.hm_history.specs.Plain.{Plain, plain_start}
 use Rattle.vm_areas.specs.declared.AreaRefusal.{AreaRefusal}
 use Rattle.vm_areas.specs.declared.AreaRefusal.TheVariants.{Overlap, TooMany, Unmapped}
@@ -8,8 +9,8 @@ use Rattle.vm_areas.specs.declared.AreaRefusal.TheVariants.{Overlap, TooMany, Un
 abbrev pub plain_with : List (List Area) → Plain
 plain_with xs = record plain_start { areas = λ p. slice_index_or xs p [] }
 
--- the number of a refusal
-abbrev pub refusal_code : AreaRefusal → ℕ
-refusal_code Overlap = 5
-refusal_code TooMany = 6
-refusal_code Unmapped = 1
+-- the cause of a refusal
+abbrev pub refusal_cause : AreaRefusal → Cause
+refusal_cause Overlap = Cause.Overlap
+refusal_cause TooMany = Cause.TooManyAreas
+refusal_cause Unmapped = Cause.Unmapped

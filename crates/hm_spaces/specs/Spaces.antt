@@ -24,7 +24,8 @@ spaces_start = record {
 }
 
 -- it is what these functions give below 32 processes and 16 actors
-pub record SpacesShown (there named : ℕ → Bool) (areas : ℕ → List Area) (map : ℕ → Option MapLock) (x : SpacesValue) : Type 0 where
+pub record SpacesShown (there named : ℕ → Bool) (areas : ℕ → List Area) (map : ℕ → Option MapLock)
+    (x : SpacesValue) : Type 0 where
   pub there_len : length x.there ≡ 32
   pub named_len : length x.named ≡ 32
   pub areas_len : length x.areas ≡ 32
@@ -56,7 +57,8 @@ named_next (Kind.Named p c) xs = slice_set xs c true
 named_next k xs = xs
 
 abbrev pub areas_next : Kind → List (List Area) → List (List Area)
-areas_next (Kind.Mapped p r w) xs = slice_set xs p (with_area (record { span = r; rights = w }) (slice_index_or xs p []))
+areas_next (Kind.Mapped p r w) xs =
+    slice_set xs p (with_area (record { span = r; rights = w }) (slice_index_or xs p []))
 areas_next (Kind.Unmapped p r) xs = slice_set xs p (without r (slice_index_or xs p []))
 areas_next (Kind.Protected p r w) xs = slice_set xs p (with_rights r w (slice_index_or xs p []))
 areas_next (Kind.Forked p c) xs = slice_set xs c (slice_index_or xs p [])

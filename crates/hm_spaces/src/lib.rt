@@ -1,13 +1,14 @@
-// The processes: which are there, what they have mapped, and who holds their mmap locks.
+// The processes: which are there, what they have mapped, and who holds their mmap locks (`struct mm_struct` of
+// include/linux/mm_types.h, with its areas and `mmap_lock`).
 #![tactic(auto)]
 
 ghost use Rattle.std.specs.Prelude.{◌≡◌, ◌<◌, IfOk};
-ghost use Rattle.hm_history.specs.Plain.{rights_of, is_read_only, is_read_write, meets, area_refusal};
+ghost use Rattle.hm_history.specs.Plain.{rights_of, meets, area_refusal};
 ghost use Rattle.hm_history.specs.Locks.{writer, lowest_other};
 ghost use Rattle.hm_history.specs.Due.{proc_of_op};
 ghost use Rattle.hm_spaces.specs.Spaces.{spaces_start, spaces_next, SpacesFit, HasParent, plain_of, locks_of};
 
-use hm_base::{Actor, NoMemory, Op, Page, Proc, Rights, Span};
+use hm_base::{Actor, Cause, NoMemory, Op, Page, Proc, Rights, Span};
 use hm_history::Kind;
 use hm_history::locks::MapLock;
 use std::alloc::Global;
@@ -94,26 +95,6 @@ impl Spaces {
         self.areas[proc.number() as usize].find(page)
     }
 
-    /// Whether the page has an area that allows no write.
-    pub fn is_read_only(&self, proc: Proc, page: Page) -> bool
-        ensures { result ≡ is_read_only (rights_of (plain_of self.now) proc page) }
-    {
-        match self.rights(proc, page) {
-            Some(Rights::Read) => true,
-            _ => false,
-        }
-    }
-
-    /// Whether the page has an area that allows writes.
-    pub fn is_read_write(&self, proc: Proc, page: Page) -> bool
-        ensures { result ≡ is_read_write (rights_of (plain_of self.now) proc page) }
-    {
-        match self.rights(proc, page) {
-            Some(Rights::ReadWrite) => true,
-            _ => false,
-        }
-    }
-
     /// Whether some page of the span has an area.
     pub fn meets(&self, proc: Proc, span: Span) -> bool
         ensures { result ≡ meets span ((plain_of self.now).areas proc) }
@@ -122,7 +103,7 @@ impl Spaces {
     }
 
     /// Why a `map`, `unmap` or `protect` is refused now, by the number of a refusal; others never are.
-    pub fn area_refusal(&self, op: &Op) -> Option<u32>
+    pub fn area_refusal(&self, op: &Op) -> Option<Cause>
         ensures refusal { result ≡ area_refusal (plain_of self.now) op.now }
         ensures proc { proc_of_op op.now < 32 }
     {
@@ -143,6 +124,3 @@ impl Spaces {
         map_locks::lowest_other(&self.map_locks, proc, actor)
     }
 }
-
-#[cfg(test)]
-mod tests;

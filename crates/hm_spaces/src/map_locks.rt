@@ -14,18 +14,18 @@ fn releases(kind: &Kind) -> bool
     ensures { result ≡ releases kind.now }
 {
     match kind {
-        Kind::Loaded(..)
-        | Kind::Stored(..)
-        | Kind::Failed(..)
+        Kind::Loaded { .. }
+        | Kind::Stored { .. }
+        | Kind::Failed { .. }
         | Kind::Refused(..)
-        | Kind::Mapped(..)
-        | Kind::Unmapped(..)
-        | Kind::Protected(..)
-        | Kind::Forked(..)
+        | Kind::Mapped { .. }
+        | Kind::Unmapped { .. }
+        | Kind::Protected { .. }
+        | Kind::Forked { .. }
         | Kind::Exited(..)
         | Kind::Migrated(..)
         | Kind::Retry(..)
-        | Kind::Excluded(..)
+        | Kind::Excluded { .. }
         | Kind::Runlock(..) => true,
         _ => false,
     }

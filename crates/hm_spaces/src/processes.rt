@@ -8,7 +8,7 @@ pub fn step_there(there: &mut [bool; 32], kind: &Kind)
     ensures { there.new ≡ there_next kind.now there.old }
 {
     match kind {
-        Kind::Forked(_, child) => there[child.number() as usize] = true,
+        Kind::Forked { parent: _, child } => there[child.number() as usize] = true,
         Kind::Exited(proc) => there[proc.number() as usize] = false,
         _ => (),
     }
@@ -18,7 +18,7 @@ pub fn step_named(named: &mut [bool; 32], kind: &Kind)
     ensures { named.new ≡ named_next kind.now named.old }
 {
     match kind {
-        Kind::Named(_, child) => named[child.number() as usize] = true,
+        Kind::Named { parent: _, child } => named[child.number() as usize] = true,
         _ => (),
     }
 }

@@ -4,9 +4,9 @@ ghost use Rattle.std.specs.Option.{option_map};
 ghost use Rattle.hm_history.specs.Plain.{area_refusal};
 ghost use Rattle.hm_history.specs.Due.{proc_of_op};
 ghost use Rattle.hm_spaces.specs.Spaces.{areas_next, SpacesFit, HasParent};
-ghost use Rattle.hm_spaces.specs.Refusals.{plain_with, refusal_code};
+ghost use Rattle.hm_spaces.specs.Refusals.{plain_with, refusal_cause};
 
-use hm_base::{NoMemory, Op};
+use hm_base::{Cause, NoMemory, Op};
 use hm_history::Kind;
 use std::alloc::Global;
 use std::mem;
@@ -17,10 +17,7 @@ pub fn nothing_mapped(alloc: Global) -> Result<Vec<Areas>, NoMemory>
 {
     let mut areas = Vec::new(alloc);
     for _at in 0..32u32 {
-        match areas.push(Areas::new(alloc)?) {
-            Ok(()) => (),
-            Err(_) => return Err(NoMemory),
-        }
+        areas.push(Areas::new(alloc)?)?;
     }
     Ok(areas)
 }
@@ -32,19 +29,19 @@ pub fn step(areas: &mut Vec<Areas>, spare: &mut Areas, kind: &Kind)
     ensures parent { HasParent kind.now }
 {
     match kind {
-        Kind::Mapped(proc, span, rights) => {
+        Kind::Mapped { proc, span, rights } => {
             let of_proc = &mut areas[proc.number() as usize];
             let _ = of_proc.insert(*span, *rights);
         }
-        Kind::Unmapped(proc, span) => {
+        Kind::Unmapped { proc, span } => {
             let of_proc = &mut areas[proc.number() as usize];
             let _ = of_proc.remove(*span);
         }
-        Kind::Protected(proc, span, rights) => {
+        Kind::Protected { proc, span, rights } => {
             let of_proc = &mut areas[proc.number() as usize];
             let _ = of_proc.protect(*span, *rights);
         }
-        Kind::Forked(parent, child) => {
+        Kind::Forked { parent, child } => {
             spare.copy_from(&areas[parent.number() as usize]);
             let of_child = &mut areas[child.number() as usize];
             mem::swap(of_child, spare);
@@ -57,18 +54,18 @@ pub fn step(areas: &mut Vec<Areas>, spare: &mut Areas, kind: &Kind)
     }
 }
 
-fn code(refusal: Option<AreaRefusal>) -> Option<u32>
-    ensures { result ≡ option_map refusal_code refusal }
+fn cause_of(refusal: Option<AreaRefusal>) -> Option<Cause>
+    ensures { result ≡ option_map refusal_cause refusal }
 {
     match refusal {
         None => None,
-        Some(AreaRefusal::Overlap) => Some(5),
-        Some(AreaRefusal::TooMany) => Some(6),
-        Some(AreaRefusal::Unmapped) => Some(1),
+        Some(AreaRefusal::Overlap) => Some(Cause::Overlap),
+        Some(AreaRefusal::TooMany) => Some(Cause::TooManyAreas),
+        Some(AreaRefusal::Unmapped) => Some(Cause::Unmapped),
     }
 }
 
-pub fn refusal(areas: &Vec<Areas>, op: &Op) -> Option<u32>
+pub fn refusal(areas: &Vec<Areas>, op: &Op) -> Option<Cause>
     requires len { length areas.now.items ≡ 32 }
     ensures refusal { result ≡ area_refusal (plain_with areas.now.items) op.now }
     ensures proc { proc_of_op op.now < 32 }
@@ -78,19 +75,19 @@ pub fn refusal(areas: &Vec<Areas>, op: &Op) -> Option<u32>
             proc,
             span,
             rights: _,
-        } => code(areas[proc.number() as usize].insert_refusal(*span)),
-        Op::Unmap { proc, span } => code(areas[proc.number() as usize].remove_refusal(*span)),
+        } => cause_of(areas[proc.number() as usize].insert_refusal(*span)),
+        Op::Unmap { proc, span } => cause_of(areas[proc.number() as usize].remove_refusal(*span)),
         Op::Protect {
             proc,
             span,
             rights: _,
-        } => code(areas[proc.number() as usize].protect_refusal(*span)),
+        } => cause_of(areas[proc.number() as usize].protect_refusal(*span)),
         Op::Fork { proc, child: _ } => {
-            let _ = proc.number();
+            proc.facts();
             None
         }
         Op::Exit { proc } => {
-            let _ = proc.number();
+            proc.facts();
             None
         }
         _ => None,

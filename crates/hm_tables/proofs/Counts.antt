@@ -3,16 +3,18 @@ use Rattle.std.proofs.Common.{◌≡◌, ℕ, suc, ◌+◌, Bool, true, false, n
 use Rattle.std.specs.List.{list_any}
 use Rattle.std.proofs.lemmas.Bool.Decides.{nat_tests}
 use Rattle.std.proofs.lemmas.List.Sums.{sum_by-cons}
+use Rattle.std.proofs.lemmas.Bool.{not-true, and_parts}
 use Rattle.rev_maps.specs.declared.uses.Use.{Use}
 use Rattle.rev_maps.specs.Uses.{is_rising, without_use}
-use Rattle.rev_maps.proofs.Rising.{front, back, rising_without}
+use Rattle.rev_maps.proofs.Rising.{rising_without}
 use Rattle.hm_history.specs.Places.{is_page}
 use Rattle.hm_tables.specs.Values.{mark_by}
 use Rattle.hm_tables.specs.Shown.{is_once}
 use Rattle.hm_tables.proofs.Marks.{has_is, mark_cons, mark_without, length_without}
-use Rattle.hm_tables.proofs.Truths.{not_true, page_itself, true_false}
+use Rattle.hm_tables.proofs.Truths.{page_itself}
+use Rattle.hm_history.proofs.Tests.{true_false}
 
-turned : (a b p v : ℕ) → (eqb a p && eqb b v) ≡ (eqb p a && eqb v b)
+pub turned : (a b p v : ℕ) → (eqb a p && eqb b v) ≡ (eqb p a && eqb v b)
 turned a b p v = grind (arith, nat_tests)
 
 count_cons : {X : Type 0} (t : X → Bool) (x : X) (xs : List X) → count_by t (x ∷ xs) ≡ cond (t x) 1 0 + count_by t xs
@@ -46,12 +48,12 @@ count_is t us [] rising once exact listed = no_uses us (λ q u. none q u (t q u)
     none q u false e = exact q u ∙ e
 count_is t us (x ∷ xs) rising once exact listed =
     by (t x.0 x.1) refl
-    (count_is t us xs rising (back (not (list_any (is_page x.0 x.1) xs)) (is_once xs) once) exact)
-    (count_is (but x.0 x.1 t) (without_use x.0 x.1 us) xs (rising_without x.0 x.1 us rising) (back (not (list_any (is_page x.0 x.1) xs)) (is_once xs) once) exact_but)
+    (count_is t us xs rising (and_parts (not (list_any (is_page x.0 x.1) xs)) (is_once xs) once).1 exact)
+    (count_is (but x.0 x.1 t) (without_use x.0 x.1 us) xs (rising_without x.0 x.1 us rising) (and_parts (not (list_any (is_page x.0 x.1) xs)) (is_once xs) once).1 exact_but)
     ∙ sym (count_cons (λ y. t y.0 y.1) x xs)
   where
     absent : list_any (is_page x.0 x.1) xs ≡ false
-    absent = not_true (list_any (is_page x.0 x.1) xs) (front (not (list_any (is_page x.0 x.1) xs)) (is_once xs) once)
+    absent = not-true (list_any (is_page x.0 x.1) xs) (and_parts (not (list_any (is_page x.0 x.1) xs)) (is_once xs) once).0
 
     exact_but : (q u : ℕ) → is_some (mark_by q u (without_use x.0 x.1 us)) ≡ but x.0 x.1 t q u
     exact_but q u = ap is_some (mark_without x.0 x.1 q u us) ∙ split (eqb q x.0 && eqb u x.1)

@@ -2,9 +2,10 @@
 use Rattle.std.proofs.Common.{◌≡◌, ℕ, Bool, true, false, ◌&&◌, ◌||◌, eqb, ltb, cond, Option, Some, None, is_some, option_map, List, [], ◌∷◌, refl, sym, ap, ◌∙◌, arith}
 use Rattle.std.specs.Prelude.{find}
 use Rattle.std.proofs.lemmas.Bool.Decides.{nat_tests}
+use Rattle.std.proofs.lemmas.Bool.{and_parts}
 use Rattle.rev_maps.specs.declared.uses.Use.{Use}
 use Rattle.rev_maps.specs.Uses.{precedes, is_by, all_after, is_rising, first_use}
-use Rattle.rev_maps.proofs.Rising.{front, back, after_is_another}
+use Rattle.rev_maps.proofs.Rising.{after_is_another}
 use Rattle.hm_tables.specs.Values.{mark_by}
 use Rattle.hm_tables.proofs.Marks.{mark_cons}
 use Rattle.hm_tables.proofs.Lowest.{IsLowest, is_before, lowest_same}
@@ -24,10 +25,10 @@ same_before a b q u e = grind (arith, nat_tests)
 -- pages of later uses come later
 after_marked : (w : Use) (us : List Use) (q u : ℕ) → all_after w us ≡ true → is_some (mark_by q u us) ≡ true → is_before (w.proc, w.page) q u ≡ true
 after_marked w [] q u h k = cc
-after_marked w (n ∷ ns) q u h k = by (is_by q u n) refl (ap is_some (sym (mark_cons n ns q u)) ∙ k) (after_marked w ns q u (back (precedes w n) (all_after w ns) h))
+after_marked w (n ∷ ns) q u h k = by (is_by q u n) refl (ap is_some (sym (mark_cons n ns q u)) ∙ k) (after_marked w ns q u (and_parts (precedes w n) (all_after w ns) h).1)
   where
     by : (b : Bool) → is_by q u n ≡ b → is_some (cond (is_by q u n) (Some n.moving) (mark_by q u ns)) ≡ true → (is_some (mark_by q u ns) ≡ true → is_before (w.proc, w.page) q u ≡ true) → is_before (w.proc, w.page) q u ≡ true
-    by true e k r = after_before w.proc w.page n.proc n.page q u (front (precedes w n) (all_after w ns) h) e
+    by true e k r = after_before w.proc w.page n.proc n.page q u (and_parts (precedes w n) (all_after w ns) h).0 e
     by false e k r = r (ap (λ b. is_some (cond b (Some n.moving) (mark_by q u ns))) (sym e) ∙ k)
 
 -- and no later use is by the same page
@@ -35,8 +36,8 @@ after_unmarked : (w : Use) (us : List Use) (q u : ℕ) → is_by q u w ≡ true 
 after_unmarked w [] q u e h = refl
 after_unmarked w (n ∷ ns) q u e h =
     mark_cons n ns q u
-    ∙ ap (λ b. cond b (Some n.moving) (mark_by q u ns)) (after_is_another q u w n (front (precedes w n) (all_after w ns) h) e)
-    ∙ after_unmarked w ns q u e (back (precedes w n) (all_after w ns) h)
+    ∙ ap (λ b. cond b (Some n.moving) (mark_by q u ns)) (after_is_another q u w n (and_parts (precedes w n) (all_after w ns) h).0 e)
+    ∙ after_unmarked w ns q u e (and_parts (precedes w n) (all_after w ns) h).1
 
 passing_some : (test : Bool → Bool) (m : Option Bool) → mark_passes test m ≡ true → is_some m ≡ true
 passing_some test None h = h
@@ -44,10 +45,10 @@ passing_some test (Some b) h = refl
 
 pub first_lowest : (test : Bool → Bool) (us : List Use) → is_rising us ≡ true → IsLowest (λ q u. mark_passes test (mark_by q u us)) (first_use (λ u. test u.moving) us)
 first_lowest test [] h = λ q u. refl
-first_lowest test (w ∷ ws) h = by (test w.moving) refl (first_lowest test ws (back (all_after w ws) (is_rising ws) h))
+first_lowest test (w ∷ ws) h = by (test w.moving) refl (first_lowest test ws (and_parts (all_after w ws) (is_rising ws) h).1)
   where
     after : all_after w ws ≡ true
-    after = front (all_after w ws) (is_rising ws) h
+    after = (and_parts (all_after w ws) (is_rising ws) h).0
 
     mark_here : (q u : ℕ) → is_by q u w ≡ true → mark_by q u (w ∷ ws) ≡ Some w.moving
     mark_here q u e = mark_cons w ws q u ∙ ap (λ b. cond b (Some w.moving) (mark_by q u ws)) e

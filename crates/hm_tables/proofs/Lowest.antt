@@ -3,7 +3,7 @@ use Rattle.std.proofs.Common.{◌≡◌, ℕ, ◌⊎◌, inl, inr, Bool, true, f
 use Rattle.std.specs.List.{list_any}
 use Rattle.std.proofs.lemmas.Bool.Decides.{nat_tests}
 use Rattle.hm_history.specs.Places.{is_page, lowest, lower}
-use Rattle.hm_tables.proofs.Truths.{true_false}
+use Rattle.hm_history.proofs.Tests.{true_false}
 
 -- the first page is the second, or before it
 abbrev pub is_before : ℕ × ℕ → ℕ → ℕ → Bool

@@ -2,11 +2,12 @@
 use Rattle.std.proofs.Common.{◌≡◌, ℕ, suc, Bool, true, false, not, ◌&&◌, ◌||◌, eqb, cond, Some, None, is_some, option_map, List, [], ◌∷◌, length, refl, sym, ap, ◌∙◌, arith}
 use Rattle.std.specs.Prelude.{find}
 use Rattle.std.proofs.lemmas.Bool.Decides.{nat_tests}
+use Rattle.std.proofs.lemmas.Bool.{and_parts, or_parts}
 use Rattle.rev_maps.specs.declared.uses.Use.{Use}
 use Rattle.rev_maps.specs.Uses.{precedes, is_by, has_use, all_after, is_rising, with_use, without_use, marked, with_moving}
-use Rattle.rev_maps.proofs.Rising.{front, back, after_is_another}
 use Rattle.hm_tables.specs.Values.{mark_by}
-use Rattle.hm_tables.proofs.Truths.{true_false}
+use Rattle.hm_history.proofs.Tests.{true_false}
+use Rattle.rev_maps.proofs.Edits.{none_left}
 
 pub has_is : (p v : ℕ) (us : List Use) → has_use p v us ≡ is_some (mark_by p v us)
 has_is p v [] = refl
@@ -32,16 +33,12 @@ swapped false b x y z apart = refl
 one_page : (a b c d q u : ℕ) → (eqb a q && eqb b u) ≡ true → (eqb c q && eqb d u) ≡ true → (eqb a c && eqb b d) ≡ true
 one_page a b c d q u e f = grind (arith, nat_tests)
 
-neither : (a b : Bool) → (a || b) ≡ false → (a ≡ false) × (b ≡ false)
-neither true b p = cc
-neither false b p = (refl, p)
-
 pub mark_with : (n : Use) (us : List Use) (q u : ℕ) → has_use n.proc n.page us ≡ false → mark_by q u (with_use n us) ≡ cond (is_by q u n) (Some n.moving) (mark_by q u us)
 mark_with n [] q u h = mark_cons n [] q u
 mark_with n (w ∷ ws) q u h = by (precedes n w) (mark_with n ws q u absent.1)
   where
     absent : (is_by n.proc n.page w ≡ false) × (has_use n.proc n.page ws ≡ false)
-    absent = neither (is_by n.proc n.page w) (has_use n.proc n.page ws) h
+    absent = or_parts (is_by n.proc n.page w) (has_use n.proc n.page ws) h
 
     by : (b : Bool) → mark_by q u (with_use n ws) ≡ cond (is_by q u n) (Some n.moving) (mark_by q u ws) →
         mark_by q u (cond b (n ∷ (w ∷ ws)) (w ∷ with_use n ws)) ≡ cond (is_by q u n) (Some n.moving) (mark_by q u (w ∷ ws))
@@ -81,18 +78,13 @@ mark_without p v q u (w ∷ ws) = by (is_by p v w) refl (mark_without p v q u ws
         (λ f t. true_false (is_by p v w) (pages_meet w.proc w.page p v q u f t) e)
         ∙ ap (cond (eqb q p && eqb u v) None) (sym (mark_cons w ws q u))
 
-none_left : (p v : ℕ) (u : Use) (us : List Use) → is_by p v u ≡ true → all_after u us ≡ true → without_use p v us ≡ us
-none_left p v u [] e h = refl
-none_left p v u (w ∷ ws) e h =
-    rw (after_is_another p v u w (front (precedes u w) (all_after u ws) h) e) (ap (λ l. w ∷ l) (none_left p v u ws e (back (precedes u w) (all_after u ws) h)))
-
 pub length_without : (p v : ℕ) (us : List Use) → is_rising us ≡ true → has_use p v us ≡ true → suc (length (without_use p v us)) ≡ length us
 length_without p v [] h t = cc
-length_without p v (u ∷ us) h t = by (is_by p v u) refl t (length_without p v us (back (all_after u us) (is_rising us) h))
+length_without p v (u ∷ us) h t = by (is_by p v u) refl t (length_without p v us (and_parts (all_after u us) (is_rising us) h).1)
   where
     by : (b : Bool) → is_by p v u ≡ b → (b || has_use p v us) ≡ true → (has_use p v us ≡ true → suc (length (without_use p v us)) ≡ length us) →
         suc (length (cond (not b) (u ∷ without_use p v us) (without_use p v us))) ≡ suc (length us)
-    by true e t r = ap (λ l. suc (length l)) (none_left p v u us e (front (all_after u us) (is_rising us) h))
+    by true e t r = ap (λ l. suc (length l)) (none_left p v u us e (and_parts (all_after u us) (is_rising us) h).0)
     by false e t r = ap suc (r t)
 
 -- after a use was marked

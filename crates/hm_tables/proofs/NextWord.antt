@@ -4,10 +4,10 @@ use Rattle.std.specs.Prelude.{find, unwrap_or}
 use Rattle.std.specs.Ordering.{nat_cmp, is_lt}
 use Rattle.std.specs.FinMap.Entries as sorted
 use Rattle.std.proofs.lemmas.Bool.Decides.{nat_tests}
-use Rattle.rev_maps.proofs.Rising.{front, back}
+use Rattle.std.proofs.lemmas.Bool.{and_from, and_parts}
 use Rattle.hm_tables.proofs.Words.{tied_is}
 use Rattle.hm_tables.proofs.Lowest.{IsLowest, is_before, lowest_same}
-use Rattle.hm_tables.proofs.Truths.{both}
+use Rattle.hm_history.proofs.Tests.{true_false}
 
 -- the word of a page in a list
 abbrev pub word_in : List (ℕ × ℕ) → ℕ → ℕ
@@ -25,14 +25,11 @@ less_is a b = grind (arith, nat_tests)
 
 -- a page that has a word in a list above a page is above it
 above_all : (g : ℕ → Bool) → g 0 ≡ false → (k : ℕ) (es : List (ℕ × ℕ)) (u : ℕ) → sorted.below_all nat_cmp k es ≡ true → g (word_in es u) ≡ true → ltb k u ≡ true
-above_all g zero k [] u h p = absurd (clash (g 0) p zero)
-  where
-    clash : (b : Bool) → b ≡ true → b ≡ false → ⊥
-    clash b e f = cc
-above_all g zero k (e ∷ es) u h p = by (eqb u e.0) refl (ap g (sym (word_cons e es u)) ∙ p) (above_all g zero k es u (back (is_lt (nat_cmp k e.0)) (sorted.below_all nat_cmp k es) h))
+above_all g zero k [] u h p = absurd (true_false (g 0) p zero)
+above_all g zero k (e ∷ es) u h p = by (eqb u e.0) refl (ap g (sym (word_cons e es u)) ∙ p) (above_all g zero k es u (and_parts (is_lt (nat_cmp k e.0)) (sorted.below_all nat_cmp k es) h).1)
   where
     less : ltb k e.0 ≡ true
-    less = sym (less_is k e.0) ∙ front (is_lt (nat_cmp k e.0)) (sorted.below_all nat_cmp k es) h
+    less = sym (less_is k e.0) ∙ (and_parts (is_lt (nat_cmp k e.0)) (sorted.below_all nat_cmp k es) h).0
 
     at : (a b c : ℕ) → ltb a b ≡ true → eqb c b ≡ true → ltb a c ≡ true
     at a b c l e = grind (arith, nat_tests)
@@ -52,19 +49,16 @@ no_pass false b c e = refl
 pub next_lowest : (g : ℕ → Bool) → g 0 ≡ false → (es : List (ℕ × ℕ)) → sorted.is_sorted nat_cmp es ≡ true → (p from : ℕ) →
     IsLowest (page_passes g es p from) (option_map (λ e. (p, e.0)) (find (λ e. leb from e.0 && g e.1) es))
 next_lowest g zero [] h p from = λ q u. no_pass (eqb q p) (leb from u) (g 0) zero
-next_lowest g zero (e ∷ es) h p from = by (leb from e.0 && g e.1) refl (next_lowest g zero es (back (sorted.below_all nat_cmp e.0 es) (sorted.is_sorted nat_cmp es) h) p from)
+next_lowest g zero (e ∷ es) h p from = by (leb from e.0 && g e.1) refl (next_lowest g zero es (and_parts (sorted.below_all nat_cmp e.0 es) (sorted.is_sorted nat_cmp es) h).1 p from)
   where
     below : sorted.below_all nat_cmp e.0 es ≡ true
-    below = front (sorted.below_all nat_cmp e.0 es) (sorted.is_sorted nat_cmp es) h
+    below = (and_parts (sorted.below_all nat_cmp e.0 es) (sorted.is_sorted nat_cmp es) h).0
 
     itself : (a : ℕ) → eqb a a ≡ true
     itself a = grind (arith, nat_tests)
 
     not_below : (a : ℕ) → ltb a a ≡ false
     not_below a = grind (arith, nat_tests)
-
-    clash : (b : Bool) → b ≡ true → b ≡ false → ⊥
-    clash b e f = cc
 
     here : (u : ℕ) → eqb u e.0 ≡ true → word_in (e ∷ es) u ≡ e.1
     here u f = word_cons e es u ∙ ap (λ b. cond b e.1 (word_in es u)) f
@@ -73,7 +67,7 @@ next_lowest g zero (e ∷ es) h p from = by (leb from e.0 && g e.1) refl (next_l
     past u f = word_cons e es u ∙ ap (λ b. cond b e.1 (word_in es u)) f
 
     passes : (leb from e.0 && g e.1) ≡ true → page_passes g (e ∷ es) p from p e.0 ≡ true
-    passes t = both (eqb p p) (leb from e.0 && g (word_in (e ∷ es) e.0)) (itself p) (ap (λ w. leb from e.0 && g w) (here e.0 (itself e.0)) ∙ t)
+    passes t = and_from (eqb p p) (leb from e.0 && g (word_in (e ∷ es) e.0)) (itself p) (ap (λ w. leb from e.0 && g w) (here e.0 (itself e.0)) ∙ t)
 
     same : (q u : ℕ) → eqb q p ≡ true → eqb u e.0 ≡ true → is_before (p, e.0) q u ≡ true
     same q u a b = grind (arith, nat_tests)
@@ -82,12 +76,12 @@ next_lowest g zero (e ∷ es) h p from = by (leb from e.0 && g e.1) refl (next_l
     later q u a b = grind (arith, nat_tests)
 
     least : (q u : ℕ) → page_passes g (e ∷ es) p from q u ≡ true → (b : Bool) → eqb u e.0 ≡ b → is_before (p, e.0) q u ≡ true
-    least q u k true f = same q u (front (eqb q p) (leb from u && g (word_in (e ∷ es) u)) k) f
-    least q u k false f = later q u (front (eqb q p) (leb from u && g (word_in (e ∷ es) u)) k)
-        (above_all g zero e.0 es u below (ap g (sym (past u f)) ∙ back (leb from u) (g (word_in (e ∷ es) u)) (back (eqb q p) (leb from u && g (word_in (e ∷ es) u)) k)))
+    least q u k true f = same q u (and_parts (eqb q p) (leb from u && g (word_in (e ∷ es) u)) k).0 f
+    least q u k false f = later q u (and_parts (eqb q p) (leb from u && g (word_in (e ∷ es) u)) k).0
+        (above_all g zero e.0 es u below (ap g (sym (past u f)) ∙ (and_parts (leb from u) (g (word_in (e ∷ es) u)) (and_parts (eqb q p) (leb from u && g (word_in (e ∷ es) u)) k).1).1))
 
     absent : (b : Bool) → g (word_in es e.0) ≡ b → b ≡ false
-    absent true k = absurd (clash (ltb e.0 e.0) (above_all g zero e.0 es e.0 below k) (not_below e.0))
+    absent true k = absurd (true_false (ltb e.0 e.0) (above_all g zero e.0 es e.0 below k) (not_below e.0))
     absent false k = refl
 
     equal : (u : ℕ) → eqb u e.0 ≡ true → u ≡ e.0

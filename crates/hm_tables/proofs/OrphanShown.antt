@@ -15,10 +15,11 @@ use Rattle.hm_tables.specs.Shown.{TablesShown}
 use Rattle.hm_tables.specs.Reads.{use_count, orphaned, orphan_of}
 use Rattle.hm_tables.proofs.Marks.{has_is, mark_cons, mark_without, length_without}
 use Rattle.hm_tables.proofs.Lowest.{IsLowest, lowest_is}
-use Rattle.hm_tables.proofs.UsesKept.{frame_itself}
 use Rattle.hm_tables.proofs.TablesKept.{listed_next}
 use Rattle.hm_tables.proofs.ReadsShown.{some_mark, named_mark, marked_used}
-use Rattle.hm_tables.proofs.Truths.{page_itself, true_false}
+use Rattle.hm_tables.proofs.Truths.{page_itself}
+use Rattle.hm_history.proofs.Tests.{true_false}
+use Rattle.hm_history.proofs.Frames.{frame_itself}
 
 -- one use less leaves none exactly where no page is left
 last_use : (t : ℕ → ℕ → Bool) (out : List Use) (n : ℕ) → ((q u : ℕ) → is_some (mark_by q u out) ≡ t q u) → suc (length out) ≡ n → (y : Option (ℕ × ℕ)) → IsLowest t y → eqb n 1 ≡ is_none y

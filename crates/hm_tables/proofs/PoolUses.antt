@@ -12,6 +12,7 @@ use Rattle.entry_words.specs.Word.{pool_field}
 use Rattle.rev_maps.specs.Uses.{Uses, unused, uses_of}
 use Rattle.hm_tables.specs.Values.{pool_in, size_in, uses_in}
 use Rattle.hm_tables.specs.Steps.{with_uses}
+use Rattle.hm_history.proofs.Frames.{pool_same}
 
 pub get_set : {X : Type 0} (xs : List X) (i : ℕ) (x : X) (j : ℕ) (d : X) → i < length xs → get_or (set xs i x) j d ≡ cond (eqb j i) x (get_or xs j d)
 get_set xs i x j d l = grind (arith, nat_tests, elements)
@@ -39,12 +40,6 @@ pool_with pools f uses pool l =
     get_set pools (pool_field f.pool) (set (pool_in pools f.pool) f.number uses) (pool_field pool) [] (pool_inside pools f.pool f.number l)
     ∙ ap (λ b. cond b (set (pool_in pools f.pool) f.number uses) (pool_in pools pool)) (same_field pool f.pool)
 
-pub pool_tells : (x y : PoolId) → same_pool x y ≡ true → x ≡ y
-pool_tells System System h = refl
-pool_tells System (Device e) h = cc
-pool_tells (Device d) System h = cc
-pool_tells (Device d) (Device e) h = grind (arith, nat_tests)
-
 pub uses_with : (pools : List (List Uses)) (f : Frame) (uses : Uses) (g : Frame) → f.number < size_in pools f.pool →
     uses_in (with_uses pools f uses) g ≡ cond (same_frame g f) uses (uses_in pools g)
 uses_with pools f uses g l = ap (λ us. uses_of us g.number) (pool_with pools f uses g.pool l) ∙ by (same_pool g.pool f.pool) refl
@@ -53,7 +48,7 @@ uses_with pools f uses g l = ap (λ us. uses_of us g.number) (pool_with pools f 
         uses_of (cond b (set (pool_in pools f.pool) f.number uses) (pool_in pools g.pool)) g.number ≡ cond (b && eqb g.number f.number) uses (uses_in pools g)
     by true e =
         get_set (pool_in pools f.pool) f.number uses g.number unused l
-        ∙ ap (λ pool. cond (eqb g.number f.number) uses (uses_of (pool_in pools pool) g.number)) (sym (pool_tells g.pool f.pool e))
+        ∙ ap (λ pool. cond (eqb g.number f.number) uses (uses_of (pool_in pools pool) g.number)) (sym (pool_same g.pool f.pool e))
     by false e = refl
 
 length_set : {X : Type 0} (xs : List X) (i : ℕ) (x : X) → length (set xs i x) ≡ length xs
@@ -66,7 +61,7 @@ pub size_with : (pools : List (List Uses)) (f : Frame) (uses : Uses) (pool : Poo
 size_with pools f uses pool l = ap length (pool_with pools f uses pool l) ∙ by (same_pool pool f.pool) refl
   where
     by : (b : Bool) → same_pool pool f.pool ≡ b → length (cond b (set (pool_in pools f.pool) f.number uses) (pool_in pools pool)) ≡ size_in pools pool
-    by true e = length_set (pool_in pools f.pool) f.number uses ∙ ap (size_in pools) (sym (pool_tells pool f.pool e))
+    by true e = length_set (pool_in pools f.pool) f.number uses ∙ ap (size_in pools) (sym (pool_same pool f.pool e))
     by false e = refl
 
 -- a frame with a use is one of its pool

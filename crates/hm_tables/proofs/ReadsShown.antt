@@ -2,6 +2,7 @@
 use Rattle.std.proofs.Common.{◌≡◌, ℕ, Bool, true, false, not, ◌&&◌, eqb, leb, cond, Option, Some, None, is_some, option_map, refl, sym, ap, ◌∙◌}
 use Rattle.std.specs.Prelude.{find}
 use Rattle.std.specs.List.{list_any}
+use Rattle.std.proofs.lemmas.Bool.{eqb-true, and_parts, and_right}
 use Rattle.hm_base.specs.Program.{Program}
 use Rattle.hm_base.specs.declared.Frame.{Frame}
 use Rattle.hm_base.specs.declared.Place.{Place}
@@ -18,8 +19,6 @@ use Rattle.hm_tables.proofs.Lowest.{one_lowest, lowest_same, lowest_is}
 use Rattle.hm_tables.proofs.FirstUse.{mark_passes, first_lowest}
 use Rattle.hm_tables.proofs.Counts.{count_is}
 use Rattle.hm_tables.proofs.NextWord.{page_passes, next_lowest}
-use Rattle.rev_maps.proofs.Rising.{back}
-use Rattle.hm_tables.proofs.Truths.{number_tells}
 
 -- a place that has a mark is one
 pub marked_used : (test : Bool → Bool) (x : Place) (f : Frame) → mark_passes test (mark_of x f) ≡ true → is_empty_place x ≡ false
@@ -49,25 +48,21 @@ all_of : (b : Bool) → (b && true) ≡ b
 all_of true = refl
 all_of false = refl
 
-none_of : (b : Bool) → (b && false) ≡ false
-none_of true = refl
-none_of false = refl
-
 direct_mark : (f : Frame) (y : Place) → mark_passes not (mark_of y f) ≡ is_frame (names_directly y) f
 direct_mark f Empty = refl
 direct_mark f Zero = refl
 direct_mark f (Sys n w) = by_mark not (is_frame (names (Sys n w)) f) false ∙ all_of (is_frame (names (Sys n w)) f)
 direct_mark f (Own d n w) = by_mark not (is_frame (names (Own d n w)) f) false ∙ all_of (is_frame (names (Own d n w)) f)
-direct_mark f (Moving g w) = by_mark not (is_frame (names (Moving g w)) f) true ∙ none_of (is_frame (names (Moving g w)) f)
+direct_mark f (Moving g w) = by_mark not (is_frame (names (Moving g w)) f) true ∙ (and_right (is_frame (names (Moving g w)) f) false refl)
 direct_mark f (Exclusive n a) = by_mark not (is_frame (names (Exclusive n a)) f) false ∙ all_of (is_frame (names (Exclusive n a)) f)
 
 moving_mark : (f : Frame) (y : Place) → mark_passes (λ moving. moving) (mark_of y f) ≡ is_frame (moving_frame y) f
 moving_mark f Empty = refl
 moving_mark f Zero = refl
-moving_mark f (Sys n w) = by_mark (λ moving. moving) (is_frame (names (Sys n w)) f) false ∙ none_of (is_frame (names (Sys n w)) f)
-moving_mark f (Own d n w) = by_mark (λ moving. moving) (is_frame (names (Own d n w)) f) false ∙ none_of (is_frame (names (Own d n w)) f)
+moving_mark f (Sys n w) = by_mark (λ moving. moving) (is_frame (names (Sys n w)) f) false ∙ (and_right (is_frame (names (Sys n w)) f) false refl)
+moving_mark f (Own d n w) = by_mark (λ moving. moving) (is_frame (names (Own d n w)) f) false ∙ (and_right (is_frame (names (Own d n w)) f) false refl)
 moving_mark f (Moving g w) = by_mark (λ moving. moving) (is_frame (names (Moving g w)) f) true ∙ all_of (is_frame (names (Moving g w)) f)
-moving_mark f (Exclusive n a) = by_mark (λ moving. moving) (is_frame (names (Exclusive n a)) f) false ∙ none_of (is_frame (names (Exclusive n a)) f)
+moving_mark f (Exclusive n a) = by_mark (λ moving. moving) (is_frame (names (Exclusive n a)) f) false ∙ (and_right (is_frame (names (Exclusive n a)) f) false refl)
 
 pub named_mark : (f : Frame) (y : Place) → mark_passes (λ moving. true) (mark_of y f) ≡ is_frame (names y) f
 named_mark f y = by_mark (λ moving. true) (is_frame (names y) f) (is_moving y) ∙ all_of (is_frame (names y) f)
@@ -118,11 +113,11 @@ pub next_page_shown : (c : Program) (s : Places) (x : Tables) → TablesShown c 
 next_page_shown c s x h w p from = page_of (find (λ e. leb from e.0 && page_test w (place_of_word e.1)) (table_of x p).words) refl
   where
     says : (q u : ℕ) (b : Bool) → eqb q p ≡ b → (b && (leb from u && page_test w (place_of x p u))) ≡ (b && (leb from u && page_test w (s.place q u)))
-    says q u true e = ap (λ y. leb from u && page_test w y) (ap (λ r. place_of x r u) (sym (number_tells q p e)) ∙ h.places q u)
+    says q u true e = ap (λ y. leb from u && page_test w y) (ap (λ r. place_of x r u) (sym (eqb-true q p e)) ∙ h.places q u)
     says q u false e = refl
 
     listed : (q u : ℕ) → (eqb q p && (leb from u && page_test w (s.place q u))) ≡ true → list_any (is_page q u) s.placed ≡ true
-    listed q u k = h.listed q u (tests_used w (s.place q u) (back (leb from u) (page_test w (s.place q u)) (back (eqb q p) (leb from u && page_test w (s.place q u)) k)))
+    listed q u k = h.listed q u (tests_used w (s.place q u) (and_parts (leb from u) (page_test w (s.place q u)) (and_parts (eqb q p) (leb from u && page_test w (s.place q u)) k).1).1)
 
     page : Option (ℕ × ℕ) → Option ℕ
     page o = elim o [ None ↦ None | Some z ↦ Some z.1 ]

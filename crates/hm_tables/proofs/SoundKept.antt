@@ -1,6 +1,7 @@
 -- The reverse maps go on saying what the tables say.
 use Rattle.std.proofs.Common.{◌≡◌, ℕ, ◌^◌, ◌<◌, Bool, true, false, ◌&&◌, eqb, cond, List, length, set, refl, sym, ap, ◌∙◌, subst, arith}
 use Rattle.std.proofs.lemmas.Grind.{elements}
+use Rattle.std.proofs.lemmas.Bool.{eqb-true}
 use Rattle.hm_base.specs.declared.PoolId.{PoolId}
 use Rattle.hm_base.specs.declared.Frame.{Frame}
 use Rattle.hm_base.specs.declared.Place.{Place}
@@ -13,7 +14,6 @@ use Rattle.hm_tables.specs.Steps.{tables_next, FrameFits}
 use Rattle.hm_tables.proofs.Words.{place_with, ordered_with}
 use Rattle.hm_tables.proofs.PoolUses.{get_set}
 use Rattle.hm_tables.proofs.UsesNext.{exact_next, rising_next, size_next, count_next}
-use Rattle.hm_tables.proofs.Truths.{number_tells}
 
 inside : (x : Tables) → IsTables x → (p : ℕ) → p < 32 → p < length x.processes
 inside x h p l = subst (λ n. p < n) (sym h.processes) l
@@ -26,7 +26,7 @@ pub place_next : (x : Tables) → IsTables x → (p v : ℕ) (y : Place) → p <
 place_next x h p v y l w q u = ap (λ m. place_in_table m u) (table_next x h p v y l q) ∙ by (eqb q p) refl
   where
     by : (b : Bool) → eqb q p ≡ b → place_in_table (cond b (table_with (table_of x p) v y) (table_of x q)) u ≡ cond (b && eqb u v) y (place_of x q u)
-    by true e = place_with (table_of x p) v y u w ∙ ap (λ r. cond (eqb u v) y (place_of x r u)) (sym (number_tells q p e))
+    by true e = place_with (table_of x p) v y u w ∙ ap (λ r. cond (eqb u v) y (place_of x r u)) (sym (eqb-true q p e))
     by false e = refl
 
 pub sizes_next : (x : Tables) → IsTables x → (p v : ℕ) (y : Place) → FrameFits (size_in x.pools) (names y) → (pool : PoolId) → size_in (tables_next (Kind.Place p v y) x).pools pool ≡ size_in x.pools pool

@@ -1,10 +1,10 @@
 -- The tables go on showing the places of the history.
-use Rattle.std.proofs.Common.{◌≡◌, ℕ, ◌<◌, ◌⊎◌, inl, inr, Bool, true, false, not, ◌&&◌, eqb, cond, Option, Some, None, List, ◌∷◌, refl, sym, ap, ◌∙◌, subst, arith, ◌^◌}
+use Rattle.std.proofs.Common.{◌≡◌, ℕ, ◌<◌, inl, inr, Bool, true, false, not, ◌&&◌, eqb, cond, Option, Some, None, List, ◌∷◌, refl, sym, ap, ◌∙◌, subst, ◌^◌}
 use Rattle.std.specs.Prelude.{unwrap_or, nat_lt}
 use Rattle.std.specs.List.{list_any, list_all}
 use Rattle.std.specs.Ordering.{nat_cmp}
 use Rattle.std.specs.FinMap.Entries as sorted
-use Rattle.std.proofs.lemmas.Bool.Decides.{nat_tests}
+use Rattle.std.proofs.lemmas.Bool.{and_from}
 use Rattle.hm_base.specs.Program.{Program}
 use Rattle.hm_base.specs.declared.PoolId.{PoolId}
 use Rattle.hm_base.specs.declared.Frame.{Frame}
@@ -17,8 +17,8 @@ use Rattle.hm_tables.specs.Values.{Tables, place_of, place_of_word, size_in, mar
 use Rattle.hm_tables.specs.Sound.{IsTables}
 use Rattle.hm_tables.specs.Shown.{is_once, TablesShown}
 use Rattle.hm_tables.specs.Steps.{tables_next, FrameFits, TablesFit, TablesRange, SameTables}
-use Rattle.hm_tables.proofs.Truths.{both}
 use Rattle.hm_tables.proofs.SoundKept.{place_next, sizes_next, tables_sound}
+use Rattle.hm_history.proofs.Placed.{listed_more}
 
 frame_shown : (c : Program) (x : Tables) → ((pool : PoolId) → size_in x.pools pool ≡ pool_size c pool) → (o : Option Frame) → FrameFits (pool_size c) o → FrameFits (size_in x.pools) o
 frame_shown c x sizes None l = tt
@@ -30,9 +30,6 @@ fits_shown c place placed x h (Kind.Place p v y) fits = frame_shown c x h.sizes 
 fits_shown c place placed x h k fits = fits
 
 -- the pages that were placed
-pub listed_more : (p v q u : ℕ) (xs : List (ℕ × ℕ)) → ((is_page p v (q, u) ≡ true) ⊎ (list_any (is_page q u) xs ≡ true)) → list_any (is_page q u) (with_page p v xs) ≡ true
-listed_more p v q u xs h = grind (arith, nat_tests)
-
 pub listed_next : (place : ℕ → ℕ → Place) (placed : List (ℕ × ℕ)) → ((q u : ℕ) → is_empty_place (place q u) ≡ false → list_any (is_page q u) placed ≡ true) →
     (p v : ℕ) (y : Place) (q u : ℕ) → is_empty_place (with_place place p v y q u) ≡ false → list_any (is_page q u) (with_page p v placed) ≡ true
 listed_next place placed listed p v y q u k = by (eqb q p && eqb u v) refl k
@@ -46,7 +43,7 @@ once_next p v xs h = by (list_any (is_page p v) xs) refl
   where
     by : (b : Bool) → list_any (is_page p v) xs ≡ b → is_once (cond b xs ((p, v) ∷ xs)) ≡ true
     by true e = h
-    by false e = both (not (list_any (is_page p v) xs)) (is_once xs) (ap not e) h
+    by false e = and_from (not (list_any (is_page p v) xs)) (is_once xs) (ap not e) h
 
 pub tables_kept : (c : Program) (s : Places) (k : Kind) (x : Tables) → TablesShown c s.place s.placed x → TablesFit (pool_size c) k → TablesRange k →
     TablesShown c (places_next s k).place (places_next s k).placed (tables_next k x)
@@ -78,10 +75,6 @@ same_sound x y same h = record {
 frame_same : (x y : Tables) → SameTables x y → (o : Option Frame) → FrameFits (size_in x.pools) o → FrameFits (size_in y.pools) o
 frame_same x y same None l = tt
 frame_same x y same (Some f) l = subst (λ n. f.number < n) (sym (same.pools.sizes f.pool)) l
-
-pub fits_same : (x y : Tables) → SameTables x y → (k : Kind) → TablesFit (size_in x.pools) k → TablesFit (size_in y.pools) k
-fits_same x y same (Kind.Place p v z) fits = frame_same x y same (names z) fits
-fits_same x y same k fits = fits
 
 pub shown_same : (c : Program) (place : ℕ → ℕ → Place) (placed : List (ℕ × ℕ)) (x y : Tables) → SameTables x y → TablesShown c place placed x → TablesShown c place placed y
 shown_same c place placed x y same h = record {

@@ -1,47 +1,20 @@
 -- The lists of uses after a place was changed: exactly the pages whose place names the frame.
 use Rattle.std.proofs.Common.{◌≡◌, ℕ, ◌+◌, ◌<◌, ◌≤◌, Bool, true, false, ◌&&◌, eqb, cond, Option, Some, None, is_some, List, [], ◌∷◌, length, refl, sym, ap, ◌∙◌, subst, arith}
-use Rattle.std.proofs.lemmas.Bool.Decides.{nat_tests}
+use Rattle.std.proofs.lemmas.Bool.{eqb-true, and_parts}
 use Rattle.hm_base.specs.declared.PoolId.{PoolId}
-use Rattle.hm_base.specs.declared.PoolId.TheVariants.{System, Device}
 use Rattle.hm_base.specs.declared.Frame.{Frame}
 use Rattle.hm_base.specs.declared.Place.{Place}
-use Rattle.hm_base.specs.PlaceWords.{same_pool, same_frame, is_frame, names}
+use Rattle.hm_base.specs.PlaceWords.{same_frame, is_frame, names}
 use Rattle.rev_maps.specs.declared.uses.Use.{Use}
 use Rattle.rev_maps.specs.Uses.{Uses, is_rising, added, removed}
-use Rattle.rev_maps.proofs.Rising.{back, front, rising_with, rising_without}
+use Rattle.rev_maps.proofs.Rising.{rising_with, rising_without}
 use Rattle.hm_tables.specs.Values.{size_in, uses_in, is_moving, mark_by, mark_of}
 use Rattle.hm_tables.specs.Steps.{without_use_of, with_use_of, FrameFits, HasUseRoom, SaysOf, LosesUse, GainsUse}
 use Rattle.hm_tables.proofs.Marks.{has_is, mark_with, mark_without}
-use Rattle.hm_tables.proofs.PoolUses.{pool_tells, uses_with, count_with, size_with, frame_inside}
-use Rattle.hm_tables.proofs.Truths.{both, number_tells, page_itself}
-
-pool_itself : (a : PoolId) → same_pool a a ≡ true
-pool_itself System = refl
-pool_itself (Device d) = grind (arith, nat_tests)
-
-pool_turned : (a b : PoolId) → same_pool a b ≡ same_pool b a
-pool_turned System System = refl
-pool_turned System (Device e) = refl
-pool_turned (Device d) System = refl
-pool_turned (Device d) (Device e) = grind (arith, nat_tests)
-
-number_itself : (n : ℕ) → eqb n n ≡ true
-number_itself n = grind (arith, nat_tests)
-
-number_turned : (n k : ℕ) → eqb n k ≡ eqb k n
-number_turned n k = grind (arith, nat_tests)
-
-pub frame_itself : (f : Frame) → same_frame f f ≡ true
-frame_itself f = both (same_pool f.pool f.pool) (eqb f.number f.number) (pool_itself f.pool) (number_itself f.number)
-
-pub frame_turned : (f g : Frame) → same_frame f g ≡ same_frame g f
-frame_turned f g = ap (λ b. b && eqb f.number g.number) (pool_turned f.pool g.pool) ∙ ap (λ b. same_pool g.pool f.pool && b) (number_turned f.number g.number)
-
-pub frame_tells : (f g : Frame) → same_frame f g ≡ true → f ≡ g
-frame_tells f g e = same f.pool f.number g.pool g.number (pool_tells f.pool g.pool (front (same_pool f.pool g.pool) (eqb f.number g.number) e)) (number_tells f.number g.number (back (same_pool f.pool g.pool) (eqb f.number g.number) e))
-  where
-    same : (a : PoolId) (n : ℕ) (b : PoolId) (k : ℕ) → a ≡ b → n ≡ k → ◌≡◌ {A = Frame} (record { pool = a; number = n }) (record { pool = b; number = k })
-    same a n b k p q = rw (p, q) refl
+use Rattle.hm_tables.proofs.PoolUses.{uses_with, count_with, size_with, frame_inside}
+use Rattle.hm_tables.proofs.Truths.{page_itself}
+use Rattle.hm_history.proofs.Frames.{frame_itself, frame_turned, frame_same}
+use Rattle.hm_tables.proofs.Counts.{turned}
 
 -- the mark that a place gives a frame
 pub mark_named : (x : Place) (f g : Frame) → names x ≡ Some f → same_frame g f ≡ true → mark_of x g ≡ Some (is_moving x)
@@ -55,7 +28,7 @@ mark_none x g e = ap (λ o. cond (is_frame o g) (Some (is_moving x)) None) e
 
 -- a page that has no mark
 same_at : (p v q u : ℕ) (us : List Use) → (eqb q p && eqb u v) ≡ true → mark_by q u us ≡ mark_by p v us
-same_at p v q u us e = at (number_tells q p (front (eqb q p) (eqb u v) e)) (number_tells u v (back (eqb q p) (eqb u v) e))
+same_at p v q u us e = at (eqb-true q p (and_parts (eqb q p) (eqb u v) e).0) (eqb-true u v (and_parts (eqb q p) (eqb u v) e).1)
   where
     at : q ≡ p → u ≡ v → mark_by q u us ≡ mark_by p v us
     at a b = rw (a, b) refl
@@ -89,7 +62,7 @@ exact_out pools p v old says q u g = by (names old) refl
   where
     taken : (f : Frame) → names old ≡ Some f → (b : Bool) → same_frame g f ≡ b →
         mark_by q u (cond b (removed p v (uses_in pools f)) (uses_in pools g)).list ≡ cond (eqb q p && eqb u v) None (mark_by q u (uses_in pools g).list)
-    taken f e true s = mark_without p v q u (uses_in pools f).list ∙ ap (λ (h : Frame). cond (eqb q p && eqb u v) None (mark_by q u (uses_in pools h).list)) (sym (frame_tells g f s))
+    taken f e true s = mark_without p v q u (uses_in pools f).list ∙ ap (λ (h : Frame). cond (eqb q p && eqb u v) None (mark_by q u (uses_in pools h).list)) (sym (frame_same g f s))
     taken f e false s = unmarked p v q u (uses_in pools g).list None (says g ∙ mark_other old f g e s)
 
     by : (o : Option Frame) → names old ≡ o → mark_by q u (uses_in (without_use_of p v o pools) g).list ≡ cond (eqb q p && eqb u v) None (mark_by q u (uses_in pools g).list)
@@ -152,9 +125,6 @@ gains_use pools p v none (Some f) h = (h, has_is p v (uses_in pools f).list ∙ 
 abbrev new_use : ℕ → ℕ → Place → Use
 new_use p v y = record { proc = p; page = v; moving = is_moving y }
 
-turned_page : (p v q u : ℕ) → (eqb p q && eqb v u) ≡ (eqb q p && eqb u v)
-turned_page p v q u = grind (arith, nat_tests)
-
 pub exact_in : (pools : List (List Uses)) (p v : ℕ) (y : Place) → NoneOf pools p v → FrameFits (size_in pools) (names y) → (q u : ℕ) (g : Frame) →
     mark_by q u (uses_in (with_use_of p v (is_moving y) (names y) pools) g).list ≡ cond (eqb q p && eqb u v) (mark_of y g) (mark_by q u (uses_in pools g).list)
 exact_in pools p v y none fits q u g = by (names y) refl fits
@@ -163,9 +133,9 @@ exact_in pools p v y none fits q u g = by (names y) refl fits
         mark_by q u (cond b (added (new_use p v y) (uses_in pools f)) (uses_in pools g)).list ≡ cond (eqb q p && eqb u v) (mark_of y g) (mark_by q u (uses_in pools g).list)
     come f e true s =
         mark_with (new_use p v y) (uses_in pools f).list q u (has_is p v (uses_in pools f).list ∙ ap is_some (none f))
-        ∙ ap (λ b. cond b (Some (is_moving y)) (mark_by q u (uses_in pools f).list)) (turned_page p v q u)
+        ∙ ap (λ b. cond b (Some (is_moving y)) (mark_by q u (uses_in pools f).list)) (turned p v q u)
         ∙ ap (λ m. cond (eqb q p && eqb u v) m (mark_by q u (uses_in pools f).list)) (sym (mark_named y f g e s))
-        ∙ ap (λ (h : Frame). cond (eqb q p && eqb u v) (mark_of y g) (mark_by q u (uses_in pools h).list)) (sym (frame_tells g f s))
+        ∙ ap (λ (h : Frame). cond (eqb q p && eqb u v) (mark_of y g) (mark_by q u (uses_in pools h).list)) (sym (frame_same g f s))
     come f e false s = unmarked p v q u (uses_in pools g).list (mark_of y g) (none g ∙ sym (mark_other y f g e s))
 
     by : (o : Option Frame) → names y ≡ o → FrameFits (size_in pools) o →

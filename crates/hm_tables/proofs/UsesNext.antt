@@ -1,17 +1,18 @@
 -- The lists of uses after a page's place was changed, by each of the ways.
 use Rattle.std.proofs.Common.{◌≡◌, ℕ, ◌<◌, Bool, true, false, not, ◌&&◌, eqb, cond, Option, Some, None, option_map, List, length, refl, sym, ap, ◌∙◌, subst}
+use Rattle.std.proofs.lemmas.Bool.{not-true, and_parts}
 use Rattle.hm_base.specs.declared.PoolId.{PoolId}
 use Rattle.hm_base.specs.declared.Frame.{Frame}
 use Rattle.hm_base.specs.declared.Place.{Place}
 use Rattle.hm_base.specs.PlaceWords.{same_frame, is_frame, names}
 use Rattle.rev_maps.specs.Uses.{Uses, is_rising, with_moving}
-use Rattle.rev_maps.proofs.Rising.{back, front, rising_moving}
+use Rattle.rev_maps.proofs.Rising.{rising_moving}
 use Rattle.hm_tables.specs.Values.{size_in, uses_in, is_moving, mark_by, mark_of}
 use Rattle.hm_tables.specs.Steps.{without_use_of, with_use_of, with_mark_of, keeps_frame, freezes, keeps_use, uses_next, FrameFits, HasUseRoom, GainsUse, SaysOf}
 use Rattle.hm_tables.proofs.Marks.{mark_moving}
 use Rattle.hm_tables.proofs.PoolUses.{uses_with, count_with, size_with}
-use Rattle.hm_tables.proofs.UsesKept.{frame_itself, frame_tells, mark_named, mark_other, unmarked, named_inside, exact_out, rising_out, size_out, count_out, room_out, none_out, gains_use, exact_in, rising_in, size_into, count_in}
-use Rattle.hm_tables.proofs.Truths.{not_true}
+use Rattle.hm_tables.proofs.UsesKept.{mark_named, mark_other, unmarked, named_inside, exact_out, rising_out, size_out, count_out, room_out, none_out, gains_use, exact_in, rising_in, size_into, count_in}
+use Rattle.hm_history.proofs.Frames.{frame_itself, frame_same}
 
 -- a place that keeps the frame names it
 kept_frame : (o : Option Frame) (y : Place) → keeps_frame o y ≡ true → o ≡ names y
@@ -20,23 +21,23 @@ kept_frame (Some f) y k = by (names y) k
   where
     by : (n : Option Frame) → is_frame n f ≡ true → Some f ≡ n
     by None k = cc
-    by (Some g) k = ap (λ h. Some h) (sym (frame_tells g f k))
+    by (Some g) k = ap (λ h. Some h) (sym (frame_same g f k))
 
 -- marks of places that name one frame
 mark_kept : (old y : Place) (g : Frame) → keeps_use old y ≡ true → mark_of old g ≡ mark_of y g
 mark_kept old y g k =
-    ap (λ o. cond (is_frame o g) (Some (is_moving old)) None) (kept_frame (names old) y (back (not (is_moving y)) (keeps_frame (names old) y) rest))
-    ∙ ap (λ m. cond (is_frame (names y) g) (Some m) None) (not_true (is_moving old) (front (not (is_moving old)) (not (is_moving y) && keeps_frame (names old) y) k) ∙ sym (not_true (is_moving y) (front (not (is_moving y)) (keeps_frame (names old) y) rest)))
+    ap (λ o. cond (is_frame o g) (Some (is_moving old)) None) (kept_frame (names old) y (and_parts (not (is_moving y)) (keeps_frame (names old) y) rest).1)
+    ∙ ap (λ m. cond (is_frame (names y) g) (Some m) None) (not-true (is_moving old) (and_parts (not (is_moving old)) (not (is_moving y) && keeps_frame (names old) y) k).0 ∙ sym (not-true (is_moving y) (and_parts (not (is_moving y)) (keeps_frame (names old) y) rest).0))
   where
     rest : (not (is_moving y) && keeps_frame (names old) y) ≡ true
-    rest = back (not (is_moving old)) (not (is_moving y) && keeps_frame (names old) y) k
+    rest = (and_parts (not (is_moving old)) (not (is_moving y) && keeps_frame (names old) y) k).1
 
 exact_mark : (pools : List (List Uses)) (p v : ℕ) (old y : Place) → SaysOf pools p v old → freezes old y ≡ true → (q u : ℕ) (g : Frame) →
     mark_by q u (uses_in (with_mark_of p v (names old) pools) g).list ≡ cond (eqb q p && eqb u v) (mark_of y g) (mark_by q u (uses_in pools g).list)
-exact_mark pools p v old y says k q u g = by (names old) refl (kept_frame (names old) y (back (is_moving y) (keeps_frame (names old) y) k))
+exact_mark pools p v old y says k q u g = by (names old) refl (kept_frame (names old) y (and_parts (is_moving y) (keeps_frame (names old) y) k).1)
   where
     moving : is_moving y ≡ true
-    moving = front (is_moving y) (keeps_frame (names old) y) k
+    moving = (and_parts (is_moving y) (keeps_frame (names old) y) k).0
 
     set : (f : Frame) → names old ≡ Some f → (t : Bool) → (eqb q p && eqb u v) ≡ t → mark_by q u (uses_in pools f).list ≡ cond t (Some (is_moving old)) (mark_by q u (uses_in pools f).list)
     set f e t i = unmarked p v q u (uses_in pools f).list (Some (is_moving old)) (says f ∙ mark_named old f f e (frame_itself f)) ∙ ap (λ b. cond b (Some (is_moving old)) (mark_by q u (uses_in pools f).list)) i
@@ -53,7 +54,7 @@ exact_mark pools p v old y says k q u g = by (names old) refl (kept_frame (names
         ∙ marked f e (eqb q p && eqb u v) refl
         ∙ ap (λ m. cond (eqb q p && eqb u v) (Some m) (mark_by q u (uses_in pools f).list)) (sym moving)
         ∙ ap (λ m. cond (eqb q p && eqb u v) m (mark_by q u (uses_in pools f).list)) (sym (mark_named y f g (sym n) s))
-        ∙ ap (λ (h : Frame). cond (eqb q p && eqb u v) (mark_of y g) (mark_by q u (uses_in pools h).list)) (sym (frame_tells g f s))
+        ∙ ap (λ (h : Frame). cond (eqb q p && eqb u v) (mark_of y g) (mark_by q u (uses_in pools h).list)) (sym (frame_same g f s))
     come f e n false s = unmarked p v q u (uses_in pools g).list (mark_of y g) (says g ∙ mark_other old f g e s ∙ sym (mark_other y f g (sym n) s))
 
     by : (o : Option Frame) → names old ≡ o → o ≡ names y → mark_by q u (uses_in (with_mark_of p v o pools) g).list ≡ cond (eqb q p && eqb u v) (mark_of y g) (mark_by q u (uses_in pools g).list)

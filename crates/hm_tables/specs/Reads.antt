@@ -31,7 +31,8 @@ use_count x f = length (uses_in x.pools f).list
 -- the frame that no page names once the page has the new place, unless somebody has it locked
 abbrev pub orphaned : Tables → Option Frame → Place → Bool → Option Frame
 orphaned x None y is_locked = None
-orphaned x (Some f) y is_locked = if not is_locked && (not (is_frame (names y) f) && (use_count x f == 1)) then Some f else None
+orphaned x (Some f) y is_locked =
+    if not is_locked && (not (is_frame (names y) f) && (use_count x f == 1)) then Some f else None
 
 abbrev pub orphan_of : Tables → ℕ → ℕ → Place → Bool → Option Frame
 orphan_of x p v y is_locked = orphaned x (names (place_of x p v)) y is_locked

@@ -34,12 +34,14 @@ without_use_of p v (Some f) pools = with_uses pools f (removed p v (uses_in pool
 -- the page names the frame
 abbrev pub with_use_of : ℕ → ℕ → Bool → Option Frame → List (List Uses) → List (List Uses)
 with_use_of p v moving None pools = pools
-with_use_of p v moving (Some f) pools = with_uses pools f (added (record { proc = p; page = v; moving = moving }) (uses_in pools f))
+with_use_of p v moving (Some f) pools =
+    with_uses pools f (added (record { proc = p; page = v; moving = moving }) (uses_in pools f))
 
 -- the use of the page is by a migration entry
 abbrev pub with_mark_of : ℕ → ℕ → Option Frame → List (List Uses) → List (List Uses)
 with_mark_of p v None pools = pools
-with_mark_of p v (Some f) pools = let uses = uses_in pools f in with_uses pools f (record uses { list = with_moving p v uses.list })
+with_mark_of p v (Some f) pools =
+    let uses = uses_in pools f in with_uses pools f (record uses { list = with_moving p v uses.list })
 
 -- the second place names the frame that the first one names
 abbrev pub keeps_frame : Option Frame → Place → Bool

@@ -1,4 +1,4 @@
-// The page tables of all processes, and for each frame the pages that name it.
+// The page tables of all processes (mm/memory.c), and for each frame the pages that name it (mm/rmap.c).
 #![tactic(auto)]
 
 mod places;

@@ -1,12 +1,13 @@
 // Places, and the words that stand for them.
 ghost use Rattle.std.specs.Prelude.{◌≡◌};
-ghost use Rattle.hm_base.specs.PlaceWords.{sys_frame, same_pool, same_frame, is_frame, names, writable};
+ghost use Rattle.hm_base.specs.PlaceWords.{is_frame, names, writable};
 ghost use Rattle.hm_history.specs.Places.{is_used};
 ghost use Rattle.hm_tables.specs.Values.{is_moving, place_of_word};
 ghost use Rattle.hm_tables.specs.Reads.{page_test};
 
 use entry_words::place_at;
-use hm_base::{Frame, Place, PoolId};
+use hm_base::frames::{is_frame, names};
+use hm_base::{Frame, Place};
 
 /// Which pages are looked for: those that have a place, or those that have the write right.
 #[derive(Clone, Copy, PartialEq, Eq, Debug)]
@@ -46,62 +47,11 @@ pub fn place_of_word(word: u64) -> Place
     }
 }
 
-fn sys_frame(number: u32) -> Frame
-    ensures { result ≡ sys_frame number }
-{
-    Frame {
-        pool: PoolId::System,
-        number,
-    }
-}
-
-/// The frame that a place names.
-pub fn names(place: &Place) -> Option<Frame>
-    ensures { result ≡ names place.now }
-{
-    match place {
-        Place::Empty | Place::Zero => None,
-        Place::Sys {
-            number,
-            writable: _,
-        } => Some(sys_frame(*number)),
-        Place::Own {
-            dev,
-            number,
-            writable: _,
-        } => Some(Frame {
-            pool: PoolId::Device(*dev),
-            number: *number,
-        }),
-        Place::Moving { frame, writable: _ } => Some(*frame),
-        Place::Exclusive { number, actor: _ } => Some(sys_frame(*number)),
-    }
-}
-
 /// Whether a place names the frame.
 pub fn is_named_by(frame: &Frame, place: &Place) -> bool
     ensures { result ≡ is_frame (names place.now) frame.now }
 {
-    match names(place) {
-        None => false,
-        Some(other) => same_frame(&other, frame),
-    }
-}
-
-fn same_frame(frame: &Frame, other: &Frame) -> bool
-    ensures { result ≡ same_frame frame.now other.now }
-{
-    same_pool(&frame.pool, &other.pool) && frame.number == other.number
-}
-
-fn same_pool(pool: &PoolId, other: &PoolId) -> bool
-    ensures { result ≡ same_pool pool.now other.now }
-{
-    match (pool, other) {
-        (PoolId::System, PoolId::System) => true,
-        (PoolId::Device(dev), PoolId::Device(other)) => dev.number() == other.number(),
-        _ => false,
-    }
+    is_frame(names(place), frame)
 }
 
 /// Whether it is a migration entry.

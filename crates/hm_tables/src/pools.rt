@@ -5,7 +5,8 @@ ghost use Rattle.entry_words.specs.Word.{pool_field};
 ghost use Rattle.hm_tables.specs.Values.{size_in};
 ghost use Rattle.hm_tables.specs.Steps.{frames_of, first_pools, without_use_of, with_use_of, with_mark_of, keeps_frame, freezes, keeps_use, uses_next, FrameFits, HasUseRoom, SaysOf, LosesUse, GainsUse, SamePools};
 
-use crate::places::{is_moving, is_named_by, names};
+use crate::places::{is_moving, is_named_by};
+use hm_base::frames::names;
 use hm_base::{Frame, NoMemory, Page, Place, PoolId, Proc, Script};
 use rev_maps::{RevMaps, Use};
 use std::alloc::Global;

@@ -7,9 +7,10 @@ ghost use Rattle.hm_tables.specs.Sound.{IsOrdered};
 ghost use Rattle.hm_tables.specs.Steps.{tables_start, tables_next, TablesFit, TablesRoom, TablesRange, SameTables};
 ghost use Rattle.hm_tables.specs.Reads.{page_test, next_in_table, next_page_of, lowest_of, use_count, orphan_of};
 
-use crate::places::{PageTest, is_named_by, names, place_of_word};
+use crate::places::{PageTest, is_named_by, place_of_word};
 use crate::pools::{change_use, new_pools, pool_index, reserve_use};
 use entry_words::encode;
+use hm_base::frames::names;
 use hm_base::{Frame, NoMemory, Page, Place, Proc, Script};
 use hm_history::Kind;
 use radix_tables::Radix;
@@ -59,7 +60,7 @@ impl PageTables {
         ensures ok { OnOk result (TablesRoom kind.now self.new) }
     {
         match kind {
-            Kind::Place(proc, page, place) => self.reserve_place(*proc, *page, place),
+            Kind::Place { proc, page, place } => self.reserve_place(*proc, *page, place),
             _ => Ok(()),
         }
     }
@@ -81,7 +82,7 @@ impl PageTables {
         ensures range { TablesRange kind.now }
     {
         match kind {
-            Kind::Place(proc, page, place) => self.set_place(*proc, *page, place),
+            Kind::Place { proc, page, place } => self.set_place(*proc, *page, place),
             _ => (),
         }
     }
@@ -97,6 +98,7 @@ impl PageTables {
         set_word(&mut self.tables, proc, page, place);
     }
 
+    /// The place of a page.
     pub fn place(&self, proc: Proc, page: Page) -> Place
         ensures { result ≡ place_of self.now proc page }
     {
@@ -143,13 +145,6 @@ impl PageTables {
         maps.count(frame.number)
     }
 
-    /// Whether a page names the frame.
-    pub fn is_named(&self, frame: &Frame) -> bool
-        ensures { result ≡ is_some (lowest_of self.now (λ moving. true) frame.now) }
-    {
-        self.lowest_named(frame).is_some()
-    }
-
     /// The frame that no page names once the page has this place, unless somebody has it locked.
     pub fn orphan(&self, proc: Proc, page: Page, place: &Place, is_locked: bool) -> Option<Frame>
         ensures { result ≡ orphan_of self.now proc page place.now is_locked }
@@ -188,7 +183,8 @@ fn place_in(tables: &Vec<Radix>, proc: Proc, page: Page) -> Place
 fn reserve_word(tables: &mut Vec<Radix>, proc: Proc, page: Page) -> Result<(), NoMemory>
     requires { length tables.old.items ≡ 32 }
     ensures count { length tables.new.items ≡ length tables.old.items }
-    ensures words { (p : ℕ) → (slice_index_or tables.new.items p no_words).words ≡ (slice_index_or tables.old.items p no_words).words }
+    ensures words { (p : ℕ)
+        → (slice_index_or tables.new.items p no_words).words ≡ (slice_index_or tables.old.items p no_words).words }
     ensures ok { OnOk result (is_reserved (slice_index_or tables.new.items proc no_words) page ≡ true) }
 {
     let table = &mut tables[proc.number() as usize];
@@ -228,74 +224,4 @@ fn next_in(table: &Radix, from: Page, test: PageTest) -> Option<Page>
         at = Page::new(page.number() + 1);
     }
     None
-}
-
-#[cfg(test)]
-mod tests {
-    use super::*;
-    use hm_base::{ActorLists, DeviceList, PoolId, Schedule, Version};
-    use std::test::Fail;
-
-    fn script(alloc: Global) -> Script
-        ensures { result.frames ≡ 4 }
-    {
-        Script {
-            version: Version::One,
-            frames: 4,
-            devices: DeviceList::new(alloc),
-            skip: 0,
-            actors: ActorLists::new(alloc),
-            schedule: Schedule::new(alloc),
-        }
-    }
-
-    /// Page 70 of process 3 gets this place.
-    fn set(tables: &mut PageTables, place: Place) -> Result<(), Fail>
-        requires { TablesFit (size_in tables.old.pools) (AnyKind.Place 3 70 place) }
-    {
-        let kind = Kind::Place(Proc::new(3), Page::new(70), place);
-        tables.reserve(&kind).map_err(|_| "no memory")?;
-        tables.step(&kind);
-        Ok(())
-    }
-
-    #[test]
-    fn a_page_gets_the_zero_page(rt: HostRuntime) -> Result<(), Fail> {
-        let (proc, page) = (Proc::new(3), Page::new(70));
-        let made = PageTables::new(rt.alloc(), &script(rt.alloc()));
-        let mut tables = made.map_err(|_| "no memory")?;
-        set(&mut tables, Place::Zero)?;
-        assert_eq!(rt; tables.place(proc, page), Place::Zero);
-        assert_eq!(rt;
-            tables.next_page(proc, Page::new(69), PageTest::Used),
-            Some(page)
-        );
-        assert_eq!(rt;
-            tables.next_page(proc, Page::new(69), PageTest::Writable),
-            None
-        );
-        Ok(())
-    }
-
-    #[test]
-    fn a_page_gets_a_frame(rt: HostRuntime) -> Result<(), Fail> {
-        let (proc, page) = (Proc::new(3), Page::new(70));
-        let place = Place::Sys {
-            number: 2,
-            writable: true,
-        };
-        let frame = Frame {
-            pool: PoolId::System,
-            number: 2,
-        };
-        let made = PageTables::new(rt.alloc(), &script(rt.alloc()));
-        let mut tables = made.map_err(|_| "no memory")?;
-        set(&mut tables, place)?;
-        assert_eq!(rt; tables.lowest_direct(&frame), Some((proc, page)));
-        assert_eq!(rt; tables.lowest_moving(&frame), None);
-        assert_eq!(rt; tables.uses(&frame), 1);
-        assert_eq!(rt; tables.orphan(proc, page, &Place::Zero, false), Some(frame));
-        assert_eq!(rt; tables.orphan(proc, page, &Place::Zero, true), None);
-        Ok(())
-    }
 }

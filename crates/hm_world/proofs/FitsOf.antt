@@ -1,5 +1,6 @@
 -- What the structures ask at an entry that is due follows from the rules of its state.
 use Rattle.std.proofs.Common.{◌≡◌, ℕ, ◌<◌, Bool, true, false, ◌&&◌, Option, Some, None, is_some, is_none, refl, sym, ap, ◌∙◌, arith, subst}
+use Rattle.std.proofs.lemmas.Bool.{and_parts}
 use Rattle.hm_base.specs.Program.{Program}
 use Rattle.hm_base.specs.declared.Frame.{Frame}
 use Rattle.hm_base.specs.declared.Place.{Place}
@@ -17,13 +18,12 @@ use Rattle.hm_laws.specs.Stood.{FitsSole, Matches}
 use Rattle.hm_laws.specs.Allowed.{Allowed}
 use Rattle.hm_laws.specs.Stands.{CopiesRightly}
 use Rattle.hm_laws.specs.Sound.{Sound, Paired, stands_so}
-use Rattle.hm_laws.proofs.Updates.{both}
-use Rattle.hm_laws.proofs.ContentsKept.{backing_is}
-use Rattle.hm_laws.proofs.Invalidations.{end_says, active_of}
+use Rattle.hm_laws.proofs.Kept.Contents.{backing_is}
+use Rattle.hm_laws.proofs.State.Invalidations.{end_says, active_of}
 use Rattle.hm_frames.specs.Shown.{FramesFit}
 use Rattle.hm_tables.specs.Steps.{TablesFit, FrameFits}
 use Rattle.hm_spaces.specs.Spaces.{SpacesFit}
-use Rattle.hm_notifiers.specs.Shown.{SubscriptionsFit}
+use Rattle.hm_notifiers.specs.Shown.{NotifiersValueFit}
 use Rattle.hm_notifiers.proofs.Fits.{told_fits, detaching_fits, detached_fits}
 use Rattle.hm_mirrors.specs.Shown.{MirrorsFit}
 use Rattle.hm_mirrors.specs.Entries.{is_kept_right}
@@ -35,7 +35,7 @@ pub frames_fit : (c : Program) (s : After) (t : Past) (a : ℕ) (k : Kind) → S
 frames_fit c s t a (Kind.Take f) so ok fair = ok
 frames_fit c s t a (Kind.Drop f) so ok fair = so.frames.locked_held f a ok.mine
 frames_fit c s t a (Kind.Done f) so ok fair = ap is_some ok.0.mine
-frames_fit c s t a (Kind.Place p v x) so ok fair = (ok.names_held, so.frames.names_held p v)
+frames_fit c s t a (Kind.Place p v x) so ok fair = (ok.frames.names_held, so.frames.names_held p v)
 frames_fit c s t a (Kind.Stored who at bs) so ok fair = (backs_held c s t so _ _, ok.3)
 frames_fit c s t a (Kind.Added m at was n) so ok fair = backs_held c s t so _ _
 frames_fit c s t a (Kind.Copied f g None) so ok fair = record {
@@ -54,14 +54,14 @@ frames_fit c s t a (Kind.Committed f g) so ok fair = so.frames.locked_held f a o
 frames_fit c s t a k so ok fair = tt
 
 pub tables_fit : (c : Program) (s : After) (t : Past) (a : ℕ) (k : Kind) → Sound c s t → Allowed c s t a k → TablesFit (pool_size c) k
-tables_fit c s t a (Kind.Place p v y) so ok = by (names y) (λ f e. so.pools.below f (ok.names_held f e))
+tables_fit c s t a (Kind.Place p v y) so ok = by (names y) (λ f e. so.pools.below f (ok.frames.names_held f e))
   where
     by : (x : Option Frame) → ((f : Frame) → x ≡ Some f → f.number < pool_size c f.pool) → FrameFits (pool_size c) x
     by None h = tt
     by (Some f) h = h f refl
 tables_fit c s t a k so ok = tt
 
-not_refused : (b : Bool) (x : Option ℕ) → (b && is_none x) ≡ true → x ≡ None
+not_refused : {X : Type 0} (b : Bool) (x : Option X) → (b && is_none x) ≡ true → x ≡ None
 not_refused true None e = refl
 not_refused true (Some n) e = cc
 not_refused false x e = cc
@@ -73,9 +73,9 @@ spaces_fit c s t a (Kind.Protected p r w) ok = λ l. not_refused (s.plain.there 
 spaces_fit c s t a k ok = tt
 
 -- a mirror that is attached, or leaves, has an interval that stands so
-stands_with : (x : Option MirrorState) (y : Option Interval) (d : ℕ) → Paired x y d → (z : Interval) → y ≡ Some z → (m : MirrorState) × (x ≡ Some m) × (stands_so m.standing z.standing ≡ true)
+stands_with : (x : Option MirrorState) (y : Option Interval) (d : ℕ) → Paired x y d → (z : Interval) → y ≡ Some z → (m : MirrorState) × (x ≡ Some m) × (stands_so m.stage z.stage ≡ true)
 stands_with None None d h z e = cc
-stands_with (Some m) (Some y) d h z e = (m, refl, subst (λ w. stands_so m.standing w.standing ≡ true) (some_is y z e) h.standing)
+stands_with (Some m) (Some y) d h z e = (m, refl, subst (λ w. stands_so m.stage w.stage ≡ true) (some_is y z e) h.stage)
   where
     some_is : (y z : Interval) → Some y ≡ Some z → y ≡ z
     some_is y z e = cc
@@ -87,19 +87,19 @@ no_removal Attachment.Attached h e = cc
 no_removal Attachment.Detaching h e = cc
 no_removal Attachment.Gone h e = cc
 
-attached_says : (o : Option MirrorState) (m : MirrorState) → mirror_passes is_attached_state o ≡ true → o ≡ Some m → m.standing ≡ Attachment.Attached
+attached_says : (o : Option MirrorState) (m : MirrorState) → mirror_passes is_attached_state o ≡ true → o ≡ Some m → m.stage ≡ Attachment.Attached
 attached_says None m h e = cc
-attached_says (Some x) m h e = by x m.standing refl (subst (λ y. is_attached_state y ≡ true) (some_is x m e) h)
+attached_says (Some x) m h e = by x m.stage refl (subst (λ y. is_attached_state y ≡ true) (some_is x m e) h)
   where
     some_is : (y z : MirrorState) → Some y ≡ Some z → y ≡ z
     some_is y z e = cc
 
-    by : (x : MirrorState) (z : Attachment) → m.standing ≡ z → is_attached_state m ≡ true → m.standing ≡ Attachment.Attached
+    by : (x : MirrorState) (z : Attachment) → m.stage ≡ z → is_attached_state m ≡ true → m.stage ≡ Attachment.Attached
     by x Attachment.Attached e k = e
     by x Attachment.Detaching e k = grind arith
     by x Attachment.Gone e k = grind arith
 
-pub notifiers_fit : (c : Program) (s : After) (t : Past) (a : ℕ) (k : Kind) → s.length < 2000000 → Sound c s t → Allowed c s t a k → SubscriptionsFit s.length s.sequences k
+pub notifiers_fit : (c : Program) (s : After) (t : Past) (a : ℕ) (k : Kind) → s.length < 2000000 → Sound c s t → Allowed c s t a k → NotifiersValueFit s.length s.sequences k
 notifiers_fit c s t a (Kind.Start p r q) l so ok = omega (arith, l)
 notifiers_fit c s t a (Kind.Told m r q) l so ok = told_fits s.length s.sequences a m q r ok
 notifiers_fit c s t a (Kind.End p r q) l so ok = let e = end_says s.sequences a p r q ok in (omega (arith, l), active_of s.sequences so.sequences a p e.0 e.1 e.2)
@@ -116,7 +116,7 @@ notifiers_fit c s t a (Kind.Attached m d p r q) l so ok = by (s.plain.mirrors m)
     by (Some x) y e h = cc
 notifiers_fit c s t a (Kind.Detaching m q) l so ok = detaching_fits s.length s.sequences a m q ok.1 (λ y e r.
     let w = stands_with (s.plain.mirrors m) (s.sequences.interval m) (s.places.device m) (so.mirrors.paired m) y e in
-    no_removal w.0.standing (subst (λ z. stands_so w.0.standing z ≡ true) r w.2) (attached_says (s.plain.mirrors m) w.0 ok.0 w.1))
+    no_removal w.0.stage (subst (λ z. stands_so w.0.stage z ≡ true) r w.2) (attached_says (s.plain.mirrors m) w.0 ok.0 w.1))
 notifiers_fit c s t a (Kind.Detached m) l so ok = detached_fits s.length s.sequences a m ok.1 (λ y e r. so.sequences.leaving m y e (rw r refl))
 notifiers_fit c s t a k l so ok = tt
 
@@ -135,6 +135,6 @@ kept_right to f TableRight.Write x h = refl
 kept_right to f TableRight.Sole x h = sole_is f x h
 
 pub mirrors_fit : (c : Program) (s : After) (t : Past) (a : ℕ) (k : Kind) → Allowed c s t a k → MirrorsFit s.plain.mirrors k
-mirrors_fit c s t a (Kind.Attached m d p r q) ok = (both (s.plain.there p) (is_none (s.plain.mirrors m)) ok.1).1
-mirrors_fit c s t a (Kind.Set m v f w from) ok = (rw ok.is ok.fits.in_window, kept_right s.places.moved_to f w _ ok.fits.matches)
+mirrors_fit c s t a (Kind.Attached m d p r q) ok = (and_parts (s.plain.there p) (is_none (s.plain.mirrors m)) ok.1).1
+mirrors_fit c s t a (Kind.Set m v f w from) ok = (rw ok.is ok.fits.in_window, kept_right s.places.committed_to f w _ ok.fits.matches)
 mirrors_fit c s t a k ok = tt

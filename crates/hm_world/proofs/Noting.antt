@@ -1,37 +1,37 @@
 -- What is noted of an entry is what the stack of phases sees.
 use Rattle.std.proofs.Common.{◌≡◌, ℕ, Bool, true, Option, Some, List, refl, sym, ap, ◌∙◌, subst, length}
 use Rattle.std.specs.Prelude.{IsTrue, slice_get}
+use Rattle.std.proofs.lemmas.Bool.{and_parts}
 use Rattle.hm_base.specs.Program.{Program, op_in_range, op_fits}
 use Rattle.hm_base.specs.declared.Frame.{Frame}
 use Rattle.hm_base.specs.declared.Place.{Place}
 use Rattle.hm_base.specs.declared.ops.Op.{Op}
 use Rattle.hm_history.specs.Locks.{orphan}
 use Rattle.hm_history.specs.After.{After}
-use Rattle.hm_history.specs.Going.{Going, op_at, seen_at, seen_overlap, seen_place, coming}
+use Rattle.hm_history.specs.Going.{Going, op_at, seen_at, seen_overlap, seen_place, coming, coming_page}
 use Rattle.hm_history.specs.declared.Kind.{Kind}
 use Rattle.hm_history.specs.declared.phases.Migrating.{Migrating}
 use Rattle.hm_history.specs.declared.phases.Phase.{Phase}
 use Rattle.hm_history.specs.declared.phases.Seen.{Seen}
-use Rattle.hm_laws.proofs.History.{small}
-use Rattle.hm_laws.proofs.Updates.{both}
+use Rattle.hm_laws.proofs.Histories.Sound.{small}
 use Rattle.hm_actors.specs.Actors.{IsSeen}
-use Rattle.hm_world.specs.Told.{Told, now}
+use Rattle.hm_world.specs.WorldValue.{WorldValue, now}
 use Rattle.hm_world.specs.Stands.{Parts, Stands}
 
 in_range : (n : ℕ) (o : Op) → op_fits n o ≡ true → IsTrue (op_in_range o)
-in_range n o h = (both (op_in_range o) _ h).0
+in_range n o h = (and_parts (op_in_range o) _ h).0
 
-range_at : (t : Told) (x : Parts) → Stands t x → (a : ℕ) (o : Op) → Some o ≡ op_at t.script a ((now t).going a).index → IsTrue (op_in_range o)
+range_at : (t : WorldValue) (x : Parts) → Stands t x → (a : ℕ) (o : Op) → Some o ≡ op_at t.script a ((now t).going a).index → IsTrue (op_in_range o)
 range_at t x s a o e = in_range (length t.script.devices) o ((small t.script s.script).ops a ((now t).going a).index o (sym e))
 
-pub op_ranged : (t u : Told) → t ≡ u → (x : Parts) → Stands t x → (a : ℕ) (o : Op) → Some o ≡ op_at u.script a ((now u).going a).index → IsTrue (op_in_range o)
+pub op_ranged : (t u : WorldValue) → t ≡ u → (x : Parts) → Stands t x → (a : ℕ) (o : Op) → Some o ≡ op_at u.script a ((now u).going a).index → IsTrue (op_in_range o)
 op_ranged t u e x s a o = subst (λ v. Some o ≡ op_at v.script a ((now v).going a).index → IsTrue (op_in_range o)) e (range_at t x s a o)
 
 some_is : {X : Type 0} (x y : X) → Some x ≡ Some y → x ≡ y
 some_is x y e = cc
 
 pub seen_is : (c : Program) (s : After) (a : ℕ) (g : Going) (k : Kind) (op : Op) (tp : Phase) (n : ℕ) (ov : Bool) (pl : Place) (left : Option Frame) (pg : Option Migrating) →
-    Some op ≡ op_at c a g.index → Some tp ≡ slice_get g.stack 0 → n ≡ s.length → ov ≡ seen_overlap s k → pl ≡ seen_place s op tp k → left ≡ orphan s.locks s.places k → pg ≡ (coming s op g.pages tp).1 →
+    Some op ≡ op_at c a g.index → Some tp ≡ slice_get g.stack 0 → n ≡ s.length → ov ≡ seen_overlap s k → pl ≡ seen_place s op tp k → left ≡ orphan s.locks s.places k → pg ≡ coming_page (coming s op g.pages tp) →
     IsSeen c s a g k (record { at = n; overlapped = ov; place = pl; orphan = left; page = pg })
 seen_is c s a g k op tp n ov pl left pg eo et en ev ep el eg o top below fo ft =
     let p : op ≡ o = some_is op o (eo ∙ fo) in

@@ -1,25 +1,26 @@
 -- What pages show: by their places, and through a mirror's table.
 use Rattle.std.proofs.Common.{◌≡◌, ℕ, zero, suc, ◌+◌, ◌%◌, ◌^◌, ◌<◌, ◌≤◌, Bool, true, false, Option, Some, None, is_some, unwrap_or, Result, Ok, Err, List, slice_index_or, refl, sym, ap, ◌∙◌, arith, subst, IfOk}
+use Rattle.std.proofs.lemmas.Bool.{and_parts}
 use Rattle.hm_base.specs.Program.{Program}
 use Rattle.hm_base.specs.declared.Frame.{Frame}
 use Rattle.hm_base.specs.declared.Place.{Place}
 use Rattle.hm_history.specs.Words.{page_of, bytes_from, is_empty_place}
 use Rattle.hm_history.specs.Plain.{MirrorState, mirror_proc, mirror_passes, is_attached_state}
 use Rattle.hm_history.specs.Places.{Places, TableEntry, cpu_reads, is_exclusive_by, is_sole, may_read, entry_passes}
-use Rattle.hm_history.specs.Contents.{backing, shown, shown_by}
+use Rattle.hm_history.specs.Contents.{backing, contents_of, shown_by}
 use Rattle.hm_history.specs.After.{After}
-use Rattle.hm_history.specs.Due.{is_usable, has_alone}
+use Rattle.hm_history.specs.Due.{is_usable, has_exclusive}
 use Rattle.hm_history.specs.declared.TableRight.{TableRight}
 use Rattle.hm_laws.specs.Past.{Past}
 use Rattle.hm_laws.specs.Stood.{stood, Fits, FitsSole, Matches}
 use Rattle.hm_laws.specs.Sound.{Sound}
-use Rattle.hm_laws.proofs.Updates.{both, some_none, true_false}
-use Rattle.hm_laws.proofs.ContentsKept.{backing_is}
-use Rattle.hm_world.specs.Told.{Told, now}
+use Rattle.hm_laws.proofs.Kept.Contents.{backing_is}
+use Rattle.hm_world.specs.WorldValue.{WorldValue, now}
 use Rattle.hm_world.specs.Stands.{Parts, Stands}
 use Rattle.hm_world.specs.Mirrored.{MirroredBy}
 use Rattle.hm_world.proofs.FitsOf.{backs_held}
 use Rattle.hm_world.proofs.Standing.{Lawful, lawful}
+use Rattle.hm_history.proofs.Tests.{some_none, true_false}
 
 -- a page past the last has no place
 empty_is : (x : Place) → is_empty_place x ≡ true → Place.Empty ≡ x
@@ -40,7 +41,7 @@ past_page c s t so p v l = by (is_empty_place (s.places.place p v)) refl
 address_past : (a : ℕ) → 2 ^ 48 ≤ a → 2 ^ 36 ≤ page_of a
 address_past a l = omega (arith, l)
 
-pub no_page : (t u : Told) → t ≡ u → (x : Parts) → Stands t x → (p a : ℕ) → 2 ^ 48 ≤ a → Place.Empty ≡ (now u).after.places.place p (page_of a)
+pub no_page : (t u : WorldValue) → t ≡ u → (x : Parts) → Stands t x → (p a : ℕ) → 2 ^ 48 ≤ a → Place.Empty ≡ (now u).after.places.place p (page_of a)
 no_page t u e x s p a l = subst (λ v. Place.Empty ≡ (now v).after.places.place p (page_of a)) e
     (let w : Lawful t.script t.history (now t).after (now t).going = lawful t x s in past_page t.script (now t).after w.past w.sound p (page_of a) (address_past a l))
 
@@ -75,13 +76,13 @@ same_page : (a i n : ℕ) → i < n → a % 4096 + n ≤ 4096 → (page_of (a + 
 same_page a i n l k = (omega (arith, l, k), omega (arith, l, k))
 
 -- what a frame shows is what the process wrote
-pub page_shows : (c : Program) (s : After) (t : Past) → Sound c s t → (p a n : ℕ) → Reads s p (page_of a) → a % 4096 + n ≤ 4096 → bytes_from (shown_by s.contents (stood s.places.moved_to (s.places.place p (page_of a)))) (a % 4096) n ≡ bytes_from (s.plain.bytes p) a n
+pub page_shows : (c : Program) (s : After) (t : Past) → Sound c s t → (p a n : ℕ) → Reads s p (page_of a) → a % 4096 + n ≤ 4096 → bytes_from (shown_by s.contents (stood s.places.committed_to (s.places.place p (page_of a)))) (a % 4096) n ≡ bytes_from (s.plain.bytes p) a n
 page_shows c s t so p a n h l = bytes_as _ (s.plain.bytes p) (a % 4096) a n each
   where
-    each : (i : ℕ) → i < n → shown_by s.contents (stood s.places.moved_to (s.places.place p (page_of a))) (a % 4096 + i) ≡ s.plain.bytes p (a + i)
+    each : (i : ℕ) → i < n → shown_by s.contents (stood s.places.committed_to (s.places.place p (page_of a))) (a % 4096 + i) ≡ s.plain.bytes p (a + i)
     each i k = let e : (page_of (a + i) ≡ page_of a) × ((a + i) % 4096 ≡ a % 4096 + i) = same_page a i n k l in
-        sym (ap (shown_by s.contents (stood s.places.moved_to (s.places.place p (page_of a)))) e.1)
-        ∙ sym (ap (λ v. shown_by s.contents (stood s.places.moved_to (s.places.place p v)) ((a + i) % 4096)) e.0)
+        sym (ap (shown_by s.contents (stood s.places.committed_to (s.places.place p (page_of a)))) e.1)
+        ∙ sym (ap (λ v. shown_by s.contents (stood s.places.committed_to (s.places.place p v)) ((a + i) % 4096)) e.0)
         ∙ so.reads.reads p (a + i) h.there (ap (λ v. is_empty_place (s.places.place p v)) e.0 ∙ h.used)
 
 -- by the CPU
@@ -121,7 +122,7 @@ matches_stood to t TableRight.Sole x h = sole_stood to t x h
 
 pub record Through (s : After) (m v : ℕ) (target : Option Frame) : Type 0 where
   pub reads : Reads s (mirror_proc s.plain m) v
-  pub stands : stood s.places.moved_to (s.places.place (mirror_proc s.plain m) v) ≡ target
+  pub stands : stood s.places.committed_to (s.places.place (mirror_proc s.plain m) v) ≡ target
 
 pub through : (c : Program) (s : After) (t : Past) → Sound c s t → (m v : ℕ) (e : TableEntry) → s.places.table m v ≡ Some e → Through s m v e.target
 through c s t so m v e i = by (s.plain.mirrors m) refl
@@ -133,9 +134,9 @@ through c s t so m v e i = by (s.plain.mirrors m) refl
         proc : x.proc ≡ mirror_proc s.plain m
         proc = sym (ap (λ (y : Option MirrorState). elim y [ None ↦ 0 | Some z ↦ z.proc ]) ex)
 
-        fit : (stood s.places.moved_to (s.places.place (mirror_proc s.plain m) v) ≡ e.target) × (is_empty_place (s.places.place (mirror_proc s.plain m) v) ≡ false)
-        fit = subst (λ p. (stood s.places.moved_to (s.places.place p v) ≡ e.target) × (is_empty_place (s.places.place p v) ≡ false)) proc
-            (matches_stood s.places.moved_to e.target e.right (s.places.place x.proc v) (so.tables.entered m v e x i ex).matches)
+        fit : (stood s.places.committed_to (s.places.place (mirror_proc s.plain m) v) ≡ e.target) × (is_empty_place (s.places.place (mirror_proc s.plain m) v) ≡ false)
+        fit = subst (λ p. (stood s.places.committed_to (s.places.place p v) ≡ e.target) × (is_empty_place (s.places.place p v) ≡ false)) proc
+            (matches_stood s.places.committed_to e.target e.right (s.places.place x.proc v) (so.tables.entered m v e x i ex).matches)
 
         there : s.plain.there (mirror_proc s.plain m) ≡ true
         there = at (s.plain.there (mirror_proc s.plain m)) refl
@@ -151,8 +152,8 @@ some_entry test (Some e) h = (e, refl)
 pub usable_entry : (x : Option TableEntry) → is_usable false x ≡ true → (e : TableEntry) × (x ≡ Some e)
 usable_entry x h = some_entry (λ y. may_read y.right) x h
 
-pub alone_entry : (s : After) (a m v : ℕ) → has_alone s a m v ≡ true → (e : TableEntry) × (s.places.table m v ≡ Some e)
-alone_entry s a m v h = some_entry (λ x. is_sole x.right) (s.places.table m v) (both (entry_passes (λ x. is_sole x.right) (s.places.table m v)) (is_exclusive_by (s.places.place (mirror_proc s.plain m) v) a) h).0
+pub alone_entry : (s : After) (a m v : ℕ) → has_exclusive s a m v ≡ true → (e : TableEntry) × (s.places.table m v ≡ Some e)
+alone_entry s a m v h = some_entry (λ x. is_sole x.right) (s.places.table m v) (and_parts (entry_passes (λ x. is_sole x.right) (s.places.table m v)) (is_exclusive_by (s.places.place (mirror_proc s.plain m) v) a) h).0
 
 pub mirrored_is : (t : Places) (x : Option TableEntry) (e : TableEntry) (y : Place) → x ≡ Some e → MirroredBy x y → backing t y ≡ e.target
 mirrored_is t x e y i h = by (subst (λ z. MirroredBy z y) i h)
@@ -165,34 +166,34 @@ ok_as (Ok x) P Q f h = f x h
 ok_as (Err e) P Q f h = tt
 
 -- the same of a world's state
-law_of : (t u : Told) → t ≡ u → (x : Parts) → Stands t x → (p : Past) × Sound u.script (now u).after p
+law_of : (t u : WorldValue) → t ≡ u → (x : Parts) → Stands t x → (p : Past) × Sound u.script (now u).after p
 law_of t u e x s = let w : Lawful t.script t.history (now t).after (now t).going = lawful t x s in
     subst (λ v. (p : Past) × Sound v.script (now v).after p) e (w.past, w.sound)
 
-pub at_below : (t u : Told) → t ≡ u → (x : Parts) → Stands t x → (p a : ℕ) → Reads (now u).after p (page_of a) → a < 2 ^ 48
+pub at_below : (t u : WorldValue) → t ≡ u → (x : Parts) → Stands t x → (p a : ℕ) → Reads (now u).after p (page_of a) → a < 2 ^ 48
 at_below t u e x s p a h = let w = law_of t u e x s in reads_below u.script (now u).after w.0 w.1 p a h
 
-pub held_at : (t u : Told) → t ≡ u → (x : Parts) → Stands t x → (p v : ℕ) (f : Frame) → backing (now u).after.places ((now u).after.places.place p v) ≡ Some f → (now u).after.places.held f ≡ true
+pub held_at : (t u : WorldValue) → t ≡ u → (x : Parts) → Stands t x → (p v : ℕ) (f : Frame) → backing (now u).after.places ((now u).after.places.place p v) ≡ Some f → (now u).after.places.held f ≡ true
 held_at t u e x s p v f h = let w = law_of t u e x s in backs_held u.script (now u).after w.0 w.1 p v f h
 
-pub shows_at : (t u : Told) → t ≡ u → (x : Parts) → Stands t x → (p a n : ℕ) → Reads (now u).after p (page_of a) → a % 4096 + n ≤ 4096 →
-    bytes_from (shown (now u).after.places (now u).after.contents ((now u).after.places.place p (page_of a))) (a % 4096) n ≡ bytes_from ((now u).after.plain.bytes p) a n
+pub shows_at : (t u : WorldValue) → t ≡ u → (x : Parts) → Stands t x → (p a n : ℕ) → Reads (now u).after p (page_of a) → a % 4096 + n ≤ 4096 →
+    bytes_from (contents_of (now u).after.places (now u).after.contents ((now u).after.places.place p (page_of a))) (a % 4096) n ≡ bytes_from ((now u).after.plain.bytes p) a n
 shows_at t u e x s p a n h l = let w = law_of t u e x s in
     ap (λ f. bytes_from (shown_by (now u).after.contents f) (a % 4096) n) (backing_is (now u).after.places ((now u).after.places.place p (page_of a))) ∙ page_shows u.script (now u).after w.0 w.1 p a n h l
 
-pub through_now : (t u : Told) → t ≡ u → (x : Parts) → Stands t x → (m v : ℕ) (y : TableEntry) → (now u).after.places.table m v ≡ Some y → Through (now u).after m v y.target
+pub through_now : (t u : WorldValue) → t ≡ u → (x : Parts) → Stands t x → (m v : ℕ) (y : TableEntry) → (now u).after.places.table m v ≡ Some y → Through (now u).after m v y.target
 through_now t u e x s m v y i = let w = law_of t u e x s in through u.script (now u).after w.0 w.1 m v y i
 
-pub held_through : (t u : Told) → t ≡ u → (x : Parts) → Stands t x → (m v : ℕ) (y : TableEntry) (z : Place) → (now u).after.places.table m v ≡ Some y → backing (now u).after.places z ≡ y.target → (f : Frame) →
+pub held_through : (t u : WorldValue) → t ≡ u → (x : Parts) → Stands t x → (m v : ℕ) (y : TableEntry) (z : Place) → (now u).after.places.table m v ≡ Some y → backing (now u).after.places z ≡ y.target → (f : Frame) →
     backing (now u).after.places z ≡ Some f → (now u).after.places.held f ≡ true
 held_through t u e x s m v y z i b f k = let w = law_of t u e x s in let h = through_now t u e x s m v y i in
     w.1.frames.stands_held (mirror_proc (now u).after.plain m) v f (h.stands ∙ sym b ∙ k)
 
-pub shows_through : (t u : Told) → t ≡ u → (x : Parts) → Stands t x → (m a n : ℕ) (y : TableEntry) (z : Place) → (now u).after.places.table m (page_of a) ≡ Some y → backing (now u).after.places z ≡ y.target → a % 4096 + n ≤ 4096 →
-    bytes_from (shown (now u).after.places (now u).after.contents z) (a % 4096) n ≡ bytes_from ((now u).after.plain.bytes (mirror_proc (now u).after.plain m)) a n
+pub shows_through : (t u : WorldValue) → t ≡ u → (x : Parts) → Stands t x → (m a n : ℕ) (y : TableEntry) (z : Place) → (now u).after.places.table m (page_of a) ≡ Some y → backing (now u).after.places z ≡ y.target → a % 4096 + n ≤ 4096 →
+    bytes_from (contents_of (now u).after.places (now u).after.contents z) (a % 4096) n ≡ bytes_from ((now u).after.plain.bytes (mirror_proc (now u).after.plain m)) a n
 shows_through t u e x s m a n y z i b l = let w = law_of t u e x s in let h = through_now t u e x s m (page_of a) y i in
     ap (λ f. bytes_from (shown_by (now u).after.contents f) (a % 4096) n) (b ∙ sym h.stands) ∙ page_shows u.script (now u).after w.0 w.1 (mirror_proc (now u).after.plain m) a n h.reads l
 
-pub byte_through : (t u : Told) → t ≡ u → (x : Parts) → Stands t x → (m a : ℕ) (y : TableEntry) (z : Place) → (now u).after.places.table m (page_of a) ≡ Some y → backing (now u).after.places z ≡ y.target →
-    shown (now u).after.places (now u).after.contents z (a % 4096) ≡ (now u).after.plain.bytes (mirror_proc (now u).after.plain m) a
+pub byte_through : (t u : WorldValue) → t ≡ u → (x : Parts) → Stands t x → (m a : ℕ) (y : TableEntry) (z : Place) → (now u).after.places.table m (page_of a) ≡ Some y → backing (now u).after.places z ≡ y.target →
+    contents_of (now u).after.places (now u).after.contents z (a % 4096) ≡ (now u).after.plain.bytes (mirror_proc (now u).after.plain m) a
 byte_through t u e x s m a y z i b = ap (λ (l : List ℕ). slice_index_or l 0 0) (shows_through t u e x s m a 1 y z i b (omega arith))

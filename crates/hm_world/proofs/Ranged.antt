@@ -17,11 +17,11 @@ use Rattle.hm_history.specs.declared.phases.Phase.{Phase}
 use Rattle.hm_reads.specs.Ranges.{top_in_range}
 use Rattle.hm_laws.specs.Past.{Past}
 use Rattle.hm_laws.specs.Sound.{Sound}
-use Rattle.hm_laws.proofs.Updates.{some_none}
 use Rattle.hm_laws.specs.Facts.{facts, facts_of, HoldsAll}
-use Rattle.hm_world.specs.Told.{Told, now}
+use Rattle.hm_world.specs.WorldValue.{WorldValue, now}
 use Rattle.hm_world.specs.Stands.{Parts, Stands}
 use Rattle.hm_world.proofs.Standing.{Lawful, lawful}
+use Rattle.hm_history.proofs.Tests.{some_none}
 
 less : (v : ℕ) → v < 2 ^ 36 → nat_lt v (2 ^ 36) ≡ true
 less v l = grind (arith, nat_tests)
@@ -76,13 +76,13 @@ top_at : (c : Program) (u : State) (t : Past) (a : ℕ) (x : Option Op) → op_a
 top_at c u t a None e so r h = let q : (u.going a).stack ≡ [] = r e in rw q refl
 top_at c u t a (Some o) e so r h = stack_ranged c u.after t a o (u.going a).pages (u.going a).stack so h
 
-rests_now : (t : Told) (a : ℕ) → Rests t.script a ((now t).going a)
+rests_now : (t : WorldValue) (a : ℕ) → Rests t.script a ((now t).going a)
 unfolding now
 rests_now t a = rests_after t.script (state_start t.script) t.history a (rests_from t.script a 0)
 
-ranged_now : (t : Told) (x : Parts) → Stands t x → (a : ℕ) → IsTrue (top_in_range (slice_get ((now t).going a).stack 0))
+ranged_now : (t : WorldValue) (x : Parts) → Stands t x → (a : ℕ) → IsTrue (top_in_range (slice_get ((now t).going a).stack 0))
 ranged_now t x s a = let l : Lawful t.script t.history (now t).after (now t).going = lawful t x s in
     top_at t.script (now t) l.past a _ refl l.sound (rests_now t a) (l.known a)
 
-pub top_ranged : (t u : Told) → t ≡ u → (x : Parts) → Stands t x → (a : ℕ) → IsTrue (top_in_range (slice_get ((now u).going a).stack 0))
+pub top_ranged : (t u : WorldValue) → t ≡ u → (x : Parts) → Stands t x → (a : ℕ) → IsTrue (top_in_range (slice_get ((now u).going a).stack 0))
 top_ranged t u e x s a = subst (λ v. IsTrue (top_in_range (slice_get ((now v).going a).stack 0))) e (ranged_now t x s a)

@@ -13,10 +13,10 @@ use Rattle.hm_history.specs.declared.Entry.{Entry}
 use Rattle.hm_actors.specs.Actors.{TaskValue, ActorsShown, going_of, nobody}
 use Rattle.hm_actors.proofs.TaskKept.{nobody_past}
 use Rattle.hm_actors.proofs.ActorsKept.{op_below}
-use Rattle.hm_world.specs.Told.{Told, now}
+use Rattle.hm_world.specs.WorldValue.{WorldValue, now}
 use Rattle.hm_world.specs.Stands.{Parts, Shows, Stands}
 
-pub shown : (t u : Told) → t ≡ u → (x : Parts) → Stands t x → Shows u.script (now u) x
+pub shown : (t u : WorldValue) → t ≡ u → (x : Parts) → Stands t x → Shows u.script (now u) x
 shown t u e x s = subst (λ v. Shows v.script (now v) x) e s.shows
 
 -- the length of the history
@@ -24,7 +24,7 @@ lengths : (c : Program) (s : State) (h : List Entry) → (fold (state_next c) s 
 lengths c s [] = omega arith
 lengths c s (e ∷ h) = lengths c (state_next c s e) h ∙ omega arith
 
-pub now_length : (t : Told) → (now t).after.length ≡ length t.history
+pub now_length : (t : WorldValue) → (now t).after.length ≡ length t.history
 unfolding now
 now_length t = lengths t.script (state_start t.script) t.history ∙ omega arith
 
@@ -53,7 +53,7 @@ at_rest c s (e ∷ h) a l = at_rest c (state_next c s e) h a l ∙ by (cases_eq 
     by (inl i) = here s.going e.actor _ i ∙ subst (λ b. going_next c s.after b (s.going b) e.kind ≡ s.going a) i (stays c s.after a (s.going a) e.kind l)
     by (inr i) = there s.going e.actor _ i
 
-pub going_now : (t : Told) (x : List TaskValue) (a : ℕ) → ActorsShown (length t.script.actors) (now t).going x → going_of x a ≡ (now t).going a
+pub going_now : (t : WorldValue) (x : List TaskValue) (a : ℕ) → ActorsShown (length t.script.actors) (now t).going x → going_of x a ≡ (now t).going a
 unfolding now
 going_now t x a h = by (cases_lt a (length t.script.actors))
   where
@@ -64,5 +64,5 @@ going_now t x a h = by (cases_lt a (length t.script.actors))
     by (inl l) = h.at a l
     by (inr l) = ap (λ (d : TaskValue). d.going) (nobody_past x a (omega (arith, h.len))) ∙ sym (first l) ∙ sym (at_rest t.script (state_start t.script) t.history a l)
 
-pub few : (t u : Told) → t ≡ u → (x : Parts) → Stands t x → (now u).after.length ≤ 2000000
+pub few : (t u : WorldValue) → t ≡ u → (x : Parts) → Stands t x → (now u).after.length ≤ 2000000
 few t u e x s = subst (λ v. (now v).after.length ≤ 2000000) e (omega (arith, now_length t, s.few))

@@ -8,7 +8,7 @@ use Rattle.hm_history.specs.declared.phases.Seen.{Seen}
 use Rattle.hm_frames.specs.Shown.{FramesFit}
 use Rattle.hm_tables.specs.Steps.{TablesFit}
 use Rattle.hm_spaces.specs.Spaces.{SpacesFit}
-use Rattle.hm_notifiers.specs.Shown.{SubscriptionsFit}
+use Rattle.hm_notifiers.specs.Shown.{NotifiersValueFit}
 use Rattle.hm_mirrors.specs.Shown.{MirrorsFit}
 use Rattle.hm_actors.specs.Actors.{ActorsFit, IsSeen}
 
@@ -16,6 +16,6 @@ pub record Fits (c : Program) (s : State) (a : ℕ) (k : Kind) : Type 0 where
   pub frames : FramesFit c s.after k
   pub tables : TablesFit (pool_size c) k
   pub spaces : SpacesFit s.after.plain k
-  pub notifiers : SubscriptionsFit s.after.length s.after.sequences k
+  pub notifiers : NotifiersValueFit s.after.length s.after.sequences k
   pub mirrors : MirrorsFit s.after.plain.mirrors k
   pub actors : (seen : Seen) → IsSeen c s.after a (s.going a) k seen → ActorsFit c a (s.going a) k seen

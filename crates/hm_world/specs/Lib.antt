@@ -1,4 +1,4 @@
-pub mod Told
+pub mod WorldValue
 pub mod Stands
 pub mod Fits
 pub mod Mirrored

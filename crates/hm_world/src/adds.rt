@@ -1,8 +1,9 @@
 // How a world goes on by an entry.
 ghost use Rattle.std.specs.Prelude.{◌≡◌, ℕ, ◌<◌, ◌∷◌, List, None, Some, length, OnOk, OnErr};
+ghost use Rattle.hm_base.specs.declared.limits.TheConstants.{MOST_ENTRIES};
 ghost use Rattle.hm_history.specs.Due.{due};
 ghost use Rattle.hm_history.specs.declared.Progress.{Progress};
-ghost use Rattle.hm_world.specs.Told.{grown, now};
+ghost use Rattle.hm_world.specs.WorldValue.{grown, now};
 ghost use Rattle.hm_world.specs.Fits.{Fits};
 
 use crate::World;
@@ -12,9 +13,10 @@ use hm_history::{Entry, Kind};
 impl World {
     /// Adds an entry that is due. Where memory runs out, that is before the first change.
     pub fn add(&mut self, actor: Actor, kind: Kind) -> Result<(), NoMemory>
-        requires limit { length self.old.history < 2000000 }
+        requires limit { length self.old.history < MOST_ENTRIES }
         requires running { self.old.halted ≡ None }
-        requires due { due self.old.script self.old.history actor ≡ Progress.Did (record { actor = actor; kind = kind }) }
+        requires due { due self.old.script self.old.history actor
+            ≡ Progress.Did (record { actor = actor; kind = kind }) }
         ensures added { OnOk result (self.new ≡ grown self.old actor kind) }
         ensures same { OnErr result (self.new ≡ self.old) }
     {

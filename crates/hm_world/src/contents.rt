@@ -1,16 +1,17 @@
 // What pages show: the bytes of frames.
 ghost use Rattle.std.specs.Prelude.{◌≡◌, ◌+◌, ◌%◌, ◌≤◌, ◌^◌, ◌<◌, if◌then◌else◌, true, Some, None, is_some, length, replicate, IfOk};
 ghost use Rattle.hm_base.specs.declared.Frame.{Frame as AnyFrame};
+ghost use Rattle.hm_base.specs.declared.limits.TheConstants.{PAGE_BYTES};
 ghost use Rattle.hm_history.specs.Words.{bytes_from, page_of};
 ghost use Rattle.hm_history.specs.Plain.{rights_of};
 ghost use Rattle.hm_history.specs.Places.{Places as AnyPlaces, is_exclusive_by};
-ghost use Rattle.hm_history.specs.Contents.{backing, shown};
+ghost use Rattle.hm_history.specs.Contents.{backing, contents_of};
 ghost use Rattle.hm_mirrors.specs.Entries.{frame_of};
-ghost use Rattle.hm_world.specs.Told.{now};
+ghost use Rattle.hm_world.specs.WorldValue.{now};
 ghost use Rattle.hm_world.specs.Mirrored.{MirroredBy};
 
 use crate::World;
-use hm_base::{Actor, Bytes, Frame, MirrorId, NoMemory, Page, Place, Proc};
+use hm_base::{Actor, Bytes, Frame, MirrorId, NoMemory, PAGE_BYTES, Page, Place, Proc};
 use hm_reads::{Reads, operations};
 use mirror_tables::Target;
 use std::alloc::Global;
@@ -31,20 +32,20 @@ pub(crate) fn is_exclusive_by(place: &Place, actor: Actor) -> bool
 fn zeros(alloc: Global, count: u64) -> Result<Vec<u8>, NoMemory>
     ensures { IfOk result (λ bytes. bytes.items ≡ replicate count 0) }
 {
-    match vec![in alloc; 0; count as usize] {
-        Ok(bytes) => Ok(bytes),
-        Err(_) => Err(NoMemory),
-    }
+    Ok(vec![in alloc; 0; count as usize]?)
 }
 
 impl World {
     /// Fills `into` with what a page of this place shows from an address on.
     fn show(&self, place: &Place, addr: u64, into: &mut [u8])
-        requires lies { addr % 4096 + length into.old ≤ 4096 }
-        requires held { (f : AnyFrame) → backing (now self.now).after.places place.now ≡ Some f → (now self.now).after.places.held f ≡ true }
-        ensures { into.new ≡ bytes_from (shown (now self.now).after.places (now self.now).after.contents place.now) (addr % 4096) (length into.old) }
+        requires lies { addr % PAGE_BYTES + length into.old ≤ PAGE_BYTES }
+        requires held { (f : AnyFrame) → backing (now self.now).after.places place.now ≡ Some f
+            → (now self.now).after.places.held f ≡ true }
+        ensures { into.new
+            ≡ bytes_from (contents_of (now self.now).after.places (now self.now).after.contents place.now)
+            (addr % PAGE_BYTES) (length into.old) }
     {
-        self.frames.show(place, (addr % 4096) as u32, into);
+        self.frames.show(place, (addr % PAGE_BYTES) as u32, into);
     }
 
     /// What a page of this place shows, from an address on.
@@ -55,9 +56,13 @@ impl World {
         addr: u64,
         len: u64,
     ) -> Result<Bytes, NoMemory>
-        requires lies { addr % 4096 + len ≤ 4096 }
-        requires held { (f : AnyFrame) → backing (now self.now).after.places place.now ≡ Some f → (now self.now).after.places.held f ≡ true }
-        ensures { IfOk result (λ bytes. bytes ≡ bytes_from (shown (now self.now).after.places (now self.now).after.contents place.now) (addr % 4096) len) }
+        requires lies { addr % PAGE_BYTES + len ≤ PAGE_BYTES }
+        requires held { (f : AnyFrame) → backing (now self.now).after.places place.now ≡ Some f
+            → (now self.now).after.places.held f ≡ true }
+        ensures { IfOk result
+            (λ bytes. bytes
+            ≡ bytes_from (contents_of (now self.now).after.places (now self.now).after.contents place.now)
+            (addr % PAGE_BYTES) len) }
     {
         let mut bytes = zeros(alloc, len)?;
         self.show(place, addr, &mut bytes);
@@ -66,8 +71,10 @@ impl World {
 
     /// The byte that a page of this place shows at an address.
     pub(crate) fn place_byte(&self, place: &Place, addr: u64) -> u8
-        requires held { (f : AnyFrame) → backing (now self.now).after.places place.now ≡ Some f → (now self.now).after.places.held f ≡ true }
-        ensures { result ≡ shown (now self.now).after.places (now self.now).after.contents place.now (addr % 4096) }
+        requires held { (f : AnyFrame) → backing (now self.now).after.places place.now ≡ Some f
+            → (now self.now).after.places.held f ≡ true }
+        ensures { result
+            ≡ contents_of (now self.now).after.places (now self.now).after.contents place.now (addr % PAGE_BYTES) }
     {
         let mut byte = [0; 1];
         self.show(place, addr, &mut byte);
@@ -79,7 +86,7 @@ impl World {
     pub fn byte(&self, proc: Proc, addr: u64) -> Option<u8>
         requires { addr < 2 ^ 48 }
         ensures { result ≡ (if is_some (rights_of (now self.now).after.plain proc (page_of addr))
-            then Some (shown (now self.now).after.places (now self.now).after.contents ((now self.now).after.places.place proc (page_of addr)) (addr % 4096))
+            then Some (contents_of (now self.now).after.places (now self.now).after.contents ((now self.now).after.places.place proc (page_of addr)) (addr % PAGE_BYTES))
             else None) }
     {
         let page = operations::page_of(addr);
@@ -90,16 +97,22 @@ impl World {
     }
 
     fn page_byte(&self, proc: Proc, page: Page, addr: u64) -> u8
-        ensures { result ≡ shown (now self.now).after.places (now self.now).after.contents ((now self.now).after.places.place proc page) (addr % 4096) }
+        ensures { result
+            ≡ contents_of (now self.now).after.places (now self.now).after.contents
+            ((now self.now).after.places.place proc page) (addr % PAGE_BYTES) }
     {
+        // hands the prover the world's invariant
         let _ = &self.history;
         self.place_byte(&self.place(proc, page), addr)
     }
 
     /// The byte of a frame at an offset, whether a page shows it or not; none where the frame is not held.
     pub fn frame_byte(&self, frame: &Frame, offset: u32) -> Option<u8>
-        requires { offset < 4096 }
-        ensures { result ≡ (if (now self.now).after.places.held frame.now then Some ((now self.now).after.contents frame.now offset) else None) }
+        requires { offset < PAGE_BYTES }
+        ensures { result
+            ≡
+            (if (now self.now).after.places.held frame.now then Some
+            ((now self.now).after.contents frame.now offset) else None) }
     {
         if !self.frames.is_held(frame) {
             return None;
@@ -125,7 +138,7 @@ fn target_place(target: &Target) -> Place
 {
     match target {
         Target::Zero => Place::Zero,
-        Target::At(frame) => hm_reads::words::place_in(frame, false),
+        Target::At(frame) => hm_base::frames::place_in(frame, false),
         Target::Sole(number) => Place::Sys {
             number: *number,
             writable: false,

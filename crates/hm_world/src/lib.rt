@@ -3,9 +3,10 @@
 
 ghost use Rattle.std.specs.Prelude.{◌≡◌, ◌≤◌, [], length, IfOk, None};
 ghost use Rattle.hm_base.specs.Program.{IsScript};
+ghost use Rattle.hm_base.specs.declared.limits.TheConstants.{MOST_ENTRIES};
 ghost use Rattle.hm_history.specs.Laws.{DueFrom};
 ghost use Rattle.hm_history.specs.Going.{state_of};
-ghost use Rattle.hm_world.specs.Told.{opening, halted_by, now, MayHalt, HaltsRightly};
+ghost use Rattle.hm_world.specs.WorldValue.{opening, halted_by, now, MayHalt, HaltsRightly};
 
 mod adds;
 mod contents;
@@ -18,7 +19,7 @@ use hm_base::{NoMemory, Script};
 use hm_frames::FramePools;
 use hm_history::{History, StepError};
 use hm_mirrors::Mirrors;
-use hm_notifiers::Invalidations;
+use hm_notifiers::AllNotifiers;
 use hm_spaces::Spaces;
 use hm_tables::PageTables;
 use std::alloc::Global;
@@ -33,27 +34,28 @@ pub struct World {
     frames: FramePools,
     tables: PageTables,
     spaces: Spaces,
-    notifiers: Invalidations,
+    notifiers: AllNotifiers,
     mirrors: Mirrors,
     actors: Actors,
 }
 
 impl Model for World {
-    ghost use Rattle.hm_world.specs.Told.{Told};
+    ghost use Rattle.hm_world.specs.WorldValue.{WorldValue};
     ghost use Rattle.hm_world.specs.Stands.{Stands};
 
-    ghost Value = { Told };
+    ghost Value = { WorldValue };
 
     ghost view = { λ w. record { script = w.script; history = w.history.entries; halted = w.halted } };
 
-    ghost invariant = { λ w. Stands (record { script = w.script; history = w.history.entries; halted = w.halted }) (record {
-      frames = w.frames;
-      tables = w.tables;
-      spaces = w.spaces;
-      notifiers = w.notifiers;
-      mirrors = w.mirrors;
-      actors = w.actors;
-    }) };
+    ghost invariant = { λ w. Stands (record { script = w.script; history = w.history.entries; halted = w.halted })
+        (record {
+          frames = w.frames;
+          tables = w.tables;
+          spaces = w.spaces;
+          notifiers = w.notifiers;
+          mirrors = w.mirrors;
+          actors = w.actors;
+        }) };
 }
 
 impl World {
@@ -61,25 +63,25 @@ impl World {
     pub fn new(alloc: Global, script: Script) -> Result<World, NoMemory>
         ensures { IfOk result (λ world. world ≡ opening script) }
     {
-        script.fits();
+        script.facts();
         Ok(World {
             history: History::new(alloc),
             halted: None,
             frames: FramePools::new(alloc, &script)?,
             tables: PageTables::new(alloc, &script)?,
             spaces: Spaces::new(alloc)?,
-            notifiers: Invalidations::new(alloc)?,
+            notifiers: AllNotifiers::new(alloc)?,
             mirrors: Mirrors::new(alloc)?,
             actors: Actors::new(alloc, &script)?,
             script,
         })
     }
 
-    /// Gives what stands of every world where only its value is at hand; it does nothing.
-    pub fn stands(&self)
+    /// Costs nothing: it hands the prover the invariant.
+    pub fn facts(&self)
         ensures script { IsScript self.now.script }
         ensures due { DueFrom self.now.script [] self.now.history }
-        ensures few { length self.now.history ≤ 2000000 }
+        ensures few { length self.now.history ≤ MOST_ENTRIES }
         ensures halted { HaltsRightly self.now.script self.now.history self.now.halted }
         ensures now { now self.now ≡ state_of self.now.script self.now.history }
     {
@@ -101,12 +103,14 @@ impl World {
         self.halted
     }
 
+    /// The entries so far.
     pub fn history(&self) -> &History
         ensures { result.now.entries ≡ self.now.history }
     {
         &self.history
     }
 
+    /// Gives the script and the history up, and drops the rest.
     pub fn into_parts(self) -> (Script, History)
         ensures script { result.0 ≡ self.script }
         ensures history { result.1.entries ≡ self.history }

@@ -1,13 +1,13 @@
 // Where a migration has come to: the page that its step is about.
-ghost use Rattle.std.specs.Prelude.{◌≡◌, ℕ, ◌≤◌};
+ghost use Rattle.std.specs.Prelude.{◌≡◌};
 ghost use Rattle.hm_history.specs.Going.{is_direct, sets_now, concerns, coming};
 ghost use Rattle.hm_history.specs.declared.phases.Phase as phase;
-ghost use Rattle.hm_world.specs.Told.{now};
+ghost use Rattle.hm_world.specs.WorldValue.{now};
 
 use crate::World;
 use hm_actors::{Concerns, come_to};
 use hm_base::{Actor, Frame, MirrorId, Op};
-use hm_history::phases::Migrating;
+use hm_history::phases::{Migrating, MoveStep};
 use hm_reads::Reads;
 use hm_reads::operations::{is_to_device, op_mirror};
 
@@ -21,15 +21,15 @@ struct Asking<'a> {
 impl<'a> Concerns for Asking<'a> {
     ghost concerns = { λ q step x. concerns (now q.world.now).after q.op.now step x };
 
-    fn concerns(&self, step: u8, migrating: &Migrating) -> bool {
+    fn concerns(&self, step: MoveStep, migrating: &Migrating) -> bool {
         match step {
-            3 => self.world.is_direct(&migrating.source),
-            4 => true,
-            5 => migrating.dest.is_some(),
-            6 => is_to_device(self.op)
-                && migrating.moved
-                && self.world.sets_now(op_mirror(self.op)),
-            _ => migrating.source.is_some() || migrating.moved,
+            MoveStep::FreezeOthers => self.world.is_direct(&migrating.source),
+            MoveStep::TakeAndCopy => true,
+            MoveStep::Commit => migrating.dest.is_some(),
+            MoveStep::SetOwnTable => {
+                is_to_device(self.op) && migrating.moved && self.world.sets_now(op_mirror(self.op))
+            }
+            MoveStep::Finish => migrating.source.is_some() || migrating.moved,
         }
     }
 }
@@ -55,11 +55,11 @@ impl World {
         &self,
         actor: Actor,
         op: &Op,
-        step: u8,
+        step: MoveStep,
         next: u64,
-    ) -> (u8, Option<Migrating>)
-        requires { step ≤ 8 }
-        ensures { result ≡ coming (now self.now).after op.now ((now self.now).going actor).pages (phase.Phase.Moves step next) }
+    ) -> Option<(MoveStep, Migrating)>
+        ensures { result
+            ≡ coming (now self.now).after op.now ((now self.now).going actor).pages (phase.Phase.Moves step next) }
     {
         let asking = Asking { world: self, op };
         come_to(self.actors.records(actor), &asking, step, next)

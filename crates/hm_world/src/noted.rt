@@ -6,12 +6,12 @@ ghost use Rattle.hm_history.specs.Words.{page_of};
 ghost use Rattle.hm_history.specs.Plain.{proc_of};
 ghost use Rattle.hm_history.specs.Locks.{orphan};
 ghost use Rattle.hm_history.specs.Sequences.{some_overlap};
-ghost use Rattle.hm_history.specs.Going.{seen_overlap, seen_place, coming, op_at, seen_at};
+ghost use Rattle.hm_history.specs.Going.{seen_overlap, seen_place, coming, coming_page, op_at, seen_at};
 ghost use Rattle.hm_frames.specs.Shown.{entry_place};
 ghost use Rattle.hm_actors.specs.Actors.{IsSeen};
 ghost use Rattle.hm_base.specs.PlaceWords.{names};
 ghost use Rattle.hm_base.specs.declared.Frame.{Frame as AnyFrame};
-ghost use Rattle.hm_world.specs.Told.{now};
+ghost use Rattle.hm_world.specs.WorldValue.{now};
 
 use crate::World;
 use hm_base::{Actor, Frame, Op, Page, Place, Proc, Span};
@@ -36,9 +36,22 @@ impl World {
         ensures { result ≡ entry_place (now self.now).after.plain (now self.now).after.places kind.now }
     {
         match kind {
-            Kind::Place(proc, page, _) => self.place(*proc, *page),
-            Kind::Stored(who, addr, _) => self.accessed_place(*who, *addr),
-            Kind::Added(mirror, addr, _, _) => self.accessed_place(Who::Mirror(*mirror), *addr),
+            Kind::Place {
+                proc,
+                page,
+                place: _,
+            } => self.place(*proc, *page),
+            Kind::Stored {
+                who,
+                addr,
+                bytes: _,
+            } => self.accessed_place(*who, *addr),
+            Kind::Added {
+                mirror,
+                addr,
+                read: _,
+                written: _,
+            } => self.accessed_place(Who::Mirror(*mirror), *addr),
             _ => Place::Empty,
         }
     }
@@ -48,7 +61,7 @@ impl World {
         ensures { result ≡ orphan (now self.now).after.locks (now self.now).after.places kind.now }
     {
         match kind {
-            Kind::Place(proc, page, place) => {
+            Kind::Place { proc, page, place } => {
                 let is_locked = self.is_locked(&self.place(*proc, *page));
                 self.tables.orphan(*proc, *page, place, is_locked)
             }
@@ -59,7 +72,7 @@ impl World {
     fn is_locked(&self, place: &Place) -> bool
         ensures { (f : AnyFrame) → names place.now ≡ Some f → result ≡ is_some ((now self.now).after.locks.frame f) }
     {
-        match hm_reads::words::names(place) {
+        match hm_base::frames::names(place) {
             Some(frame) => self.frames.locker(&frame).is_some(),
             None => false,
         }
@@ -75,7 +88,7 @@ impl World {
         ensures { result ≡ seen_overlap (now self.now).after kind.now }
     {
         match kind {
-            Kind::Start(proc, span, _) => self.overlaps_span(*proc, *span),
+            Kind::Start { proc, span, seq: _ } => self.overlaps_span(*proc, *span),
             _ => false,
         }
     }
@@ -85,8 +98,12 @@ impl World {
         ensures { result ≡ seen_place (now self.now).after op.now top.now kind.now }
     {
         match kind {
-            Kind::Start(proc, span, _) => self.place(*proc, span.first()),
-            Kind::Place(proc, page, _) => self.place(*proc, *page),
+            Kind::Start { proc, span, seq: _ } => self.place(*proc, span.first()),
+            Kind::Place {
+                proc,
+                page,
+                place: _,
+            } => self.place(*proc, *page),
             _ => match top {
                 Phase::Decide { touch } => self.place(touch_proc(self, op), touch_page(op, *touch)),
                 _ => Place::Empty,
@@ -95,10 +112,13 @@ impl World {
     }
 
     fn page_come_to(&self, actor: Actor, op: &Op, top: &Phase) -> Option<Migrating>
-        ensures { result ≡ (coming (now self.now).after op.now ((now self.now).going actor).pages top.now).1 }
+        ensures { result ≡ coming_page (coming (now self.now).after op.now ((now self.now).going actor).pages top.now) }
     {
         match top {
-            Phase::Moves { step, next } if *step <= 8 => self.coming(actor, op, *step, *next).1,
+            Phase::Moves { step, next } => match self.coming(actor, op, *step, *next) {
+                Some((_, page)) => Some(page),
+                None => None,
+            },
             _ => None,
         }
     }

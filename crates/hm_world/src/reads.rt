@@ -2,15 +2,15 @@
 ghost use Rattle.std.specs.Prelude.{◌≡◌};
 ghost use Rattle.hm_history.specs.Places.{next_page};
 ghost use Rattle.hm_tables.specs.Reads.{page_test};
-ghost use Rattle.hm_world.specs.Told.{now};
+ghost use Rattle.hm_world.specs.WorldValue.{now};
 
 use crate::World;
 use crate::contents::is_exclusive_by;
 use hm_base::{
-    Actor, Bytes, Dev, Frame, MirrorId, NoMemory, Op, Page, Place, PoolId, Proc, Rights, Script,
-    Span,
+    Actor, Bytes, Cause, Dev, Frame, MirrorId, NoMemory, Op, Page, Place, PoolId, Proc, Rights,
+    Script, Span,
 };
-use hm_history::phases::{Migrating, Phase};
+use hm_history::phases::{Migrating, MoveStep, Phase};
 use hm_reads::Reads;
 use hm_reads::operations::page_of;
 use hm_tables::PageTest;
@@ -54,7 +54,13 @@ impl Reads for World {
         self.actors.moved_pages(actor)
     }
 
-    fn coming(&self, actor: Actor, op: &Op, step: u8, next: u64) -> (u8, Option<Migrating>) {
+    fn coming(
+        &self,
+        actor: Actor,
+        op: &Op,
+        step: MoveStep,
+        next: u64,
+    ) -> Option<(MoveStep, Migrating)> {
         self.come_to(actor, op, step, next)
     }
 
@@ -70,7 +76,7 @@ impl Reads for World {
         self.spaces.rights(proc, page)
     }
 
-    fn area_refusal(&self, op: &Op) -> Option<u32> {
+    fn area_refusal(&self, op: &Op) -> Option<Cause> {
         self.spaces.area_refusal(op)
     }
 
@@ -194,12 +200,13 @@ impl Reads for World {
         self.mirrors.is_usable(mirror, page, writes)
     }
 
-    fn has_alone(&self, actor: Actor, mirror: MirrorId, page: Page) -> bool {
+    fn has_exclusive(&self, actor: Actor, mirror: MirrorId, page: Page) -> bool {
         self.mirrors.is_sole(mirror, page)
             && is_exclusive_by(&self.place(self.mirrors.mirror_proc(mirror), page), actor)
     }
 
     fn cpu_bytes(&self, alloc: Global, proc: Proc, addr: u64, len: u64) -> Result<Bytes, NoMemory> {
+        // hands the prover the world's invariant
         let _ = &self.history;
         self.place_bytes(alloc, &self.place(proc, page_of(addr)), addr, len)
     }
@@ -211,11 +218,13 @@ impl Reads for World {
         addr: u64,
         len: u64,
     ) -> Result<Bytes, NoMemory> {
+        // hands the prover the world's invariant
         let _ = &self.history;
         self.place_bytes(alloc, &self.mirrored(mirror, page_of(addr)), addr, len)
     }
 
     fn sole_byte(&self, actor: Actor, mirror: MirrorId, addr: u64) -> u8 {
+        // hands the prover the world's invariant
         let _ = &self.history;
         self.place_byte(&self.mirrored(mirror, page_of(addr)), addr)
     }

@@ -1,6 +1,6 @@
 use Rattle.std.proofs.Common.{◌≡◌, replicate, ap, ◌∙◌, arith}
 use Rattle.notifier_seq.specs.Sequences as one
-use Rattle.hm_notifiers.specs.Subscriptions.{all_start}
+use Rattle.hm_notifiers.specs.NotifiersValue.{all_start}
 use Rattle.hm_notifiers.proofs.all_notifiers.Goals as goal
 
 pub returns : goal.returns

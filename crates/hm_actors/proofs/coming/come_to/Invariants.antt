@@ -1,6 +1,9 @@
-use Rattle.std.proofs.Common.{◌≡◌, ◌-◌}
+use Rattle.std.proofs.Common.{◌≡◌, drop}
+use Rattle.hm_history.specs.Going.{steps_from}
 use Rattle.hm_actors.specs.Coming.{come_by}
 use Rattle.hm_actors.proofs.coming.come_to.Given as goal
 
 abbrev pub invariant-loop-at : goal.invariant-loop-at
-invariant-loop-at g l = come_by (g.C.Concerns.concerns l.concerns) l.records (8 - l.step) l.step l.next ≡ come_by (g.C.Concerns.concerns l.concerns) l.records (8 - l.at) l.at l.from
+invariant-loop-at g l =
+    come_by (g.C.Concerns.concerns l.concerns) l.records (steps_from l.fn.step) l.next
+    ≡ come_by (g.C.Concerns.concerns l.concerns) l.records (drop l.at-index l.at-items) l.from

@@ -1,6 +1,6 @@
 use Rattle.std.proofs.Common.{rules}
 use Rattle.hm_history.specs.Plain.{proc_of}
-use Rattle.hm_world.specs.Told.{now}
+use Rattle.hm_world.specs.WorldValue.{now}
 use Rattle.hm_world.proofs.Pages.{no_page}
 use Rattle.hm_world.proofs.World.accessed_place.Goals as goal
 

@@ -2,11 +2,11 @@ use Rattle.std.proofs.Common.{Option, List, ◌∙◌, ap}
 use Rattle.hm_base.specs.Program.{Program}
 use Rattle.hm_history.specs.declared.Entry.{Entry}
 use Rattle.hm_history.specs.declared.StepError.{StepError}
-use Rattle.hm_world.specs.Told.{Told}
+use Rattle.hm_world.specs.WorldValue.{WorldValue}
 use Rattle.hm_world.proofs.Adding.{is_next, tables_ready, reserved_stands, actors_ready, spaces_ready, frames_ready, notifiers_ready, mirrors_ready, added}
 use Rattle.hm_world.proofs.World.add.Goals as goal
 
-abbrev told : Program → List Entry → Option StepError → Told
+abbrev told : Program → List Entry → Option StepError → WorldValue
 told c h z = record { script = c; history = h; halted = z }
 
 pub reserve-requires-2 : goal.reserve-requires-2

@@ -1,7 +1,7 @@
 use Rattle.std.proofs.Common.{◌∙◌, ap}
 use Rattle.hm_base.specs.PlaceWords.{names}
 use Rattle.hm_tables.proofs.OrphanShown.{orphan_shown}
-use Rattle.hm_world.specs.Told.{now}
+use Rattle.hm_world.specs.WorldValue.{now}
 use Rattle.hm_world.proofs.Shown.{shown}
 use Rattle.hm_world.proofs.World.left_behind.Goals as goal
 

@@ -1,7 +1,7 @@
 use Rattle.std.proofs.Common.{◌∙◌, ap, rules}
 use Rattle.hm_tables.specs.Reads.{next_page_of, page_test}
 use Rattle.hm_tables.proofs.ReadsShown.{next_page_shown}
-use Rattle.hm_world.specs.Told.{now}
+use Rattle.hm_world.specs.WorldValue.{now}
 use Rattle.hm_world.proofs.Shown.{shown}
 use Rattle.hm_world.proofs.PastEnd.{past_end}
 use Rattle.hm_world.proofs.World.next_page.Goals as goal

@@ -1,7 +1,6 @@
 use Rattle.std.proofs.Common.{◌∙◌, ap, sym}
-use Rattle.hm_history.specs.Contents.{backing, shown}
-use Rattle.hm_history.specs.Words.{page_of}
-use Rattle.hm_world.specs.Told.{now}
+use Rattle.hm_history.specs.Contents.{backing}
+use Rattle.hm_world.specs.WorldValue.{now}
 use Rattle.hm_world.proofs.Pages.{held_at}
 use Rattle.hm_world.proofs.World.page_byte.Goals as goal
 

@@ -1,6 +1,6 @@
 use Rattle.std.proofs.Common.{◌∙◌, sym}
 use Rattle.hm_frames.proofs.Shows.{show_shown, backing_shown, is_held_shown}
-use Rattle.hm_world.specs.Told.{now}
+use Rattle.hm_world.specs.WorldValue.{now}
 use Rattle.hm_world.proofs.Shown.{shown}
 use Rattle.hm_world.proofs.World.show.Goals as goal
 

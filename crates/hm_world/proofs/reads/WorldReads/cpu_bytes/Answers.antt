@@ -1,7 +1,7 @@
 use Rattle.std.proofs.Common.{◌≡◌, ◌∙◌, ◌%◌, ap, sym, subst, IfOk}
 use Rattle.hm_history.specs.Words.{bytes_from}
-use Rattle.hm_history.specs.Contents.{backing, shown}
-use Rattle.hm_world.specs.Told.{now}
+use Rattle.hm_history.specs.Contents.{backing, contents_of}
+use Rattle.hm_world.specs.WorldValue.{now}
 use Rattle.hm_world.proofs.Pages.{at_below, held_at, shows_at, cpu_used}
 use Rattle.hm_world.proofs.reads.WorldReads.cpu_bytes.Goals as goal
 
@@ -12,4 +12,4 @@ pub place_bytes-requires-clause-held : goal.place_bytes-requires-clause-held
 place_bytes-requires-clause-held c = λ f e. held_at _ _ c.self.view_is _ c.self.invariant c.args.proc _ f (ap (backing (now c.args.self.now).after.places) (sym c.place.ensures) ∙ e)
 
 pub returns : goal.returns
-returns c = subst (λ z. IfOk c.place_bytes.result (λ bytes. bytes ≡ z)) (ap (λ x. bytes_from (shown (now c.args.self.now).after.places (now c.args.self.now).after.contents x) (c.args.addr % 4096) c.args.len) (c.place.ensures ∙ ap ((now c.args.self.now).after.places.place c.args.proc) c.page_of.ensures) ∙ shows_at _ _ c.self.view_is _ c.self.invariant c.args.proc c.args.addr c.args.len (record { there = c.requires.there; used = cpu_used _ c.requires.reads }) c.requires.lies) c.place_bytes.ensures
+returns c = subst (λ z. IfOk c.place_bytes.result (λ bytes. bytes ≡ z)) (ap (λ x. bytes_from (contents_of (now c.args.self.now).after.places (now c.args.self.now).after.contents x) (c.args.addr % 4096) c.args.len) (c.place.ensures ∙ ap ((now c.args.self.now).after.places.place c.args.proc) c.page_of.ensures) ∙ shows_at _ _ c.self.view_is _ c.self.invariant c.args.proc c.args.addr c.args.len (record { there = c.requires.there; used = cpu_used _ c.requires.reads }) c.requires.lies) c.place_bytes.ensures

@@ -1,6 +1,6 @@
 use Rattle.std.proofs.Common.{◌∙◌}
 use Rattle.hm_frames.proofs.Shows.{held_from_shown}
-use Rattle.hm_world.specs.Told.{now}
+use Rattle.hm_world.specs.WorldValue.{now}
 use Rattle.hm_world.proofs.Shown.{shown}
 use Rattle.hm_world.proofs.reads.WorldReads.held_from.Goals as goal
 

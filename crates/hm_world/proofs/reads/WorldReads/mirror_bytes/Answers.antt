@@ -1,5 +1,5 @@
 use Rattle.std.proofs.Common.{◌≡◌, ◌∙◌, ap, subst, IfOk}
-use Rattle.hm_world.specs.Told.{now}
+use Rattle.hm_world.specs.WorldValue.{now}
 use Rattle.hm_world.proofs.Pages.{at_below, through_now, held_through, shows_through, mirrored_is, usable_entry}
 use Rattle.hm_world.proofs.reads.WorldReads.mirror_bytes.Goals as goal
 

@@ -1,6 +1,6 @@
 use Rattle.std.proofs.Common.{arith, rules}
 use Rattle.hm_notifiers.proofs.Readings.{seq_bounded}
-use Rattle.hm_world.specs.Told.{now}
+use Rattle.hm_world.specs.WorldValue.{now}
 use Rattle.hm_world.proofs.Shown.{shown, few}
 use Rattle.hm_world.proofs.reads.WorldReads.seq_ended.Goals as goal
 

@@ -1,6 +1,6 @@
 use Rattle.std.proofs.Common.{◌∙◌, rules}
 use Rattle.hm_notifiers.proofs.Readings.{seq_started_shown}
-use Rattle.hm_world.specs.Told.{now}
+use Rattle.hm_world.specs.WorldValue.{now}
 use Rattle.hm_world.proofs.Shown.{shown}
 use Rattle.hm_world.proofs.reads.WorldReads.seq_started.Goals as goal
 

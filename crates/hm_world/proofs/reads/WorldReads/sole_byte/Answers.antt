@@ -1,5 +1,5 @@
 use Rattle.std.proofs.Common.{◌∙◌, ap}
-use Rattle.hm_world.specs.Told.{now}
+use Rattle.hm_world.specs.WorldValue.{now}
 use Rattle.hm_world.proofs.Pages.{at_below, through_now, held_through, byte_through, mirrored_is, alone_entry}
 use Rattle.hm_world.proofs.reads.WorldReads.sole_byte.Goals as goal
 

@@ -1,4 +1,5 @@
--- A world as contracts see it: its script, its history, and why it goes no further. All else is a definition over these.
+-- A world as contracts see it: its script, its history, and why it goes no further. All else is a definition over
+-- these.
 use Rattle.std.specs.Prelude.{◌≡◌, ℕ, Option, None, Some, List, [], ◌∷◌, ◌++◌, length, ⊤}
 use Rattle.hm_base.specs.Program.{Program}
 use Rattle.hm_history.specs.Due.{due}
@@ -8,24 +9,24 @@ use Rattle.hm_history.specs.declared.Entry.{Entry}
 use Rattle.hm_history.specs.declared.Progress.{Progress}
 use Rattle.hm_history.specs.declared.StepError.{StepError}
 
-pub record Told : Type 0 where
+pub record WorldValue : Type 0 where
   pub script : Program
   pub history : List Entry
   pub halted : Option StepError
 
 -- at the start
-abbrev pub opening : Program → Told
+abbrev pub opening : Program → WorldValue
 opening c = record { script = c; history = []; halted = None }
 
 -- one more entry
-abbrev pub grown : Told → ℕ → Kind → Told
+abbrev pub grown : WorldValue → ℕ → Kind → WorldValue
 grown t a k = record t { history = t.history ++ record { actor = a; kind = k } ∷ [] }
 
-abbrev pub halted_by : Told → StepError → Told
+abbrev pub halted_by : WorldValue → StepError → WorldValue
 halted_by t error = record t { halted = Some error }
 
 -- what the history gives
-unfoldable pub now : Told → State
+unfoldable pub now : WorldValue → State
 now t = state_of t.script t.history
 
 -- some actor has an entry due
