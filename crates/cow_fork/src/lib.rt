@@ -4,44 +4,57 @@
 
 ghost use Rattle.std.specs.Prelude.{◌≡◌, true, IsTrue};
 ghost use Rattle.hm_history.specs.Places.{is_used, next_page};
-ghost use Rattle.hm_history.specs.Due as table;
+ghost use Rattle.hm_history.specs.Due as spec;
 ghost use Rattle.hm_base.specs.declared.ops.Op as op;
 ghost use Rattle.hm_history.specs.declared.Kind as kind;
 ghost use Rattle.hm_reads.specs.Ranges.{body_in_range};
 ghost use Rattle.hm_history.specs.declared.phases.Body as body;
 
-use hm_base::{Page, Proc, Span};
+use hm_base::{Cause, Page, Proc, Span};
 use hm_history::Kind;
 use hm_reads::Reads;
 use hm_reads::guards::is_before_end;
 
 /// What is due to a fork once it has the write lock: a refusal, or the child's number is given away.
 pub fn step_fork<W: Reads>(world: &W, proc: Proc, child: Proc) -> Kind
-    ensures { result ≡ table.due_locked (W.state world.now).after (op.Op.Fork proc child) }
+    ensures { result ≡ spec.due_locked (W.state world.now).after (op.Op.Fork proc child) }
 {
     if !world.there(proc) {
-        Kind::Refused(8)
+        Kind::Refused(Cause::NoProcess)
     } else if child.number() == 0 || world.named(child) {
-        Kind::Refused(7)
+        Kind::Refused(Cause::NameTaken)
     } else {
-        Kind::Named(proc, child)
+        Kind::Named {
+            parent: proc,
+            child,
+        }
     }
 }
 
 fn fork_page<W: Reads>(world: &W, proc: Proc, child: Proc, page: Page) -> Kind
-    ensures { result ≡ table.fork_page (W.state world.now).after proc child page }
+    ensures { result ≡ spec.fork_page (W.state world.now).after proc child page }
 {
     let place = &world.place(proc, page);
     if place.writable() {
-        Kind::Place(proc, page, place.narrowed())
+        Kind::Place {
+            proc,
+            page,
+            place: place.narrowed(),
+        }
     } else {
-        Kind::Place(child, page, *place)
+        Kind::Place {
+            proc: child,
+            page,
+            place: *place,
+        }
     }
 }
 
 /// The body of a fork: the parent's page loses its write right, and the child gets the parent's place.
 pub fn copy<W: Reads>(world: &W, proc: Proc, child: Proc, span: Span, next: u64) -> Option<Kind>
-    ensures { result ≡ table.within span (next_page (W.state world.now).after.places is_used proc next) (table.fork_page (W.state world.now).after proc child) }
+    ensures { result
+        ≡ spec.within span (next_page (W.state world.now).after.places is_used proc next)
+        (spec.fork_page (W.state world.now).after proc child) }
 {
     match world.next_used(proc, next) {
         None => None,
@@ -61,5 +74,9 @@ pub fn give<W: Reads>(world: &W, proc: Proc, child: Proc, next: u64) -> Kind
     ensures { result ≡ kind.Kind.Place child next ((W.state world.now).after.places.place proc next) }
 {
     let page = Page::new(next);
-    Kind::Place(child, page, world.place(proc, page))
+    Kind::Place {
+        proc: child,
+        page,
+        place: world.place(proc, page),
+    }
 }

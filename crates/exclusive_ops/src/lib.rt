@@ -7,14 +7,15 @@ ghost use Rattle.hm_base.specs.Program.{op_in_range};
 ghost use Rattle.hm_base.specs.declared.Place as place;
 ghost use Rattle.hm_history.specs.Words.{sys_frame, same_place, page_of};
 ghost use Rattle.hm_history.specs.Plain.{plain_bytes};
-ghost use Rattle.hm_history.specs.Due as table;
+ghost use Rattle.hm_history.specs.Due as spec;
 ghost use Rattle.hm_history.specs.declared.Kind as kind;
 ghost use Rattle.hm_history.specs.declared.TableRight as right;
 ghost use Rattle.hm_history.specs.declared.Who as who;
 ghost use Rattle.hm_history.specs.declared.phases.Touch as touch;
 ghost use Rattle.hm_history.specs.declared.phases.Next.TheVariants.{Do};
 
-use hm_base::{Actor, Bytes, Frame, MirrorId, NoMemory, Op, Page, Place, Proc};
+use hm_base::frames::{same_place, sys_frame};
+use hm_base::{Actor, Bytes, Cause, Frame, MirrorId, NoMemory, Op, Page, Place, Proc};
 use hm_history::phases::Next;
 use hm_history::{Kind, TableRight};
 use hm_reads::Reads;
@@ -23,25 +24,40 @@ use hm_reads::decisions::{
 };
 use hm_reads::faults::{Wanted, fault, suits};
 use hm_reads::operations::{op_mirror, page_of};
-use hm_reads::words::{same_place, sys_frame};
 use std::alloc::Global;
 
 fn touch_first<W: Reads>(world: &W, actor: Actor, op: &Op, at: &Wanted) -> Next
     requires { IsTrue (op_in_range op.now) }
-    ensures { result ≡ table.fault (W.program world.now) (W.state world.now).after actor op.now at.now.piece (table.suits true) at.now.proc at.now.page }
+    ensures { result
+        ≡ spec.fault (W.program world.now) (W.state world.now).after actor op.now at.now.piece
+        (spec.suits true) at.now.proc at.now.page }
 {
     let suited = suits(true, world.place(at.proc, at.page));
     fault(world, actor, op, at, suited)
 }
 
 fn set_sole<W: Reads>(world: &W, mirror: MirrorId, page: Page, number: u32) -> Next
-    ensures { result ≡ elim (table.is_invalidating (W.state world.now).after mirror) [ true ↦ table.invalidating (W.state world.now).after mirror | false ↦ Do (kind.Kind.Set mirror page (Some (sys_frame number)) right.TableRight.Sole (W.state world.now).after.length) ] }
+    ensures { result
+        ≡ elim
+        (spec.is_invalidating (W.state world.now).after mirror) [
+          | true ↦ spec.invalidating
+              (W.state world.now).after mirror
+          | false ↦ Do
+              (kind.Kind.Set mirror page (Some (sys_frame number)) right.TableRight.Sole
+              (W.state world.now).after.length)
+        ] }
 {
     if is_invalidating(world, mirror) {
         invalidating(world, mirror)
     } else {
         let frame = Some(sys_frame(number));
-        Next::Do(Kind::Set(mirror, page, frame, TableRight::Sole, world.length()))
+        Next::Do(Kind::Set {
+            mirror,
+            page,
+            target: frame,
+            right: TableRight::Sole,
+            since: world.length(),
+        })
     }
 }
 
@@ -55,7 +71,9 @@ fn sole<W: Reads>(
 ) -> Next
     requires range { IsTrue (op_in_range op.now) }
     requires first { at.now.piece ≡ 0 }
-    ensures { result ≡ table.due_sole (W.program world.now) (W.state world.now).after actor op.now mirror at.now.proc at.now.page place.now }
+    ensures { result
+        ≡ spec.due_sole (W.program world.now)
+        (W.state world.now).after actor op.now mirror at.now.proc at.now.page place.now }
 {
     match place {
         Place::Exclusive { number, actor: by } => {
@@ -78,13 +96,15 @@ fn sole<W: Reads>(
 pub fn step_exclusive<W: Reads>(world: &W, actor: Actor, op: &Op, at: &Wanted) -> Next
     requires range { IsTrue (op_in_range op.now) }
     requires first { at.now.piece ≡ 0 }
-    ensures { result ≡ table.due_decide (W.program world.now) (W.state world.now).after actor op.now touch.Touch.Sole at.now.proc at.now.page }
+    ensures { result
+        ≡ spec.due_decide (W.program world.now)
+        (W.state world.now).after actor op.now touch.Touch.Sole at.now.proc at.now.page }
 {
     let mirror = op_mirror(op);
     if world.is_attached(mirror) {
         sole(world, actor, op, mirror, at, &world.place(at.proc, at.page))
     } else {
-        Next::Do(fails(op, 0, 4))
+        Next::Do(fails(op, 0, Cause::Outside))
     }
 }
 
@@ -101,11 +121,18 @@ fn fetch<W: Reads>(
     mirror: MirrorId,
     addr: u64,
 ) -> Result<Next, NoMemory>
-    requires { table.has_alone (W.state world.now).after actor mirror (page_of addr) ≡ true }
-    ensures { IfOk result (λ next. next ≡ Do (kind.Kind.Fetched mirror addr (plain_bytes (W.state world.now).after.plain (who.Who.Mirror mirror) addr 1))) }
+    requires { spec.has_exclusive (W.state world.now).after actor mirror (page_of addr) ≡ true }
+    ensures { IfOk result
+        (λ next. next
+        ≡ Do (kind.Kind.Fetched mirror addr
+        (plain_bytes (W.state world.now).after.plain (who.Who.Mirror mirror) addr 1))) }
 {
     let bytes = one_byte(alloc, world.sole_byte(actor, mirror, addr))?;
-    Ok(Next::Do(Kind::Fetched(mirror, addr, bytes)))
+    Ok(Next::Do(Kind::Fetched {
+        mirror,
+        addr,
+        bytes,
+    }))
 }
 
 /// What is due to an addition: the byte is read where the actor has the page alone, or else its fault begins.
@@ -119,12 +146,12 @@ pub fn add<W: Reads>(
 ) -> Result<Next, NoMemory>
     requires range { IsTrue (op_in_range op.now) }
     requires address { addr < 2 ^ 48 }
-    ensures { IfOk result (λ next. next ≡ table.due_add (W.state world.now).after actor op.now mirror addr) }
+    ensures { IfOk result (λ next. next ≡ spec.due_add (W.state world.now).after actor op.now mirror addr) }
 {
     let page = page_of(addr);
     if !world.in_window(mirror, one_page(page)) {
-        Ok(Next::Do(failed(op, 0, 4)))
-    } else if world.has_alone(actor, mirror, page) {
+        Ok(Next::Do(failed(op, 0, Cause::Outside)))
+    } else if world.has_exclusive(actor, mirror, page) {
         fetch(world, alloc, actor, mirror, addr)
     } else {
         Ok(rlock_mirror(world, mirror))
@@ -141,7 +168,7 @@ pub fn fetched<W: Reads>(
     old: u8,
 ) -> Result<Next, NoMemory>
     requires { IsTrue (op_in_range op.now) }
-    ensures { IfOk result (λ next. next ≡ table.due_fetched (W.state world.now).after actor op.now old) }
+    ensures { IfOk result (λ next. next ≡ spec.due_fetched (W.state world.now).after actor op.now old) }
 {
     match op {
         Op::Add {
@@ -149,20 +176,25 @@ pub fn fetched<W: Reads>(
             addr,
             amount,
         } => {
-            if world.has_alone(actor, *mirror, page_of(*addr)) {
+            if world.has_exclusive(actor, *mirror, page_of(*addr)) {
                 let sum = old.wrapping_add(*amount);
-                Ok(Next::Do(Kind::Added(*mirror, *addr, old, sum)))
+                Ok(Next::Do(Kind::Added {
+                    mirror: *mirror,
+                    addr: *addr,
+                    read: old,
+                    written: sum,
+                }))
             } else {
                 add(world, alloc, actor, op, *mirror, *addr)
             }
         }
-        _ => Ok(Next::Do(Kind::Refused(0))),
+        _ => Ok(Next::Do(Kind::Refused(Cause::Never))),
     }
 }
 
 /// The body that gives an exclusive page back to all, if it still is one.
 pub fn restore<W: Reads>(world: &W, proc: Proc, page: Page) -> Option<Kind>
-    ensures { result ≡ table.restore_at proc page ((W.state world.now).after.places.place proc page) }
+    ensures { result ≡ spec.restore_at proc page ((W.state world.now).after.places.place proc page) }
 {
     match world.place(proc, page) {
         Place::Exclusive { number, actor: _ } => {
@@ -170,7 +202,7 @@ pub fn restore<W: Reads>(world: &W, proc: Proc, page: Page) -> Option<Kind>
                 number,
                 writable: true,
             };
-            Some(Kind::Place(proc, page, place))
+            Some(Kind::Place { proc, page, place })
         }
         _ => None,
     }
@@ -184,7 +216,10 @@ pub fn seize<W: Reads>(
     page: Page,
     frame: &Frame,
 ) -> Option<Kind>
-    ensures { result ≡ table.when (same_place ((W.state world.now).after.places.place proc page) (place.Place.Sys frame.now.number true)) (kind.Kind.Place proc page (place.Place.Exclusive frame.now.number actor)) }
+    ensures { result
+        ≡ spec.if_so
+        (same_place ((W.state world.now).after.places.place proc page) (place.Place.Sys frame.now.number true))
+        (kind.Kind.Place proc page (place.Place.Exclusive frame.now.number actor)) }
 {
     let number = frame.number;
     let whole = Place::Sys {
@@ -192,7 +227,11 @@ pub fn seize<W: Reads>(
         writable: true,
     };
     if same_place(&world.place(proc, page), &whole) {
-        Some(Kind::Place(proc, page, Place::Exclusive { number, actor }))
+        Some(Kind::Place {
+            proc,
+            page,
+            place: Place::Exclusive { number, actor },
+        })
     } else {
         None
     }

@@ -2,13 +2,13 @@
 // mm/memory.c).
 ghost use Rattle.std.specs.Prelude.{◌≡◌, IsTrue};
 ghost use Rattle.hm_base.specs.Program.{op_in_range};
-ghost use Rattle.hm_history.specs.Due as table;
+ghost use Rattle.hm_history.specs.Due as spec;
 
 use crate::Reads;
 use crate::decisions::{fails, start_page, take_or};
 use crate::operations::op_writes;
-use crate::words::{dev_frame, sys_frame};
-use hm_base::{Actor, Frame, Op, Page, Place, Proc, Rights};
+use hm_base::frames::{dev_frame, sys_frame};
+use hm_base::{Actor, Cause, Frame, Op, Page, Place, Proc, Rights};
 use hm_history::phases::Next;
 use hm_history::{Kind, Why};
 
@@ -22,7 +22,7 @@ pub struct Wanted {
 
 /// Whether the CPU may do this at the place.
 pub fn suits(writes: bool, place: Place) -> bool
-    ensures { result ≡ table.suits writes place }
+    ensures { result ≡ spec.suits writes place }
 {
     match place {
         Place::Zero => !writes,
@@ -34,14 +34,14 @@ pub fn suits(writes: bool, place: Place) -> bool
     }
 }
 
-fn is_alone<W: Reads>(world: &W, frame: &Frame) -> bool
-    ensures { result ≡ table.is_alone (W.state world.now).after frame.now }
+fn is_used_once<W: Reads>(world: &W, frame: &Frame) -> bool
+    ensures { result ≡ spec.is_used_once (W.state world.now).after frame.now }
 {
     world.locker(frame).is_none() && world.uses(frame) == 1
 }
 
 fn bring_home<W: Reads>(world: &W, actor: Actor, at: &Wanted, frame: &Frame) -> Next
-    ensures { result ≡ table.bring_home (W.state world.now).after actor at.now.proc at.now.page frame.now }
+    ensures { result ≡ spec.bring_home (W.state world.now).after actor at.now.proc at.now.page frame.now }
 {
     match world.other_locker(frame, actor) {
         None => Next::Do(start_page(world, at.proc, at.page)),
@@ -50,14 +50,19 @@ fn bring_home<W: Reads>(world: &W, actor: Actor, at: &Wanted, frame: &Frame) -> 
 }
 
 fn fault_sys<W: Reads>(world: &W, at: &Wanted, number: u32, failing: Kind) -> Next
-    ensures { result ≡ table.fault_sys (W.program world.now) (W.state world.now).after at.now.proc at.now.page number failing }
+    ensures { result
+        ≡ spec.fault_sys (W.program world.now) (W.state world.now).after at.now.proc at.now.page number failing }
 {
-    if is_alone(world, &sys_frame(number)) {
+    if is_used_once(world, &sys_frame(number)) {
         let place = Place::Sys {
             number,
             writable: true,
         };
-        Next::Do(Kind::Place(at.proc, at.page, place))
+        Next::Do(Kind::Place {
+            proc: at.proc,
+            page: at.page,
+            place,
+        })
     } else {
         take_or(world, failing)
     }
@@ -65,18 +70,26 @@ fn fault_sys<W: Reads>(world: &W, at: &Wanted, number: u32, failing: Kind) -> Ne
 
 fn fault_empty<W: Reads>(world: &W, op: &Op, at: &Wanted) -> Next
     requires { IsTrue (op_in_range op.now) }
-    ensures { result ≡ table.fault_at (W.program world.now) (W.state world.now).after 0 op.now at.now.piece at.now.proc at.now.page Place.Empty }
+    ensures { result
+        ≡ spec.fault_at (W.program world.now)
+        (W.state world.now).after 0 op.now at.now.piece at.now.proc at.now.page Place.Empty }
 {
     if op_writes(op) {
-        take_or(world, fails(op, at.piece, 3))
+        take_or(world, fails(op, at.piece, Cause::NoFrame))
     } else {
-        Next::Do(Kind::Place(at.proc, at.page, Place::Zero))
+        Next::Do(Kind::Place {
+            proc: at.proc,
+            page: at.page,
+            place: Place::Zero,
+        })
     }
 }
 
 fn fault_at<W: Reads>(world: &W, actor: Actor, op: &Op, at: &Wanted, place: Place) -> Next
     requires { IsTrue (op_in_range op.now) }
-    ensures { result ≡ table.fault_at (W.program world.now) (W.state world.now).after actor op.now at.now.piece at.now.proc at.now.page place }
+    ensures { result
+        ≡ spec.fault_at (W.program world.now)
+        (W.state world.now).after actor op.now at.now.piece at.now.proc at.now.page place }
 {
     match place {
         Place::Moving { .. } => Next::Wait(Why::Moving(at.proc, at.page)),
@@ -87,24 +100,26 @@ fn fault_at<W: Reads>(world: &W, actor: Actor, op: &Op, at: &Wanted, place: Plac
         } => bring_home(world, actor, at, &dev_frame(dev, number)),
         Place::Exclusive { .. } => Next::Do(start_page(world, at.proc, at.page)),
         Place::Empty => fault_empty(world, op, at),
-        Place::Zero => take_or(world, fails(op, at.piece, 3)),
+        Place::Zero => take_or(world, fails(op, at.piece, Cause::NoFrame)),
         Place::Sys {
             number,
             writable: _,
-        } => fault_sys(world, at, number, fails(op, at.piece, 3)),
+        } => fault_sys(world, at, number, fails(op, at.piece, Cause::NoFrame)),
     }
 }
 
 /// What a fault decides: failures, the release of the lock where the place suits, and else what brings it nearer.
 pub fn fault<W: Reads>(world: &W, actor: Actor, op: &Op, at: &Wanted, suited: bool) -> Next
     requires { IsTrue (op_in_range op.now) }
-    ensures { result ≡ table.fault (W.program world.now) (W.state world.now).after actor op.now at.now.piece (λ x. suited) at.now.proc at.now.page }
+    ensures { result
+        ≡ spec.fault (W.program world.now) (W.state world.now).after actor op.now at.now.piece
+        (λ x. suited) at.now.proc at.now.page }
 {
     match world.rights(at.proc, at.page) {
-        None => Next::Do(fails(op, at.piece, 1)),
+        None => Next::Do(fails(op, at.piece, Cause::Unmapped)),
         Some(rights) => {
             if op_writes(op) && rights == Rights::Read {
-                Next::Do(fails(op, at.piece, 2))
+                Next::Do(fails(op, at.piece, Cause::Forbidden))
             } else if suited {
                 Next::Do(Kind::Runlock(at.proc))
             } else {

@@ -1,6 +1,6 @@
 // A guard after its start: mirrors are told, the body is done, the guard ends.
 ghost use Rattle.std.specs.Prelude.{◌≡◌, ◌+◌, nat_lt};
-ghost use Rattle.hm_history.specs.Due as table;
+ghost use Rattle.hm_history.specs.Due as spec;
 
 use crate::Reads;
 use hm_base::{MirrorId, Proc, Span};
@@ -14,7 +14,7 @@ pub fn to_tell<W: Reads>(
     overlapped: bool,
     told: Option<MirrorId>,
 ) -> Option<MirrorId>
-    ensures { result ≡ table.to_tell (W.state world.now).after proc span overlapped told }
+    ensures { result ≡ spec.to_tell (W.state world.now).after proc span overlapped told }
 {
     if overlapped {
         world.next_told(proc, span, told)
@@ -25,11 +25,15 @@ pub fn to_tell<W: Reads>(
 
 /// What the body has next, or else the guard's end.
 pub fn body_or_end<W: Reads>(world: &W, proc: Proc, span: Span, body: Option<Kind>) -> Kind
-    ensures { result ≡ table.body_or_end (W.state world.now).after proc span body }
+    ensures { result ≡ spec.body_or_end (W.state world.now).after proc span body }
 {
     match body {
         Some(kind) => kind,
-        None => Kind::End(proc, span, world.seq_ended(proc)),
+        None => Kind::End {
+            proc,
+            span,
+            seq: world.seq_ended(proc),
+        },
     }
 }
 

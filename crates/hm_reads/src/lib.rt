@@ -10,7 +10,7 @@ ghost use Rattle.hm_history.specs.Places.{uses, is_used, next_page, lowest_direc
 ghost use Rattle.hm_history.specs.Sequences.{interval_seq, in_tree, insert_deferred, next_told, seq_started, seq_ended, interval_inserted};
 ghost use Rattle.hm_history.specs.Locks.{writer, lowest_other, other_locker};
 ghost use Rattle.hm_history.specs.Going.{State, op_at, coming};
-ghost use Rattle.hm_history.specs.Due.{is_usable, has_alone};
+ghost use Rattle.hm_history.specs.Due.{is_usable, has_exclusive};
 ghost use Rattle.hm_reads.specs.Ranges.{top_in_range};
 ghost use Rattle.hm_history.specs.declared.Who as who;
 ghost use Rattle.hm_history.specs.declared.phases.Phase as phase;
@@ -19,13 +19,12 @@ pub mod decisions;
 pub mod faults;
 pub mod guards;
 pub mod operations;
-pub mod words;
 
 use hm_base::{
-    Actor, Bytes, Dev, Frame, MirrorId, NoMemory, Op, Page, Place, PoolId, Proc, Rights, Script,
-    Span,
+    Actor, Bytes, Cause, Dev, Frame, MirrorId, NoMemory, Op, Page, Place, PoolId, Proc, Rights,
+    Script, Span,
 };
-use hm_history::phases::{Migrating, Phase};
+use hm_history::phases::{Migrating, MoveStep, Phase};
 use std::alloc::Global;
 
 /// A state of a script, as steps read it. Each call answers from the state that the definitions give, and takes no
@@ -56,10 +55,16 @@ pub trait Reads {
     fn moved_pages(&self, actor: Actor) -> u64
         ensures { result ≡ count_by (λ x. x.moved) ((state self.now).going actor).pages };
 
-    /// The step, from this one on, and the page to which its migration has come; step 8 and none at its end.
-    fn coming(&self, actor: Actor, op: &Op, step: u8, next: u64) -> (u8, Option<Migrating>)
-        requires { step ≤ 8 }
-        ensures { result ≡ coming (state self.now).after op.now ((state self.now).going actor).pages (phase.Phase.Moves step next) };
+    /// The step, from this one on, and the page to which its migration has come; none at its end.
+    fn coming(
+        &self,
+        actor: Actor,
+        op: &Op,
+        step: MoveStep,
+        next: u64,
+    ) -> Option<(MoveStep, Migrating)>
+        ensures { result
+            ≡ coming (state self.now).after op.now ((state self.now).going actor).pages (phase.Phase.Moves step next) };
 
     fn there(&self, proc: Proc) -> bool
         ensures { result ≡ (state self.now).after.plain.there proc };
@@ -71,8 +76,8 @@ pub trait Reads {
     fn rights(&self, proc: Proc, page: Page) -> Option<Rights>
         ensures { result ≡ rights_of (state self.now).after.plain proc page };
 
-    /// The refusal 1, 5 or 6 that a change of areas meets.
-    fn area_refusal(&self, op: &Op) -> Option<u32>
+    /// The refusal that a change of areas meets: a page has an area, has none, or there would be too many.
+    fn area_refusal(&self, op: &Op) -> Option<Cause>
         ensures { result ≡ area_refusal (state self.now).after.plain op.now };
 
     /// Whether some page of the span has an area.
@@ -185,8 +190,8 @@ pub trait Reads {
         ensures { result ≡ is_usable writes ((state self.now).after.places.table mirror page) };
 
     /// The actor has the page alone, through the mirror.
-    fn has_alone(&self, actor: Actor, mirror: MirrorId, page: Page) -> bool
-        ensures { result ≡ has_alone (state self.now).after actor mirror page };
+    fn has_exclusive(&self, actor: Actor, mirror: MirrorId, page: Page) -> bool
+        ensures { result ≡ has_exclusive (state self.now).after actor mirror page };
 
     /// The bytes of a page that the CPU may read, from its frame.
     fn cpu_bytes(&self, alloc: Global, proc: Proc, addr: u64, len: u64) -> Result<Bytes, NoMemory>
@@ -205,10 +210,11 @@ pub trait Reads {
     ) -> Result<Bytes, NoMemory>
         requires usable { is_usable false ((state self.now).after.places.table mirror (page_of addr)) ≡ true }
         requires lies { addr % 4096 + len ≤ 4096 }
-        ensures { IfOk result (λ bytes. bytes ≡ plain_bytes (state self.now).after.plain (who.Who.Mirror mirror) addr len) };
+        ensures { IfOk result
+            (λ bytes. bytes ≡ plain_bytes (state self.now).after.plain (who.Who.Mirror mirror) addr len) };
 
     /// The byte of a page that the actor has alone, from the frame of the mirror's entry.
     fn sole_byte(&self, actor: Actor, mirror: MirrorId, addr: u64) -> u8
-        requires { has_alone (state self.now).after actor mirror (page_of addr) ≡ true }
+        requires { has_exclusive (state self.now).after actor mirror (page_of addr) ≡ true }
         ensures { result ≡ (state self.now).after.plain.bytes (mirror_proc (state self.now).after.plain mirror) addr };
 }

@@ -2,9 +2,9 @@
 ghost use Rattle.std.specs.Prelude.{◌≡◌, ℕ, ◌+◌, ◌%◌, ◌^◌, ◌<◌, ◌≤◌, IsTrue, IfOk, length};
 ghost use Rattle.hm_base.specs.Program.{op_in_range, access_in_range};
 ghost use Rattle.hm_history.specs.Words.{pieces, first_len, page_of};
-ghost use Rattle.hm_history.specs.Operation as table;
+ghost use Rattle.hm_history.specs.Operation as spec;
 ghost use Rattle.hm_history.specs.Going.{touch_page, touch_proc};
-ghost use Rattle.hm_history.specs.Moved.{piece_of};
+ghost use Rattle.hm_history.specs.Stacks.{piece_of};
 ghost use Rattle.hm_history.specs.Due.{proc_of_op, child_of};
 
 use crate::Reads;
@@ -22,7 +22,7 @@ fn first_len(addr: u64, len: u64) -> u64
 
 fn piece_in(addr: u64, len: u64, piece: u32) -> (u64, u64)
     requires { IsTrue (access_in_range addr len) }
-    ensures same { result ≡ table.piece_at (pieces addr len) piece }
+    ensures same { result ≡ spec.piece_at (pieces addr len) piece }
     ensures below { result.0 < 2 ^ 48 }
     ensures lies { result.0 % 4096 + result.1 ≤ 4096 }
 {
@@ -39,7 +39,7 @@ fn piece_in(addr: u64, len: u64, piece: u32) -> (u64, u64)
 /// The address and the length of a piece of an access; each lies in one page.
 pub fn op_piece(op: &Op, piece: u32) -> (u64, u64)
     requires { IsTrue (op_in_range op.now) }
-    ensures same { result ≡ table.op_piece op.now piece }
+    ensures same { result ≡ spec.op_piece op.now piece }
     ensures below { result.0 < 2 ^ 48 }
     ensures lies { result.0 % 4096 + result.1 ≤ 4096 }
 {
@@ -80,14 +80,14 @@ pub fn page_of(addr: u64) -> Page
 /// The page of a piece of an access.
 pub fn piece_page(op: &Op, piece: u32) -> Page
     requires { IsTrue (op_in_range op.now) }
-    ensures { result ≡ page_of (table.op_piece op.now piece).0 }
+    ensures { result ≡ page_of (spec.op_piece op.now piece).0 }
 {
     page_of(op_piece(op, piece).0)
 }
 
 /// Whose access it is.
 pub fn op_who(op: &Op) -> Who
-    ensures { result ≡ table.op_who op.now }
+    ensures { result ≡ spec.op_who op.now }
 {
     match op {
         Op::Load { proc, .. } | Op::Store { proc, .. } => Who::Cpu(*proc),
@@ -99,7 +99,7 @@ pub fn op_who(op: &Op) -> Who
 
 /// The mirror that it is about.
 pub fn op_mirror(op: &Op) -> MirrorId
-    ensures { result ≡ table.op_mirror op.now }
+    ensures { result ≡ spec.op_mirror op.now }
 {
     match op {
         Op::Attach { mirror, .. } | Op::Detach { mirror } => *mirror,
@@ -134,7 +134,7 @@ pub fn child_of(op: &Op) -> Proc
 
 /// Whether it writes.
 pub fn op_writes(op: &Op) -> bool
-    ensures { result ≡ table.op_writes op.now }
+    ensures { result ≡ spec.op_writes op.now }
 {
     match op {
         Op::Store { .. } | Op::DeviceStore { .. } => true,
@@ -143,8 +143,9 @@ pub fn op_writes(op: &Op) -> bool
     }
 }
 
+/// Whether the operation makes a page exclusive.
 pub fn is_exclusive_op(op: &Op) -> bool
-    ensures { result ≡ table.is_exclusive_op op.now }
+    ensures { result ≡ spec.is_exclusive_op op.now }
 {
     match op {
         Op::Exclusive { .. } => true,
@@ -154,7 +155,7 @@ pub fn is_exclusive_op(op: &Op) -> bool
 
 /// Whether it migrates to a device.
 pub fn is_to_device(op: &Op) -> bool
-    ensures { result ≡ table.is_to_device op.now }
+    ensures { result ≡ spec.is_to_device op.now }
 {
     match op {
         Op::ToDevice { .. } => true,
@@ -199,7 +200,7 @@ pub fn touch_proc<W: Reads>(world: &W, op: &Op) -> Proc
 }
 
 fn bytes_of(alloc: Global, base: u64, bytes: &Bytes, addr: u64, len: u64) -> Result<Bytes, NoMemory>
-    ensures { IfOk result (λ piece. piece ≡ table.bytes_of base bytes.now (addr, len)) }
+    ensures { IfOk result (λ piece. piece ≡ spec.bytes_of base bytes.now (addr, len)) }
 {
     let all = bytes.as_slice();
     let from = addr.saturating_sub(base);
@@ -218,7 +219,7 @@ fn bytes_of(alloc: Global, base: u64, bytes: &Bytes, addr: u64, len: u64) -> Res
 
 /// The bytes that an operation writes in a piece.
 pub fn op_bytes(alloc: Global, op: &Op, addr: u64, len: u64) -> Result<Bytes, NoMemory>
-    ensures { IfOk result (λ bytes. bytes ≡ table.op_bytes op.now (addr, len)) }
+    ensures { IfOk result (λ bytes. bytes ≡ spec.op_bytes op.now (addr, len)) }
 {
     match op {
         Op::Store {

@@ -1,6 +1,6 @@
 // What is due in a guard.
 ghost use Rattle.std.specs.Prelude.{◌≡◌, IsTrue};
-ghost use Rattle.hm_history.specs.Due as table;
+ghost use Rattle.hm_history.specs.Due as spec;
 ghost use Rattle.hm_reads.specs.Ranges.{body_in_range};
 
 use anon_fault::replace;
@@ -26,7 +26,9 @@ fn due_body<W: Reads>(
     body: &Body,
 ) -> Option<Kind>
     requires { IsTrue (body_in_range body.now) }
-    ensures { result ≡ table.due_body (W.state world.now).after actor op.now proc span ((W.state world.now).after.places.place proc span.first) body.now }
+    ensures { result
+        ≡ spec.due_body (W.state world.now).after actor op.now proc span
+        ((W.state world.now).after.places.place proc span.first) body.now }
 {
     let first = span.first();
     match body {
@@ -57,10 +59,14 @@ pub fn due_guard<W: Reads>(
     body: &Body,
 ) -> Kind
     requires { IsTrue (body_in_range body.now) }
-    ensures { result ≡ table.due_guard (W.state world.now).after actor op.now proc span overlapped told body.now }
+    ensures { result ≡ spec.due_guard (W.state world.now).after actor op.now proc span overlapped told body.now }
 {
     match to_tell(world, proc, span, overlapped, told) {
-        Some(mirror) => Kind::Told(mirror, span, world.process_seq(proc)),
+        Some(mirror) => Kind::Told {
+            mirror,
+            span,
+            seq: world.process_seq(proc),
+        },
         None => {
             let next = due_body(world, actor, op, proc, span, body);
             body_or_end(world, proc, span, next)

@@ -2,7 +2,7 @@
 #![tactic(auto)]
 
 ghost use Rattle.std.specs.Prelude.{◌≡◌, IfOk};
-ghost use Rattle.hm_history.specs.Due as table;
+ghost use Rattle.hm_history.specs.Due as spec;
 
 mod bodies;
 mod moves;
@@ -16,8 +16,8 @@ use hm_reads::Reads;
 use phases::due_phase;
 use std::alloc::Global;
 
-fn told(actor: Actor, next: Next) -> Progress
-    ensures { result ≡ table.progress actor next }
+fn progress_of(actor: Actor, next: Next) -> Progress
+    ensures { result ≡ spec.progress actor next }
 {
     match next {
         Next::Do(kind) => Progress::Did(Entry { actor, kind }),
@@ -28,16 +28,16 @@ fn told(actor: Actor, next: Next) -> Progress
 /// What is due to the actor in the world: the entry that its next step adds, or why it waits; idle where it has no
 /// operation left. Memory is taken for the bytes of an answer alone.
 pub fn due<W: Reads>(world: &W, alloc: Global, actor: Actor) -> Result<Progress, NoMemory>
-    ensures { IfOk result (λ progress. progress ≡ table.due_in (W.program world.now) (W.state world.now) actor) }
+    ensures { IfOk result (λ progress. progress ≡ spec.due_in (W.program world.now) (W.state world.now) actor) }
 {
-    world.script().fits();
+    world.script().facts();
     match world.op(actor) {
         None => Ok(Progress::Idle),
         Some(op) => match world.phase(actor) {
             None => Ok(Progress::Idle),
             Some(top) => {
                 let next = due_phase(world, alloc, actor, op, top)?;
-                Ok(told(actor, next))
+                Ok(progress_of(actor, next))
             }
         },
     }

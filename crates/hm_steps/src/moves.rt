@@ -3,12 +3,12 @@ ghost use Rattle.std.specs.Prelude.{◌≡◌};
 ghost use Rattle.hm_history.specs.Plain.{mirror_proc};
 ghost use Rattle.hm_history.specs.Operation.{op_mirror};
 ghost use Rattle.hm_history.specs.Going.{coming};
-ghost use Rattle.hm_history.specs.Due as table;
+ghost use Rattle.hm_history.specs.Due as spec;
 ghost use Rattle.hm_history.specs.declared.phases.Phase as phase;
 
 use hm_base::{Actor, Op, Proc};
 use hm_history::Kind;
-use hm_history::phases::Migrating;
+use hm_history::phases::{Migrating, MoveStep};
 use hm_reads::Reads;
 use hm_reads::operations::op_mirror;
 use mig_copy::step_copy;
@@ -16,56 +16,40 @@ use mig_finish::finish_page;
 use mig_freeze::others;
 use migrate_ops::{commit, set_own};
 
-fn coming_page<W: Reads>(
-    world: &W,
-    actor: Actor,
-    op: &Op,
-    step: u8,
-    next: u64,
-) -> (u8, Option<Migrating>)
-    ensures { result ≡ coming (W.state world.now).after op.now ((W.state world.now).going actor).pages (phase.Phase.Moves step next) }
-{
-    if step > 8 {
-        (8, None)
-    } else {
-        world.coming(actor, op, step, next)
-    }
-}
-
 fn mirrors_proc<W: Reads>(world: &W, op: &Op) -> Proc
     ensures { result ≡ mirror_proc (W.state world.now).after.plain (op_mirror op.now) }
 {
     world.mirror_proc(op_mirror(op))
 }
 
-fn due_step<W: Reads>(world: &W, op: &Op, step: u8, page: &Migrating) -> Kind
-    ensures { result ≡ table.due_step (W.program world.now) (W.state world.now).after op.now step page.now }
+fn due_step<W: Reads>(world: &W, op: &Op, step: MoveStep, page: &Migrating) -> Kind
+    ensures { result ≡ spec.due_step (W.program world.now) (W.state world.now).after op.now step page.now }
 {
-    if step == 3 {
-        others(world, &page.source)
-    } else if step == 4 {
-        step_copy(world, op, page.page)
-    } else if step == 5 {
-        commit(
+    match step {
+        MoveStep::FreezeOthers => others(world, &page.source),
+        MoveStep::TakeAndCopy => step_copy(world, op, page.page),
+        MoveStep::Commit => commit(
             world,
             mirrors_proc(world, op),
             page.page,
             page.source,
             page.dest,
-        )
-    } else if step == 6 {
-        set_own(world, op_mirror(op), mirrors_proc(world, op), page)
-    } else {
-        finish_page(world, &page.source, page.dest, page.moved)
+        ),
+        MoveStep::SetOwnTable => set_own(world, op_mirror(op), mirrors_proc(world, op), page),
+        MoveStep::Finish => finish_page(world, &page.source, page.dest, page.moved),
     }
 }
 
 /// The turn of a migration that has come to a step and a page: what that step has for its next page, or the answer.
-pub fn due_moves<W: Reads>(world: &W, actor: Actor, op: &Op, step: u8, next: u64) -> Kind
-    ensures { result ≡ table.due_moves (W.program world.now) (W.state world.now).after op.now ((W.state world.now).going actor).pages (coming (W.state world.now).after op.now ((W.state world.now).going actor).pages (phase.Phase.Moves step next)) }
+pub fn due_moves<W: Reads>(world: &W, actor: Actor, op: &Op, step: MoveStep, next: u64) -> Kind
+    ensures { result
+        ≡ spec.due_moves (W.program world.now) (W.state world.now).after op.now
+        ((W.state world.now).going actor).pages
+        (coming (W.state world.now).after op.now ((W.state world.now).going actor).pages
+        (phase.Phase.Moves step next)) }
 {
-    match coming_page(world, actor, op, step, next) {
-        (_, None) => Kind::Migrated(world.moved_pages(actor)),
-        (at, Some(page)) => due_step(world, op, at, &page),
+    match world.coming(actor, op, step, next) {
+        None => Kind::Migrated(world.moved_pages(actor)),
+        Some((at, page)) => due_step(world, op, at, &page),
     }
 }

@@ -1,11 +1,11 @@
 // What is due at the phases that an operation has of its own.
 ghost use Rattle.std.specs.Prelude.{◌≡◌, IsTrue, IfOk};
 ghost use Rattle.hm_base.specs.Program.{op_in_range};
-ghost use Rattle.hm_history.specs.Due as table;
+ghost use Rattle.hm_history.specs.Due as spec;
 
 use anon_fault::step_anon;
 use cow_fork::step_fork;
-use hm_base::{Actor, NoMemory, Op};
+use hm_base::{Actor, Cause, NoMemory, Op};
 use hm_history::Kind;
 use hm_history::phases::Next;
 use hm_reads::Reads;
@@ -20,7 +20,7 @@ use unmap_zap::step_areas;
 
 /// The first turn of an operation that is no access.
 pub fn due_begin<W: Reads>(world: &W, actor: Actor, op: &Op) -> Next
-    ensures { result ≡ table.due_begin (W.state world.now).after actor op.now }
+    ensures { result ≡ spec.due_begin (W.state world.now).after actor op.now }
 {
     match op {
         Op::Map { proc, .. } => under_wlock(world, actor, *proc),
@@ -39,13 +39,13 @@ pub fn due_begin<W: Reads>(world: &W, actor: Actor, op: &Op) -> Next
         Op::ToDevice { mirror, span } => in_window_rlock(world, *mirror, *span),
         Op::ToSystem { mirror, span } => in_window_rlock(world, *mirror, *span),
         Op::Exclusive { mirror, page } => in_window_rlock(world, *mirror, one_page(*page)),
-        _ => Next::Do(Kind::Refused(0)),
+        _ => Next::Do(Kind::Refused(Cause::Never)),
     }
 }
 
 /// The turn under the write lock.
 pub fn due_locked<W: Reads>(world: &W, op: &Op) -> Kind
-    ensures { result ≡ table.due_locked (W.state world.now).after op.now }
+    ensures { result ≡ spec.due_locked (W.state world.now).after op.now }
 {
     match op {
         Op::Fork { proc, child } => step_fork(world, *proc, *child),
@@ -55,37 +55,50 @@ pub fn due_locked<W: Reads>(world: &W, op: &Op) -> Kind
 
 /// The start of the guard over an operation's span.
 pub fn due_ready<W: Reads>(world: &W, op: &Op) -> Kind
-    ensures { result ≡ table.due_ready (W.state world.now).after op.now }
+    ensures { result ≡ spec.due_ready (W.state world.now).after op.now }
 {
     match op {
         Op::Fork { proc, .. } => start_all(world, *proc),
         Op::ToDevice { mirror, span } => start_mirror(world, *mirror, *span),
         Op::ToSystem { mirror, span } => start_mirror(world, *mirror, *span),
-        _ => Kind::Refused(0),
+        _ => Kind::Refused(Cause::Never),
     }
 }
 
 /// An operation's answer, or the release of its lock.
 pub fn due_answer<W: Reads>(world: &W, op: &Op) -> Kind
-    ensures { result ≡ table.due_answer (W.state world.now).after op.now }
+    ensures { result ≡ spec.due_answer (W.state world.now).after op.now }
 {
     match op {
-        Op::Unmap { proc, span } => Kind::Unmapped(*proc, *span),
-        Op::Protect { proc, span, rights } => Kind::Protected(*proc, *span, *rights),
+        Op::Unmap { proc, span } => Kind::Unmapped {
+            proc: *proc,
+            span: *span,
+        },
+        Op::Protect { proc, span, rights } => Kind::Protected {
+            proc: *proc,
+            span: *span,
+            rights: *rights,
+        },
         Op::Exit { proc } => Kind::Exited(*proc),
-        Op::Fork { proc, child } => Kind::Forked(*proc, *child),
-        Op::Exclusive { mirror, page } => Kind::Excluded(*mirror, *page),
+        Op::Fork { proc, child } => Kind::Forked {
+            parent: *proc,
+            child: *child,
+        },
+        Op::Exclusive { mirror, page } => Kind::Excluded {
+            mirror: *mirror,
+            page: *page,
+        },
         _ => runlock_mirror(world, op_mirror(op)),
     }
 }
 
 /// A snapshot's turn.
 pub fn due_pages<W: Reads>(world: &W, op: &Op, next: u64) -> Kind
-    ensures { result ≡ table.due_pages (W.state world.now).after op.now next }
+    ensures { result ≡ spec.due_pages (W.state world.now).after op.now next }
 {
     match op {
         Op::Snap { mirror, span } => step_mirror(world, *mirror, *span, next),
-        _ => Kind::Refused(0),
+        _ => Kind::Refused(Cause::Never),
     }
 }
 
@@ -98,7 +111,7 @@ pub fn due_piece<W: Reads>(
     piece: u32,
 ) -> Result<Next, NoMemory>
     requires { IsTrue (op_in_range op.now) }
-    ensures { IfOk result (λ next. next ≡ table.due_piece (W.state world.now).after actor op.now piece) }
+    ensures { IfOk result (λ next. next ≡ spec.due_piece (W.state world.now).after actor op.now piece) }
 {
     match op {
         Op::Add { mirror, addr, .. } => {
@@ -108,6 +121,6 @@ pub fn due_piece<W: Reads>(
         Op::DeviceStore { mirror, .. } => step_walk(world, alloc, op, piece, *mirror),
         Op::Load { proc, .. } => step_anon(world, alloc, op, piece, *proc),
         Op::Store { proc, .. } => step_anon(world, alloc, op, piece, *proc),
-        _ => Ok(Next::Do(Kind::Refused(0))),
+        _ => Ok(Next::Do(Kind::Refused(Cause::Never))),
     }
 }

@@ -5,8 +5,8 @@ ghost use Rattle.hm_base.specs.Program.{op_in_range};
 ghost use Rattle.hm_history.specs.Plain.{mirror_proc};
 ghost use Rattle.hm_history.specs.Operation.{op_mirror};
 ghost use Rattle.hm_history.specs.Going.{touch_page, touch_proc};
-ghost use Rattle.hm_history.specs.Moved.{piece_of};
-ghost use Rattle.hm_history.specs.Due as table;
+ghost use Rattle.hm_history.specs.Stacks.{piece_of};
+ghost use Rattle.hm_history.specs.Due as spec;
 ghost use Rattle.hm_reads.specs.Ranges.{phase_in_range};
 ghost use Rattle.hm_steps.specs.Groups.{group};
 
@@ -16,7 +16,7 @@ use crate::operations::{due_answer, due_begin, due_locked, due_pages, due_piece,
 use device_evict::step_evict;
 use exclusive_ops::{fetched, step_exclusive};
 use fault_home::{give_up, step_home};
-use hm_base::{Actor, Frame, NoMemory, Op, Place};
+use hm_base::{Actor, Cause, Frame, NoMemory, Op, Place};
 use hm_history::phases::{Next, Phase, Touch};
 use hm_history::{KeptAt, KeptWhy, Kind};
 use hm_reads::Reads;
@@ -44,7 +44,9 @@ fn wanted<W: Reads>(world: &W, op: &Op, touch: &Touch) -> Wanted
 fn decide_at<W: Reads>(world: &W, actor: Actor, op: &Op, touch: &Touch, at: &Wanted) -> Next
     requires range { IsTrue (op_in_range op.now) }
     requires piece { at.now.piece ≡ piece_of touch.now }
-    ensures { result ≡ table.due_decide (W.program world.now) (W.state world.now).after actor op.now touch.now at.now.proc at.now.page }
+    ensures { result
+        ≡ spec.due_decide (W.program world.now)
+        (W.state world.now).after actor op.now touch.now at.now.proc at.now.page }
 {
     match touch {
         Touch::Cpu { .. } => anon_fault::decide(world, actor, op, at),
@@ -59,7 +61,9 @@ fn decide_at<W: Reads>(world: &W, actor: Actor, op: &Op, touch: &Touch, at: &Wan
 
 fn due_decide<W: Reads>(world: &W, actor: Actor, op: &Op, touch: &Touch) -> Next
     requires { IsTrue (op_in_range op.now) }
-    ensures { result ≡ table.due_decide (W.program world.now) (W.state world.now).after actor op.now touch.now (touch_proc (W.state world.now).after op.now) (touch_page op.now touch.now) }
+    ensures { result
+        ≡ spec.due_decide (W.program world.now) (W.state world.now).after actor op.now touch.now
+        (touch_proc (W.state world.now).after op.now) (touch_page op.now touch.now) }
 {
     let at = wanted(world, op, touch);
     decide_at(world, actor, op, touch, &at)
@@ -67,7 +71,9 @@ fn due_decide<W: Reads>(world: &W, actor: Actor, op: &Op, touch: &Touch) -> Next
 
 fn due_taken<W: Reads>(world: &W, op: &Op, touch: &Touch, by: &Frame, over: &Place) -> Next
     requires { IsTrue (op_in_range op.now) }
-    ensures { result ≡ table.due_taken (W.state world.now).after by.now over.now (touch_proc (W.state world.now).after op.now) (touch_page op.now touch.now) }
+    ensures { result
+        ≡ spec.due_taken (W.state world.now).after by.now over.now (touch_proc (W.state world.now).after op.now)
+        (touch_page op.now touch.now) }
 {
     let at = wanted(world, op, touch);
     anon_fault::taken(world, &at, by, over)
@@ -75,14 +81,17 @@ fn due_taken<W: Reads>(world: &W, op: &Op, touch: &Touch, by: &Frame, over: &Pla
 
 fn due_armed<W: Reads>(world: &W, op: &Op, touch: &Touch) -> Kind
     requires { IsTrue (op_in_range op.now) }
-    ensures { result ≡ table.start (W.state world.now).after (touch_proc (W.state world.now).after op.now) (one_page (touch_page op.now touch.now)) }
+    ensures { result
+        ≡ spec.start_entry (W.state world.now).after (touch_proc (W.state world.now).after op.now)
+        (one_page (touch_page op.now touch.now)) }
 {
     let at = wanted(world, op, touch);
     start_page(world, at.proc, at.page)
 }
 
 fn due_begun<W: Reads>(world: &W, op: &Op) -> Next
-    ensures { result ≡ table.rlock (W.state world.now).after (mirror_proc (W.state world.now).after.plain (op_mirror op.now)) }
+    ensures { result
+        ≡ spec.rlock (W.state world.now).after (mirror_proc (W.state world.now).after.plain (op_mirror op.now)) }
 {
     rlock_mirror(world, op_mirror(op))
 }
@@ -91,7 +100,9 @@ fn due_frame<W: Reads>(world: &W, actor: Actor, op: &Op, top: &Phase) -> Next
     requires op { IsTrue (op_in_range op.now) }
     requires top { IsTrue (phase_in_range top.now) }
     requires group { 2 ≤ group top.now }
-    ensures { result ≡ table.due_phase (W.program world.now) (W.state world.now).after actor op.now ((W.state world.now).going actor).pages top.now }
+    ensures { result
+        ≡ spec.due_phase (W.program world.now) (W.state world.now).after actor op.now
+        ((W.state world.now).going actor).pages top.now }
 {
     match top {
         Phase::Guard {
@@ -102,16 +113,26 @@ fn due_frame<W: Reads>(world: &W, actor: Actor, op: &Op, top: &Phase) -> Next
             body,
         } => Next::Do(due_guard(world, actor, op, *proc, *span, *overlapped, *told, body)),
         Phase::Drop { frame } => Next::Do(Kind::Drop(*frame)),
-        Phase::Alone { frame, at } => Next::Do(step_home(world, frame, *at)),
-        Phase::Copy { from, to, part } => Next::Do(Kind::Copied(*from, *to, Some(*part))),
-        Phase::Copied { from, to } => Next::Do(Kind::Committed(*from, *to)),
+        Phase::Emptying { frame, at } => Next::Do(step_home(world, frame, *at)),
+        Phase::Copy { from, to, part } => Next::Do(Kind::Copied {
+            from: *from,
+            to: *to,
+            part: Some(*part),
+        }),
+        Phase::Copied { from, to } => Next::Do(Kind::Committed {
+            from: *from,
+            to: *to,
+        }),
         Phase::Finish { from, to } => Next::Do(step_finish(world, from, *to)),
         Phase::Settle { frame } => Next::Do(settle(world, frame)),
         Phase::GiveUp { touch } => Next::Do(give_up(op, touch)),
-        Phase::Frames { next, moved } => step_evict(world, actor, op, *next, *moved),
+        Phase::Frames { next, emptied } => step_evict(world, actor, op, *next, *emptied),
         Phase::Moves { step, next } => Next::Do(due_moves(world, actor, op, *step, *next)),
-        Phase::Lost { page, .. } => Next::Do(Kind::Kept(KeptAt::Page(*page), KeptWhy::Lost)),
-        _ => Next::Do(Kind::Refused(0)),
+        Phase::Lost { page, .. } => Next::Do(Kind::Kept {
+            at: KeptAt::Page(*page),
+            why: KeptWhy::Lost,
+        }),
+        _ => Next::Do(Kind::Refused(Cause::Never)),
     }
 }
 
@@ -119,7 +140,9 @@ fn due_fault<W: Reads>(world: &W, actor: Actor, op: &Op, top: &Phase) -> Next
     requires op { IsTrue (op_in_range op.now) }
     requires top { IsTrue (phase_in_range top.now) }
     requires group { 1 ≤ group top.now }
-    ensures { result ≡ table.due_phase (W.program world.now) (W.state world.now).after actor op.now ((W.state world.now).going actor).pages top.now }
+    ensures { result
+        ≡ spec.due_phase (W.program world.now) (W.state world.now).after actor op.now
+        ((W.state world.now).going actor).pages top.now }
 {
     match top {
         Phase::Begin => due_begin(world, actor, op),
@@ -152,7 +175,10 @@ pub fn due_phase<W: Reads>(
 ) -> Result<Next, NoMemory>
     requires op { IsTrue (op_in_range op.now) }
     requires top { IsTrue (phase_in_range top.now) }
-    ensures { IfOk result (λ next. next ≡ table.due_phase (W.program world.now) (W.state world.now).after actor op.now ((W.state world.now).going actor).pages top.now) }
+    ensures { IfOk result
+        (λ next. next
+        ≡ spec.due_phase (W.program world.now) (W.state world.now).after actor op.now
+        ((W.state world.now).going actor).pages top.now) }
 {
     match top {
         Phase::Piece { piece } => due_piece(world, alloc, actor, op, *piece),

@@ -3,7 +3,7 @@
 #![tactic(auto)]
 
 ghost use Rattle.std.specs.Prelude.{◌≡◌};
-ghost use Rattle.hm_history.specs.Due as table;
+ghost use Rattle.hm_history.specs.Due as spec;
 
 use hm_base::{Op, Page, PoolId};
 use hm_history::{KeptAt, KeptWhy, Kind};
@@ -11,14 +11,14 @@ use hm_reads::Reads;
 use hm_reads::operations::{is_to_device, op_mirror};
 
 fn skips<W: Reads>(world: &W, op: &Op, page: Page) -> bool
-    ensures { result ≡ table.skips (W.program world.now) op.now page }
+    ensures { result ≡ spec.skips (W.program world.now) op.now page }
 {
     let skip = world.script().skip;
     is_to_device(op) && skip != 0 && page.number() % skip == 0
 }
 
 fn pool_of<W: Reads>(world: &W, op: &Op) -> PoolId
-    ensures { result ≡ table.pool_of (W.state world.now).after op.now }
+    ensures { result ≡ spec.pool_of (W.state world.now).after op.now }
 {
     if is_to_device(op) {
         PoolId::Device(world.mirror_dev(op_mirror(op)))
@@ -29,14 +29,20 @@ fn pool_of<W: Reads>(world: &W, op: &Op) -> PoolId
 
 /// A page gets its destination, or stays: its driver skips it, or no frame is free.
 pub fn step_copy<W: Reads>(world: &W, op: &Op, page: Page) -> Kind
-    ensures { result ≡ table.fetch_page (W.program world.now) (W.state world.now).after op.now page }
+    ensures { result ≡ spec.fetch_page (W.program world.now) (W.state world.now).after op.now page }
 {
     if skips(world, op, page) {
-        Kind::Kept(KeptAt::Page(page), KeptWhy::Skipped)
+        Kind::Kept {
+            at: KeptAt::Page(page),
+            why: KeptWhy::Skipped,
+        }
     } else {
         match world.lowest_free(pool_of(world, op)) {
             Some(frame) => Kind::Take(frame),
-            None => Kind::Kept(KeptAt::Page(page), KeptWhy::NoFrame),
+            None => Kind::Kept {
+                at: KeptAt::Page(page),
+                why: KeptWhy::NoFrame,
+            },
         }
     }
 }

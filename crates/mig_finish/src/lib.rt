@@ -4,17 +4,17 @@
 
 ghost use Rattle.std.specs.Prelude.{◌≡◌, if◌then◌else◌, None};
 ghost use Rattle.hm_history.specs.Words.{place_in, writable};
-ghost use Rattle.hm_history.specs.Due as table;
+ghost use Rattle.hm_history.specs.Due as spec;
 ghost use Rattle.hm_history.specs.declared.Kind as kind;
 
-use hm_base::{Frame, Page, Proc};
+use hm_base::frames::place_in;
+use hm_base::{Cause, Frame, Page, Proc};
 use hm_history::Kind;
 use hm_reads::Reads;
-use hm_reads::words::place_in;
 
 /// A destination is unlocked, or dropped where no place names it.
 pub fn settle<W: Reads>(world: &W, frame: &Frame) -> Kind
-    ensures { result ≡ table.settle (W.state world.now).after frame.now }
+    ensures { result ≡ spec.settle (W.state world.now).after frame.now }
 {
     match world.lowest_named(frame) {
         Some(_) => Kind::Done(*frame),
@@ -23,7 +23,7 @@ pub fn settle<W: Reads>(world: &W, frame: &Frame) -> Kind
 }
 
 fn target_of(from: &Frame, to: Option<Frame>) -> Frame
-    ensures { result ≡ table.target_of from.now to }
+    ensures { result ≡ spec.target_of from.now to }
 {
     match to {
         None => *from,
@@ -32,7 +32,7 @@ fn target_of(from: &Frame, to: Option<Frame>) -> Frame
 }
 
 fn finish_frames<W: Reads>(world: &W, from: &Frame, to: Option<Frame>) -> Kind
-    ensures { result ≡ table.finish_frames (W.state world.now).after from.now to }
+    ensures { result ≡ spec.finish_frames (W.state world.now).after from.now to }
 {
     match to {
         None => settle(world, from),
@@ -41,16 +41,22 @@ fn finish_frames<W: Reads>(world: &W, from: &Frame, to: Option<Frame>) -> Kind
 }
 
 fn map_again<W: Reads>(world: &W, proc: Proc, page: Page, target: &Frame) -> Kind
-    ensures { result ≡ kind.Kind.Place proc page (place_in target.now (writable ((W.state world.now).after.places.place proc page))) }
+    ensures { result
+        ≡ kind.Kind.Place proc page
+        (place_in target.now (writable ((W.state world.now).after.places.place proc page))) }
 {
     let writable = world.place(proc, page).writable();
-    Kind::Place(proc, page, place_in(target, writable))
+    Kind::Place {
+        proc,
+        page,
+        place: place_in(target, writable),
+    }
 }
 
 /// What is due to a frame whose migration ends: its lowest migration entry becomes a mapping of the frame that has the
 /// contents, and after the last one the frames are settled.
 pub fn step_finish<W: Reads>(world: &W, from: &Frame, to: Option<Frame>) -> Kind
-    ensures { result ≡ table.due_finish (W.state world.now).after from.now to }
+    ensures { result ≡ spec.due_finish (W.state world.now).after from.now to }
 {
     match world.lowest_moving(from) {
         Some((proc, page)) => map_again(world, proc, page, &target_of(from, to)),
@@ -58,7 +64,7 @@ pub fn step_finish<W: Reads>(world: &W, from: &Frame, to: Option<Frame>) -> Kind
     }
 }
 
-fn moved_to(dest: Option<Frame>, moved: bool) -> Option<Frame>
+fn committed_to(dest: Option<Frame>, moved: bool) -> Option<Frame>
     ensures { result ≡ (if moved then dest else None) }
 {
     if moved { dest } else { None }
@@ -71,13 +77,13 @@ pub fn finish_page<W: Reads>(
     dest: Option<Frame>,
     moved: bool,
 ) -> Kind
-    ensures { result ≡ table.finish_page (W.state world.now).after source.now dest moved }
+    ensures { result ≡ spec.finish_page (W.state world.now).after source.now dest moved }
 {
     match source {
-        Some(from) => step_finish(world, from, moved_to(dest, moved)),
+        Some(from) => step_finish(world, from, committed_to(dest, moved)),
         None => match dest {
             Some(frame) => Kind::Done(frame),
-            None => Kind::Refused(0),
+            None => Kind::Refused(Cause::Never),
         },
     }
 }

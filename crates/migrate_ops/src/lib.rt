@@ -5,18 +5,18 @@
 ghost use Rattle.std.specs.Prelude.{◌≡◌};
 ghost use Rattle.hm_history.specs.Words.{place_in, writable};
 ghost use Rattle.hm_history.specs.Plain.{rights_of, is_read_write};
-ghost use Rattle.hm_history.specs.Due as table;
+ghost use Rattle.hm_history.specs.Due as spec;
 ghost use Rattle.hm_history.specs.declared.Kind as kind;
 
-use hm_base::{Frame, MirrorId, Page, Place, Proc, Rights};
+use hm_base::frames::place_in;
+use hm_base::{Cause, Frame, MirrorId, Page, Place, Proc, Rights};
 use hm_history::phases::Migrating;
 use hm_history::{KeptAt, KeptWhy, Kind};
 use hm_reads::Reads;
 use hm_reads::decisions::{right_of, start_page};
-use hm_reads::words::place_in;
 
-fn is_untouched(place: &Place) -> bool
-    ensures { result ≡ table.is_untouched place.now }
+fn has_no_frame(place: &Place) -> bool
+    ensures { result ≡ spec.has_no_frame place.now }
 {
     match place {
         Place::Empty | Place::Zero => true,
@@ -32,11 +32,18 @@ fn is_read_write(rights: Option<Rights>) -> bool
 
 /// The body that puts the taken device frame under a fresh page, if nobody has touched it meanwhile.
 pub fn insert<W: Reads>(world: &W, proc: Proc, page: Page, by: &Frame) -> Option<Kind>
-    ensures { result ≡ table.when (table.is_untouched ((W.state world.now).after.places.place proc page)) (kind.Kind.Place proc page (place_in by.now (is_read_write (rights_of (W.state world.now).after.plain proc page)))) }
+    ensures { result
+        ≡ spec.if_so (spec.has_no_frame ((W.state world.now).after.places.place proc page))
+        (kind.Kind.Place proc page
+        (place_in by.now (is_read_write (rights_of (W.state world.now).after.plain proc page)))) }
 {
-    if is_untouched(&world.place(proc, page)) {
+    if has_no_frame(&world.place(proc, page)) {
         let writable = is_read_write(world.rights(proc, page));
-        Some(Kind::Place(proc, page, place_in(by, writable)))
+        Some(Kind::Place {
+            proc,
+            page,
+            place: place_in(by, writable),
+        })
     } else {
         None
     }
@@ -50,16 +57,19 @@ pub fn commit<W: Reads>(
     source: Option<Frame>,
     dest: Option<Frame>,
 ) -> Kind
-    ensures { result ≡ table.commit_page (W.state world.now).after proc page source dest }
+    ensures { result ≡ spec.commit_page (W.state world.now).after proc page source dest }
 {
     match (source, dest) {
-        (_, None) => Kind::Refused(0),
-        (Some(from), Some(to)) => Kind::Committed(from, to),
+        (_, None) => Kind::Refused(Cause::Never),
+        (Some(from), Some(to)) => Kind::Committed { from, to },
         (None, Some(_)) => {
-            if is_untouched(&world.place(proc, page)) {
+            if has_no_frame(&world.place(proc, page)) {
                 start_page(world, proc, page)
             } else {
-                Kind::Kept(KeptAt::Page(page), KeptWhy::Lost)
+                Kind::Kept {
+                    at: KeptAt::Page(page),
+                    why: KeptWhy::Lost,
+                }
             }
         }
     }
@@ -67,8 +77,17 @@ pub fn commit<W: Reads>(
 
 /// The driver's own table gets a page that was moved to its device.
 pub fn set_own<W: Reads>(world: &W, mirror: MirrorId, proc: Proc, page: &Migrating) -> Kind
-    ensures { result ≡ kind.Kind.Set mirror page.now.page page.now.dest (table.right_of (writable ((W.state world.now).after.places.place proc page.now.page))) (W.state world.now).after.length }
+    ensures { result
+        ≡ kind.Kind.Set mirror page.now.page page.now.dest
+        (spec.right_of (writable ((W.state world.now).after.places.place proc page.now.page)))
+        (W.state world.now).after.length }
 {
     let right = right_of(world.place(proc, page.page).writable());
-    Kind::Set(mirror, page.page, page.dest, right, world.length())
+    Kind::Set {
+        mirror,
+        page: page.page,
+        target: page.dest,
+        right,
+        since: world.length(),
+    }
 }

@@ -5,46 +5,49 @@
 ghost use Rattle.std.specs.Prelude.{◌≡◌, false};
 ghost use Rattle.hm_history.specs.Words.{writable, narrowed};
 ghost use Rattle.hm_history.specs.Places.{is_used, next_page};
-ghost use Rattle.hm_history.specs.Due as table;
+ghost use Rattle.hm_history.specs.Due as spec;
 ghost use Rattle.hm_history.specs.declared.Kind as kind;
 ghost use Rattle.hm_base.specs.declared.Place as place;
 ghost use Rattle.hm_base.specs.declared.ops.Op as op;
 ghost use Rattle.unmap_zap.specs.Areas.{is_fork};
 
-use hm_base::{Op, Page, Place, Proc, Span};
+use hm_base::{Cause, Op, Page, Place, Proc, Span};
 use hm_history::Kind;
 use hm_reads::Reads;
 use hm_reads::decisions::{start, start_all};
 use hm_reads::guards::is_before_end;
 use hm_reads::operations::proc_of_op;
-use hm_reads::words::narrowed;
 
 fn unmap<W: Reads>(world: &W, proc: Proc, span: Span) -> Kind
-    ensures { result ≡ table.due_areas (W.state world.now).after (op.Op.Unmap proc span) }
+    ensures { result ≡ spec.due_areas (W.state world.now).after (op.Op.Unmap proc span) }
 {
     if world.meets(proc, span) {
         start(world, proc, span)
     } else {
-        Kind::Unmapped(proc, span)
+        Kind::Unmapped { proc, span }
     }
 }
 
 fn exit<W: Reads>(world: &W, proc: Proc) -> Kind
-    ensures { result ≡ table.due_areas (W.state world.now).after (op.Op.Exit proc) }
+    ensures { result ≡ spec.due_areas (W.state world.now).after (op.Op.Exit proc) }
 {
     start_all(world, proc)
 }
 
 fn change<W: Reads>(world: &W, op: &Op) -> Kind
     requires { is_fork op.now ≡ false }
-    ensures { result ≡ table.due_areas (W.state world.now).after op.now }
+    ensures { result ≡ spec.due_areas (W.state world.now).after op.now }
 {
     match op {
-        Op::Map { proc, span, rights } => Kind::Mapped(*proc, *span, *rights),
+        Op::Map { proc, span, rights } => Kind::Mapped {
+            proc: *proc,
+            span: *span,
+            rights: *rights,
+        },
         Op::Unmap { proc, span } => unmap(world, *proc, *span),
         Op::Protect { proc, span, .. } => start(world, *proc, *span),
         Op::Exit { proc } => exit(world, *proc),
-        _ => Kind::Refused(0),
+        _ => Kind::Refused(Cause::Never),
     }
 }
 
@@ -52,7 +55,7 @@ fn change<W: Reads>(world: &W, op: &Op) -> Kind
 /// unmap of nothing, or else the start of the invalidation.
 pub fn step_areas<W: Reads>(world: &W, op: &Op) -> Kind
     requires { is_fork op.now ≡ false }
-    ensures { result ≡ table.due_locked (W.state world.now).after op.now }
+    ensures { result ≡ spec.due_locked (W.state world.now).after op.now }
 {
     if world.there(proc_of_op(op)) {
         match world.area_refusal(op) {
@@ -60,19 +63,25 @@ pub fn step_areas<W: Reads>(world: &W, op: &Op) -> Kind
             None => change(world, op),
         }
     } else {
-        Kind::Refused(8)
+        Kind::Refused(Cause::NoProcess)
     }
 }
 
 /// The body that empties every page, from the cursor on.
 pub fn zap<W: Reads>(world: &W, proc: Proc, span: Span, next: u64) -> Option<Kind>
-    ensures { result ≡ table.within span (next_page (W.state world.now).after.places is_used proc next) (λ v. kind.Kind.Place proc v place.Place.Empty) }
+    ensures { result
+        ≡ spec.within span (next_page (W.state world.now).after.places is_used proc next)
+        (λ v. kind.Kind.Place proc v place.Place.Empty) }
 {
     match world.next_used(proc, next) {
         None => None,
         Some(page) => {
             if is_before_end(span, page.number()) {
-                Some(Kind::Place(proc, page, Place::Empty))
+                Some(Kind::Place {
+                    proc,
+                    page,
+                    place: Place::Empty,
+                })
             } else {
                 None
             }
@@ -83,12 +92,18 @@ pub fn zap<W: Reads>(world: &W, proc: Proc, span: Span, next: u64) -> Option<Kin
 fn without_right<W: Reads>(world: &W, proc: Proc, page: Page) -> Kind
     ensures { result ≡ kind.Kind.Place proc page (narrowed ((W.state world.now).after.places.place proc page)) }
 {
-    Kind::Place(proc, page, narrowed(world.place(proc, page)))
+    Kind::Place {
+        proc,
+        page,
+        place: world.place(proc, page).narrowed(),
+    }
 }
 
 /// The body that takes the write right of every page, from the cursor on.
 pub fn narrow<W: Reads>(world: &W, proc: Proc, span: Span, next: u64) -> Option<Kind>
-    ensures { result ≡ table.within span (next_page (W.state world.now).after.places writable proc next) (λ v. kind.Kind.Place proc v (narrowed ((W.state world.now).after.places.place proc v))) }
+    ensures { result
+        ≡ spec.within span (next_page (W.state world.now).after.places writable proc next)
+        (λ v. kind.Kind.Place proc v (narrowed ((W.state world.now).after.places.place proc v))) }
 {
     match world.next_writable(proc, next) {
         None => None,
