@@ -1,0 +1,13 @@
+mod measure
+mod alone
+mod counts
+mod spans
+mod StartsWithinBound
+mod OperationsEnd
+mod drains
+mod faults
+mod accesses
+mod evictions
+mod migrations
+mod keeping
+mod BoundComputed

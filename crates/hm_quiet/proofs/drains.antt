@@ -1,0 +1,3 @@
+-- Drains that never find a full history.
+pub mod DrainHasRoom
+pub mod FromStart
