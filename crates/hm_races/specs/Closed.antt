@@ -1,0 +1,48 @@
+-- Sets of keys that a search has found, and when they are whole.
+use Rattle.std.specs.Prelude.{◌≡◌, ℕ, ◌⊎◌, true, List, [], ◌∷◌, ◌++◌}
+use Rattle.hm_base.specs.Program.{Program}
+use Rattle.hm_history.specs.Due.{due_in}
+use Rattle.hm_history.specs.declared.Kind.{Kind}
+use Rattle.hm_history.specs.declared.Entry.{Entry}
+use Rattle.hm_history.specs.declared.Progress.{Progress}
+use Rattle.hm_races.specs.Outcomes.{Point, Reached, point_next, point_from, outcome, ended_in}
+
+abbrev pub IsListed : {X : Type 0} → List X → X → Type 0
+IsListed [] x = ⊥
+IsListed (y ∷ ys) x = (y ≡ x) ⊎ IsListed ys x
+
+-- a point of the race that stands for a key
+pub record Stands (c : Program) (h : List Entry) (key : Point → List ℕ) (k : List ℕ) : Type 0 where
+  pub point : Point
+  pub reached : Reached c h point
+  pub has_key : key point ≡ k
+
+-- the keys of all points after one entry are listed
+abbrev pub Onward : Program → (Point → List ℕ) → List (List ℕ) → Point → Type 0
+Onward c key ks x = (e : Entry) → due_in c x.state e.actor ≡ Progress.Did e → IsListed ks (key (point_next c x e))
+
+-- what a point answers, where all operations have ended, is listed
+abbrev pub Told : Program → List (List (List Kind)) → Point → Type 0
+Told c xs x = ended_in c x.state ≡ true → IsListed xs (outcome c x.answers)
+
+-- a key that is done: a point that stands for it has all its next keys listed, and its outcome if it has one
+pub record Done (c : Program) (h : List Entry) (key : Point → List ℕ) (ks : List (List ℕ))
+    (xs : List (List (List Kind))) (k : List ℕ) : Type 0 where
+  pub stands : Stands c h key k
+  pub onward : Onward c key ks stands.point
+  pub told : Told c xs stands.point
+
+-- an outcome that some turns lead to
+pub record Outcome (c : Program) (h : List Entry) (x : List (List Kind)) : Type 0 where
+  pub point : Point
+  pub reached : Reached c h point
+  pub ended : ended_in c point.state ≡ true
+  pub same : outcome c point.answers ≡ x
+
+-- a search: the outcomes found, the keys that it is done with, and those that it has still to look at
+pub record Searched (c : Program) (h : List Entry) (key : Point → List ℕ) (xs : List (List (List Kind)))
+    (done todo : List (List ℕ)) : Type 0 where
+  pub from : IsListed (done ++ todo) (key (point_from c h))
+  pub each : (k : List ℕ) → IsListed done k → Done c h key (done ++ todo) xs k
+  pub waiting : (k : List ℕ) → IsListed todo k → Stands c h key k
+  pub real : (x : List (List Kind)) → IsListed xs x → Outcome c h x

@@ -1,0 +1,25 @@
+// All outcomes of a race: states that are alike have futures that are alike, so a set of states that is closed under
+// what is due has every outcome. Each law is the contract of a function with an empty body.
+#![tactic(auto)]
+
+ghost use Rattle.hm_races.specs.Laws.{BlurredIsComplete, ClosedIsComplete, RacedIsDue, TidiedIsComplete};
+
+/// A set of states that is closed under what is due has every outcome.
+pub fn closed_is_complete()
+    ensures { ClosedIsComplete }
+{}
+
+/// Turns in any order add entries that are due.
+pub fn raced_is_due()
+    ensures { RacedIsDue }
+{}
+
+/// So has one whose states are told apart only by what is asked of positions and sequences.
+pub fn blurred_is_complete()
+    ensures { BlurredIsComplete }
+{}
+
+/// And one whose states leave out in which order pages were placed.
+pub fn tidied_is_complete()
+    ensures { TidiedIsComplete }
+{}
