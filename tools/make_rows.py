@@ -1,7 +1,7 @@
 #!/usr/bin/env python3
 """Makes the proof files of the crate `rows` from the worked scripts and their reports.
 
-    tools/make_rows.py    reads examples/worked/*.hmm and *.report, writes crates/rows/proofs/*.antt; then run rt fmt there
+    tools/make_rows.py    reads the worked scripts (*.hmm, *.report), writes crates/rows/proofs/*.antt; then run rt fmt there
 
 For each worked script one file says, by computation alone, that the definitions give its report's history as the
 script's run, that this history is legal, and what the tests of the definitions answer for the entries that
@@ -11,7 +11,7 @@ them, and the test that refuses it; they make the file Wrong.antt.
 import collections, os, re
 
 TOP = os.path.dirname(os.path.dirname(os.path.abspath(__file__)))
-WORKED = os.path.join(TOP, 'examples', 'worked')
+WORKED = os.path.join(TOP, 'crates', 'replay_examples', 'data', 'worked')
 PROOFS = os.path.join(TOP, 'crates', 'rows', 'proofs')
 
 OPERATIONS = {'map': 'Map', 'unmap': 'Unmap', 'protect': 'Protect', 'load': 'Load', 'store': 'Store', 'fork': 'Fork',
@@ -22,6 +22,9 @@ RIGHTS = {'r': 'Rights.Read', 'rw': 'Rights.ReadWrite'}
 TABLE_RIGHTS = {'r': 'TableRight.Read', 'w': 'TableRight.Write', 'x': 'TableRight.Sole'}
 WHYS = {'nothere': 'KeptWhy.NotHere', 'noframe': 'KeptWhy.NoFrame', 'skipped': 'KeptWhy.Skipped', 'lost': 'KeptWhy.Lost'}
 BOOLS = {'w': 'true', 'r': 'false'}
+# by the numbers that reports have; 0 is of no report
+CAUSES = ['Never', 'Unmapped', 'Forbidden', 'NoFrame', 'Outside', 'Overlap', 'TooManyAreas', 'NameTaken', 'NoProcess',
+          'MirrorTaken', 'Removed']
 
 
 def listed(items, inner='[]'):
@@ -75,12 +78,18 @@ def who(name):
     return f"(Who.{'Cpu' if name[0] == 'p' else 'Mirror'} {name[1:]})"
 
 
+def cause(number):
+    return 'Cause.' + CAUSES[int(number)]
+
+
 def kind(text):
     word, *w = text.split()
     if word in ('loaded', 'stored'):
         w = [who(w[0]), w[1], bytes_of(w[2])]
     elif word == 'failed':
-        w = [who(w[0]), *w[1:]]
+        w = [who(w[0]), w[1], w[2], cause(w[3])]
+    elif word == 'refused':
+        w = [cause(w[0])]
     elif word in ('mapped', 'protected'):
         w = [w[0][1:], span(w[1], w[2]), RIGHTS[w[3]]]
     elif word == 'unmapped':
@@ -108,7 +117,7 @@ def kind(text):
         w = [w[0][1:], w[1], bytes_of(w[2])]
     elif word == 'added':
         w = [w[0][1:], w[1], str(int(w[2], 16)), str(int(w[3], 16))]
-    elif word not in ('refused', 'migrated', 'evicted'):
+    elif word not in ('migrated', 'evicted'):
         # words such as p0, m0 or d0, then plain numbers
         w = [x[1:] if x[0] in 'pmd' else x for x in w]
     return ' '.join(['Kind.' + word.capitalize(), *w])
@@ -154,6 +163,7 @@ def history_term(entries):
 IMPORTS = {
     'Rattle.hm_base.specs.declared.ops.Rights': 'Rights', 'Rattle.hm_base.specs.declared.ops.Op': 'Op',
     'Rattle.hm_base.specs.declared.ops.ScheduleLine': 'ScheduleLine', 'Rattle.hm_base.specs.declared.Place': 'Place',
+    'Rattle.hm_base.specs.declared.cause.Cause': 'Cause',
     'Rattle.hm_history.specs.declared.Who': 'Who', 'Rattle.hm_history.specs.declared.TableRight': 'TableRight',
     'Rattle.hm_history.specs.declared.KeptAt': 'KeptAt', 'Rattle.hm_history.specs.declared.KeptWhy': 'KeptWhy',
     'Rattle.hm_history.specs.declared.Kind': 'Kind',
@@ -265,16 +275,16 @@ WRONG = [
     ('maps_twice', 'a map over a page that has an area', FIRST_STORE + 'wlock p0', 'mapped p0 16 1 r', 'answers'),
 ]
 TESTS = {
-    'answers': 'plain_takes (after {h}).plain ({k})',
-    'places': 'places_take script (mirror_proc (after {h}).plain) (after {h}).places {a} ({k})',
+    'answers': 'plain_accepts (after {h}).plain ({k})',
+    'places': 'places_accept script (mirror_proc (after {h}).plain) (after {h}).places {a} ({k})',
     'frames': 'fails_rightly script {h} (record {{ actor = {a}; kind = {k} }})',
-    'sequences': 'sequences_take (after {h}).sequences {a} ({k})', 'untold': 'uses_untold {h} ({k})',
+    'sequences': 'sequences_accept (after {h}).sequences {a} ({k})', 'untold': 'uses_untold {h} ({k})',
     'guarded': 'narrows_guarded (after {h}).sequences (after {h}).places.place {a} ({k})',
     'kept': 'kept_rightly script (state_of script {h}) (record {{ actor = {a}; kind = {k} }})',
 }
 DEFINITIONS = {
-    'Rattle.hm_history.specs.After': ['after'], 'Rattle.hm_history.specs.Plain': ['mirror_proc', 'plain_takes'],
-    'Rattle.hm_history.specs.Places': ['places_take'], 'Rattle.hm_history.specs.Sequences': ['sequences_take'],
+    'Rattle.hm_history.specs.After': ['after'], 'Rattle.hm_history.specs.Plain': ['mirror_proc', 'plain_accepts'],
+    'Rattle.hm_history.specs.Places': ['places_accept'], 'Rattle.hm_history.specs.Sequences': ['sequences_accept'],
     'Rattle.hm_history.specs.Lookups': ['uses_untold', 'narrows_guarded'],
     'Rattle.hm_history.specs.Legal': ['Legal', 'fails_rightly', 'kept_rightly'],
     'Rattle.hm_history.specs.Going': ['state_of'],

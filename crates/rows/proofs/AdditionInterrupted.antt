@@ -6,6 +6,7 @@ use Rattle.hm_base.specs.declared.ops.Rights.{Rights}
 use Rattle.hm_base.specs.declared.ops.Op.{Op}
 use Rattle.hm_base.specs.declared.ops.ScheduleLine.{ScheduleLine}
 use Rattle.hm_base.specs.declared.Place.{Place}
+use Rattle.hm_base.specs.declared.cause.Cause.{Cause}
 use Rattle.hm_history.specs.declared.Who.{Who}
 use Rattle.hm_history.specs.declared.TableRight.{TableRight}
 use Rattle.hm_history.specs.declared.Kind.{Kind}
@@ -47,7 +48,7 @@ history =
     record { actor = 1; kind = Kind.End 0 (record { first = 0; count = 68719476736 }) 6 } ∷
     record { actor = 1; kind = Kind.Exited 0 } ∷
     record { actor = 0; kind = Kind.Rlock 0 } ∷
-    record { actor = 0; kind = Kind.Failed (Who.Mirror 0) 0x10000 1 1 } ∷ []
+    record { actor = 0; kind = Kind.Failed (Who.Mirror 0) 0x10000 1 Cause.Unmapped } ∷ []
 
 runs : run script ≡ history
 runs = refl

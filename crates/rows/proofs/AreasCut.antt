@@ -6,6 +6,7 @@ use Rattle.hm_base.specs.declared.ops.Rights.{Rights}
 use Rattle.hm_base.specs.declared.ops.Op.{Op}
 use Rattle.hm_base.specs.declared.ops.ScheduleLine.{ScheduleLine}
 use Rattle.hm_base.specs.declared.Place.{Place}
+use Rattle.hm_base.specs.declared.cause.Cause.{Cause}
 use Rattle.hm_history.specs.declared.Who.{Who}
 use Rattle.hm_history.specs.declared.Kind.{Kind}
 use Rattle.hm_history.specs.Words.{sys_frame}
@@ -38,7 +39,7 @@ history =
     record { actor = 0; kind = Kind.End 0 (record { first = 16; count = 1 }) 2 } ∷
     record { actor = 0; kind = Kind.Protected 0 (record { first = 16; count = 1 }) Rights.Read } ∷
     record { actor = 0; kind = Kind.Rlock 0 } ∷
-    record { actor = 0; kind = Kind.Failed (Who.Cpu 0) 0x10000 1 2 } ∷
+    record { actor = 0; kind = Kind.Failed (Who.Cpu 0) 0x10000 1 Cause.Forbidden } ∷
     record { actor = 0; kind = Kind.Wlock 0 } ∷
     record { actor = 0; kind = Kind.Start 0 (record { first = 16; count = 1 }) 2 } ∷
     record { actor = 0; kind = Kind.End 0 (record { first = 16; count = 1 }) 2 } ∷
@@ -55,12 +56,12 @@ history =
     record { actor = 0; kind = Kind.End 0 (record { first = 16; count = 2 }) 2 } ∷
     record { actor = 0; kind = Kind.Unmapped 0 (record { first = 16; count = 2 }) } ∷
     record { actor = 0; kind = Kind.Rlock 0 } ∷
-    record { actor = 0; kind = Kind.Failed (Who.Cpu 0) 0x10000 1 1 } ∷
+    record { actor = 0; kind = Kind.Failed (Who.Cpu 0) 0x10000 1 Cause.Unmapped } ∷
     record { actor = 0; kind = Kind.Wlock 0 } ∷
     record { actor = 0; kind = Kind.Start 0 (record { first = 0; count = 68719476736 }) 2 } ∷
     record { actor = 0; kind = Kind.End 0 (record { first = 0; count = 68719476736 }) 2 } ∷
     record { actor = 0; kind = Kind.Exited 0 } ∷
-    record { actor = 0; kind = Kind.Failed (Who.Cpu 0) 0x10000 1 1 } ∷ []
+    record { actor = 0; kind = Kind.Failed (Who.Cpu 0) 0x10000 1 Cause.Unmapped } ∷ []
 
 runs : run script ≡ history
 runs = refl

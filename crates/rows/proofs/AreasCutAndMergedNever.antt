@@ -6,6 +6,7 @@ use Rattle.hm_base.specs.declared.ops.Rights.{Rights}
 use Rattle.hm_base.specs.declared.ops.Op.{Op}
 use Rattle.hm_base.specs.declared.ops.ScheduleLine.{ScheduleLine}
 use Rattle.hm_base.specs.declared.Place.{Place}
+use Rattle.hm_base.specs.declared.cause.Cause.{Cause}
 use Rattle.hm_history.specs.declared.Who.{Who}
 use Rattle.hm_history.specs.declared.Kind.{Kind}
 use Rattle.hm_history.specs.declared.Entry.{Entry}
@@ -41,13 +42,13 @@ history =
     record { actor = 0; kind = Kind.End 0 (record { first = 10; count = 2 }) 2 } ∷
     record { actor = 0; kind = Kind.Protected 0 (record { first = 10; count = 2 }) Rights.Read } ∷
     record { actor = 0; kind = Kind.Wlock 0 } ∷
-    record { actor = 0; kind = Kind.Refused 1 } ∷
+    record { actor = 0; kind = Kind.Refused Cause.Unmapped } ∷
     record { actor = 0; kind = Kind.Wlock 0 } ∷
-    record { actor = 0; kind = Kind.Refused 5 } ∷
+    record { actor = 0; kind = Kind.Refused Cause.Overlap } ∷
     record { actor = 0; kind = Kind.Rlock 0 } ∷
-    record { actor = 0; kind = Kind.Failed (Who.Cpu 0) 0xafff 1 2 } ∷
+    record { actor = 0; kind = Kind.Failed (Who.Cpu 0) 0xafff 1 Cause.Forbidden } ∷
     record { actor = 0; kind = Kind.Rlock 0 } ∷
-    record { actor = 0; kind = Kind.Failed (Who.Cpu 0) 0xb000 1 2 } ∷
+    record { actor = 0; kind = Kind.Failed (Who.Cpu 0) 0xb000 1 Cause.Forbidden } ∷
     record { actor = 0; kind = Kind.Rlock 0 } ∷
     record { actor = 0; kind = Kind.Place 0 10 Place.Zero } ∷
     record { actor = 0; kind = Kind.Runlock 0 } ∷

@@ -12,9 +12,9 @@ use Rattle.hm_history.specs.Words.{sys_frame}
 use Rattle.hm_history.specs.declared.Entry.{Entry}
 use Rattle.hm_history.specs.Run.{run}
 use Rattle.hm_history.specs.After.{after}
-use Rattle.hm_history.specs.Plain.{mirror_proc, plain_takes}
-use Rattle.hm_history.specs.Places.{places_take}
-use Rattle.hm_history.specs.Sequences.{sequences_take}
+use Rattle.hm_history.specs.Plain.{mirror_proc, plain_accepts}
+use Rattle.hm_history.specs.Places.{places_accept}
+use Rattle.hm_history.specs.Sequences.{sequences_accept}
 use Rattle.hm_history.specs.Legal.{Legal}
 
 abbrev script : Program
@@ -149,49 +149,49 @@ legal = (
 )
 
 -- place p1 16 sys s0 r, by actor 0
-tried_1 : places_take script (mirror_proc (after (take 10 history)).plain) (after (take 10 history)).places 0 (Kind.Place 1 16 (Place.Sys 0 false)) ≡ false
+tried_1 : places_accept script (mirror_proc (after (take 10 history)).plain) (after (take 10 history)).places 0 (Kind.Place 1 16 (Place.Sys 0 false)) ≡ false
 tried_1 = refl
 
 -- place p1 16 sys s0 r, by actor 0
-tried_2 : places_take script (mirror_proc (after (take 11 history)).plain) (after (take 11 history)).places 0 (Kind.Place 1 16 (Place.Sys 0 false)) ≡ true
+tried_2 : places_accept script (mirror_proc (after (take 11 history)).plain) (after (take 11 history)).places 0 (Kind.Place 1 16 (Place.Sys 0 false)) ≡ true
 tried_2 = refl
 
 -- detached m0, by actor 1
-tried_3 : sequences_take (after (take 22 history)).sequences 1 (Kind.Detached 0) ≡ false
+tried_3 : sequences_accept (after (take 22 history)).sequences 1 (Kind.Detached 0) ≡ false
 tried_3 = refl
 
 -- detaching m0 3, by actor 1
-tried_4 : sequences_take (after (take 22 history)).sequences 1 (Kind.Detaching 0 3) ≡ true
+tried_4 : sequences_accept (after (take 22 history)).sequences 1 (Kind.Detaching 0 3) ≡ true
 tried_4 = refl
 
 -- detaching m0 4, by actor 1
-tried_5 : sequences_take (after (take 22 history)).sequences 1 (Kind.Detaching 0 4) ≡ false
+tried_5 : sequences_accept (after (take 22 history)).sequences 1 (Kind.Detaching 0 4) ≡ false
 tried_5 = refl
 
 -- detached m0, by actor 1
-tried_6 : sequences_take (after (take 23 history)).sequences 1 (Kind.Detached 0) ≡ false
+tried_6 : sequences_accept (after (take 23 history)).sequences 1 (Kind.Detached 0) ≡ false
 tried_6 = refl
 
 -- detached m0, by actor 1
-tried_7 : sequences_take (after (take 27 history)).sequences 1 (Kind.Detached 0) ≡ true
+tried_7 : sequences_accept (after (take 27 history)).sequences 1 (Kind.Detached 0) ≡ true
 tried_7 = refl
 
 -- detaching m1 3, by actor 1
-tried_8 : sequences_take (after (take 21 history)).sequences 1 (Kind.Detaching 1 3) ≡ false
+tried_8 : sequences_accept (after (take 21 history)).sequences 1 (Kind.Detaching 1 3) ≡ false
 tried_8 = refl
 
 -- attached m1 d0 p0 16 1 4, by actor 1
-tried_9 : sequences_take (after (take 20 history)).sequences 1 (Kind.Attached 1 0 0 (record { first = 16; count = 1 }) 4) ≡ false
+tried_9 : sequences_accept (after (take 20 history)).sequences 1 (Kind.Attached 1 0 0 (record { first = 16; count = 1 }) 4) ≡ false
 tried_9 = refl
 
 -- detached m1, by actor 1
-tried_10 : sequences_take (after (take 22 history)).sequences 1 (Kind.Detached 1) ≡ false
+tried_10 : sequences_accept (after (take 22 history)).sequences 1 (Kind.Detached 1) ≡ false
 tried_10 = refl
 
 -- detached m1, by actor 1
-tried_11 : plain_takes (after (take 22 history)).plain (Kind.Detached 1) ≡ false
+tried_11 : plain_accepts (after (take 22 history)).plain (Kind.Detached 1) ≡ false
 tried_11 = refl
 
 -- detaching m0 3, by actor 1
-tried_12 : sequences_take (after (take 23 history)).sequences 1 (Kind.Detaching 0 3) ≡ true
+tried_12 : sequences_accept (after (take 23 history)).sequences 1 (Kind.Detaching 0 3) ≡ true
 tried_12 = refl

@@ -6,6 +6,7 @@ use Rattle.hm_base.specs.declared.ops.Rights.{Rights}
 use Rattle.hm_base.specs.declared.ops.Op.{Op}
 use Rattle.hm_base.specs.declared.ops.ScheduleLine.{ScheduleLine}
 use Rattle.hm_base.specs.declared.Place.{Place}
+use Rattle.hm_base.specs.declared.cause.Cause.{Cause}
 use Rattle.hm_history.specs.declared.Who.{Who}
 use Rattle.hm_history.specs.declared.Kind.{Kind}
 use Rattle.hm_history.specs.Words.{sys_frame}
@@ -52,7 +53,7 @@ history =
     record { actor = 0; kind = Kind.Runlock 0 } ∷
     record { actor = 0; kind = Kind.Stored (Who.Cpu 0) 0x10000 (67 ∷ []) } ∷
     record { actor = 1; kind = Kind.Detached 0 } ∷
-    record { actor = 1; kind = Kind.Refused 4 } ∷
+    record { actor = 1; kind = Kind.Refused Cause.Outside } ∷
     record { actor = 2; kind = Kind.Wlock 0 } ∷
     record { actor = 2; kind = Kind.Start 0 (record { first = 0; count = 68719476736 }) 5 } ∷
     record { actor = 2; kind = Kind.Told 1 (record { first = 0; count = 68719476736 }) 5 } ∷

@@ -6,6 +6,7 @@ use Rattle.hm_base.specs.declared.ops.Rights.{Rights}
 use Rattle.hm_base.specs.declared.ops.Op.{Op}
 use Rattle.hm_base.specs.declared.ops.ScheduleLine.{ScheduleLine}
 use Rattle.hm_base.specs.declared.Place.{Place}
+use Rattle.hm_base.specs.declared.cause.Cause.{Cause}
 use Rattle.hm_history.specs.declared.Kind.{Kind}
 use Rattle.hm_history.specs.Words.{sys_frame}
 use Rattle.hm_history.specs.declared.Entry.{Entry}
@@ -35,7 +36,7 @@ history =
     record { actor = 0; kind = Kind.Place 0 16 (Place.Exclusive 0 0) } ∷
     record { actor = 0; kind = Kind.End 0 (record { first = 16; count = 1 }) 4 } ∷
     record { actor = 1; kind = Kind.Detached 0 } ∷
-    record { actor = 0; kind = Kind.Refused 4 } ∷ []
+    record { actor = 0; kind = Kind.Refused Cause.Outside } ∷ []
 
 runs : run script ≡ history
 runs = refl

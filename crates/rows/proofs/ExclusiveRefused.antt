@@ -5,6 +5,7 @@ use Rattle.hm_base.specs.declared.ops.Version.{Version}
 use Rattle.hm_base.specs.declared.ops.Rights.{Rights}
 use Rattle.hm_base.specs.declared.ops.Op.{Op}
 use Rattle.hm_base.specs.declared.ops.ScheduleLine.{ScheduleLine}
+use Rattle.hm_base.specs.declared.cause.Cause.{Cause}
 use Rattle.hm_history.specs.declared.Who.{Who}
 use Rattle.hm_history.specs.declared.Kind.{Kind}
 use Rattle.hm_history.specs.declared.Entry.{Entry}
@@ -29,17 +30,17 @@ history =
     record { actor = 0; kind = Kind.Mapped 0 (record { first = 17; count = 1 }) Rights.Read } ∷
     record { actor = 0; kind = Kind.Attached 0 0 0 (record { first = 16; count = 3 }) 1 } ∷
     record { actor = 0; kind = Kind.Rlock 0 } ∷
-    record { actor = 0; kind = Kind.Refused 3 } ∷
+    record { actor = 0; kind = Kind.Refused Cause.NoFrame } ∷
     record { actor = 0; kind = Kind.Rlock 0 } ∷
-    record { actor = 0; kind = Kind.Refused 2 } ∷
+    record { actor = 0; kind = Kind.Refused Cause.Forbidden } ∷
     record { actor = 0; kind = Kind.Rlock 0 } ∷
-    record { actor = 0; kind = Kind.Refused 1 } ∷
+    record { actor = 0; kind = Kind.Refused Cause.Unmapped } ∷
     record { actor = 0; kind = Kind.Rlock 0 } ∷
-    record { actor = 0; kind = Kind.Failed (Who.Mirror 0) 0x10000 1 3 } ∷
+    record { actor = 0; kind = Kind.Failed (Who.Mirror 0) 0x10000 1 Cause.NoFrame } ∷
     record { actor = 0; kind = Kind.Rlock 0 } ∷
-    record { actor = 0; kind = Kind.Failed (Who.Mirror 0) 0x11000 1 2 } ∷
+    record { actor = 0; kind = Kind.Failed (Who.Mirror 0) 0x11000 1 Cause.Forbidden } ∷
     record { actor = 0; kind = Kind.Rlock 0 } ∷
-    record { actor = 0; kind = Kind.Failed (Who.Mirror 0) 0x12000 1 1 } ∷ []
+    record { actor = 0; kind = Kind.Failed (Who.Mirror 0) 0x12000 1 Cause.Unmapped } ∷ []
 
 runs : run script ≡ history
 runs = refl

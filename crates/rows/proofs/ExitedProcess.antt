@@ -6,6 +6,7 @@ use Rattle.hm_base.specs.declared.ops.Rights.{Rights}
 use Rattle.hm_base.specs.declared.ops.Op.{Op}
 use Rattle.hm_base.specs.declared.ops.ScheduleLine.{ScheduleLine}
 use Rattle.hm_base.specs.declared.Place.{Place}
+use Rattle.hm_base.specs.declared.cause.Cause.{Cause}
 use Rattle.hm_history.specs.declared.Who.{Who}
 use Rattle.hm_history.specs.declared.TableRight.{TableRight}
 use Rattle.hm_history.specs.declared.KeptAt.{KeptAt}
@@ -50,7 +51,7 @@ history =
     record { actor = 0; kind = Kind.Exited 0 } ∷
     record { actor = 0; kind = Kind.Begin 0 3 } ∷
     record { actor = 0; kind = Kind.Rlock 0 } ∷
-    record { actor = 0; kind = Kind.Failed (Who.Mirror 0) 0x10000 1 1 } ∷
+    record { actor = 0; kind = Kind.Failed (Who.Mirror 0) 0x10000 1 Cause.Unmapped } ∷
     record { actor = 0; kind = Kind.Rlock 0 } ∷
     record { actor = 0; kind = Kind.Seen 0 16 0 } ∷
     record { actor = 0; kind = Kind.Runlock 0 } ∷
@@ -67,17 +68,17 @@ history =
     record { actor = 0; kind = Kind.End 0 (record { first = 16; count = 1 }) 8 } ∷
     record { actor = 0; kind = Kind.Migrated 0 } ∷
     record { actor = 0; kind = Kind.Rlock 0 } ∷
-    record { actor = 0; kind = Kind.Refused 1 } ∷
+    record { actor = 0; kind = Kind.Refused Cause.Unmapped } ∷
     record { actor = 0; kind = Kind.Rlock 0 } ∷
-    record { actor = 0; kind = Kind.Failed (Who.Mirror 0) 0x10000 1 1 } ∷
-    record { actor = 0; kind = Kind.Refused 8 } ∷
-    record { actor = 0; kind = Kind.Refused 9 } ∷
-    record { actor = 0; kind = Kind.Refused 8 } ∷
+    record { actor = 0; kind = Kind.Failed (Who.Mirror 0) 0x10000 1 Cause.Unmapped } ∷
+    record { actor = 0; kind = Kind.Refused Cause.NoProcess } ∷
+    record { actor = 0; kind = Kind.Refused Cause.MirrorTaken } ∷
+    record { actor = 0; kind = Kind.Refused Cause.NoProcess } ∷
     record { actor = 0; kind = Kind.Detached 0 } ∷
-    record { actor = 0; kind = Kind.Refused 4 } ∷
-    record { actor = 0; kind = Kind.Failed (Who.Mirror 0) 0x10000 1 4 } ∷
-    record { actor = 0; kind = Kind.Failed (Who.Cpu 0) 0x10000 1 1 } ∷
-    record { actor = 0; kind = Kind.Refused 8 } ∷ []
+    record { actor = 0; kind = Kind.Refused Cause.Outside } ∷
+    record { actor = 0; kind = Kind.Failed (Who.Mirror 0) 0x10000 1 Cause.Outside } ∷
+    record { actor = 0; kind = Kind.Failed (Who.Cpu 0) 0x10000 1 Cause.Unmapped } ∷
+    record { actor = 0; kind = Kind.Refused Cause.NoProcess } ∷ []
 
 runs : run script ≡ history
 runs = refl

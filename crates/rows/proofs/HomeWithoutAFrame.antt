@@ -6,6 +6,7 @@ use Rattle.hm_base.specs.declared.ops.Rights.{Rights}
 use Rattle.hm_base.specs.declared.ops.Op.{Op}
 use Rattle.hm_base.specs.declared.ops.ScheduleLine.{ScheduleLine}
 use Rattle.hm_base.specs.declared.Place.{Place}
+use Rattle.hm_base.specs.declared.cause.Cause.{Cause}
 use Rattle.hm_history.specs.declared.Who.{Who}
 use Rattle.hm_history.specs.declared.TableRight.{TableRight}
 use Rattle.hm_history.specs.declared.KeptAt.{KeptAt}
@@ -71,7 +72,7 @@ history =
     record { actor = 0; kind = Kind.Kept (KeptAt.Page 16) KeptWhy.NoFrame } ∷
     record { actor = 0; kind = Kind.Place 0 16 (Place.Own 0 0 true) } ∷
     record { actor = 0; kind = Kind.Done (dev_frame 0 0) } ∷
-    record { actor = 0; kind = Kind.Failed (Who.Cpu 0) 0x10000 1 3 } ∷
+    record { actor = 0; kind = Kind.Failed (Who.Cpu 0) 0x10000 1 Cause.NoFrame } ∷
     record { actor = 0; kind = Kind.Begin 0 5 } ∷
     record { actor = 0; kind = Kind.Rlock 0 } ∷
     record { actor = 0; kind = Kind.Runlock 0 } ∷
@@ -100,7 +101,7 @@ history =
     record { actor = 0; kind = Kind.Place 0 16 (Place.Own 0 0 false) } ∷
     record { actor = 0; kind = Kind.Place 1 16 (Place.Own 0 0 false) } ∷
     record { actor = 0; kind = Kind.Done (dev_frame 0 0) } ∷
-    record { actor = 0; kind = Kind.Failed (Who.Mirror 0) 0x10000 1 3 } ∷
+    record { actor = 0; kind = Kind.Failed (Who.Mirror 0) 0x10000 1 Cause.NoFrame } ∷
     record { actor = 0; kind = Kind.Rlock 0 } ∷
     record { actor = 0; kind = Kind.Start 0 (record { first = 16; count = 1 }) 11 } ∷
     record { actor = 0; kind = Kind.Told 0 (record { first = 16; count = 1 }) 11 } ∷
@@ -113,7 +114,7 @@ history =
     record { actor = 0; kind = Kind.Place 0 16 (Place.Own 0 0 false) } ∷
     record { actor = 0; kind = Kind.Place 1 16 (Place.Own 0 0 false) } ∷
     record { actor = 0; kind = Kind.Done (dev_frame 0 0) } ∷
-    record { actor = 0; kind = Kind.Refused 3 } ∷
+    record { actor = 0; kind = Kind.Refused Cause.NoFrame } ∷
     record { actor = 0; kind = Kind.Rlock 0 } ∷
     record { actor = 0; kind = Kind.Start 0 (record { first = 16; count = 1 }) 13 } ∷
     record { actor = 0; kind = Kind.Told 0 (record { first = 16; count = 1 }) 13 } ∷
@@ -126,7 +127,7 @@ history =
     record { actor = 0; kind = Kind.Place 0 16 (Place.Own 0 0 false) } ∷
     record { actor = 0; kind = Kind.Place 1 16 (Place.Own 0 0 false) } ∷
     record { actor = 0; kind = Kind.Done (dev_frame 0 0) } ∷
-    record { actor = 0; kind = Kind.Failed (Who.Mirror 0) 0x10000 1 3 } ∷
+    record { actor = 0; kind = Kind.Failed (Who.Mirror 0) 0x10000 1 Cause.NoFrame } ∷
     record { actor = 0; kind = Kind.Start 0 (record { first = 16; count = 1 }) 15 } ∷
     record { actor = 0; kind = Kind.Told 0 (record { first = 16; count = 1 }) 15 } ∷
     record { actor = 0; kind = Kind.Place 0 16 (Place.Moving (dev_frame 0 0) false) } ∷
@@ -151,8 +152,8 @@ history =
     record { actor = 0; kind = Kind.Place 0 16 (Place.Own 0 0 false) } ∷
     record { actor = 0; kind = Kind.Place 1 16 (Place.Own 0 0 false) } ∷
     record { actor = 0; kind = Kind.Done (dev_frame 0 0) } ∷
-    record { actor = 0; kind = Kind.Refused 3 } ∷
-    record { actor = 0; kind = Kind.Refused 4 } ∷
+    record { actor = 0; kind = Kind.Refused Cause.NoFrame } ∷
+    record { actor = 0; kind = Kind.Refused Cause.Outside } ∷
     record { actor = 0; kind = Kind.Rlock 0 } ∷
     record { actor = 0; kind = Kind.Start 0 (record { first = 16; count = 1 }) 19 } ∷
     record { actor = 0; kind = Kind.Told 0 (record { first = 16; count = 1 }) 19 } ∷
@@ -588,21 +589,21 @@ legal = (
 )
 
 -- failed p0 0x10000 1 3, by actor 0
-tried_1 : fails_rightly script (take 43 history) (record { actor = 0; kind = Kind.Failed (Who.Cpu 0) 0x10000 1 3 }) ≡ true
+tried_1 : fails_rightly script (take 43 history) (record { actor = 0; kind = Kind.Failed (Who.Cpu 0) 0x10000 1 Cause.NoFrame }) ≡ true
 tried_1 = refl
 
 -- failed p0 0x10000 1 3, by actor 0
-tried_2 : fails_rightly script (take 43 history ++ (record { actor = 1; kind = Kind.Place 0 32 Place.Empty } ∷ record { actor = 1; kind = Kind.Drop (sys_frame 0) } ∷ [])) (record { actor = 0; kind = Kind.Failed (Who.Cpu 0) 0x10000 1 3 }) ≡ true
+tried_2 : fails_rightly script (take 43 history ++ (record { actor = 1; kind = Kind.Place 0 32 Place.Empty } ∷ record { actor = 1; kind = Kind.Drop (sys_frame 0) } ∷ [])) (record { actor = 0; kind = Kind.Failed (Who.Cpu 0) 0x10000 1 Cause.NoFrame }) ≡ true
 tried_2 = refl
 
 -- failed p0 0x10000 1 3, by actor 1
-tried_3 : fails_rightly script (take 43 history ++ (record { actor = 1; kind = Kind.Place 0 32 Place.Empty } ∷ record { actor = 1; kind = Kind.Drop (sys_frame 0) } ∷ [])) (record { actor = 1; kind = Kind.Failed (Who.Cpu 0) 0x10000 1 3 }) ≡ false
+tried_3 : fails_rightly script (take 43 history ++ (record { actor = 1; kind = Kind.Place 0 32 Place.Empty } ∷ record { actor = 1; kind = Kind.Drop (sys_frame 0) } ∷ [])) (record { actor = 1; kind = Kind.Failed (Who.Cpu 0) 0x10000 1 Cause.NoFrame }) ≡ false
 tried_3 = refl
 
 -- failed p0 0x10000 1 3, by actor 0
-tried_4 : fails_rightly script (take 43 history ++ (record { actor = 1; kind = Kind.Place 0 32 Place.Empty } ∷ record { actor = 1; kind = Kind.Drop (sys_frame 0) } ∷ record { actor = 0; kind = Kind.Rlock 0 } ∷ [])) (record { actor = 0; kind = Kind.Failed (Who.Cpu 0) 0x10000 1 3 }) ≡ false
+tried_4 : fails_rightly script (take 43 history ++ (record { actor = 1; kind = Kind.Place 0 32 Place.Empty } ∷ record { actor = 1; kind = Kind.Drop (sys_frame 0) } ∷ record { actor = 0; kind = Kind.Rlock 0 } ∷ [])) (record { actor = 0; kind = Kind.Failed (Who.Cpu 0) 0x10000 1 Cause.NoFrame }) ≡ false
 tried_4 = refl
 
 -- failed p0 0x10000 1 3, by actor 0
-tried_5 : fails_rightly script (take 40 history ++ (record { actor = 1; kind = Kind.Place 0 32 Place.Empty } ∷ record { actor = 1; kind = Kind.Drop (sys_frame 0) } ∷ record { actor = 0; kind = Kind.Kept (KeptAt.Page 16) KeptWhy.NoFrame } ∷ [])) (record { actor = 0; kind = Kind.Failed (Who.Cpu 0) 0x10000 1 3 }) ≡ false
+tried_5 : fails_rightly script (take 40 history ++ (record { actor = 1; kind = Kind.Place 0 32 Place.Empty } ∷ record { actor = 1; kind = Kind.Drop (sys_frame 0) } ∷ record { actor = 0; kind = Kind.Kept (KeptAt.Page 16) KeptWhy.NoFrame } ∷ [])) (record { actor = 0; kind = Kind.Failed (Who.Cpu 0) 0x10000 1 Cause.NoFrame }) ≡ false
 tried_5 = refl

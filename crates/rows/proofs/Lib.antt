@@ -62,6 +62,7 @@ mod LoadAfter44
 mod LoadAfter45
 mod LoadBetweenCommitAndSet
 mod LoadWaitsForMigration
+mod LockWaits
 mod LookUpLosesItsRace
 mod LookUpRepeated
 mod MigrationToDevice
@@ -80,9 +81,11 @@ mod RetryInTheWalk
 mod RetryOfADetachedMirror
 mod SkippedPage
 mod SmallRefusals
+mod SnapshotCodes
 mod TableEntryPassedOver
 mod TakenFrameDropped
 mod ThereAndBack
+mod TooManyAreas
 mod TwoInvalidations
 mod TwoMirrorsOneActor
 mod TwoPieces

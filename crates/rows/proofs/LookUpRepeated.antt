@@ -6,6 +6,7 @@ use Rattle.hm_base.specs.declared.ops.Rights.{Rights}
 use Rattle.hm_base.specs.declared.ops.Op.{Op}
 use Rattle.hm_base.specs.declared.ops.ScheduleLine.{ScheduleLine}
 use Rattle.hm_base.specs.declared.Place.{Place}
+use Rattle.hm_base.specs.declared.cause.Cause.{Cause}
 use Rattle.hm_history.specs.declared.Who.{Who}
 use Rattle.hm_history.specs.declared.Kind.{Kind}
 use Rattle.hm_history.specs.Words.{sys_frame}
@@ -46,7 +47,7 @@ history =
     record { actor = 0; kind = Kind.Retry 0 } ∷
     record { actor = 0; kind = Kind.Begin 0 3 } ∷
     record { actor = 0; kind = Kind.Rlock 0 } ∷
-    record { actor = 0; kind = Kind.Failed (Who.Mirror 0) 0x10000 1 1 } ∷ []
+    record { actor = 0; kind = Kind.Failed (Who.Mirror 0) 0x10000 1 Cause.Unmapped } ∷ []
 
 runs : run script ≡ history
 runs = refl

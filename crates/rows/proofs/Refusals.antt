@@ -5,6 +5,7 @@ use Rattle.hm_base.specs.declared.ops.Version.{Version}
 use Rattle.hm_base.specs.declared.ops.Rights.{Rights}
 use Rattle.hm_base.specs.declared.ops.Op.{Op}
 use Rattle.hm_base.specs.declared.ops.ScheduleLine.{ScheduleLine}
+use Rattle.hm_base.specs.declared.cause.Cause.{Cause}
 use Rattle.hm_history.specs.declared.Who.{Who}
 use Rattle.hm_history.specs.declared.Kind.{Kind}
 use Rattle.hm_history.specs.declared.Entry.{Entry}
@@ -23,28 +24,28 @@ script = record {
 
 abbrev history : List Entry
 history =
-    record { actor = 0; kind = Kind.Refused 8 } ∷
+    record { actor = 0; kind = Kind.Refused Cause.NoProcess } ∷
     record { actor = 0; kind = Kind.Wlock 0 } ∷
     record { actor = 0; kind = Kind.Mapped 0 (record { first = 16; count = 1 }) Rights.ReadWrite } ∷
     record { actor = 0; kind = Kind.Wlock 0 } ∷
-    record { actor = 0; kind = Kind.Refused 5 } ∷
+    record { actor = 0; kind = Kind.Refused Cause.Overlap } ∷
     record { actor = 0; kind = Kind.Wlock 0 } ∷
-    record { actor = 0; kind = Kind.Refused 1 } ∷
+    record { actor = 0; kind = Kind.Refused Cause.Unmapped } ∷
     record { actor = 0; kind = Kind.Wlock 0 } ∷
-    record { actor = 0; kind = Kind.Refused 7 } ∷
+    record { actor = 0; kind = Kind.Refused Cause.NameTaken } ∷
     record { actor = 0; kind = Kind.Attached 0 0 0 (record { first = 16; count = 1 }) 1 } ∷
-    record { actor = 0; kind = Kind.Refused 9 } ∷
-    record { actor = 0; kind = Kind.Failed (Who.Mirror 1) 0x10000 1 4 } ∷
-    record { actor = 0; kind = Kind.Failed (Who.Mirror 0) 0x11000 1 4 } ∷
-    record { actor = 0; kind = Kind.Refused 4 } ∷
+    record { actor = 0; kind = Kind.Refused Cause.MirrorTaken } ∷
+    record { actor = 0; kind = Kind.Failed (Who.Mirror 1) 0x10000 1 Cause.Outside } ∷
+    record { actor = 0; kind = Kind.Failed (Who.Mirror 0) 0x11000 1 Cause.Outside } ∷
+    record { actor = 0; kind = Kind.Refused Cause.Outside } ∷
     record { actor = 0; kind = Kind.Withdrawn 0 } ∷
     record { actor = 0; kind = Kind.Removed 0 } ∷
-    record { actor = 0; kind = Kind.Refused 10 } ∷
+    record { actor = 0; kind = Kind.Refused Cause.Removed } ∷
     record { actor = 0; kind = Kind.Rlock 0 } ∷
     record { actor = 0; kind = Kind.Seen 0 16 0 } ∷
     record { actor = 0; kind = Kind.Runlock 0 } ∷
     record { actor = 0; kind = Kind.Detached 0 } ∷
-    record { actor = 0; kind = Kind.Refused 4 } ∷ []
+    record { actor = 0; kind = Kind.Refused Cause.Outside } ∷ []
 
 runs : run script ≡ history
 runs = refl

@@ -6,6 +6,7 @@ use Rattle.hm_base.specs.declared.ops.Rights.{Rights}
 use Rattle.hm_base.specs.declared.ops.Op.{Op}
 use Rattle.hm_base.specs.declared.ops.ScheduleLine.{ScheduleLine}
 use Rattle.hm_base.specs.declared.Place.{Place}
+use Rattle.hm_base.specs.declared.cause.Cause.{Cause}
 use Rattle.hm_history.specs.declared.Who.{Who}
 use Rattle.hm_history.specs.declared.TableRight.{TableRight}
 use Rattle.hm_history.specs.declared.KeptAt.{KeptAt}
@@ -69,7 +70,7 @@ history =
     record { actor = 0; kind = Kind.Kept (KeptAt.Frame (dev_frame 0 0)) KeptWhy.NoFrame } ∷
     record { actor = 0; kind = Kind.Place 0 16 (Place.Own 0 0 true) } ∷
     record { actor = 0; kind = Kind.Done (dev_frame 0 0) } ∷
-    record { actor = 0; kind = Kind.Refused 3 } ∷
+    record { actor = 0; kind = Kind.Refused Cause.NoFrame } ∷
     record { actor = 0; kind = Kind.Rlock 0 } ∷
     record { actor = 0; kind = Kind.Start 0 (record { first = 16; count = 1 }) 7 } ∷
     record { actor = 0; kind = Kind.Told 0 (record { first = 16; count = 1 }) 7 } ∷
@@ -78,7 +79,7 @@ history =
     record { actor = 0; kind = Kind.Kept (KeptAt.Page 16) KeptWhy.NoFrame } ∷
     record { actor = 0; kind = Kind.Place 0 16 (Place.Own 0 0 true) } ∷
     record { actor = 0; kind = Kind.Done (dev_frame 0 0) } ∷
-    record { actor = 0; kind = Kind.Failed (Who.Cpu 0) 0x10000 1 3 } ∷
+    record { actor = 0; kind = Kind.Failed (Who.Cpu 0) 0x10000 1 Cause.NoFrame } ∷
     record { actor = 0; kind = Kind.Wlock 0 } ∷
     record { actor = 0; kind = Kind.Start 0 (record { first = 17; count = 1 }) 9 } ∷
     record { actor = 0; kind = Kind.Told 0 (record { first = 17; count = 1 }) 9 } ∷

@@ -6,6 +6,7 @@ use Rattle.hm_base.specs.declared.ops.Rights.{Rights}
 use Rattle.hm_base.specs.declared.ops.Op.{Op}
 use Rattle.hm_base.specs.declared.ops.ScheduleLine.{ScheduleLine}
 use Rattle.hm_base.specs.declared.Place.{Place}
+use Rattle.hm_base.specs.declared.cause.Cause.{Cause}
 use Rattle.hm_history.specs.declared.TableRight.{TableRight}
 use Rattle.hm_history.specs.declared.Kind.{Kind}
 use Rattle.hm_history.specs.Words.{sys_frame, dev_frame}
@@ -63,7 +64,7 @@ history =
     record { actor = 1; kind = Kind.Done (sys_frame 0) } ∷
     record { actor = 1; kind = Kind.Removed 0 } ∷
     record { actor = 2; kind = Kind.End 0 (record { first = 16; count = 1 }) 8 } ∷
-    record { actor = 2; kind = Kind.Refused 10 } ∷ []
+    record { actor = 2; kind = Kind.Refused Cause.Removed } ∷ []
 
 runs : run script ≡ history
 runs = refl

@@ -6,6 +6,7 @@ use Rattle.hm_base.specs.declared.ops.Rights.{Rights}
 use Rattle.hm_base.specs.declared.ops.Op.{Op}
 use Rattle.hm_base.specs.declared.ops.ScheduleLine.{ScheduleLine}
 use Rattle.hm_base.specs.declared.Place.{Place}
+use Rattle.hm_base.specs.declared.cause.Cause.{Cause}
 use Rattle.hm_history.specs.declared.Who.{Who}
 use Rattle.hm_history.specs.declared.Kind.{Kind}
 use Rattle.hm_history.specs.Words.{sys_frame}
@@ -36,7 +37,7 @@ history =
     record { actor = 0; kind = Kind.Place 0 17 (Place.Sys 0 true) } ∷
     record { actor = 0; kind = Kind.Runlock 0 } ∷
     record { actor = 0; kind = Kind.Stored (Who.Cpu 0) 0x11000 (66 ∷ []) } ∷
-    record { actor = 0; kind = Kind.Refused 8 } ∷
+    record { actor = 0; kind = Kind.Refused Cause.NoProcess } ∷
     record { actor = 0; kind = Kind.Wlock 0 } ∷
     record { actor = 0; kind = Kind.Unmapped 0 (record { first = 100; count = 4 }) } ∷
     record { actor = 0; kind = Kind.Wlock 0 } ∷

@@ -13,8 +13,8 @@ use Rattle.hm_history.specs.declared.Entry.{Entry}
 use Rattle.hm_history.specs.Run.{run}
 use Rattle.hm_history.specs.After.{after}
 use Rattle.hm_history.specs.Plain.{mirror_proc}
-use Rattle.hm_history.specs.Places.{places_take}
-use Rattle.hm_history.specs.Sequences.{sequences_take}
+use Rattle.hm_history.specs.Places.{places_accept}
+use Rattle.hm_history.specs.Sequences.{sequences_accept}
 use Rattle.hm_history.specs.Legal.{Legal}
 
 abbrev script : Program
@@ -205,65 +205,65 @@ legal = (
 )
 
 -- told m0 16 1 3, by actor 0
-tried_1 : sequences_take (after (take 9 history)).sequences 0 (Kind.Told 0 (record { first = 16; count = 1 }) 3) ≡ false
+tried_1 : sequences_accept (after (take 9 history)).sequences 0 (Kind.Told 0 (record { first = 16; count = 1 }) 3) ≡ false
 tried_1 = refl
 
 -- end p0 16 1 4, by actor 0
-tried_2 : sequences_take (after (take 9 history)).sequences 0 (Kind.End 0 (record { first = 16; count = 1 }) 4) ≡ false
+tried_2 : sequences_accept (after (take 9 history)).sequences 0 (Kind.End 0 (record { first = 16; count = 1 }) 4) ≡ false
 tried_2 = refl
 
 -- told m1 16 1 3, by actor 0
-tried_3 : sequences_take (after (take 9 history)).sequences 0 (Kind.Told 1 (record { first = 16; count = 1 }) 3) ≡ true
+tried_3 : sequences_accept (after (take 9 history)).sequences 0 (Kind.Told 1 (record { first = 16; count = 1 }) 3) ≡ true
 tried_3 = refl
 
 -- told m1 16 1 3, by actor 0
-tried_4 : sequences_take (after (take 8 history)).sequences 0 (Kind.Told 1 (record { first = 16; count = 1 }) 3) ≡ false
+tried_4 : sequences_accept (after (take 8 history)).sequences 0 (Kind.Told 1 (record { first = 16; count = 1 }) 3) ≡ false
 tried_4 = refl
 
 -- told m1 16 2 3, by actor 0
-tried_5 : sequences_take (after (take 9 history)).sequences 0 (Kind.Told 1 (record { first = 16; count = 2 }) 3) ≡ false
+tried_5 : sequences_accept (after (take 9 history)).sequences 0 (Kind.Told 1 (record { first = 16; count = 2 }) 3) ≡ false
 tried_5 = refl
 
 -- told m1 16 1 4, by actor 0
-tried_6 : sequences_take (after (take 9 history)).sequences 0 (Kind.Told 1 (record { first = 16; count = 1 }) 4) ≡ false
+tried_6 : sequences_accept (after (take 9 history)).sequences 0 (Kind.Told 1 (record { first = 16; count = 1 }) 4) ≡ false
 tried_6 = refl
 
 -- told m1 16 1 3, by actor 1
-tried_7 : sequences_take (after (take 9 history)).sequences 1 (Kind.Told 1 (record { first = 16; count = 1 }) 3) ≡ false
+tried_7 : sequences_accept (after (take 9 history)).sequences 1 (Kind.Told 1 (record { first = 16; count = 1 }) 3) ≡ false
 tried_7 = refl
 
 -- start p0 17 1 3, by actor 0
-tried_8 : sequences_take (after (take 9 history)).sequences 0 (Kind.Start 0 (record { first = 17; count = 1 }) 3) ≡ false
+tried_8 : sequences_accept (after (take 9 history)).sequences 0 (Kind.Start 0 (record { first = 17; count = 1 }) 3) ≡ false
 tried_8 = refl
 
 -- start p0 17 1 3, by actor 1
-tried_9 : sequences_take (after (take 9 history)).sequences 1 (Kind.Start 0 (record { first = 17; count = 1 }) 3) ≡ true
+tried_9 : sequences_accept (after (take 9 history)).sequences 1 (Kind.Start 0 (record { first = 17; count = 1 }) 3) ≡ true
 tried_9 = refl
 
 -- start p0 17 1 4, by actor 1
-tried_10 : sequences_take (after (take 9 history)).sequences 1 (Kind.Start 0 (record { first = 17; count = 1 }) 4) ≡ false
+tried_10 : sequences_accept (after (take 9 history)).sequences 1 (Kind.Start 0 (record { first = 17; count = 1 }) 4) ≡ false
 tried_10 = refl
 
 -- end p0 16 1 3, by actor 0
-tried_11 : sequences_take (after (take 11 history)).sequences 0 (Kind.End 0 (record { first = 16; count = 1 }) 3) ≡ false
+tried_11 : sequences_accept (after (take 11 history)).sequences 0 (Kind.End 0 (record { first = 16; count = 1 }) 3) ≡ false
 tried_11 = refl
 
 -- end p0 16 1 4, by actor 0
-tried_12 : sequences_take (after (take 11 history ++ (record { actor = 1; kind = Kind.Start 0 (record { first = 17; count = 1 }) 3 } ∷ []))).sequences 0 (Kind.End 0 (record { first = 16; count = 1 }) 4) ≡ false
+tried_12 : sequences_accept (after (take 11 history ++ (record { actor = 1; kind = Kind.Start 0 (record { first = 17; count = 1 }) 3 } ∷ []))).sequences 0 (Kind.End 0 (record { first = 16; count = 1 }) 4) ≡ false
 tried_12 = refl
 
 -- end p0 16 1 3, by actor 0
-tried_13 : sequences_take (after (take 11 history ++ (record { actor = 1; kind = Kind.Start 0 (record { first = 17; count = 1 }) 3 } ∷ []))).sequences 0 (Kind.End 0 (record { first = 16; count = 1 }) 3) ≡ true
+tried_13 : sequences_accept (after (take 11 history ++ (record { actor = 1; kind = Kind.Start 0 (record { first = 17; count = 1 }) 3 } ∷ []))).sequences 0 (Kind.End 0 (record { first = 16; count = 1 }) 3) ≡ true
 tried_13 = refl
 
 -- set m0 16 d1.0 w 12, by actor 0
-tried_14 : places_take script (mirror_proc (after (take 12 history)).plain) (after (take 12 history)).places 0 (Kind.Set 0 16 (Some (dev_frame 1 0)) TableRight.Write 12) ≡ false
+tried_14 : places_accept script (mirror_proc (after (take 12 history)).plain) (after (take 12 history)).places 0 (Kind.Set 0 16 (Some (dev_frame 1 0)) TableRight.Write 12) ≡ false
 tried_14 = refl
 
 -- set m1 16 d1.0 w 12, by actor 0
-tried_15 : places_take script (mirror_proc (after (take 12 history)).plain) (after (take 12 history)).places 0 (Kind.Set 1 16 (Some (dev_frame 1 0)) TableRight.Write 12) ≡ true
+tried_15 : places_accept script (mirror_proc (after (take 12 history)).plain) (after (take 12 history)).places 0 (Kind.Set 1 16 (Some (dev_frame 1 0)) TableRight.Write 12) ≡ true
 tried_15 = refl
 
 -- set m0 16 zero w 12, by actor 0
-tried_16 : places_take script (mirror_proc (after (take 12 history)).plain) (after (take 12 history)).places 0 (Kind.Set 0 16 None TableRight.Write 12) ≡ true
+tried_16 : places_accept script (mirror_proc (after (take 12 history)).plain) (after (take 12 history)).places 0 (Kind.Set 0 16 None TableRight.Write 12) ≡ true
 tried_16 = refl

@@ -6,6 +6,7 @@ use Rattle.hm_base.specs.declared.ops.Rights.{Rights}
 use Rattle.hm_base.specs.declared.ops.Op.{Op}
 use Rattle.hm_base.specs.declared.ops.ScheduleLine.{ScheduleLine}
 use Rattle.hm_base.specs.declared.Place.{Place}
+use Rattle.hm_base.specs.declared.cause.Cause.{Cause}
 use Rattle.hm_history.specs.declared.Who.{Who}
 use Rattle.hm_history.specs.declared.Kind.{Kind}
 use Rattle.hm_history.specs.Words.{sys_frame}
@@ -35,7 +36,7 @@ history =
     record { actor = 0; kind = Kind.Runlock 0 } ∷
     record { actor = 0; kind = Kind.Stored (Who.Cpu 0) 0x10ffe (1 ∷ 2 ∷ []) } ∷
     record { actor = 0; kind = Kind.Rlock 0 } ∷
-    record { actor = 0; kind = Kind.Failed (Who.Cpu 0) 0x11000 2 2 } ∷ []
+    record { actor = 0; kind = Kind.Failed (Who.Cpu 0) 0x11000 2 Cause.Forbidden } ∷ []
 
 runs : run script ≡ history
 runs = refl

@@ -6,6 +6,7 @@ use Rattle.hm_base.specs.declared.ops.Rights.{Rights}
 use Rattle.hm_base.specs.declared.ops.Op.{Op}
 use Rattle.hm_base.specs.declared.ops.ScheduleLine.{ScheduleLine}
 use Rattle.hm_base.specs.declared.Place.{Place}
+use Rattle.hm_base.specs.declared.cause.Cause.{Cause}
 use Rattle.hm_history.specs.declared.Who.{Who}
 use Rattle.hm_history.specs.declared.TableRight.{TableRight}
 use Rattle.hm_history.specs.declared.KeptAt.{KeptAt}
@@ -14,9 +15,9 @@ use Rattle.hm_history.specs.declared.Kind.{Kind}
 use Rattle.hm_history.specs.Words.{sys_frame, dev_frame}
 use Rattle.hm_history.specs.declared.Entry.{Entry}
 use Rattle.hm_history.specs.After.{after}
-use Rattle.hm_history.specs.Plain.{mirror_proc, plain_takes}
-use Rattle.hm_history.specs.Places.{places_take}
-use Rattle.hm_history.specs.Sequences.{sequences_take}
+use Rattle.hm_history.specs.Plain.{mirror_proc, plain_accepts}
+use Rattle.hm_history.specs.Places.{places_accept}
+use Rattle.hm_history.specs.Sequences.{sequences_accept}
 use Rattle.hm_history.specs.Lookups.{uses_untold, narrows_guarded}
 use Rattle.hm_history.specs.Legal.{fails_rightly, kept_rightly}
 use Rattle.hm_history.specs.Going.{state_of}
@@ -47,7 +48,7 @@ before_ends_untold =
     record { actor = 0; kind = Kind.Place 0 16 Place.Empty } ∷
     record { actor = 0; kind = Kind.Drop (sys_frame 0) } ∷ []
 
-ends_untold : sequences_take (after before_ends_untold).sequences 0 (Kind.End 0 (record { first = 16; count = 1 }) 4) ≡ false
+ends_untold : sequences_accept (after before_ends_untold).sequences 0 (Kind.End 0 (record { first = 16; count = 1 }) 4) ≡ false
 ends_untold = refl
 
 -- a place is taken away before the interval was told
@@ -123,7 +124,7 @@ before_ends_early =
     record { actor = 1; kind = Kind.Start 0 (record { first = 16; count = 1 }) 3 } ∷
     record { actor = 1; kind = Kind.Told 0 (record { first = 16; count = 1 }) 3 } ∷ []
 
-ends_early : sequences_take (after before_ends_early).sequences 0 (Kind.End 0 (record { first = 16; count = 1 }) 4) ≡ false
+ends_early : sequences_accept (after before_ends_early).sequences 0 (Kind.End 0 (record { first = 16; count = 1 }) 4) ≡ false
 ends_early = refl
 
 -- a mirror is told whose interval does not overlap
@@ -141,7 +142,7 @@ before_told_out_of_order =
     record { actor = 0; kind = Kind.Wlock 0 } ∷
     record { actor = 0; kind = Kind.Start 0 (record { first = 16; count = 1 }) 3 } ∷ []
 
-told_out_of_order : sequences_take (after before_told_out_of_order).sequences 0 (Kind.Told 1 (record { first = 16; count = 1 }) 3) ≡ false
+told_out_of_order : sequences_accept (after before_told_out_of_order).sequences 0 (Kind.Told 1 (record { first = 16; count = 1 }) 3) ≡ false
 told_out_of_order = refl
 
 -- a fork leaves the parent writable
@@ -158,7 +159,7 @@ before_fork_leaves_right =
     record { actor = 0; kind = Kind.Named 0 1 } ∷
     record { actor = 0; kind = Kind.Start 0 (record { first = 0; count = 68719476736 }) 2 } ∷ []
 
-fork_leaves_right : places_take script (mirror_proc (after before_fork_leaves_right).plain) (after before_fork_leaves_right).places 0 (Kind.Place 1 16 (Place.Sys 0 false)) ≡ false
+fork_leaves_right : places_accept script (mirror_proc (after before_fork_leaves_right).plain) (after before_fork_leaves_right).places 0 (Kind.Place 1 16 (Place.Sys 0 false)) ≡ false
 fork_leaves_right = refl
 
 -- the CPU reads device memory
@@ -172,7 +173,7 @@ before_reads_device_memory =
     record { actor = 0; kind = Kind.Place 0 16 (Place.Own 0 0 true) } ∷
     record { actor = 0; kind = Kind.Runlock 0 } ∷ []
 
-reads_device_memory : places_take script (mirror_proc (after before_reads_device_memory).plain) (after before_reads_device_memory).places 0 (Kind.Loaded (Who.Cpu 0) 0x10000 (0 ∷ [])) ≡ false
+reads_device_memory : places_accept script (mirror_proc (after before_reads_device_memory).plain) (after before_reads_device_memory).places 0 (Kind.Loaded (Who.Cpu 0) 0x10000 (0 ∷ [])) ≡ false
 reads_device_memory = refl
 
 -- a device is removed while a frame is held
@@ -183,7 +184,7 @@ before_removed_with_a_frame =
     record { actor = 0; kind = Kind.Take (dev_frame 0 0) } ∷
     record { actor = 0; kind = Kind.Withdrawn 0 } ∷ []
 
-removed_with_a_frame : places_take script (mirror_proc (after before_removed_with_a_frame).plain) (after before_removed_with_a_frame).places 0 (Kind.Removed 0) ≡ false
+removed_with_a_frame : places_accept script (mirror_proc (after before_removed_with_a_frame).plain) (after before_removed_with_a_frame).places 0 (Kind.Removed 0) ≡ false
 removed_with_a_frame = refl
 
 -- a failure for want of a frame while one is free
@@ -193,7 +194,7 @@ before_fails_with_a_frame_free =
     record { actor = 0; kind = Kind.Mapped 0 (record { first = 16; count = 1 }) Rights.ReadWrite } ∷
     record { actor = 0; kind = Kind.Rlock 0 } ∷ []
 
-fails_with_a_frame_free : fails_rightly script before_fails_with_a_frame_free (record { actor = 0; kind = Kind.Failed (Who.Cpu 0) 0x10000 1 3 }) ≡ false
+fails_with_a_frame_free : fails_rightly script before_fails_with_a_frame_free (record { actor = 0; kind = Kind.Failed (Who.Cpu 0) 0x10000 1 Cause.NoFrame }) ≡ false
 fails_with_a_frame_free = refl
 
 -- a frame is taken that is not the lowest
@@ -203,7 +204,7 @@ before_takes_another =
     record { actor = 0; kind = Kind.Mapped 0 (record { first = 16; count = 1 }) Rights.ReadWrite } ∷
     record { actor = 0; kind = Kind.Rlock 0 } ∷ []
 
-takes_another : places_take script (mirror_proc (after before_takes_another).plain) (after before_takes_another).places 0 (Kind.Take (sys_frame 1)) ≡ false
+takes_another : places_accept script (mirror_proc (after before_takes_another).plain) (after before_takes_another).places 0 (Kind.Take (sys_frame 1)) ≡ false
 takes_another = refl
 
 -- a frame of a withdrawn device is taken
@@ -211,7 +212,7 @@ abbrev before_takes_withdrawn : List Entry
 before_takes_withdrawn =
     record { actor = 0; kind = Kind.Withdrawn 0 } ∷ []
 
-takes_withdrawn : places_take script (mirror_proc (after before_takes_withdrawn).plain) (after before_takes_withdrawn).places 0 (Kind.Take (dev_frame 0 0)) ≡ false
+takes_withdrawn : places_accept script (mirror_proc (after before_takes_withdrawn).plain) (after before_takes_withdrawn).places 0 (Kind.Take (dev_frame 0 0)) ≡ false
 takes_withdrawn = refl
 
 -- a frame is dropped that a place names
@@ -225,7 +226,7 @@ before_drops_named =
     record { actor = 0; kind = Kind.Runlock 0 } ∷
     record { actor = 0; kind = Kind.Stored (Who.Cpu 0) 0x10000 (65 ∷ []) } ∷ []
 
-drops_named : places_take script (mirror_proc (after before_drops_named).plain) (after before_drops_named).places 0 (Kind.Drop (sys_frame 0)) ≡ false
+drops_named : places_accept script (mirror_proc (after before_drops_named).plain) (after before_drops_named).places 0 (Kind.Drop (sys_frame 0)) ≡ false
 drops_named = refl
 
 -- a load answers another byte
@@ -239,7 +240,7 @@ before_loads_another_byte =
     record { actor = 0; kind = Kind.Runlock 0 } ∷
     record { actor = 0; kind = Kind.Stored (Who.Cpu 0) 0x10000 (65 ∷ []) } ∷ []
 
-loads_another_byte : plain_takes (after before_loads_another_byte).plain (Kind.Loaded (Who.Cpu 0) 0x10000 (66 ∷ [])) ≡ false
+loads_another_byte : plain_accepts (after before_loads_another_byte).plain (Kind.Loaded (Who.Cpu 0) 0x10000 (66 ∷ [])) ≡ false
 loads_another_byte = refl
 
 -- a store to a read-only area
@@ -252,7 +253,7 @@ before_stores_read_only =
     record { actor = 0; kind = Kind.Place 0 16 (Place.Sys 0 true) } ∷
     record { actor = 0; kind = Kind.Runlock 0 } ∷ []
 
-stores_read_only : plain_takes (after before_stores_read_only).plain (Kind.Stored (Who.Cpu 0) 0x10000 (65 ∷ [])) ≡ false
+stores_read_only : plain_accepts (after before_stores_read_only).plain (Kind.Stored (Who.Cpu 0) 0x10000 (65 ∷ [])) ≡ false
 stores_read_only = refl
 
 -- a store to a read-only place
@@ -273,7 +274,7 @@ before_stores_shared =
     record { actor = 0; kind = Kind.End 0 (record { first = 0; count = 68719476736 }) 2 } ∷
     record { actor = 0; kind = Kind.Forked 0 1 } ∷ []
 
-stores_shared : places_take script (mirror_proc (after before_stores_shared).plain) (after before_stores_shared).places 0 (Kind.Stored (Who.Cpu 0) 0x10000 (66 ∷ [])) ≡ false
+stores_shared : places_accept script (mirror_proc (after before_stores_shared).plain) (after before_stores_shared).places 0 (Kind.Stored (Who.Cpu 0) 0x10000 (66 ∷ [])) ≡ false
 stores_shared = refl
 
 -- the finish gives a right that was not there
@@ -305,7 +306,7 @@ before_finishes_writable =
     record { actor = 0; kind = Kind.Take (dev_frame 0 0) } ∷
     record { actor = 0; kind = Kind.Committed (sys_frame 0) (dev_frame 0 0) } ∷ []
 
-finishes_writable : places_take script (mirror_proc (after before_finishes_writable).plain) (after before_finishes_writable).places 0 (Kind.Place 0 16 (Place.Own 0 0 true)) ≡ false
+finishes_writable : places_accept script (mirror_proc (after before_finishes_writable).plain) (after before_finishes_writable).places 0 (Kind.Place 0 16 (Place.Own 0 0 true)) ≡ false
 finishes_writable = refl
 
 -- a page is passed over that the rule does not name
@@ -360,5 +361,5 @@ before_maps_twice =
     record { actor = 0; kind = Kind.Stored (Who.Cpu 0) 0x10000 (65 ∷ []) } ∷
     record { actor = 0; kind = Kind.Wlock 0 } ∷ []
 
-maps_twice : plain_takes (after before_maps_twice).plain (Kind.Mapped 0 (record { first = 16; count = 1 }) Rights.Read) ≡ false
+maps_twice : plain_accepts (after before_maps_twice).plain (Kind.Mapped 0 (record { first = 16; count = 1 }) Rights.Read) ≡ false
 maps_twice = refl

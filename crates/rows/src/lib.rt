@@ -1,4 +1,4 @@
-// The worked scripts of examples/worked, computed by the definitions: all that is said stands in proofs/, which
+// The worked scripts (examples/worked/README.md), computed by the definitions: all that is said stands in proofs/, which
 // tools/make_rows.py makes.
 #![tactic(auto)]
 
