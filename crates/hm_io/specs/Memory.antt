@@ -13,7 +13,8 @@ pub record Feed : Type 0 where
   pub plan : Plan
 
 abbrev pub feed_start : List ℕ → ℕ → List ℕ → Feed
-feed_start bytes piece failing = record { left = bytes; piece = piece; plan = record { failing = failing; calls = 0; faults = 0 } }
+feed_start bytes piece failing =
+    record { left = bytes; piece = piece; plan = record { failing = failing; calls = 0; faults = 0 } }
 
 -- how many bytes a call gives that does not fail
 abbrev pub feed_count : Feed → ℕ → ℕ
@@ -38,7 +39,8 @@ pub record Store : Type 0 where
   pub plan : Plan
 
 abbrev pub store_start : ℕ → List ℕ → Store
-store_start room failing = record { bytes = []; room = room; plan = record { failing = failing; calls = 0; faults = 0 } }
+store_start room failing =
+    record { bytes = []; room = room; plan = record { failing = failing; calls = 0; faults = 0 } }
 
 -- the piece does not fit the room that is left
 abbrev pub is_too_much : Store → List ℕ → Bool

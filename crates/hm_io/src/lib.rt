@@ -7,8 +7,6 @@ mod memory;
 mod plan;
 mod standard;
 mod sure;
-#[cfg(test)]
-mod tests;
 
 pub use memory::{MemorySink, MemorySource};
 pub use standard::{StdSink, StdSource};

@@ -109,14 +109,11 @@ impl MemorySink {
     pub fn new(alloc: Global, room: usize, failing: &[u64]) -> Result<MemorySink, NoMemory>
         ensures { IfOk result (λ sink. sink ≡ store_start room failing.now) }
     {
-        match Vec::with_capacity(alloc, room) {
-            Ok(bytes) => Ok(MemorySink {
-                bytes,
-                room,
-                plan: FaultPlan::new(alloc, failing)?,
-            }),
-            Err(_) => Err(NoMemory),
-        }
+        Ok(MemorySink {
+            bytes: Vec::with_capacity(alloc, room)?,
+            room,
+            plan: FaultPlan::new(alloc, failing)?,
+        })
     }
 
     /// The bytes that it holds.

@@ -26,14 +26,11 @@ impl FaultPlan {
     pub fn new(alloc: Global, failing: &[u64]) -> Result<FaultPlan, NoMemory>
         ensures { IfOk result (λ plan. plan ≡ record { failing = failing.now; calls = 0; faults = 0 }) }
     {
-        match Vec::from_slice(alloc, failing) {
-            Ok(failing) => Ok(FaultPlan {
-                failing,
-                calls: 0,
-                faults: 0,
-            }),
-            Err(_) => Err(NoMemory),
-        }
+        Ok(FaultPlan {
+            failing: Vec::from_slice(alloc, failing)?,
+            calls: 0,
+            faults: 0,
+        })
     }
 
     /// Counts a call, and says whether it fails: by the plan, or since it asks for too much.

@@ -22,6 +22,7 @@ impl Model for StdSource {
 }
 
 impl StdSource {
+    /// A source over a standard input, without a fault so far.
     pub fn new(from: Stdin) -> StdSource
         ensures { result ≡ 0 }
     {
@@ -66,6 +67,7 @@ impl Model for StdSink {
 }
 
 impl StdSink {
+    /// A sink over a standard output, without a fault so far.
     pub fn new(to: Stdout) -> StdSink
         ensures { result ≡ 0 }
     {

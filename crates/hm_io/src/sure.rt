@@ -24,6 +24,7 @@ impl Model for SureSource {
 }
 
 impl SureSource {
+    /// A source that gives a copy of these bytes.
     pub fn new(alloc: Global, bytes: &[u8]) -> Result<SureSource, NoMemory>
         ensures { IfOk result (λ source. source ≡ bytes.now) }
     {
@@ -71,6 +72,7 @@ impl Model for SureSink {
 }
 
 impl SureSink {
+    /// A sink that holds nothing yet.
     pub fn new(alloc: Global) -> SureSink
         ensures { result ≡ record { bytes = []; wants = 0 } }
     {

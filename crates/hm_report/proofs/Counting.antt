@@ -1,7 +1,6 @@
 -- How far actors are, one entry more.
 use Rattle.std.proofs.Common.{◌≡◌, ◌≢◌, ℕ, ◌+◌, ◌≤◌, ◌<◌, ◌⊎◌, List, [], ◌∷◌, ◌++◌, length, get_or, take, slice_set, zero, suc, inl, inr, refl, sym, ap, ◌∙◌, arith, get_or-set_other, get_or-set_same}
 use Rattle.std.specs.Prelude.{slice_index}
-use Rattle.std.proofs.lemmas.Bool.Decides.{nat_tests}
 use Rattle.std.proofs.lemmas.List.{take_more}
 use Rattle.std.proofs.lemmas.List.Sums.{fold-append}
 use Rattle.hm_base.specs.Program.{Program}
@@ -10,12 +9,7 @@ use Rattle.hm_history.specs.Going.{ops_of}
 use Rattle.hm_history.specs.declared.Entry.{Entry}
 use Rattle.hm_report.specs.Ended.{ended_next, ended_start, all_next, ended_after}
 use Rattle.hm_report.specs.declared.ended.Ended.{Ended}
-
-pub with_at_same : {X : Type 0} (f : ℕ → X) (k : ℕ) (x : X) → with_at f k x k ≡ x
-with_at_same f k x = grind (arith, nat_tests)
-
-pub with_at_other : {X : Type 0} (f : ℕ → X) (k : ℕ) (x : X) (q : ℕ) → q ≢ k → with_at f k x q ≡ f q
-with_at_other f k x q other = grind (arith, nat_tests)
+use Rattle.hm_history.proofs.Updates.{here_at, other_at}
 
 pub ended_more : (c : Program) (es : List Entry) (i : ℕ) (e : Entry) → i < length es → e ≡ get_or es i e → ended_after c (take (i + 1) es) ≡ all_next c (ended_after c (take i es)) e
 ended_more c es i e lt is =
@@ -29,15 +23,15 @@ same_or_not (suc a) (suc k) = elim (same_or_not a k) [ inl e ↦ inl (ap suc e) 
 
 with_at_field : (field : Ended → ℕ) (f : ℕ → Ended) (k : ℕ) (x : Ended) (a : ℕ) → field (with_at f k x a) ≡ with_at (λ q. field (f q)) k (field x) a
 with_at_field field f k x a = elim (same_or_not a k) [
-  | inl e ↦ rw e (ap field (with_at_same f k x) ∙ sym (with_at_same (λ q. field (f q)) k (field x)))
-  | inr n ↦ ap field (with_at_other f k x a n) ∙ sym (with_at_other (λ q. field (f q)) k (field x) a n)
+  | inl e ↦ rw e (ap field (here_at f k x) ∙ sym (here_at (λ q. field (f q)) k (field x)))
+  | inr n ↦ ap field (other_at f k a x n) ∙ sym (other_at (λ q. field (f q)) k a (field x) n)
 ]
 
 -- an array with the numbers of a function, changed at one place
 set_at : (xs : List ℕ) (f : ℕ → ℕ) (k v : ℕ) → k < length xs → (a : ℕ) → slice_index xs a ≡ f a → slice_index (slice_set xs k v) a ≡ with_at f k v a
 set_at xs f k v lt a same = elim (same_or_not a k) [
-  | inl e ↦ rw e (get_or-set_same xs k v 0 lt ∙ sym (with_at_same f k v))
-  | inr n ↦ get_or-set_other xs k a v 0 n ∙ same ∙ sym (with_at_other f k v a n)
+  | inl e ↦ rw e (get_or-set_same xs k v 0 lt ∙ sym (here_at f k v))
+  | inr n ↦ get_or-set_other xs k a v 0 n ∙ same ∙ sym (other_at f k a v n)
 ]
 
 pub set_bound : (xs : List ℕ) (k v most : ℕ) → k < length xs → v ≤ most + 1 → (a : ℕ) → slice_index xs a ≤ most → slice_index (slice_set xs k v) a ≤ most + 1

@@ -1,7 +1,7 @@
 -- What an actor's stack of phases may be, where so many pieces of its operation were answered.
 use Rattle.std.proofs.Common.{◌≡◌, ℕ, ◌+◌, Bool, true, false, cond, nat_lt, ◌==◌, Option, None, Some, List, [], ◌∷◌, length, refl, sym, ◌∙◌, subst}
 use Rattle.std.specs.Prelude.{◌&&◌}
-use Rattle.std.proofs.lemmas.Bool.{false≢true, eqb-true, eq-eqb}
+use Rattle.std.proofs.lemmas.Bool.{false≢true, eqb-true, eq-eqb, and_parts, and_from}
 use Rattle.hm_base.specs.declared.ops.Op.{Op}
 use Rattle.hm_history.specs.declared.Kind.{Kind}
 use Rattle.hm_history.specs.declared.Why.{Why}
@@ -10,7 +10,7 @@ use Rattle.hm_history.specs.declared.phases.Phase.{Phase}
 use Rattle.hm_history.specs.declared.phases.Next.{Next}
 use Rattle.hm_history.specs.declared.phases.Next.TheVariants.{Do, Wait}
 use Rattle.hm_history.specs.Operation.{op_pieces, is_remove, is_evicting, is_migration}
-use Rattle.hm_history.specs.Moved.{first_phase, piece_ends, piece_of}
+use Rattle.hm_history.specs.Stacks.{first_phase, piece_ends, piece_of}
 use Rattle.hm_report.specs.Kinds.{is_answer, is_snap, finishes}
 
 -- classes of operations
@@ -105,7 +105,7 @@ base_fits o n _ = false
 abbrev pub is_above : Phase → Bool
 is_above (Phase.Guard p r met told body) = true
 is_above (Phase.Drop f) = true
-is_above (Phase.Alone f at) = true
+is_above (Phase.Emptying f at) = true
 is_above (Phase.Copy f g k) = true
 is_above (Phase.Copied f g) = true
 is_above (Phase.Finish f to) = true
@@ -159,30 +159,18 @@ pub perhaps : {A X : Type 0} (P : X → Type 0) (o : Option A) (x : X) (f : A �
 perhaps P None x f p q = p
 perhaps P (Some a) x f p q = q a
 
--- tests
-pub and_left : (a b : Bool) → (a && b) ≡ true → a ≡ true
-and_left true b e = refl
-and_left false b e = e
-
-pub and_right : (a b : Bool) → (a && b) ≡ true → b ≡ true
-and_right true b e = e
-and_right false b e = absurd (false≢true e)
-
-pub and_both : (a b : Bool) → a ≡ true → b ≡ true → (a && b) ≡ true
-and_both a b e f = rw e f
-
 -- stacks
 pub fits_push : (o : Op) (n : ℕ) (x : Phase) (below : List Phase) → is_above x ≡ true → fits o n below ≡ true → fits o n (x ∷ below) ≡ true
 fits_push o n x [] above fit = absurd (false≢true fit)
-fits_push o n x (y ∷ below) above fit = and_both (is_above x) (fits o n (y ∷ below)) above fit
+fits_push o n x (y ∷ below) above fit = and_from (is_above x) (fits o n (y ∷ below)) above fit
 
 pub fits_below : (o : Op) (n : ℕ) (x : Phase) (below : List Phase) → base_fits o n x ≡ false → fits o n (x ∷ below) ≡ true → fits o n below ≡ true
 fits_below o n x [] none fit = absurd (false≢true (sym none ∙ fit))
-fits_below o n x (y ∷ below) none fit = and_right (is_above x) (fits o n (y ∷ below)) fit
+fits_below o n x (y ∷ below) none fit = (and_parts (is_above x) (fits o n (y ∷ below)) fit).1
 
 pub fits_base : (o : Op) (n : ℕ) (x : Phase) (below : List Phase) → is_above x ≡ false → fits o n (x ∷ below) ≡ true → base_fits o n x ≡ true
 fits_base o n x [] none fit = fit
-fits_base o n x (y ∷ below) none fit = absurd (false≢true (sym none ∙ and_left (is_above x) (fits o n (y ∷ below)) fit))
+fits_base o n x (y ∷ below) none fit = absurd (false≢true (sym none ∙ (and_parts (is_above x) (fits o n (y ∷ below)) fit).0))
 
 pub first_fits : (o : Op) → fits o 0 (first_phase o ∷ []) ≡ true
 first_fits (Op.Map p r w) = refl
@@ -228,10 +216,10 @@ alone_goes o e = absurd (false≢true e)
 
 alone_ends : (o : Op) (n k : ℕ) → (is_alone_op o && ((0 == n) && (0 == k))) ≡ true → answer_goes o n (piece_ends o k) ≡ true
 alone_ends o n k fit =
-    let alone = and_left (is_alone_op o) ((0 == n) && (0 == k)) fit in
-    let both = and_right (is_alone_op o) ((0 == n) && (0 == k)) fit in
-    let a : 0 ≡ n = eqb-true 0 n (and_left (0 == n) (0 == k) both) in
-    let b : 0 ≡ k = eqb-true 0 k (and_right (0 == n) (0 == k) both) in
+    let alone = (and_parts (is_alone_op o) ((0 == n) && (0 == k)) fit).0 in
+    let both = (and_parts (is_alone_op o) ((0 == n) && (0 == k)) fit).1 in
+    let a : 0 ≡ n = eqb-true 0 n (and_parts (0 == n) (0 == k) both).0 in
+    let b : 0 ≡ k = eqb-true 0 k (and_parts (0 == n) (0 == k) both).1 in
     rw (← a, ← b) (alone_goes o alone)
 
 by_access : (o : Op) (n k : ℕ) (b : Bool) → is_access o ≡ b → elim b [ true ↦ k == n | false ↦ is_alone_op o && ((0 == n) && (0 == k)) ] ≡ true → answer_goes o n (piece_ends o k) ≡ true
@@ -242,12 +230,12 @@ pub piece_goes : (o : Op) (n k : ℕ) → piece_fits o n k ≡ true → answer_g
 piece_goes o n k fit = by_access o n k (is_access o) refl fit
 
 alone_piece : (o : Op) (n : ℕ) → is_alone_op o ≡ true → (0 == n) ≡ true → piece_fits o n 0 ≡ true
-alone_piece (Op.Exclusive m v) n e z = and_both (0 == n) true z refl
-alone_piece (Op.Add m a k) n e z = and_both (0 == n) true z refl
+alone_piece (Op.Exclusive m v) n e z = and_from (0 == n) true z refl
+alone_piece (Op.Add m a k) n e z = and_from (0 == n) true z refl
 alone_piece o n e z = absurd (false≢true e)
 
 pub sole_piece : (o : Op) (n : ℕ) → (is_alone_op o && (0 == n)) ≡ true → piece_fits o n 0 ≡ true
-sole_piece o n fit = alone_piece o n (and_left (is_alone_op o) (0 == n) fit) (and_right (is_alone_op o) (0 == n) fit)
+sole_piece o n fit = alone_piece o n (and_parts (is_alone_op o) (0 == n) fit).0 (and_parts (is_alone_op o) (0 == n) fit).1
 
 pub touch_piece : (o : Op) (n : ℕ) (touch : Touch) → touch_fits o n touch ≡ true → piece_fits o n (piece_of touch) ≡ true
 touch_piece o n (Touch.Cpu k) fit = fit

@@ -3,7 +3,7 @@ use Rattle.std.proofs.Common.{◌≡◌, ℕ, ◌+◌, List, [], ◌++◌, take,
 use Rattle.std.proofs.lemmas.List.{append_assoc, append-nil, take-append-drop}
 use Rattle.hm_io.specs.Streams.{Adds}
 use Rattle.hm_report.specs.declared.outlet.Stop.{Stop}
-use Rattle.hm_report.specs.Told.{Told, Sends, GoesOn, Stops, StopCause}
+use Rattle.hm_report.specs.SinkState.{SinkState, Sends, GoesOn, Stops, StopCause}
 
 adds_none : (held : Option (List ℕ)) → Adds held held []
 adds_none None = refl
@@ -16,22 +16,22 @@ adds_more (Some held) mid after xs ys first more =
     let at : Adds (Some (held ++ xs)) after ys = rw first at more in
     at ∙ ap Some (append_assoc held xs ys)
 
-pub sends_none : (t : Told) → Sends t t []
+pub sends_none : (t : SinkState) → Sends t t []
 sends_none t = record { bytes_are = adds_none t.held; faults = refl; wants = refl }
 
-pub sends_more : (t u v : Told) (xs ys : List ℕ) → Sends t u xs → Sends u v ys → Sends t v (xs ++ ys)
+pub sends_more : (t u v : SinkState) (xs ys : List ℕ) → Sends t u xs → Sends u v ys → Sends t v (xs ++ ys)
 sends_more t u v xs ys first more = record {
   bytes_are = adds_more t.held u.held v.held xs ys first.bytes_are more.bytes_are;
   faults = more.faults ∙ first.faults;
   wants = more.wants ∙ first.wants;
 }
 
-stop_cause_after : (t u v : Told) (why : Stop) → u.faults ≡ t.faults → u.wants ≡ t.wants → StopCause u v why → StopCause t v why
+stop_cause_after : (t u v : SinkState) (why : Stop) → u.faults ≡ t.faults → u.wants ≡ t.wants → StopCause u v why → StopCause t v why
 stop_cause_after t u v Stop.Fault f w cause = (rw (← f) cause.0, cause.1 ∙ w)
 stop_cause_after t u v Stop.NoMemory f w cause = (cause.0 ∙ f, rw (← w) cause.1)
 
 -- a stop in what comes after
-pub stops_after : (t u v : Told) (xs ys : List ℕ) (why : Stop) → Sends t u xs → Stops u v ys why → Stops t v (xs ++ ys) why
+pub stops_after : (t u v : SinkState) (xs ys : List ℕ) (why : Stop) → Sends t u xs → Stops u v ys why → Stops t v (xs ++ ys) why
 stops_after t u v xs ys why sends stops =
     let front = stops.front.0 in
     let rest = stops.front.1 in
@@ -41,7 +41,7 @@ stops_after t u v xs ys why sends stops =
     }
 
 -- a stop before more comes
-pub stops_before : (t u : Told) (xs ys : List ℕ) (why : Stop) → Stops t u xs why → Stops t u (xs ++ ys) why
+pub stops_before : (t u : SinkState) (xs ys : List ℕ) (why : Stop) → Stops t u xs why → Stops t u (xs ++ ys) why
 stops_before t u xs ys why stops =
     let front = stops.front.0 in
     let rest = stops.front.1 in
@@ -51,17 +51,17 @@ stops_before t u xs ys why stops =
     }
 
 -- more is put into the buffer
-pub goes_put : (t u : Told) (b c xs ys : List ℕ) → GoesOn t u b c xs → GoesOn t u b (c ++ ys) (xs ++ ys)
+pub goes_put : (t u : SinkState) (b c xs ys : List ℕ) → GoesOn t u b c xs → GoesOn t u b (c ++ ys) (xs ++ ys)
 goes_put t u b c xs ys goes = record {
   front = goes.front;
   whole = sym (append_assoc b xs ys) ∙ ap (λ zs. zs ++ ys) goes.whole ∙ append_assoc goes.front c ys;
   sends = goes.sends;
 }
 
-pub goes_nothing : (t : Told) (b : List ℕ) → GoesOn t t b b []
+pub goes_nothing : (t : SinkState) (b : List ℕ) → GoesOn t t b b []
 goes_nothing t b = record { front = []; whole = append-nil b; sends = sends_none t }
 
-pub goes_more : (t u v : Told) (b c d xs ys : List ℕ) → GoesOn t u b c xs → GoesOn u v c d ys → GoesOn t v b d (xs ++ ys)
+pub goes_more : (t u v : SinkState) (b c d xs ys : List ℕ) → GoesOn t u b c xs → GoesOn u v c d ys → GoesOn t v b d (xs ++ ys)
 goes_more t u v b c d xs ys first more = record {
   front = first.front ++ more.front;
   whole = sym (append_assoc b xs ys) ∙ ap (λ zs. zs ++ ys) first.whole ∙ append_assoc first.front c ys
@@ -69,47 +69,47 @@ goes_more t u v b c d xs ys first more = record {
   sends = sends_more t u v first.front more.front first.sends more.sends;
 }
 
-pub goes_settled : (t u v : Told) (b c d xs : List ℕ) → GoesOn t u b c xs → GoesOn u v c d [] → GoesOn t v b d xs
+pub goes_settled : (t u v : SinkState) (b c d xs : List ℕ) → GoesOn t u b c xs → GoesOn u v c d [] → GoesOn t v b d xs
 goes_settled t u v b c d xs first more =
     let whole = goes_more t u v b c d xs [] first more in
     rw (← append-nil xs) whole
 
 -- a stop in what comes after
-pub goes_stops : (t u v : Told) (b c xs ys : List ℕ) (why : Stop) → GoesOn t u b c xs → Stops u v (c ++ ys) why → Stops t v (b ++ (xs ++ ys)) why
+pub goes_stops : (t u v : SinkState) (b c xs ys : List ℕ) (why : Stop) → GoesOn t u b c xs → Stops u v (c ++ ys) why → Stops t v (b ++ (xs ++ ys)) why
 goes_stops t u v b c xs ys why goes stops =
     let all = stops_after t u v goes.front (c ++ ys) why goes.sends stops in
     let e : goes.front ++ (c ++ ys) ≡ b ++ (xs ++ ys) = sym (append_assoc goes.front c ys) ∙ ap (λ zs. zs ++ ys) (sym goes.whole) ∙ append_assoc b xs ys in
     rw (← e) all
 
 -- the sink failed, or wanted memory, after these bytes
-pub stops_now : (t u v : Told) (bytes : List ℕ) (at : ℕ) (why : Stop) → Sends t u (take at bytes) → v.held ≡ u.held → StopCause u v why → Stops t v bytes why
+pub stops_now : (t u v : SinkState) (bytes : List ℕ) (at : ℕ) (why : Stop) → Sends t u (take at bytes) → v.held ≡ u.held → StopCause u v why → Stops t v bytes why
 stops_now t u v bytes at why sends same cause = record {
   front = (take at bytes, drop at bytes, sym (take-append-drop at bytes), rw same sends.bytes_are);
   cause = stop_cause_after t u v why sends.faults sends.wants cause;
 }
 
 -- one more piece went out
-pub piece_sends : (t u v : Told) (bytes : List ℕ) (at n k : ℕ) → k ≡ n → Sends t u (take at bytes) → Sends u v (take k (drop at bytes)) → Sends t v (take (at + n) bytes)
+pub piece_sends : (t u v : SinkState) (bytes : List ℕ) (at n k : ℕ) → k ≡ n → Sends t u (take at bytes) → Sends u v (take k (drop at bytes)) → Sends t v (take (at + n) bytes)
 piece_sends t u v bytes at n k same sends more = rw (take-add at n bytes, ← same) (sends_more t u v (take at bytes) (take k (drop at bytes)) sends more)
 
 pieces_whole : (bytes : List ℕ) (at k : ℕ) → (take at bytes ++ take k (drop at bytes)) ++ drop k (drop at bytes) ≡ bytes
 pieces_whole bytes at k =
     append_assoc (take at bytes) (take k (drop at bytes)) (drop k (drop at bytes)) ∙ ap (λ zs. take at bytes ++ zs) (take-append-drop k (drop at bytes)) ∙ take-append-drop at bytes
 
-pub piece_stops : (t u v : Told) (bytes : List ℕ) (at k : ℕ) (why : Stop) → Sends t u (take at bytes) → Stops u v (take k (drop at bytes)) why → Stops t v bytes why
+pub piece_stops : (t u v : SinkState) (bytes : List ℕ) (at k : ℕ) (why : Stop) → Sends t u (take at bytes) → Stops u v (take k (drop at bytes)) why → Stops t v bytes why
 piece_stops t u v bytes at k why sends stops =
     let seen = stops_after t u v (take at bytes) (take k (drop at bytes)) why sends stops in
     let all = stops_before t v (take at bytes ++ take k (drop at bytes)) (drop k (drop at bytes)) why seen in
     rw (← pieces_whole bytes at k) all
 
 -- one more piece of a text was put into the buffer
-pub text_goes : (t u v : Told) (b c mid d text : List ℕ) (at n k : ℕ) → k ≡ n → mid ≡ c ++ take k (drop at text) → GoesOn t u b c (take at text) → GoesOn u v mid d [] → GoesOn t v b d (take (at + n) text)
+pub text_goes : (t u v : SinkState) (b c mid d text : List ℕ) (at n k : ℕ) → k ≡ n → mid ≡ c ++ take k (drop at text) → GoesOn t u b c (take at text) → GoesOn u v mid d [] → GoesOn t v b d (take (at + n) text)
 text_goes t u v b c mid d text at n k same put goes settled =
     let piece = take k (drop at text) in
     let more : GoesOn t u b mid (take at text ++ piece) = rw put (goes_put t u b c (take at text) piece goes) in
     rw (take-add at n text, ← same) (goes_settled t u v b mid d (take at text ++ piece) more settled)
 
-pub text_stops : (t u v : Told) (b c mid text : List ℕ) (at k : ℕ) (why : Stop) → mid ≡ c ++ take k (drop at text) → GoesOn t u b c (take at text) → Stops u v mid why → Stops t v (b ++ text) why
+pub text_stops : (t u v : SinkState) (b c mid text : List ℕ) (at k : ℕ) (why : Stop) → mid ≡ c ++ take k (drop at text) → GoesOn t u b c (take at text) → Stops u v mid why → Stops t v (b ++ text) why
 text_stops t u v b c mid text at k why put goes stops =
     let piece = take k (drop at text) in
     let here : Stops u v (c ++ piece) why = rw (← put) stops in

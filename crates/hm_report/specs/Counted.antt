@@ -1,11 +1,8 @@
 -- The ends of operations, counted.
-use Rattle.std.specs.Prelude.{◌≡◌, ℕ, Bool, true, false, List, [], ◌∷◌, ◌++◌, ⊤}
+use Rattle.std.specs.Prelude.{◌≡◌, ℕ, List, []}
 use Rattle.hm_base.specs.Program.{Program}
-use Rattle.hm_history.specs.Going.{state_of}
 use Rattle.hm_history.specs.Laws.{DueFrom}
-use Rattle.hm_history.specs.declared.Kind.{Kind}
 use Rattle.hm_history.specs.declared.Entry.{Entry}
-use Rattle.hm_history.specs.declared.phases.Phase.{Phase}
 use Rattle.hm_report.specs.Report.{first_unended}
 use Rattle.hm_report.specs.Ended.{ended_after}
 
@@ -17,16 +14,6 @@ counted c h a = (ended_after c h a).operations
 abbrev pub EndsAreCounted : Program → List Entry → Type 0
 EndsAreCounted c h = (a : ℕ) → first_unended c h a ≡ counted c h a
 
--- an eviction drops a frame that it has come to: no place names the frame
-abbrev pub is_stray : List Phase → Kind → Bool
-is_stray (Phase.Frames v n ∷ below) (Kind.Drop f) = true
-is_stray _ _ = false
-
--- no such entry is among these
-abbrev pub NoStrays : Program → List Entry → List Entry → Type 0
-NoStrays c h [] = ⊤
-NoStrays c h (e ∷ es) = (is_stray ((state_of c h).going e.actor).stack e.kind ≡ false) × NoStrays c (h ++ e ∷ []) es
-
 -- where each entry was due, the ends of operations are counted
 abbrev pub EndsOfDueAreCounted : Type 0
-EndsOfDueAreCounted = (c : Program) (h : List Entry) → DueFrom c [] h → NoStrays c [] h → EndsAreCounted c h
+EndsOfDueAreCounted = (c : Program) (h : List Entry) → DueFrom c [] h → EndsAreCounted c h

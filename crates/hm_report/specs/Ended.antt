@@ -21,7 +21,10 @@ answered o n = elim (nat_lt (n.pieces + 1) (length (op_pieces o))) [
 
 -- in this operation, after an entry of its actor
 abbrev pub ended_in : Op → Ended → Kind → Ended
-ended_in o n k = elim (is_answer k) [ true ↦ answered o n | false ↦ elim (finishes o k) [ true ↦ next_operation n | false ↦ n ] ]
+ended_in o n k = elim (is_answer k) [
+  | true ↦ answered o n
+  | false ↦ elim (finishes o k) [ true ↦ next_operation n | false ↦ n ]
+]
 
 abbrev pub ended_at : Option Op → Ended → Kind → Ended
 ended_at None n k = n

@@ -1,5 +1,6 @@
 -- Which entries end an operation, or a piece of one.
-use Rattle.std.specs.Prelude.{Bool, true, false, not, ◌==◌}
+use Rattle.std.specs.Prelude.{Bool, true, false}
+use Rattle.hm_base.specs.declared.cause.Cause.{Cause}
 use Rattle.hm_base.specs.declared.ops.Op.{Op}
 use Rattle.hm_history.specs.declared.Kind.{Kind}
 
@@ -14,7 +15,7 @@ abbrev pub is_snap : Op → Bool
 is_snap (Op.Snap m r) = true
 is_snap _ = false
 
--- the entry that ends the operation; no refusal has the number 0
+-- the entry that ends the operation; no run has a refusal with the cause `Never`
 abbrev pub finishes : Op → Kind → Bool
 finishes o (Kind.Mapped p r w) = true
 finishes o (Kind.Unmapped p r) = true
@@ -28,6 +29,7 @@ finishes o (Kind.Evicted n) = true
 finishes o (Kind.Removed d) = true
 finishes o (Kind.Excluded m v) = true
 finishes o (Kind.Added m a was now) = true
-finishes o (Kind.Refused n) = not (n == 0)
+finishes o (Kind.Refused Cause.Never) = false
+finishes o (Kind.Refused why) = true
 finishes o (Kind.Runlock p) = is_snap o
 finishes o _ = false

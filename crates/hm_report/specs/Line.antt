@@ -3,7 +3,7 @@ use Rattle.std.specs.Prelude.{ℕ, List, ◌∷◌}
 use Rattle.std.specs.List.{flat_map}
 use Rattle.std.specs.Fmt.{decimal}
 use Rattle.hm_script.specs.Spelling.{address_text, right_text}
-use Rattle.hm_report.specs.Words.{proc_text, mirror_text, device_text, actor_text, who_text, byte_text, frame_text, write_text, target_text, table_right_text, part_text, kept_text}
+use Rattle.hm_report.specs.Words.{proc_text, mirror_text, device_text, actor_text, who_text, byte_text, frame_text, write_text, target_text, table_right_text, part_text, kept_text, cause_number}
 use Rattle.hm_report.specs.declared.words.Word.{Word}
 
 abbrev pub word_text : Word → List ℕ
@@ -25,6 +25,7 @@ word_text (Word.Target f) = target_text f
 word_text (Word.TableRight w) = table_right_text w
 word_text (Word.Part k) = part_text k
 word_text (Word.Kept at) = kept_text at
+word_text (Word.Cause why) = decimal (cause_number why)
 
 -- each word with a space before it
 abbrev pub spaced : List (List ℕ) → List ℕ

@@ -1,4 +1,5 @@
--- The report of a script and a history: the script's text, its entries, what has not ended, and how many entries there are.
+-- The report of a script and a history: the script's text, its entries, what has not ended, and how many entries there
+-- are.
 use Rattle.std.specs.Prelude.{ℕ, ◌+◌, ◌==◌, if◌then◌else◌, List, [], ◌∷◌, ◌++◌, length, codes}
 use Rattle.std.specs.List.{flat_map}
 use Rattle.std.specs.Fmt.{decimal}
@@ -19,7 +20,8 @@ entry_lines at (e ∷ es) = entry_line at e ++ entry_lines (at + 1) es
 
 -- the line of an actor whose operation `index`, of `count`, is its first that has not ended
 abbrev pub unfinished_line : ℕ → ℕ → ℕ → List ℕ
-unfinished_line a index count = if index == count then [] else line (codes "unfinished" ∷ actor_text a ∷ decimal index ∷ [])
+unfinished_line a index count =
+    if index == count then [] else line (codes "unfinished" ∷ actor_text a ∷ decimal index ∷ [])
 
 -- the lines of the first actors, from the numbers of their first operations that have not ended
 abbrev pub unfinished_among : Program → (ℕ → ℕ) → ℕ → List ℕ
@@ -36,7 +38,8 @@ end_line count = line (codes "end" ∷ decimal count ∷ [])
 
 -- the report, where this gives how many operations of each actor have ended
 abbrev pub report_by : Program → List Entry → (ℕ → ℕ) → List ℕ
-report_by c h ended = text c ++ (history_line ++ (entry_lines 0 h ++ (unfinished_lines c ended ++ end_line (length h))))
+report_by c h ended =
+    text c ++ (history_line ++ (entry_lines 0 h ++ (unfinished_lines c ended ++ end_line (length h))))
 
 -- the number, from 0, of the actor's first operation that has not ended; all have ended where it is their count
 abbrev pub first_unended : Program → List Entry → ℕ → ℕ

@@ -3,6 +3,7 @@ use Rattle.std.specs.Prelude.{ℕ, ◌/◌, ◌%◌, Bool, false, if◌then◌el
 use Rattle.std.specs.Fmt.{decimal, digit_glyph}
 use Rattle.hm_base.specs.PlaceWords.{sys_frame, dev_frame}
 use Rattle.hm_base.specs.declared.PoolId.{PoolId}
+use Rattle.hm_base.specs.declared.cause.Cause.{Cause}
 use Rattle.hm_base.specs.declared.Frame.{Frame}
 use Rattle.hm_base.specs.declared.Place.{Place}
 use Rattle.hm_history.specs.declared.Who.{Who}
@@ -69,6 +70,20 @@ abbrev pub kept_text : KeptAt → List ℕ
 kept_text (KeptAt.Page v) = decimal v
 kept_text (KeptAt.Frame f) = frame_text f
 
+-- the number of a cause. No report has 0
+abbrev pub cause_number : Cause → ℕ
+cause_number Cause.Never = 0
+cause_number Cause.Unmapped = 1
+cause_number Cause.Forbidden = 2
+cause_number Cause.NoFrame = 3
+cause_number Cause.Outside = 4
+cause_number Cause.Overlap = 5
+cause_number Cause.TooManyAreas = 6
+cause_number Cause.NameTaken = 7
+cause_number Cause.NoProcess = 8
+cause_number Cause.MirrorTaken = 9
+cause_number Cause.Removed = 10
+
 abbrev pub why_words : KeptWhy → List (List ℕ)
 why_words KeptWhy.NotHere = codes "nothere" ∷ []
 why_words (KeptWhy.LockedBy b) = codes "locked" ∷ actor_text b ∷ []
@@ -79,16 +94,26 @@ why_words KeptWhy.Lost = codes "lost" ∷ []
 abbrev pub kind_words : Kind → List (List ℕ)
 kind_words (Kind.Loaded x a bs) = codes "loaded" ∷ who_text x ∷ address_text a ∷ hex_text bs ∷ []
 kind_words (Kind.Stored x a bs) = codes "stored" ∷ who_text x ∷ address_text a ∷ hex_text bs ∷ []
-kind_words (Kind.Failed x a n c) = codes "failed" ∷ who_text x ∷ address_text a ∷ decimal n ∷ decimal c ∷ []
+kind_words (Kind.Failed x a n why) =
+    codes "failed" ∷ who_text x ∷ address_text a ∷ decimal n ∷ decimal (cause_number why) ∷ []
 kind_words (Kind.Mapped p r w) = codes "mapped" ∷ proc_text p ∷ decimal r.first ∷ decimal r.count ∷ right_text w ∷ []
 kind_words (Kind.Unmapped p r) = codes "unmapped" ∷ proc_text p ∷ decimal r.first ∷ decimal r.count ∷ []
-kind_words (Kind.Protected p r w) = codes "protected" ∷ proc_text p ∷ decimal r.first ∷ decimal r.count ∷ right_text w ∷ []
+kind_words (Kind.Protected p r w) =
+    codes "protected" ∷ proc_text p ∷ decimal r.first ∷ decimal r.count ∷ right_text w ∷ []
 kind_words (Kind.Forked p c) = codes "forked" ∷ proc_text p ∷ proc_text c ∷ []
 kind_words (Kind.Exited p) = codes "exited" ∷ proc_text p ∷ []
-kind_words (Kind.Attached m d p r q) = codes "attached" ∷ mirror_text m ∷ device_text d ∷ proc_text p ∷ decimal r.first ∷ decimal r.count ∷ decimal q ∷ []
+kind_words (Kind.Attached m d p r q) =
+    codes "attached"
+    ∷ mirror_text m
+    ∷ device_text d
+    ∷ proc_text p
+    ∷ decimal r.first
+    ∷ decimal r.count
+    ∷ decimal q
+    ∷ []
 kind_words (Kind.Detaching m q) = codes "detaching" ∷ mirror_text m ∷ decimal q ∷ []
 kind_words (Kind.Detached m) = codes "detached" ∷ mirror_text m ∷ []
-kind_words (Kind.Refused n) = codes "refused" ∷ decimal n ∷ []
+kind_words (Kind.Refused why) = codes "refused" ∷ decimal (cause_number why) ∷ []
 kind_words (Kind.Migrated n) = codes "migrated" ∷ decimal n ∷ []
 kind_words (Kind.Seen m v c) = codes "seen" ∷ mirror_text m ∷ decimal v ∷ byte_text c ∷ []
 kind_words (Kind.Evicted n) = codes "evicted" ∷ decimal n ∷ []
@@ -105,7 +130,8 @@ kind_words (Kind.Told m r q) = codes "told" ∷ mirror_text m ∷ decimal r.firs
 kind_words (Kind.End p r q) = codes "end" ∷ proc_text p ∷ decimal r.first ∷ decimal r.count ∷ decimal q ∷ []
 kind_words (Kind.Begin m q) = codes "begin" ∷ mirror_text m ∷ decimal q ∷ []
 kind_words (Kind.Retry m) = codes "retry" ∷ mirror_text m ∷ []
-kind_words (Kind.Set m v f w from) = codes "set" ∷ mirror_text m ∷ decimal v ∷ target_text f ∷ table_right_text w ∷ decimal from ∷ []
+kind_words (Kind.Set m v f w from) =
+    codes "set" ∷ mirror_text m ∷ decimal v ∷ target_text f ∷ table_right_text w ∷ decimal from ∷ []
 kind_words (Kind.Fresh p v) = codes "fresh" ∷ proc_text p ∷ decimal v ∷ []
 kind_words (Kind.Copied f g k) = codes "copied" ∷ frame_text f ∷ frame_text g ∷ part_text k ∷ []
 kind_words (Kind.Committed f g) = codes "committed" ∷ frame_text f ∷ frame_text g ∷ []
@@ -114,7 +140,8 @@ kind_words (Kind.Done f) = codes "done" ∷ frame_text f ∷ []
 kind_words (Kind.Withdrawn d) = codes "withdrawn" ∷ device_text d ∷ []
 kind_words (Kind.Excluded m v) = codes "excluded" ∷ mirror_text m ∷ decimal v ∷ []
 kind_words (Kind.Fetched m a bs) = codes "fetched" ∷ mirror_text m ∷ address_text a ∷ hex_text bs ∷ []
-kind_words (Kind.Added m a was now) = codes "added" ∷ mirror_text m ∷ address_text a ∷ byte_text was ∷ byte_text now ∷ []
+kind_words (Kind.Added m a was now) =
+    codes "added" ∷ mirror_text m ∷ address_text a ∷ byte_text was ∷ byte_text now ∷ []
 
 -- the words of a kind but for the bytes that were read or written, and those
 abbrev pub head_words : Kind → List (List ℕ)

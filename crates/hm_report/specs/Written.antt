@@ -1,7 +1,7 @@
 -- What a write of a text does to a sink.
 use Rattle.std.specs.Prelude.{◌≡◌, ℕ, ◌≤◌, List, Option, ◌⊎◌}
 use Rattle.hm_io.specs.Streams.{Rose, Adds, AddsFront}
-use Rattle.hm_report.specs.Told.{Told}
+use Rattle.hm_report.specs.SinkState.{SinkState}
 use Rattle.hm_report.specs.declared.written.Written.{Written}
 
 -- the text was added, or a front of it
@@ -23,7 +23,8 @@ TextWants before after Written.Fault = after ≡ before
 TextWants before after Written.NoMemory = (before ≤ after) × Rose before after
 
 -- memory was wanted before anything was written, or by the sink
-abbrev pub ReportWants : Told → Told → Written → Type 0
+abbrev pub ReportWants : SinkState → SinkState → Written → Type 0
 ReportWants before after Written.Done = after.wants ≡ before.wants
 ReportWants before after Written.Fault = after.wants ≡ before.wants
-ReportWants before after Written.NoMemory = (after ≡ before) ⊎ ((before.wants ≤ after.wants) × Rose before.wants after.wants)
+ReportWants before after Written.NoMemory =
+    (after ≡ before) ⊎ ((before.wants ≤ after.wants) × Rose before.wants after.wants)

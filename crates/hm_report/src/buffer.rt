@@ -31,10 +31,9 @@ impl Buffer {
     pub fn new(alloc: Global) -> Result<Buffer, NoMemory>
         ensures { IfOk result (λ buffer. buffer ≡ []) }
     {
-        match Vec::with_capacity(alloc, ROOM) {
-            Ok(bytes) => Ok(Buffer { bytes }),
-            Err(_) => Err(NoMemory),
-        }
+        Ok(Buffer {
+            bytes: Vec::with_capacity(alloc, ROOM)?,
+        })
     }
 
     pub fn len(&self) -> usize

@@ -5,7 +5,7 @@ ghost use Rattle.hm_history.specs.Operation.{op_pieces};
 ghost use Rattle.hm_history.specs.Going.{ops_of};
 ghost use Rattle.hm_report.specs.Kinds.{is_answer, is_snap, finishes};
 
-use hm_base::{Op, Script};
+use hm_base::{Cause, Op, Script};
 use hm_history::{Entry, History, Kind};
 
 /// How many actors a script has at most.
@@ -75,7 +75,7 @@ fn is_answer(kind: &Kind) -> bool
     ensures { result ≡ is_answer kind.now }
 {
     match kind {
-        Kind::Loaded(..) | Kind::Stored(..) | Kind::Failed(..) => true,
+        Kind::Loaded { .. } | Kind::Stored { .. } | Kind::Failed { .. } => true,
         _ => false,
     }
 }
@@ -94,20 +94,20 @@ fn finishes(op: &Op, kind: &Kind) -> bool
     ensures { result ≡ finishes op.now kind.now }
 {
     match kind {
-        Kind::Mapped(..) => true,
-        Kind::Unmapped(..) => true,
-        Kind::Protected(..) => true,
-        Kind::Forked(..) => true,
+        Kind::Mapped { .. } => true,
+        Kind::Unmapped { .. } => true,
+        Kind::Protected { .. } => true,
+        Kind::Forked { .. } => true,
         Kind::Exited(_) => true,
-        Kind::Attached(..) => true,
+        Kind::Attached { .. } => true,
         Kind::Detached(_) => true,
         Kind::Migrated(_) => true,
         Kind::Evicted(_) => true,
         Kind::Removed(_) => true,
-        Kind::Excluded(..) => true,
-        Kind::Added(..) => true,
-        // No refusal has the number 0.
-        Kind::Refused(number) => *number != 0,
+        Kind::Excluded { .. } => true,
+        Kind::Added { .. } => true,
+        Kind::Refused(Cause::Never) => false,
+        Kind::Refused(_) => true,
         Kind::Runlock(_) => is_snap(op),
         _ => false,
     }

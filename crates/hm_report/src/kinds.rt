@@ -77,23 +77,36 @@ fn put_head(out: &mut Buffer, kind: &Kind)
     ensures room { length out.new ≤ length out.old + 1000 }
 {
     match kind {
-        Kind::Loaded(who, address, _) => {
+        Kind::Loaded {
+            who,
+            addr: address,
+            bytes: _,
+        } => {
             put_words(out, b" loaded", &[Word::Who(*who), Word::Address(*address)]);
         }
-        Kind::Stored(who, address, _) => {
+        Kind::Stored {
+            who,
+            addr: address,
+            bytes: _,
+        } => {
             put_words(out, b" stored", &[Word::Who(*who), Word::Address(*address)]);
         }
-        Kind::Failed(who, address, len, cause) => put_words(
+        Kind::Failed {
+            who,
+            addr: address,
+            len,
+            cause,
+        } => put_words(
             out,
             b" failed",
             &[
                 Word::Who(*who),
                 Word::Address(*address),
                 Word::Number(*len),
-                Word::Number(u64::from(*cause)),
+                Word::Cause(*cause),
             ],
         ),
-        Kind::Mapped(proc, span, rights) => put_words(
+        Kind::Mapped { proc, span, rights } => put_words(
             out,
             b" mapped",
             &[
@@ -103,12 +116,12 @@ fn put_head(out: &mut Buffer, kind: &Kind)
                 Word::Rights(*rights),
             ],
         ),
-        Kind::Unmapped(proc, span) => put_words(
+        Kind::Unmapped { proc, span } => put_words(
             out,
             b" unmapped",
             &[Word::Proc(*proc), Word::First(*span), Word::Count(*span)],
         ),
-        Kind::Protected(proc, span, rights) => put_words(
+        Kind::Protected { proc, span, rights } => put_words(
             out,
             b" protected",
             &[
@@ -118,11 +131,17 @@ fn put_head(out: &mut Buffer, kind: &Kind)
                 Word::Rights(*rights),
             ],
         ),
-        Kind::Forked(parent, child) => {
+        Kind::Forked { parent, child } => {
             put_words(out, b" forked", &[Word::Proc(*parent), Word::Proc(*child)]);
         }
         Kind::Exited(proc) => put_words(out, b" exited", &[Word::Proc(*proc)]),
-        Kind::Attached(mirror, dev, proc, span, seq) => put_words(
+        Kind::Attached {
+            mirror,
+            dev,
+            proc,
+            span,
+            seq,
+        } => put_words(
             out,
             b" attached",
             &[
@@ -134,7 +153,7 @@ fn put_head(out: &mut Buffer, kind: &Kind)
                 Word::Number(*seq),
             ],
         ),
-        Kind::Detaching(mirror, seq) => {
+        Kind::Detaching { mirror, seq } => {
             put_words(
                 out,
                 b" detaching",
@@ -142,11 +161,9 @@ fn put_head(out: &mut Buffer, kind: &Kind)
             );
         }
         Kind::Detached(mirror) => put_words(out, b" detached", &[Word::Mirror(*mirror)]),
-        Kind::Refused(number) => {
-            put_words(out, b" refused", &[Word::Number(u64::from(*number))]);
-        }
+        Kind::Refused(cause) => put_words(out, b" refused", &[Word::Cause(*cause)]),
         Kind::Migrated(pages) => put_words(out, b" migrated", &[Word::Number(*pages)]),
-        Kind::Seen(mirror, page, code) => put_words(
+        Kind::Seen { mirror, page, code } => put_words(
             out,
             b" seen",
             &[Word::Mirror(*mirror), Word::Page(*page), Word::Byte(*code)],
@@ -156,16 +173,16 @@ fn put_head(out: &mut Buffer, kind: &Kind)
         Kind::Rlock(proc) => put_words(out, b" rlock", &[Word::Proc(*proc)]),
         Kind::Runlock(proc) => put_words(out, b" runlock", &[Word::Proc(*proc)]),
         Kind::Wlock(proc) => put_words(out, b" wlock", &[Word::Proc(*proc)]),
-        Kind::Named(parent, child) => {
+        Kind::Named { parent, child } => {
             put_words(out, b" named", &[Word::Proc(*parent), Word::Proc(*child)]);
         }
         Kind::Take(frame) => put_words(out, b" take", &[Word::Frame(*frame)]),
         Kind::Drop(frame) => put_words(out, b" drop", &[Word::Frame(*frame)]),
-        Kind::Place(proc, page, place) => {
+        Kind::Place { proc, page, place } => {
             put_words(out, b" place", &[Word::Proc(*proc), Word::Page(*page)]);
             put_place(out, place);
         }
-        Kind::Start(proc, span, seq) => put_words(
+        Kind::Start { proc, span, seq } => put_words(
             out,
             b" start",
             &[
@@ -175,7 +192,7 @@ fn put_head(out: &mut Buffer, kind: &Kind)
                 Word::Number(*seq),
             ],
         ),
-        Kind::Told(mirror, span, seq) => put_words(
+        Kind::Told { mirror, span, seq } => put_words(
             out,
             b" told",
             &[
@@ -185,7 +202,7 @@ fn put_head(out: &mut Buffer, kind: &Kind)
                 Word::Number(*seq),
             ],
         ),
-        Kind::End(proc, span, seq) => put_words(
+        Kind::End { proc, span, seq } => put_words(
             out,
             b" end",
             &[
@@ -195,11 +212,17 @@ fn put_head(out: &mut Buffer, kind: &Kind)
                 Word::Number(*seq),
             ],
         ),
-        Kind::Begin(mirror, seq) => {
+        Kind::Begin { mirror, seq } => {
             put_words(out, b" begin", &[Word::Mirror(*mirror), Word::Number(*seq)]);
         }
         Kind::Retry(mirror) => put_words(out, b" retry", &[Word::Mirror(*mirror)]),
-        Kind::Set(mirror, page, target, right, from) => put_words(
+        Kind::Set {
+            mirror,
+            page,
+            target,
+            right,
+            since: from,
+        } => put_words(
             out,
             b" set",
             &[
@@ -210,38 +233,47 @@ fn put_head(out: &mut Buffer, kind: &Kind)
                 Word::Number(*from),
             ],
         ),
-        Kind::Fresh(proc, page) => {
+        Kind::Fresh { proc, page } => {
             put_words(out, b" fresh", &[Word::Proc(*proc), Word::Page(*page)]);
         }
-        Kind::Copied(from, to, part) => put_words(
+        Kind::Copied { from, to, part } => put_words(
             out,
             b" copied",
             &[Word::Frame(*from), Word::Frame(*to), Word::Part(*part)],
         ),
-        Kind::Committed(from, to) => {
+        Kind::Committed { from, to } => {
             put_words(out, b" committed", &[Word::Frame(*from), Word::Frame(*to)]);
         }
-        Kind::Kept(at, why) => {
+        Kind::Kept { at, why } => {
             put_words(out, b" kept", &[Word::Kept(*at)]);
             put_why(out, why);
         }
         Kind::Done(frame) => put_words(out, b" done", &[Word::Frame(*frame)]),
         Kind::Withdrawn(dev) => put_words(out, b" withdrawn", &[Word::Device(*dev)]),
-        Kind::Excluded(mirror, page) => {
+        Kind::Excluded { mirror, page } => {
             put_words(
                 out,
                 b" excluded",
                 &[Word::Mirror(*mirror), Word::Page(*page)],
             );
         }
-        Kind::Fetched(mirror, address, _) => {
+        Kind::Fetched {
+            mirror,
+            addr: address,
+            bytes: _,
+        } => {
             put_words(
                 out,
                 b" fetched",
                 &[Word::Mirror(*mirror), Word::Address(*address)],
             );
         }
-        Kind::Added(mirror, address, was, now) => put_words(
+        Kind::Added {
+            mirror,
+            addr: address,
+            read: was,
+            written: now,
+        } => put_words(
             out,
             b" added",
             &[
@@ -258,7 +290,8 @@ fn put_head(out: &mut Buffer, kind: &Kind)
 #[tactic(auto, using(std::proofs::Common::append_assoc))]
 pub fn put_front(out: &mut Buffer, at: u64, entry: &Entry)
     requires { length out.old + 1200 ≤ ROOM }
-    ensures text { out.new ≡ out.old ++ (decimal at ++ spaced (actor_text entry.now.actor ∷ head_words entry.now.kind)) }
+    ensures text { out.new
+        ≡ out.old ++ (decimal at ++ spaced (actor_text entry.now.actor ∷ head_words entry.now.kind)) }
     ensures room { length out.new ≤ length out.old + 1200 }
 {
     put_decimal(out, b"", at);

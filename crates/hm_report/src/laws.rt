@@ -2,8 +2,7 @@
 
 ghost use Rattle.hm_report.specs.Counted.{EndsOfDueAreCounted};
 
-/// Where each entry was due, and no eviction dropped a frame that it had come to, as many operations of each
-/// actor have ended as its entries tell.
+/// Where each entry was due, as many operations of each actor have ended as its entries tell.
 pub fn ends_are_counted()
     ensures { EndsOfDueAreCounted }
 {}

@@ -8,8 +8,6 @@ mod laws;
 mod numerals;
 mod outlet;
 mod report;
-#[cfg(test)]
-mod tests;
 mod totals;
 mod words;
 mod written;

@@ -1,7 +1,7 @@
 // From a buffer to a sink, in whole pieces.
 ghost use Rattle.std.specs.Prelude.{◌≡◌, ◌+◌, ◌≤◌, ◌<◌, ◌∷◌, ◌++◌, [], length, OnOk, IfErr};
 ghost use Rattle.hm_script.specs.Spelling.{hex_text};
-ghost use Rattle.hm_report.specs.Told.{told, Sends, GoesOn, Stops};
+ghost use Rattle.hm_report.specs.SinkState.{sink_state, Sends, GoesOn, Stops};
 
 use crate::buffer::{Buffer, PIECE, ROOM};
 use crate::numerals::put_byte;
@@ -16,8 +16,12 @@ pub enum Stop {
 
 /// Writes these bytes, and again what the sink did not take.
 pub fn write_all<K: Sink>(sink: &mut K, bytes: &[u8]) -> Result<(), Stop>
-    ensures ok { OnOk result (Sends (told K.held K.failures K.wanted sink.old) (told K.held K.failures K.wanted sink.new) bytes.now) }
-    ensures err { IfErr result (Stops (told K.held K.failures K.wanted sink.old) (told K.held K.failures K.wanted sink.new) bytes.now) }
+    ensures ok { OnOk result
+        (Sends (sink_state K.held K.failures K.wanted sink.old)
+        (sink_state K.held K.failures K.wanted sink.new) bytes.now) }
+    ensures err { IfErr result
+        (Stops (sink_state K.held K.failures K.wanted sink.old)
+        (sink_state K.held K.failures K.wanted sink.new) bytes.now) }
 {
     let mut at = 0;
     while at < bytes.len() {
@@ -32,8 +36,12 @@ pub fn write_all<K: Sink>(sink: &mut K, bytes: &[u8]) -> Result<(), Stop>
 
 /// Writes these bytes in pieces.
 pub fn write_pieces<K: Sink>(sink: &mut K, bytes: &[u8]) -> Result<(), Stop>
-    ensures ok { OnOk result (Sends (told K.held K.failures K.wanted sink.old) (told K.held K.failures K.wanted sink.new) bytes.now) }
-    ensures err { IfErr result (Stops (told K.held K.failures K.wanted sink.old) (told K.held K.failures K.wanted sink.new) bytes.now) }
+    ensures ok { OnOk result
+        (Sends (sink_state K.held K.failures K.wanted sink.old)
+        (sink_state K.held K.failures K.wanted sink.new) bytes.now) }
+    ensures err { IfErr result
+        (Stops (sink_state K.held K.failures K.wanted sink.old)
+        (sink_state K.held K.failures K.wanted sink.new) bytes.now) }
 {
     let mut at = 0;
     while at < bytes.len() {
@@ -48,9 +56,13 @@ pub fn write_pieces<K: Sink>(sink: &mut K, bytes: &[u8]) -> Result<(), Stop>
 #[inline(always)]
 pub fn settle<K: Sink>(out: &mut Buffer, sink: &mut K) -> Result<(), Stop>
     requires { length out.old ≤ ROOM }
-    ensures ok { OnOk result (GoesOn (told K.held K.failures K.wanted sink.old) (told K.held K.failures K.wanted sink.new) out.old out.new []) }
+    ensures ok { OnOk result
+        (GoesOn (sink_state K.held K.failures K.wanted sink.old)
+        (sink_state K.held K.failures K.wanted sink.new) out.old out.new []) }
     ensures room { OnOk result (length out.new ≤ PIECE) }
-    ensures err { IfErr result (Stops (told K.held K.failures K.wanted sink.old) (told K.held K.failures K.wanted sink.new) out.old) }
+    ensures err { IfErr result
+        (Stops (sink_state K.held K.failures K.wanted sink.old)
+        (sink_state K.held K.failures K.wanted sink.new) out.old) }
 {
     if out.len() >= PIECE {
         write_all(sink, out.piece())?;
@@ -62,9 +74,13 @@ pub fn settle<K: Sink>(out: &mut Buffer, sink: &mut K) -> Result<(), Stop>
 /// Adds the bytes of a text.
 pub fn put_text<K: Sink>(out: &mut Buffer, sink: &mut K, text: &[u8]) -> Result<(), Stop>
     requires { length out.old ≤ PIECE }
-    ensures ok { OnOk result (GoesOn (told K.held K.failures K.wanted sink.old) (told K.held K.failures K.wanted sink.new) out.old out.new text.now) }
+    ensures ok { OnOk result
+        (GoesOn (sink_state K.held K.failures K.wanted sink.old)
+        (sink_state K.held K.failures K.wanted sink.new) out.old out.new text.now) }
     ensures room { OnOk result (length out.new ≤ PIECE) }
-    ensures err { IfErr result (Stops (told K.held K.failures K.wanted sink.old) (told K.held K.failures K.wanted sink.new) (out.old ++ text.now)) }
+    ensures err { IfErr result
+        (Stops (sink_state K.held K.failures K.wanted sink.old) (sink_state K.held K.failures K.wanted sink.new)
+        (out.old ++ text.now)) }
 {
     let mut at = 0;
     while at < text.len() {
@@ -79,9 +95,13 @@ pub fn put_text<K: Sink>(out: &mut Buffer, sink: &mut K, text: &[u8]) -> Result<
 /// Adds a space and the digits of the bytes.
 pub fn put_hex<K: Sink>(out: &mut Buffer, sink: &mut K, bytes: &[u8]) -> Result<(), Stop>
     requires { length out.old + 1 < ROOM }
-    ensures ok { OnOk result (GoesOn (told K.held K.failures K.wanted sink.old) (told K.held K.failures K.wanted sink.new) out.old out.new (32 ∷ hex_text bytes.now)) }
+    ensures ok { OnOk result
+        (GoesOn (sink_state K.held K.failures K.wanted sink.old)
+        (sink_state K.held K.failures K.wanted sink.new) out.old out.new (32 ∷ hex_text bytes.now)) }
     ensures room { OnOk result (length out.new < ROOM) }
-    ensures err { IfErr result (Stops (told K.held K.failures K.wanted sink.old) (told K.held K.failures K.wanted sink.new) (out.old ++ 32 ∷ hex_text bytes.now)) }
+    ensures err { IfErr result
+        (Stops (sink_state K.held K.failures K.wanted sink.old) (sink_state K.held K.failures K.wanted sink.new)
+        (out.old ++ 32 ∷ hex_text bytes.now)) }
 {
     out.push(b' ');
     for byte in bytes {

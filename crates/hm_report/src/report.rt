@@ -1,15 +1,17 @@
 // The report of a script and a history.
 ghost use Rattle.std.specs.Prelude.{◌≡◌, ◌+◌, ◌≤◌, ◌<◌, ◌++◌, [], length, slice_index, OnOk, IfErr};
-ghost use Rattle.hm_report.specs.Counted.{counted, EndsAreCounted};
+ghost use Rattle.hm_history.specs.Legal.{Legal};
+ghost use Rattle.hm_report.specs.Counted.{counted};
 ghost use Rattle.hm_script.specs.Spelling.{text as script_text};
 ghost use Rattle.hm_report.specs.Words.{tail_text};
 ghost use Rattle.hm_report.specs.Report.{entry_line, entry_lines, history_line, unfinished_line, unfinished_lines, end_line, report_by, report};
-ghost use Rattle.hm_report.specs.Told.{told, Sends, GoesOn, Stops};
+ghost use Rattle.hm_report.specs.SinkState.{sink_state, Sends, GoesOn, Stops};
 ghost use Rattle.hm_report.specs.Written.{Writes, FaultCause, TextWants, ReportWants};
 
 use crate::buffer::{Buffer, PIECE, ROOM};
 use crate::ended::{op_count, operations_ended};
 use crate::kinds::put_front;
+use crate::laws::ends_are_counted;
 use crate::numerals::put_decimal;
 use crate::outlet::{Stop, put_hex, put_text, settle, write_pieces};
 use crate::written::Written;
@@ -22,14 +24,30 @@ use std::alloc::Global;
 /// Adds the bytes that an entry tells, where it tells some.
 fn put_tail<K: Sink>(out: &mut Buffer, sink: &mut K, kind: &Kind) -> Result<(), Stop>
     requires { length out.old + 1 < ROOM }
-    ensures ok { OnOk result (GoesOn (told K.held K.failures K.wanted sink.old) (told K.held K.failures K.wanted sink.new) out.old out.new (tail_text kind.now)) }
+    ensures ok { OnOk result
+        (GoesOn (sink_state K.held K.failures K.wanted sink.old)
+        (sink_state K.held K.failures K.wanted sink.new) out.old out.new (tail_text kind.now)) }
     ensures room { OnOk result (length out.new < ROOM) }
-    ensures err { IfErr result (Stops (told K.held K.failures K.wanted sink.old) (told K.held K.failures K.wanted sink.new) (out.old ++ tail_text kind.now)) }
+    ensures err { IfErr result
+        (Stops (sink_state K.held K.failures K.wanted sink.old) (sink_state K.held K.failures K.wanted sink.new)
+        (out.old ++ tail_text kind.now)) }
 {
     match kind {
-        Kind::Loaded(_, _, bytes) => put_hex(out, sink, bytes.as_slice()),
-        Kind::Stored(_, _, bytes) => put_hex(out, sink, bytes.as_slice()),
-        Kind::Fetched(_, _, bytes) => put_hex(out, sink, bytes.as_slice()),
+        Kind::Loaded {
+            who: _,
+            addr: _,
+            bytes,
+        } => put_hex(out, sink, bytes.as_slice()),
+        Kind::Stored {
+            who: _,
+            addr: _,
+            bytes,
+        } => put_hex(out, sink, bytes.as_slice()),
+        Kind::Fetched {
+            mirror: _,
+            addr: _,
+            bytes,
+        } => put_hex(out, sink, bytes.as_slice()),
         _ => Ok(()),
     }
 }
@@ -37,9 +55,13 @@ fn put_tail<K: Sink>(out: &mut Buffer, sink: &mut K, kind: &Kind) -> Result<(), 
 /// Adds the line of an entry.
 fn put_entry<K: Sink>(out: &mut Buffer, sink: &mut K, at: u64, entry: &Entry) -> Result<(), Stop>
     requires { length out.old ≤ 5000 }
-    ensures ok { OnOk result (GoesOn (told K.held K.failures K.wanted sink.old) (told K.held K.failures K.wanted sink.new) out.old out.new (entry_line at entry.now)) }
+    ensures ok { OnOk result
+        (GoesOn (sink_state K.held K.failures K.wanted sink.old)
+        (sink_state K.held K.failures K.wanted sink.new) out.old out.new (entry_line at entry.now)) }
     ensures room { OnOk result (length out.new ≤ 5000) }
-    ensures err { IfErr result (Stops (told K.held K.failures K.wanted sink.old) (told K.held K.failures K.wanted sink.new) (out.old ++ entry_line at entry.now)) }
+    ensures err { IfErr result
+        (Stops (sink_state K.held K.failures K.wanted sink.old) (sink_state K.held K.failures K.wanted sink.new)
+        (out.old ++ entry_line at entry.now)) }
 {
     put_front(out, at, entry);
     put_tail(out, sink, &entry.kind)?;
@@ -50,9 +72,13 @@ fn put_entry<K: Sink>(out: &mut Buffer, sink: &mut K, at: u64, entry: &Entry) ->
 /// Adds the lines of the entries, from position 0 on.
 fn put_entries<K: Sink>(out: &mut Buffer, sink: &mut K, entries: &[Entry]) -> Result<(), Stop>
     requires { length out.old ≤ 5000 }
-    ensures ok { OnOk result (GoesOn (told K.held K.failures K.wanted sink.old) (told K.held K.failures K.wanted sink.new) out.old out.new (entry_lines 0 entries.now)) }
+    ensures ok { OnOk result
+        (GoesOn (sink_state K.held K.failures K.wanted sink.old)
+        (sink_state K.held K.failures K.wanted sink.new) out.old out.new (entry_lines 0 entries.now)) }
     ensures room { OnOk result (length out.new ≤ 5000) }
-    ensures err { IfErr result (Stops (told K.held K.failures K.wanted sink.old) (told K.held K.failures K.wanted sink.new) (out.old ++ entry_lines 0 entries.now)) }
+    ensures err { IfErr result
+        (Stops (sink_state K.held K.failures K.wanted sink.old) (sink_state K.held K.failures K.wanted sink.new)
+        (out.old ++ entry_lines 0 entries.now)) }
 {
     for (at, entry) in entries.iter().enumerate() {
         put_entry(out, sink, at as u64, entry)?;
@@ -83,9 +109,14 @@ fn put_unfinished<K: Sink>(
 ) -> Result<(), Stop>
     requires room { length out.old ≤ 5000 }
     requires ended { length script.now.actors ≤ length ended.now }
-    ensures ok { OnOk result (GoesOn (told K.held K.failures K.wanted sink.old) (told K.held K.failures K.wanted sink.new) out.old out.new (unfinished_lines script.now (λ a. slice_index ended.now a))) }
+    ensures ok { OnOk result
+        (GoesOn (sink_state K.held K.failures K.wanted sink.old)
+        (sink_state K.held K.failures K.wanted sink.new) out.old out.new
+        (unfinished_lines script.now (λ a. slice_index ended.now a))) }
     ensures room { OnOk result (length out.new ≤ 5000) }
-    ensures err { IfErr result (Stops (told K.held K.failures K.wanted sink.old) (told K.held K.failures K.wanted sink.new) (out.old ++ unfinished_lines script.now (λ a. slice_index ended.now a))) }
+    ensures err { IfErr result
+        (Stops (sink_state K.held K.failures K.wanted sink.old) (sink_state K.held K.failures K.wanted sink.new)
+        (out.old ++ unfinished_lines script.now (λ a. slice_index ended.now a))) }
 {
     for actor in 0..script.actors.len() {
         let count = op_count(script, actor);
@@ -103,9 +134,14 @@ fn put_lines<K: Sink>(
     entries: &[Entry],
 ) -> Result<(), Stop>
     requires { length out.old ≤ PIECE }
-    ensures ok { OnOk result (GoesOn (told K.held K.failures K.wanted sink.old) (told K.held K.failures K.wanted sink.new) out.old out.new (text.now ++ (history_line ++ entry_lines 0 entries.now))) }
+    ensures ok { OnOk result
+        (GoesOn (sink_state K.held K.failures K.wanted sink.old)
+        (sink_state K.held K.failures K.wanted sink.new) out.old out.new
+        (text.now ++ (history_line ++ entry_lines 0 entries.now))) }
     ensures room { OnOk result (length out.new ≤ 5000) }
-    ensures err { IfErr result (Stops (told K.held K.failures K.wanted sink.old) (told K.held K.failures K.wanted sink.new) (out.old ++ (text.now ++ (history_line ++ entry_lines 0 entries.now)))) }
+    ensures err { IfErr result
+        (Stops (sink_state K.held K.failures K.wanted sink.old) (sink_state K.held K.failures K.wanted sink.new)
+        (out.old ++ (text.now ++ (history_line ++ entry_lines 0 entries.now)))) }
 {
     put_text(out, sink, text)?;
     out.put(b"history\n");
@@ -125,8 +161,12 @@ fn put_end(out: &mut Buffer, count: u64)
 /// Writes what is in the buffer and the last line.
 fn write_end<K: Sink>(out: &mut Buffer, sink: &mut K, count: u64) -> Result<(), Stop>
     requires { length out.old ≤ 5000 }
-    ensures ok { OnOk result (Sends (told K.held K.failures K.wanted sink.old) (told K.held K.failures K.wanted sink.new) (out.old ++ end_line count)) }
-    ensures err { IfErr result (Stops (told K.held K.failures K.wanted sink.old) (told K.held K.failures K.wanted sink.new) (out.old ++ end_line count)) }
+    ensures ok { OnOk result
+        (Sends (sink_state K.held K.failures K.wanted sink.old) (sink_state K.held K.failures K.wanted sink.new)
+        (out.old ++ end_line count)) }
+    ensures err { IfErr result
+        (Stops (sink_state K.held K.failures K.wanted sink.old) (sink_state K.held K.failures K.wanted sink.new)
+        (out.old ++ end_line count)) }
 {
     put_end(out, count);
     write_pieces(sink, out.as_slice())
@@ -142,10 +182,14 @@ fn write_lines<K: Sink>(
 ) -> Result<(), Stop>
     requires empty { out.old ≡ [] }
     requires text { text.now ≡ script_text script.now }
-    ensures ok { OnOk result (Sends (told K.held K.failures K.wanted sink.old) (told K.held K.failures K.wanted sink.new) (report_by script.now history.now.entries (counted script.now history.now.entries))) }
-    ensures err { IfErr result (Stops (told K.held K.failures K.wanted sink.old) (told K.held K.failures K.wanted sink.new) (report_by script.now history.now.entries (counted script.now history.now.entries))) }
+    ensures ok { OnOk result
+        (Sends (sink_state K.held K.failures K.wanted sink.old) (sink_state K.held K.failures K.wanted sink.new)
+        (report_by script.now history.now.entries (counted script.now history.now.entries))) }
+    ensures err { IfErr result
+        (Stops (sink_state K.held K.failures K.wanted sink.old) (sink_state K.held K.failures K.wanted sink.new)
+        (report_by script.now history.now.entries (counted script.now history.now.entries))) }
 {
-    script.fits();
+    script.facts();
     let entries = history.as_slice();
     put_lines(out, sink, text, entries)?;
     let ended = operations_ended(script, history);
@@ -154,16 +198,18 @@ fn write_lines<K: Sink>(
     write_end(out, sink, count)
 }
 
-/// Writes the report, where the ends of operations are counted.
-pub fn write_counted<K: Sink>(
+/// Writes the report with the ends of operations that the entries tell.
+pub(crate) fn write_counted<K: Sink>(
     alloc: Global,
     script: &Script,
     history: &History,
     sink: &mut K,
 ) -> Written
-    ensures text { Writes (K.held sink.old) (K.held sink.new) (report_by script.now history.now.entries (counted script.now history.now.entries)) result }
+    ensures text { Writes (K.held sink.old) (K.held sink.new)
+        (report_by script.now history.now.entries (counted script.now history.now.entries)) result }
     ensures faults { FaultCause (K.failures sink.old) (K.failures sink.new) result }
-    ensures wants { ReportWants (told K.held K.failures K.wanted sink.old) (told K.held K.failures K.wanted sink.new) result }
+    ensures wants { ReportWants (sink_state K.held K.failures K.wanted sink.old)
+        (sink_state K.held K.failures K.wanted sink.new) result }
 {
     let Ok(text) = print(alloc, script) else {
         return Written::NoMemory;
@@ -178,19 +224,21 @@ pub fn write_counted<K: Sink>(
     }
 }
 
-/// Writes the report in pieces of 4,096 bytes, the last one shorter or whole. What it allocates is taken
-/// before anything is written.
+/// Writes the report of a legal history in pieces of 4,096 bytes, the last one shorter or whole. What it allocates is
+/// taken before anything is written.
 pub fn write_report<K: Sink>(
     alloc: Global,
     script: &Script,
     history: &History,
     sink: &mut K,
 ) -> Written
-    requires counted { EndsAreCounted script.now history.now.entries }
+    requires { Legal script.now history.now.entries }
     ensures text { Writes (K.held sink.old) (K.held sink.new) (report script.now history.now.entries) result }
     ensures faults { FaultCause (K.failures sink.old) (K.failures sink.new) result }
-    ensures wants { ReportWants (told K.held K.failures K.wanted sink.old) (told K.held K.failures K.wanted sink.new) result }
+    ensures wants { ReportWants (sink_state K.held K.failures K.wanted sink.old)
+        (sink_state K.held K.failures K.wanted sink.new) result }
 {
+    ends_are_counted();
     write_counted(alloc, script, history, sink)
 }
 

@@ -1,9 +1,11 @@
 // The summary of a generated script's history.
 ghost use Rattle.std.specs.Prelude.{◌≡◌, ◌+◌, ◌*◌, ◌≤◌, ◌++◌, ◌<◌, ◌^◌, length, slice_index, OnOk, IfOk};
 ghost use Rattle.hm_report.specs.Summary.{summary_line, answer_lines, move_lines, unfinished_count, summary_by, summary};
-ghost use Rattle.hm_report.specs.Counted.{counted, EndsAreCounted};
+ghost use Rattle.hm_history.specs.Legal.{Legal};
+ghost use Rattle.hm_report.specs.Counted.{counted};
 
 use crate::ended::{op_count, operations_ended};
+use crate::laws::ends_are_counted;
 use hm_base::{NoMemory, Script, Text};
 use hm_history::{Entry, History, Kind};
 use std::alloc::Global;
@@ -31,9 +33,9 @@ fn is_of(topic: Topic, kind: &Kind) -> bool
     ensures { result ≡ is_of topic kind.now }
 {
     match (topic, kind) {
-        (Topic::Loaded, Kind::Loaded(..)) => true,
-        (Topic::Stored, Kind::Stored(..)) => true,
-        (Topic::Failed, Kind::Failed(..)) => true,
+        (Topic::Loaded, Kind::Loaded { .. }) => true,
+        (Topic::Stored, Kind::Stored { .. }) => true,
+        (Topic::Failed, Kind::Failed { .. }) => true,
         (Topic::Refused, Kind::Refused(_)) => true,
         (Topic::Retry, Kind::Retry(_)) => true,
         _ => false,
@@ -75,7 +77,7 @@ fn amount_of(amount: Amount, entries: &[Entry]) -> u128
 fn unfinished(script: &Script, history: &History) -> u64
     ensures { result ≡ unfinished_count script.now (counted script.now history.now.entries) (length script.now.actors) }
 {
-    script.fits();
+    script.facts();
     let ended = operations_ended(script, history);
     let mut count = 0;
     for actor in 0..script.actors.len() {
@@ -90,10 +92,8 @@ fn unfinished(script: &Script, history: &History) -> u64
 fn put_line(alloc: Global, text: &mut Text, word: &str, number: u128) -> Result<(), NoMemory>
     ensures { OnOk result (text.new ≡ text.old ++ summary_line word.now number) }
 {
-    match format!(in alloc; "{word} {number}\n") {
-        Ok(line) => text.extend(line.as_bytes()),
-        Err(_) => Err(NoMemory),
-    }
+    let line = format!(in alloc; "{word} {number}\n")?;
+    text.extend(line.as_bytes())
 }
 
 fn put_number(alloc: Global, text: &mut Text, word: &str, number: u64) -> Result<(), NoMemory>
@@ -151,15 +151,16 @@ fn put_moves(alloc: Global, text: &mut Text, entries: &[Entry]) -> Result<(), No
     put_count(alloc, text, "retry", Topic::Retry, entries)
 }
 
-/// The summary, where the ends of operations are counted.
+/// The summary with the ends of operations that the entries tell.
 #[tactic(auto, using(std::proofs::Common::append_assoc))]
-pub fn counted_summary(
+pub(crate) fn counted_summary(
     alloc: Global,
     number: u64,
     script: &Script,
     history: &History,
 ) -> Result<Text, NoMemory>
-    ensures { IfOk result (λ t. t ≡ summary_by number script.now history.now.entries (counted script.now history.now.entries)) }
+    ensures { IfOk result
+        (λ t. t ≡ summary_by number script.now history.now.entries (counted script.now history.now.entries)) }
 {
     let mut text = Text::new(alloc);
     put_number(alloc, &mut text, "trial", number)?;
@@ -179,8 +180,9 @@ pub fn summary(
     script: &Script,
     history: &History,
 ) -> Result<Text, NoMemory>
-    requires counted { EndsAreCounted script.now history.now.entries }
+    requires { Legal script.now history.now.entries }
     ensures { IfOk result (λ t. t ≡ summary number script.now history.now.entries) }
 {
+    ends_are_counted();
     counted_summary(alloc, number, script, history)
 }

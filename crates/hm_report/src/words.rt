@@ -1,11 +1,11 @@
 // The words of a line, written into a buffer.
 ghost use Rattle.std.specs.Prelude.{◌≡◌, ◌+◌, ◌*◌, ◌≤◌, ◌∷◌, ◌++◌, length, map};
-ghost use Rattle.hm_report.specs.Words.{frame_text};
+ghost use Rattle.hm_report.specs.Words.{frame_text, cause_number};
 ghost use Rattle.hm_report.specs.Line.{word_text, spaced};
 
 use crate::buffer::{Buffer, ROOM};
 use crate::numerals::{put_address, put_byte, put_decimal};
-use hm_base::{Actor, Dev, Frame, MirrorId, Page, PoolId, Proc, Rights, Span};
+use hm_base::{Actor, Cause, Dev, Frame, MirrorId, Page, PoolId, Proc, Rights, Span};
 use hm_history::{KeptAt, TableRight, Who};
 
 /// The most bytes that a word has, with its space.
@@ -37,6 +37,7 @@ pub enum Word {
     /// An eighth of a frame, or all of it.
     Part(Option<u8>),
     Kept(KeptAt),
+    Cause(Cause),
 }
 
 fn put_frame(out: &mut Buffer, frame: &Frame)
@@ -50,6 +51,24 @@ fn put_frame(out: &mut Buffer, frame: &Frame)
             put_decimal(out, b" d", u64::from(dev.number()));
             put_decimal(out, b".", u64::from(frame.number));
         }
+    }
+}
+
+fn cause_number(cause: Cause) -> u64
+    ensures { result ≡ cause_number cause }
+{
+    match cause {
+        Cause::Never => 0,
+        Cause::Unmapped => 1,
+        Cause::Forbidden => 2,
+        Cause::NoFrame => 3,
+        Cause::Outside => 4,
+        Cause::Overlap => 5,
+        Cause::TooManyAreas => 6,
+        Cause::NameTaken => 7,
+        Cause::NoProcess => 8,
+        Cause::MirrorTaken => 9,
+        Cause::Removed => 10,
     }
 }
 
@@ -89,6 +108,7 @@ fn put_word(out: &mut Buffer, word: &Word)
         Word::Part(Some(part)) => put_decimal(out, b" ", u64::from(*part)),
         Word::Kept(KeptAt::Page(page)) => put_decimal(out, b" ", page.number()),
         Word::Kept(KeptAt::Frame(frame)) => put_frame(out, frame),
+        Word::Cause(cause) => put_decimal(out, b" ", cause_number(*cause)),
     }
 }
 

@@ -3,7 +3,7 @@ use Rattle.std.proofs.Common.{◌≡◌, ℕ, suc, ◌+◌, ◌^◌, ◌<◌, �
 use Rattle.std.specs.Prelude.{codes, nat_lt, nat_le}
 use Rattle.std.specs.List.{list_all, join_with_byte}
 use Rattle.std.specs.Fmt.{decimal}
-use Rattle.std.proofs.lemmas.Bool.{false≢true, lt-ltb, le-leb, eq-eqb, eqb-true, ltb-true, leb-true}
+use Rattle.std.proofs.lemmas.Bool.{false≢true, lt-ltb, le-leb, eq-eqb, eqb-true, ltb-true, leb-true, and_parts}
 use Rattle.std.proofs.lemmas.Bool.Decides.{nat_tests}
 use Rattle.std.proofs.lemmas.List.{length_push}
 use Rattle.hm_base.specs.Program.{Program, IsScript, op_fits, op_of_version, is_version_two, run_lines, operation_count, add_to_last, schedule_fits}
@@ -30,7 +30,6 @@ use Rattle.hm_script.specs.Reading.{demand}
 use Rattle.hm_script.specs.declared.words.Words.{Words}
 use Rattle.hm_script.specs.Built.{IsBuilt, op_word, uses, has_drain, word_of_version}
 use Rattle.hm_script.specs.Automaton.{State, state, start, allows, permits, keyword_at, step, line_text, version_named, read_header, read_text, is_start, next, finish, run, reading}
-use Rattle.hm_script.proofs.HexDigits.{and_left, and_right}
 use Rattle.hm_script.proofs.Counts.{run_lines_run}
 use Rattle.hm_script.proofs.Readers.{Fits64, numbers}
 use Rattle.hm_script.proofs.Steps.{shape_met, one-again, two-again, one-plain, two-plain}
@@ -156,8 +155,8 @@ device_again set v f ds n few small =
 leads_devices : (set : Words) (v : Version) (f : ℕ) (ds ns : List ℕ) → length ds + length ns ≤ 4 → list_all (λ n. nat_le n 8192) ns ≡ true → Leads set (state Devices (with_devices v f ds)) (device_lines (length ds) ns) (state Devices (with_devices v f (ds ++ ns)))
 leads_devices set v f ds [] few small = ap (λ (x : List ℕ). state Devices (with_devices v f x)) (sym (append-nil ds))
 leads_devices set v f ds (n ∷ ns) few small =
-    let rest = leads_devices set v f (ds ++ n ∷ []) ns (omega (arith, length-append ds (n ∷ []))) (and_right (nat_le n 8192) (list_all (λ m. nat_le m 8192) ns) small) in
-    let one = device_again set v f ds n (omega arith) (and_left (nat_le n 8192) (list_all (λ m. nat_le m 8192) ns) small) in
+    let rest = leads_devices set v f (ds ++ n ∷ []) ns (omega (arith, length-append ds (n ∷ []))) (and_parts (nat_le n 8192) (list_all (λ m. nat_le m 8192) ns) small).1 in
+    let one = device_again set v f ds n (omega arith) (and_parts (nat_le n 8192) (list_all (λ m. nat_le m 8192) ns) small).0 in
     let at : length (ds ++ n ∷ []) ≡ length ds + 1 = length_push ds n in
     let end : (ds ++ n ∷ []) ++ ns ≡ ds ++ n ∷ ns = append_assoc ds (n ∷ []) ns in
     leads-append set _ (state Devices (with_devices v f (ds ++ n ∷ []))) _ ((codes "device" ∷ decimal (length ds) ∷ decimal n ∷ []) ∷ []) (device_lines (length ds + 1) ns) one
@@ -242,22 +241,22 @@ may_stand set v devices op = op_fits devices op && (uses set op && op_of_version
 
 both_all : {A : Type 0} (f g : A → Bool) (xs : List A) → list_all f xs ≡ true → list_all g xs ≡ true → list_all (λ x. f x && g x) xs ≡ true
 both_all f g [] h k = refl
-both_all f g (x ∷ xs) h k = rw (and_left (f x) (list_all f xs) h, and_left (g x) (list_all g xs) k, both_all f g xs (and_right (f x) (list_all f xs) h) (and_right (g x) (list_all g xs) k)) refl
+both_all f g (x ∷ xs) h k = rw ((and_parts (f x) (list_all f xs) h).0, (and_parts (g x) (list_all g xs) k).0, both_all f g xs (and_parts (f x) (list_all f xs) h).1 (and_parts (g x) (list_all g xs) k).1) refl
 
 both_all_all : {A : Type 0} (f g : A → Bool) (xs : List (List A)) → list_all (list_all f) xs ≡ true → list_all (list_all g) xs ≡ true → list_all (list_all (λ x. f x && g x)) xs ≡ true
 both_all_all f g [] h k = refl
-both_all_all f g (x ∷ xs) h k = rw (both_all f g x (and_left (list_all f x) (list_all (list_all f) xs) h) (and_left (list_all g x) (list_all (list_all g) xs) k), both_all_all f g xs (and_right (list_all f x) (list_all (list_all f) xs) h) (and_right (list_all g x) (list_all (list_all g) xs) k)) refl
+both_all_all f g (x ∷ xs) h k = rw (both_all f g x (and_parts (list_all f x) (list_all (list_all f) xs) h).0 (and_parts (list_all g x) (list_all (list_all g) xs) k).0, both_all_all f g xs (and_parts (list_all f x) (list_all (list_all f) xs) h).1 (and_parts (list_all g x) (list_all (list_all g) xs) k).1) refl
 
 op_permitted : (set : Words) (s : Program) (op : Op) → (uses set op && op_of_version s.version op) ≡ true → permits set s (keyword.Op (op_word op)) ≡ true
 op_permitted set s op h =
-    let new : word_of_version s.version (op_word op) ≡ true = sym (new-word s.version op) ∙ and_right (uses set op) (op_of_version s.version op) h in
-    rw (and_left (uses set op) (op_of_version s.version op) h, new) refl
+    let new : word_of_version s.version (op_word op) ≡ true = sym (new-word s.version op) ∙ (and_parts (uses set op) (op_of_version s.version op) h).1 in
+    rw ((and_parts (uses set op) (op_of_version s.version op) h).0, new) refl
 
 op_line_again : (set : Words) (s : Program) (ls : List (List Op)) (op : Op) → length s.devices ≤ 4 → may_stand set s.version (length s.devices) op ≡ true → operation_count ls < 100000 → Leads set (state Actors (with_actors s ls)) (op_words op ∷ []) (state Actors (with_actors s (add_to_last ls op)))
 unfolding step
 op_line_again set s ls op few stands count =
-    let fits = and_left (op_fits (length s.devices) op) (uses set op && op_of_version s.version op) stands in
-    let m = op_permitted set (with_actors s ls) op (and_right (op_fits (length s.devices) op) (uses set op && op_of_version s.version op) stands) in
+    let fits = (and_parts (op_fits (length s.devices) op) (uses set op && op_of_version s.version op) stands).0 in
+    let m = op_permitted set (with_actors s ls) op (and_parts (op_fits (length s.devices) op) (uses set op && op_of_version s.version op) stands).1 in
     let h = op-again (length s.devices) op few fits in
     leads_one set Actors (with_actors s ls) (op_words op) (keyword.Op (op_word op)) _ refl (some_words op, h.plain) (rw op-word (keyword_again set Actors (with_actors s ls) (op_text (op_word op)) (keyword.Op (op_word op)) (op_named_again (op_word op)) refl m))
     (let c = lt-ltb (operation_count ls) 100000 count in rw (h.reads, c) refl)
@@ -267,9 +266,9 @@ leads_ops : (set : Words) (s : Program) (before : List (List Op)) (l ops : List 
 leads_ops set s before l [] few fits count = ap (λ (x : List Op). state Actors (with_actors s (before ++ x ∷ []))) (sym (append-nil l))
 leads_ops set s before l (op ∷ ops) few fits count =
     let stands = may_stand set s.version (length s.devices) in
-    let one = op_line_again set s (before ++ l ∷ []) op few (and_left (stands op) (list_all stands ops) fits) (omega arith) in
+    let one = op_line_again set s (before ++ l ∷ []) op few (and_parts (stands op) (list_all stands ops) fits).0 (omega arith) in
     let here = subst (λ (x : List (List Op)). Leads set (state Actors (with_actors s (before ++ l ∷ []))) (op_words op ∷ []) (state Actors (with_actors s x))) (add_at_end before l op) one in
-    let rest = leads_ops set s before (l ++ op ∷ []) ops few (and_right (stands op) (list_all stands ops) fits) (omega (arith, count-append before (l ∷ []), count-append before ((l ++ op ∷ []) ∷ []), length-append l (op ∷ []))) in
+    let rest = leads_ops set s before (l ++ op ∷ []) ops few (and_parts (stands op) (list_all stands ops) fits).1 (omega (arith, count-append before (l ∷ []), count-append before ((l ++ op ∷ []) ∷ []), length-append l (op ∷ []))) in
     leads-append set _ (state Actors (with_actors s (before ++ (l ++ op ∷ []) ∷ []))) _ (op_words op ∷ []) (map op_words ops) here
     (subst (λ (x : List Op). Leads set (state Actors (with_actors s (before ++ (l ++ op ∷ []) ∷ []))) (map op_words ops) (state Actors (with_actors s (before ++ x ∷ [])))) (append_assoc l (op ∷ []) ops) rest)
 
@@ -294,8 +293,8 @@ opens_actors set p s before (l ∷ ls) o few many several fits count =
     let at : length (before ++ l ∷ []) ≡ length before + 1 = length_push before l in
     let next_several : (set.several_actors || nat_le (length (before ++ l ∷ []) + length ls) 1) ≡ true = rw at (let same : (length before + 1) + length ls ≡ length before + suc (length ls) = omega arith in rw same several) in
     let one = actor_again set p s before o (omega arith) (first_of_one set.several_actors (length before) (length ls) several) in
-    let ops = leads_ops set s before [] l few (and_left (list_all stands l) (list_all (list_all stands) ls) fits) (omega (arith, count-append before ([] ∷ []))) in
-    let rest = opens_actors set Actors s (before ++ l ∷ []) ls actors_open few (omega (arith, length-append before (l ∷ []))) next_several (and_right (list_all stands l) (list_all (list_all stands) ls) fits) (omega (arith, count-append before (l ∷ []))) in
+    let ops = leads_ops set s before [] l few (and_parts (list_all stands l) (list_all (list_all stands) ls) fits).0 (omega (arith, count-append before ([] ∷ []))) in
+    let rest = opens_actors set Actors s (before ++ l ∷ []) ls actors_open few (omega (arith, length-append before (l ∷ []))) next_several (and_parts (list_all stands l) (list_all (list_all stands) ls) fits).1 (omega (arith, count-append before (l ∷ []))) in
     let end : (before ++ l ∷ []) ++ ls ≡ before ++ l ∷ ls = append_assoc before (l ∷ []) ls in
     let then : Leads set (state Actors (with_actors s (before ++ l ∷ []))) (actor_lines (length before + 1) ls) (state rest.part (with_actors s (before ++ l ∷ ls))) =
     subst (λ (k : ℕ). Leads set (state Actors (with_actors s (before ++ l ∷ []))) (actor_lines k ls) (state rest.part (with_actors s (before ++ l ∷ ls)))) at
@@ -333,7 +332,7 @@ unfolding step
 turns_again set p s ls a k o one range declared few count =
     let make : ℕ → ℕ → Result State Reason = λ a k. demand (nat_le 1 k && nat_le k 1000000) Range >>= λ _. demand (nat_lt a (length s.actors)) Undeclared >>= λ _. demand (nat_lt (run_lines ls) 100000) Limit >>= λ _. Ok (state Turns (with_schedule s (ls ++ Run a k ∷ []))) in
     let fits_a : a < 2 ^ 64 = omega (arith, ltb-true a (length s.actors) declared) in
-    let fits_k : k < 2 ^ 64 = omega (arith, leb-true k 1000000 (and_right (nat_le 1 k) (nat_le k 1000000) range)) in
+    let fits_k : k < 2 ^ 64 = omega (arith, leb-true k 1000000 (and_parts (nat_le 1 k) (nat_le k 1000000) range).1) in
     leads_one set p (with_schedule s ls) (schedule_words (Run a k)) keyword.Turns _ o.begun (omega arith, two-plain number decimal Fits64 numbers number decimal Fits64 numbers make (codes "turns") a k refl fits_a fits_k) (keyword_again set p (with_schedule s ls) (codes "turns") keyword.Turns turns_named o.turns one)
     (two-again number decimal Fits64 numbers number decimal Fits64 numbers make (codes "turns") a k refl fits_a fits_k ∙ (let c = lt-ltb (run_lines ls) 100000 count in rw (range, declared, c) refl))
 
@@ -351,11 +350,11 @@ ends_schedule set p s before (schedule.Drain ∷ []) o few several drains fits c
 ends_schedule set p s before (schedule.Drain ∷ l ∷ ls) o few several drains fits count = absurd (false≢true fits)
 ends_schedule set p s before (Run a k ∷ ls) o few several drains fits count =
     let n = length s.actors in
-    let range = and_left (nat_le 1 k && nat_le k 1000000) (nat_lt a n && schedule_fits n ls) fits in
-    let others = and_right (nat_le 1 k && nat_le k 1000000) (nat_lt a n && schedule_fits n ls) fits in
-    let one = turns_again set p s before a k o (first_of_one set.several_turns (run_lines before) (run_lines ls) (let same : run_lines before + (1 + run_lines ls) ≡ run_lines before + suc (run_lines ls) = omega arith in subst (λ (n : ℕ). (set.several_turns || nat_le n 1) ≡ true) same several)) range (and_left (nat_lt a n) (schedule_fits n ls) others) few (omega arith) in
+    let range = (and_parts (nat_le 1 k && nat_le k 1000000) (nat_lt a n && schedule_fits n ls) fits).0 in
+    let others = (and_parts (nat_le 1 k && nat_le k 1000000) (nat_lt a n && schedule_fits n ls) fits).1 in
+    let one = turns_again set p s before a k o (first_of_one set.several_turns (run_lines before) (run_lines ls) (let same : run_lines before + (1 + run_lines ls) ≡ run_lines before + suc (run_lines ls) = omega arith in subst (λ (n : ℕ). (set.several_turns || nat_le n 1) ≡ true) same several)) range (and_parts (nat_lt a n) (schedule_fits n ls) others).0 few (omega arith) in
     let next_several : (set.several_turns || nat_le (run_lines (before ++ Run a k ∷ []) + run_lines ls) 1) ≡ true = rw (run_lines_run before a k) (let same : (run_lines before + 1) + run_lines ls ≡ run_lines before + (1 + run_lines ls) = omega arith in rw same several) in
-    let rest = ends_schedule set Turns s (before ++ Run a k ∷ []) ls turns_run few next_several drains (and_right (nat_lt a n) (schedule_fits n ls) others) (omega (arith, run_lines_run before a k)) in
+    let rest = ends_schedule set Turns s (before ++ Run a k ∷ []) ls turns_run few next_several drains (and_parts (nat_lt a n) (schedule_fits n ls) others).1 (omega (arith, run_lines_run before a k)) in
     let end : (before ++ Run a k ∷ []) ++ ls ≡ before ++ Run a k ∷ ls = append_assoc before (Run a k ∷ []) ls in
     record {
       part = rest.part;

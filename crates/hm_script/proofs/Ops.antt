@@ -4,6 +4,7 @@ use Rattle.std.specs.Prelude.{codes, nat_lt}
 use Rattle.std.specs.List.{list_all}
 use Rattle.std.specs.Fmt.{decimal}
 use Rattle.std.proofs.lemmas.Bool.Decides.{nat_tests}
+use Rattle.std.proofs.lemmas.Bool.{and_parts}
 use Rattle.hm_base.specs.Pages.{Pages, span}
 use Rattle.hm_base.specs.Program.{op_of_version, op_in_range, op_declared, op_bytes, op_fits, span_in_range, access_in_range}
 use Rattle.hm_base.specs.declared.ops.Op.{Op}
@@ -18,7 +19,6 @@ use Rattle.hm_script.specs.Keywords.{op_text}
 use Rattle.hm_script.specs.Numerals.{number, address, hex, right}
 use Rattle.hm_script.specs.Reading.{checked, op_at}
 use Rattle.hm_script.specs.Built.{op_word, word_of_version}
-use Rattle.hm_script.proofs.HexDigits.{and_left, and_right}
 use Rattle.hm_script.proofs.Pairs.{is_byte}
 use Rattle.hm_script.proofs.Readers.{Fits64, FitsHex, FitsRight, numbers, addresses, hexes, rights}
 use Rattle.hm_script.proofs.Steps.{demand_ok, ok_is, is_plain, one-takes, two-takes, three-takes, four-takes, five-takes, one-again, two-again, three-again, four-again, five-again, one-plain, two-plain, three-plain, four-plain, five-plain}
@@ -27,8 +27,8 @@ use Rattle.hm_script.proofs.Steps.{demand_ok, ok_is, is_plain, one-takes, two-ta
 
 pub fits_parts : (d : ℕ) (op : Op) → op_fits d op ≡ true → (op_in_range op ≡ true) × (op_declared d op ≡ true) × (list_all is_byte (op_bytes op) ≡ true)
 fits_parts d op h =
-    let r = and_right (op_in_range op) (op_declared d op && list_all is_byte (op_bytes op)) h in
-    (and_left (op_in_range op) (op_declared d op && list_all is_byte (op_bytes op)) h, and_left (op_declared d op) (list_all is_byte (op_bytes op)) r, and_right (op_declared d op) (list_all is_byte (op_bytes op)) r)
+    let r = (and_parts (op_in_range op) (op_declared d op && list_all is_byte (op_bytes op)) h).1 in
+    ((and_parts (op_in_range op) (op_declared d op && list_all is_byte (op_bytes op)) h).0, (and_parts (op_declared d op) (list_all is_byte (op_bytes op)) r).0, (and_parts (op_declared d op) (list_all is_byte (op_bytes op)) r).1)
 
 -- the line has the words of the operation, which passed its checks and has this word
 pub record TakesOp (d : ℕ) (w : OpWord) (ws : List (List ℕ)) (op : Op) : Type 0 where
@@ -135,21 +135,21 @@ pub record IsAgain (d : ℕ) (op : Op) : Type 0 where
 
 pub op-again : (e : ℕ) (op : Op) → e ≤ 4 → op_fits e op ≡ true → IsAgain e op
 unfolding op_at
-op-again e (Map p s r) le h = let f = fits_parts e (Map p s r) h in let x = fits_32 p (and_left (nat_lt p 32) (span_in_range s 65536) f.0) in let y = fits_span s 65536 (and_right (nat_lt p 32) (span_in_range s 65536) f.0) in record { reads = four-again number decimal Fits64 numbers number decimal Fits64 numbers number decimal Fits64 numbers right right_text FitsRight rights (λ p v n r. checked e (Map p (span v n) r)) (codes "map") p s.first s.count r refl x y.0 y.1 tt ∙ passes e (Map p s r) h; plain = four-plain number decimal Fits64 numbers number decimal Fits64 numbers number decimal Fits64 numbers right right_text FitsRight rights (λ p v n r. checked e (Map p (span v n) r)) (codes "map") p s.first s.count r refl x y.0 y.1 tt }
-op-again e (Unmap p s) le h = let f = fits_parts e (Unmap p s) h in let x = fits_32 p (and_left (nat_lt p 32) (span_in_range s 65536) f.0) in let y = fits_span s 65536 (and_right (nat_lt p 32) (span_in_range s 65536) f.0) in record { reads = three-again number decimal Fits64 numbers number decimal Fits64 numbers number decimal Fits64 numbers (λ p v n. checked e (Unmap p (span v n))) (codes "unmap") p s.first s.count refl x y.0 y.1 ∙ passes e (Unmap p s) h; plain = three-plain number decimal Fits64 numbers number decimal Fits64 numbers number decimal Fits64 numbers (λ p v n. checked e (Unmap p (span v n))) (codes "unmap") p s.first s.count refl x y.0 y.1 }
-op-again e (Protect p s r) le h = let f = fits_parts e (Protect p s r) h in let x = fits_32 p (and_left (nat_lt p 32) (span_in_range s 65536) f.0) in let y = fits_span s 65536 (and_right (nat_lt p 32) (span_in_range s 65536) f.0) in record { reads = four-again number decimal Fits64 numbers number decimal Fits64 numbers number decimal Fits64 numbers right right_text FitsRight rights (λ p v n r. checked e (Protect p (span v n) r)) (codes "protect") p s.first s.count r refl x y.0 y.1 tt ∙ passes e (Protect p s r) h; plain = four-plain number decimal Fits64 numbers number decimal Fits64 numbers number decimal Fits64 numbers right right_text FitsRight rights (λ p v n r. checked e (Protect p (span v n) r)) (codes "protect") p s.first s.count r refl x y.0 y.1 tt }
-op-again e (Load p a n) le h = let f = fits_parts e (Load p a n) h in let x = fits_32 p (and_left (nat_lt p 32) (access_in_range a n) f.0) in let y = fits_access a n (and_right (nat_lt p 32) (access_in_range a n) f.0) in record { reads = three-again number decimal Fits64 numbers address address_text Fits64 addresses number decimal Fits64 numbers (λ p a n. checked e (Load p a n)) (codes "load") p a n refl x y.0 y.1 ∙ passes e (Load p a n) h; plain = three-plain number decimal Fits64 numbers address address_text Fits64 addresses number decimal Fits64 numbers (λ p a n. checked e (Load p a n)) (codes "load") p a n refl x y.0 y.1 }
-op-again e (Store p a b) le h = let f = fits_parts e (Store p a b) h in let x = fits_32 p (and_left (nat_lt p 32) (access_in_range a (length b)) f.0) in let y = fits_access a (length b) (and_right (nat_lt p 32) (access_in_range a (length b)) f.0) in record { reads = three-again number decimal Fits64 numbers address address_text Fits64 addresses hex hex_text FitsHex hexes (λ p a b. checked e (Store p a b)) (codes "store") p a b refl x y.0 (y.2, f.2) ∙ passes e (Store p a b) h; plain = three-plain number decimal Fits64 numbers address address_text Fits64 addresses hex hex_text FitsHex hexes (λ p a b. checked e (Store p a b)) (codes "store") p a b refl x y.0 (y.2, f.2) }
-op-again e (Fork p c) le h = let f = fits_parts e (Fork p c) h in let x = fits_32 p (and_left (nat_lt p 32) (nat_lt c 32) f.0) in let y = fits_32 c (and_right (nat_lt p 32) (nat_lt c 32) f.0) in record { reads = two-again number decimal Fits64 numbers number decimal Fits64 numbers (λ p c. checked e (Fork p c)) (codes "fork") p c refl x y ∙ passes e (Fork p c) h; plain = two-plain number decimal Fits64 numbers number decimal Fits64 numbers (λ p c. checked e (Fork p c)) (codes "fork") p c refl x y }
+op-again e (Map p s r) le h = let f = fits_parts e (Map p s r) h in let x = fits_32 p (and_parts (nat_lt p 32) (span_in_range s 65536) f.0).0 in let y = fits_span s 65536 (and_parts (nat_lt p 32) (span_in_range s 65536) f.0).1 in record { reads = four-again number decimal Fits64 numbers number decimal Fits64 numbers number decimal Fits64 numbers right right_text FitsRight rights (λ p v n r. checked e (Map p (span v n) r)) (codes "map") p s.first s.count r refl x y.0 y.1 tt ∙ passes e (Map p s r) h; plain = four-plain number decimal Fits64 numbers number decimal Fits64 numbers number decimal Fits64 numbers right right_text FitsRight rights (λ p v n r. checked e (Map p (span v n) r)) (codes "map") p s.first s.count r refl x y.0 y.1 tt }
+op-again e (Unmap p s) le h = let f = fits_parts e (Unmap p s) h in let x = fits_32 p (and_parts (nat_lt p 32) (span_in_range s 65536) f.0).0 in let y = fits_span s 65536 (and_parts (nat_lt p 32) (span_in_range s 65536) f.0).1 in record { reads = three-again number decimal Fits64 numbers number decimal Fits64 numbers number decimal Fits64 numbers (λ p v n. checked e (Unmap p (span v n))) (codes "unmap") p s.first s.count refl x y.0 y.1 ∙ passes e (Unmap p s) h; plain = three-plain number decimal Fits64 numbers number decimal Fits64 numbers number decimal Fits64 numbers (λ p v n. checked e (Unmap p (span v n))) (codes "unmap") p s.first s.count refl x y.0 y.1 }
+op-again e (Protect p s r) le h = let f = fits_parts e (Protect p s r) h in let x = fits_32 p (and_parts (nat_lt p 32) (span_in_range s 65536) f.0).0 in let y = fits_span s 65536 (and_parts (nat_lt p 32) (span_in_range s 65536) f.0).1 in record { reads = four-again number decimal Fits64 numbers number decimal Fits64 numbers number decimal Fits64 numbers right right_text FitsRight rights (λ p v n r. checked e (Protect p (span v n) r)) (codes "protect") p s.first s.count r refl x y.0 y.1 tt ∙ passes e (Protect p s r) h; plain = four-plain number decimal Fits64 numbers number decimal Fits64 numbers number decimal Fits64 numbers right right_text FitsRight rights (λ p v n r. checked e (Protect p (span v n) r)) (codes "protect") p s.first s.count r refl x y.0 y.1 tt }
+op-again e (Load p a n) le h = let f = fits_parts e (Load p a n) h in let x = fits_32 p (and_parts (nat_lt p 32) (access_in_range a n) f.0).0 in let y = fits_access a n (and_parts (nat_lt p 32) (access_in_range a n) f.0).1 in record { reads = three-again number decimal Fits64 numbers address address_text Fits64 addresses number decimal Fits64 numbers (λ p a n. checked e (Load p a n)) (codes "load") p a n refl x y.0 y.1 ∙ passes e (Load p a n) h; plain = three-plain number decimal Fits64 numbers address address_text Fits64 addresses number decimal Fits64 numbers (λ p a n. checked e (Load p a n)) (codes "load") p a n refl x y.0 y.1 }
+op-again e (Store p a b) le h = let f = fits_parts e (Store p a b) h in let x = fits_32 p (and_parts (nat_lt p 32) (access_in_range a (length b)) f.0).0 in let y = fits_access a (length b) (and_parts (nat_lt p 32) (access_in_range a (length b)) f.0).1 in record { reads = three-again number decimal Fits64 numbers address address_text Fits64 addresses hex hex_text FitsHex hexes (λ p a b. checked e (Store p a b)) (codes "store") p a b refl x y.0 (y.2, f.2) ∙ passes e (Store p a b) h; plain = three-plain number decimal Fits64 numbers address address_text Fits64 addresses hex hex_text FitsHex hexes (λ p a b. checked e (Store p a b)) (codes "store") p a b refl x y.0 (y.2, f.2) }
+op-again e (Fork p c) le h = let f = fits_parts e (Fork p c) h in let x = fits_32 p (and_parts (nat_lt p 32) (nat_lt c 32) f.0).0 in let y = fits_32 c (and_parts (nat_lt p 32) (nat_lt c 32) f.0).1 in record { reads = two-again number decimal Fits64 numbers number decimal Fits64 numbers (λ p c. checked e (Fork p c)) (codes "fork") p c refl x y ∙ passes e (Fork p c) h; plain = two-plain number decimal Fits64 numbers number decimal Fits64 numbers (λ p c. checked e (Fork p c)) (codes "fork") p c refl x y }
 op-again e (Exit p) le h = let f = fits_parts e (Exit p) h in record { reads = one-again number decimal Fits64 numbers (λ p. checked e (Exit p)) (codes "exit") p refl (fits_32 p f.0) ∙ passes e (Exit p) h; plain = one-plain number decimal Fits64 numbers (λ p. checked e (Exit p)) (codes "exit") p refl (fits_32 p f.0) }
-op-again e (Attach m d p s) le h = let f = fits_parts e (Attach m d p s) h in let g = and_right (nat_lt m 32) (nat_lt p 32 && span_in_range s 65536) f.0 in let x = fits_32 m (and_left (nat_lt m 32) (nat_lt p 32 && span_in_range s 65536) f.0) in let z = fits_32 p (and_left (nat_lt p 32) (span_in_range s 65536) g) in let y = fits_span s 65536 (and_right (nat_lt p 32) (span_in_range s 65536) g) in record { reads = five-again number decimal Fits64 numbers number decimal Fits64 numbers number decimal Fits64 numbers number decimal Fits64 numbers number decimal Fits64 numbers (λ m d p v n. checked e (Attach m d p (span v n))) (codes "attach") m d p s.first s.count refl x (fits_device e d le f.1) z y.0 y.1 ∙ passes e (Attach m d p s) h; plain = five-plain number decimal Fits64 numbers number decimal Fits64 numbers number decimal Fits64 numbers number decimal Fits64 numbers number decimal Fits64 numbers (λ m d p v n. checked e (Attach m d p (span v n))) (codes "attach") m d p s.first s.count refl x (fits_device e d le f.1) z y.0 y.1 }
+op-again e (Attach m d p s) le h = let f = fits_parts e (Attach m d p s) h in let g = (and_parts (nat_lt m 32) (nat_lt p 32 && span_in_range s 65536) f.0).1 in let x = fits_32 m (and_parts (nat_lt m 32) (nat_lt p 32 && span_in_range s 65536) f.0).0 in let z = fits_32 p (and_parts (nat_lt p 32) (span_in_range s 65536) g).0 in let y = fits_span s 65536 (and_parts (nat_lt p 32) (span_in_range s 65536) g).1 in record { reads = five-again number decimal Fits64 numbers number decimal Fits64 numbers number decimal Fits64 numbers number decimal Fits64 numbers number decimal Fits64 numbers (λ m d p v n. checked e (Attach m d p (span v n))) (codes "attach") m d p s.first s.count refl x (fits_device e d le f.1) z y.0 y.1 ∙ passes e (Attach m d p s) h; plain = five-plain number decimal Fits64 numbers number decimal Fits64 numbers number decimal Fits64 numbers number decimal Fits64 numbers number decimal Fits64 numbers (λ m d p v n. checked e (Attach m d p (span v n))) (codes "attach") m d p s.first s.count refl x (fits_device e d le f.1) z y.0 y.1 }
 op-again e (Detach m) le h = let f = fits_parts e (Detach m) h in record { reads = one-again number decimal Fits64 numbers (λ m. checked e (Detach m)) (codes "detach") m refl (fits_32 m f.0) ∙ passes e (Detach m) h; plain = one-plain number decimal Fits64 numbers (λ m. checked e (Detach m)) (codes "detach") m refl (fits_32 m f.0) }
-op-again e (DeviceLoad m a n) le h = let f = fits_parts e (DeviceLoad m a n) h in let x = fits_32 m (and_left (nat_lt m 32) (access_in_range a n) f.0) in let y = fits_access a n (and_right (nat_lt m 32) (access_in_range a n) f.0) in record { reads = three-again number decimal Fits64 numbers address address_text Fits64 addresses number decimal Fits64 numbers (λ m a n. checked e (DeviceLoad m a n)) (codes "dload") m a n refl x y.0 y.1 ∙ passes e (DeviceLoad m a n) h; plain = three-plain number decimal Fits64 numbers address address_text Fits64 addresses number decimal Fits64 numbers (λ m a n. checked e (DeviceLoad m a n)) (codes "dload") m a n refl x y.0 y.1 }
-op-again e (DeviceStore m a b) le h = let f = fits_parts e (DeviceStore m a b) h in let x = fits_32 m (and_left (nat_lt m 32) (access_in_range a (length b)) f.0) in let y = fits_access a (length b) (and_right (nat_lt m 32) (access_in_range a (length b)) f.0) in record { reads = three-again number decimal Fits64 numbers address address_text Fits64 addresses hex hex_text FitsHex hexes (λ m a b. checked e (DeviceStore m a b)) (codes "dstore") m a b refl x y.0 (y.2, f.2) ∙ passes e (DeviceStore m a b) h; plain = three-plain number decimal Fits64 numbers address address_text Fits64 addresses hex hex_text FitsHex hexes (λ m a b. checked e (DeviceStore m a b)) (codes "dstore") m a b refl x y.0 (y.2, f.2) }
-op-again e (ToDevice m s) le h = let f = fits_parts e (ToDevice m s) h in let x = fits_32 m (and_left (nat_lt m 32) (span_in_range s 64) f.0) in let y = fits_span s 64 (and_right (nat_lt m 32) (span_in_range s 64) f.0) in record { reads = three-again number decimal Fits64 numbers number decimal Fits64 numbers number decimal Fits64 numbers (λ m v n. checked e (ToDevice m (span v n))) (codes "todev") m s.first s.count refl x y.0 y.1 ∙ passes e (ToDevice m s) h; plain = three-plain number decimal Fits64 numbers number decimal Fits64 numbers number decimal Fits64 numbers (λ m v n. checked e (ToDevice m (span v n))) (codes "todev") m s.first s.count refl x y.0 y.1 }
-op-again e (ToSystem m s) le h = let f = fits_parts e (ToSystem m s) h in let x = fits_32 m (and_left (nat_lt m 32) (span_in_range s 64) f.0) in let y = fits_span s 64 (and_right (nat_lt m 32) (span_in_range s 64) f.0) in record { reads = three-again number decimal Fits64 numbers number decimal Fits64 numbers number decimal Fits64 numbers (λ m v n. checked e (ToSystem m (span v n))) (codes "tosys") m s.first s.count refl x y.0 y.1 ∙ passes e (ToSystem m s) h; plain = three-plain number decimal Fits64 numbers number decimal Fits64 numbers number decimal Fits64 numbers (λ m v n. checked e (ToSystem m (span v n))) (codes "tosys") m s.first s.count refl x y.0 y.1 }
-op-again e (Snap m s) le h = let f = fits_parts e (Snap m s) h in let x = fits_32 m (and_left (nat_lt m 32) (span_in_range s 64) f.0) in let y = fits_span s 64 (and_right (nat_lt m 32) (span_in_range s 64) f.0) in record { reads = three-again number decimal Fits64 numbers number decimal Fits64 numbers number decimal Fits64 numbers (λ m v n. checked e (Snap m (span v n))) (codes "snap") m s.first s.count refl x y.0 y.1 ∙ passes e (Snap m s) h; plain = three-plain number decimal Fits64 numbers number decimal Fits64 numbers number decimal Fits64 numbers (λ m v n. checked e (Snap m (span v n))) (codes "snap") m s.first s.count refl x y.0 y.1 }
+op-again e (DeviceLoad m a n) le h = let f = fits_parts e (DeviceLoad m a n) h in let x = fits_32 m (and_parts (nat_lt m 32) (access_in_range a n) f.0).0 in let y = fits_access a n (and_parts (nat_lt m 32) (access_in_range a n) f.0).1 in record { reads = three-again number decimal Fits64 numbers address address_text Fits64 addresses number decimal Fits64 numbers (λ m a n. checked e (DeviceLoad m a n)) (codes "dload") m a n refl x y.0 y.1 ∙ passes e (DeviceLoad m a n) h; plain = three-plain number decimal Fits64 numbers address address_text Fits64 addresses number decimal Fits64 numbers (λ m a n. checked e (DeviceLoad m a n)) (codes "dload") m a n refl x y.0 y.1 }
+op-again e (DeviceStore m a b) le h = let f = fits_parts e (DeviceStore m a b) h in let x = fits_32 m (and_parts (nat_lt m 32) (access_in_range a (length b)) f.0).0 in let y = fits_access a (length b) (and_parts (nat_lt m 32) (access_in_range a (length b)) f.0).1 in record { reads = three-again number decimal Fits64 numbers address address_text Fits64 addresses hex hex_text FitsHex hexes (λ m a b. checked e (DeviceStore m a b)) (codes "dstore") m a b refl x y.0 (y.2, f.2) ∙ passes e (DeviceStore m a b) h; plain = three-plain number decimal Fits64 numbers address address_text Fits64 addresses hex hex_text FitsHex hexes (λ m a b. checked e (DeviceStore m a b)) (codes "dstore") m a b refl x y.0 (y.2, f.2) }
+op-again e (ToDevice m s) le h = let f = fits_parts e (ToDevice m s) h in let x = fits_32 m (and_parts (nat_lt m 32) (span_in_range s 64) f.0).0 in let y = fits_span s 64 (and_parts (nat_lt m 32) (span_in_range s 64) f.0).1 in record { reads = three-again number decimal Fits64 numbers number decimal Fits64 numbers number decimal Fits64 numbers (λ m v n. checked e (ToDevice m (span v n))) (codes "todev") m s.first s.count refl x y.0 y.1 ∙ passes e (ToDevice m s) h; plain = three-plain number decimal Fits64 numbers number decimal Fits64 numbers number decimal Fits64 numbers (λ m v n. checked e (ToDevice m (span v n))) (codes "todev") m s.first s.count refl x y.0 y.1 }
+op-again e (ToSystem m s) le h = let f = fits_parts e (ToSystem m s) h in let x = fits_32 m (and_parts (nat_lt m 32) (span_in_range s 64) f.0).0 in let y = fits_span s 64 (and_parts (nat_lt m 32) (span_in_range s 64) f.0).1 in record { reads = three-again number decimal Fits64 numbers number decimal Fits64 numbers number decimal Fits64 numbers (λ m v n. checked e (ToSystem m (span v n))) (codes "tosys") m s.first s.count refl x y.0 y.1 ∙ passes e (ToSystem m s) h; plain = three-plain number decimal Fits64 numbers number decimal Fits64 numbers number decimal Fits64 numbers (λ m v n. checked e (ToSystem m (span v n))) (codes "tosys") m s.first s.count refl x y.0 y.1 }
+op-again e (Snap m s) le h = let f = fits_parts e (Snap m s) h in let x = fits_32 m (and_parts (nat_lt m 32) (span_in_range s 64) f.0).0 in let y = fits_span s 64 (and_parts (nat_lt m 32) (span_in_range s 64) f.0).1 in record { reads = three-again number decimal Fits64 numbers number decimal Fits64 numbers number decimal Fits64 numbers (λ m v n. checked e (Snap m (span v n))) (codes "snap") m s.first s.count refl x y.0 y.1 ∙ passes e (Snap m s) h; plain = three-plain number decimal Fits64 numbers number decimal Fits64 numbers number decimal Fits64 numbers (λ m v n. checked e (Snap m (span v n))) (codes "snap") m s.first s.count refl x y.0 y.1 }
 op-again e (Evict d) le h = let f = fits_parts e (Evict d) h in record { reads = one-again number decimal Fits64 numbers (λ d. checked e (Evict d)) (codes "evict") d refl (fits_device e d le f.1) ∙ passes e (Evict d) h; plain = one-plain number decimal Fits64 numbers (λ d. checked e (Evict d)) (codes "evict") d refl (fits_device e d le f.1) }
 op-again e (Remove d) le h = let f = fits_parts e (Remove d) h in record { reads = one-again number decimal Fits64 numbers (λ d. checked e (Remove d)) (codes "remove") d refl (fits_device e d le f.1) ∙ passes e (Remove d) h; plain = one-plain number decimal Fits64 numbers (λ d. checked e (Remove d)) (codes "remove") d refl (fits_device e d le f.1) }
-op-again e (Exclusive m v) le h = let f = fits_parts e (Exclusive m v) h in let x = fits_32 m (and_left (nat_lt m 32) (nat_lt v (2 ^ 36)) f.0) in let y = fits_below v (2 ^ 36) (omega arith) (and_right (nat_lt m 32) (nat_lt v (2 ^ 36)) f.0) in record { reads = two-again number decimal Fits64 numbers number decimal Fits64 numbers (λ m v. checked e (Exclusive m v)) (codes "exclusive") m v refl x y ∙ passes e (Exclusive m v) h; plain = two-plain number decimal Fits64 numbers number decimal Fits64 numbers (λ m v. checked e (Exclusive m v)) (codes "exclusive") m v refl x y }
-op-again e (Add m a k) le h = let f = fits_parts e (Add m a k) h in let g = and_right (nat_lt m 32) (nat_lt a (2 ^ 48) && nat_lt k 256) f.0 in let x = fits_32 m (and_left (nat_lt m 32) (nat_lt a (2 ^ 48) && nat_lt k 256) f.0) in let y = fits_below a (2 ^ 48) (omega arith) (and_left (nat_lt a (2 ^ 48)) (nat_lt k 256) g) in let z = fits_below k 256 (omega arith) (and_right (nat_lt a (2 ^ 48)) (nat_lt k 256) g) in record { reads = three-again number decimal Fits64 numbers address address_text Fits64 addresses number decimal Fits64 numbers (λ m a k. checked e (Add m a k)) (codes "dadd") m a k refl x y z ∙ passes e (Add m a k) h; plain = three-plain number decimal Fits64 numbers address address_text Fits64 addresses number decimal Fits64 numbers (λ m a k. checked e (Add m a k)) (codes "dadd") m a k refl x y z }
+op-again e (Exclusive m v) le h = let f = fits_parts e (Exclusive m v) h in let x = fits_32 m (and_parts (nat_lt m 32) (nat_lt v (2 ^ 36)) f.0).0 in let y = fits_below v (2 ^ 36) (omega arith) (and_parts (nat_lt m 32) (nat_lt v (2 ^ 36)) f.0).1 in record { reads = two-again number decimal Fits64 numbers number decimal Fits64 numbers (λ m v. checked e (Exclusive m v)) (codes "exclusive") m v refl x y ∙ passes e (Exclusive m v) h; plain = two-plain number decimal Fits64 numbers number decimal Fits64 numbers (λ m v. checked e (Exclusive m v)) (codes "exclusive") m v refl x y }
+op-again e (Add m a k) le h = let f = fits_parts e (Add m a k) h in let g = (and_parts (nat_lt m 32) (nat_lt a (2 ^ 48) && nat_lt k 256) f.0).1 in let x = fits_32 m (and_parts (nat_lt m 32) (nat_lt a (2 ^ 48) && nat_lt k 256) f.0).0 in let y = fits_below a (2 ^ 48) (omega arith) (and_parts (nat_lt a (2 ^ 48)) (nat_lt k 256) g).0 in let z = fits_below k 256 (omega arith) (and_parts (nat_lt a (2 ^ 48)) (nat_lt k 256) g).1 in record { reads = three-again number decimal Fits64 numbers address address_text Fits64 addresses number decimal Fits64 numbers (λ m a k. checked e (Add m a k)) (codes "dadd") m a k refl x y z ∙ passes e (Add m a k) h; plain = three-plain number decimal Fits64 numbers address address_text Fits64 addresses number decimal Fits64 numbers (λ m a k. checked e (Add m a k)) (codes "dadd") m a k refl x y z }

@@ -3,7 +3,7 @@ use Rattle.std.proofs.Common.{◌≡◌, ℕ, suc, ◌+◌, ◌^◌, ◌<◌, �
 use Rattle.std.specs.Prelude.{codes, nat_lt, nat_le}
 use Rattle.std.specs.List.{list_all}
 use Rattle.std.specs.Fmt.{decimal}
-use Rattle.std.proofs.lemmas.Bool.{false≢true, ltb-true, leb-true, eqb-true}
+use Rattle.std.proofs.lemmas.Bool.{false≢true, ltb-true, leb-true, eqb-true, and_parts, or_right, or_left}
 use Rattle.std.proofs.lemmas.Bool.Decides.{nat_tests}
 use Rattle.std.proofs.lemmas.List.{map_push}
 use Rattle.std.proofs.lemmas.List.Folds.{list_all-append}
@@ -28,7 +28,6 @@ use Rattle.hm_script.specs.Reading.{demand, op_at}
 use Rattle.hm_script.specs.declared.words.Words.{Words}
 use Rattle.hm_script.specs.Built.{IsBuilt, has_op, uses, has_drain, word_of_version}
 use Rattle.hm_script.specs.Automaton.{State, state, empty, allows, permits, step}
-use Rattle.hm_script.proofs.HexDigits.{and_left, and_right}
 use Rattle.hm_script.proofs.Counts.{run_lines_run, run_lines_drain, operations_added, actors_kept, no_operations}
 use Rattle.hm_script.proofs.Readers.{Fits64, numbers}
 use Rattle.hm_script.proofs.Steps.{bind_ok, demand_ok, shape_ok, done, ok_is, one-takes, two-takes}
@@ -82,33 +81,6 @@ lines_read Start s = []
 lines_read Headed s = header_words s.version ∷ []
 lines_read _ s = script_lines s
 
-before_frames : (p : Part) (s : Program) → allows p keyword.Frames ≡ true → Reached p s → (p ≡ Headed) × (s ≡ headed s.version)
-before_frames Start s a r = absurd (false≢true a)
-before_frames Headed s a r = (refl, r)
-before_frames Devices s a r = absurd (false≢true a)
-before_frames Skipped s a r = absurd (false≢true a)
-before_frames Actors s a r = absurd (false≢true a)
-before_frames Turns s a r = absurd (false≢true a)
-before_frames Drained s a r = absurd (false≢true a)
-
-before_device : (p : Part) → allows p keyword.Device ≡ true → p ≡ Devices
-before_device Start a = absurd (false≢true a)
-before_device Headed a = absurd (false≢true a)
-before_device Devices a = refl
-before_device Skipped a = absurd (false≢true a)
-before_device Actors a = absurd (false≢true a)
-before_device Turns a = absurd (false≢true a)
-before_device Drained a = absurd (false≢true a)
-
-before_skip : (p : Part) → allows p keyword.Skip ≡ true → p ≡ Devices
-before_skip Start a = absurd (false≢true a)
-before_skip Headed a = absurd (false≢true a)
-before_skip Devices a = refl
-before_skip Skipped a = absurd (false≢true a)
-before_skip Actors a = absurd (false≢true a)
-before_skip Turns a = absurd (false≢true a)
-before_skip Drained a = absurd (false≢true a)
-
 -- the script stands, and has no schedule
 pub record BeforeActor (p : Part) (s : Program) : Type 0 where
   pub script : IsScript s
@@ -157,16 +129,16 @@ fits_run : (n : ℕ) (ls : List ScheduleLine) (a k : ℕ) → list_all is_run ls
 fits_run n [] a k runs h range declared = rw (range, declared) refl
 fits_run n (Run b j ∷ ls) a k runs h range declared =
     let first = nat_le 1 j && nat_le j 1000000 in
-    let r = and_right first (nat_lt b n && schedule_fits n ls) h in
-    rw (and_left first (nat_lt b n && schedule_fits n ls) h, and_left (nat_lt b n) (schedule_fits n ls) r, fits_run n ls a k runs (and_right (nat_lt b n) (schedule_fits n ls) r) range declared) refl
+    let r = (and_parts first (nat_lt b n && schedule_fits n ls) h).1 in
+    rw ((and_parts first (nat_lt b n && schedule_fits n ls) h).0, (and_parts (nat_lt b n) (schedule_fits n ls) r).0, fits_run n ls a k runs (and_parts (nat_lt b n) (schedule_fits n ls) r).1 range declared) refl
 fits_run n (schedule.Drain ∷ ls) a k runs h range declared = absurd (false≢true runs)
 
 fits_drain : (n : ℕ) (ls : List ScheduleLine) → list_all is_run ls ≡ true → schedule_fits n ls ≡ true → schedule_fits n (ls ++ schedule.Drain ∷ []) ≡ true
 fits_drain n [] runs h = refl
 fits_drain n (Run b j ∷ ls) runs h =
     let first = nat_le 1 j && nat_le j 1000000 in
-    let r = and_right first (nat_lt b n && schedule_fits n ls) h in
-    rw (and_left first (nat_lt b n && schedule_fits n ls) h, and_left (nat_lt b n) (schedule_fits n ls) r, fits_drain n ls runs (and_right (nat_lt b n) (schedule_fits n ls) r)) refl
+    let r = (and_parts first (nat_lt b n && schedule_fits n ls) h).1 in
+    rw ((and_parts first (nat_lt b n && schedule_fits n ls) h).0, (and_parts (nat_lt b n) (schedule_fits n ls) r).0, fits_drain n ls runs (and_parts (nat_lt b n) (schedule_fits n ls) r).1) refl
 fits_drain n (schedule.Drain ∷ ls) runs h = absurd (false≢true runs)
 
 runs-push : (ls : List ScheduleLine) (a k : ℕ) → list_all is_run ls ≡ true → list_all is_run (ls ++ Run a k ∷ []) ≡ true
@@ -174,18 +146,10 @@ runs-push ls a k h = rw (list_all-append is_run ls (Run a k ∷ []), h) refl
 
 ops_added : (test : Op → Bool) (ls : List (List Op)) (op : Op) → list_all (list_all test) ls ≡ true → test op ≡ true → list_all (list_all test) (add_to_last ls op) ≡ true
 ops_added test [] op h t = refl
-ops_added test (l ∷ []) op h t = rw (list_all-append test l (op ∷ []), and_left (list_all test l) true h, t) refl
-ops_added test (l ∷ m ∷ ls) op h t = rw (and_left (list_all test l) (list_all (list_all test) (m ∷ ls)) h, ops_added test (m ∷ ls) op (and_right (list_all test l) (list_all (list_all test) (m ∷ ls)) h) t) refl
+ops_added test (l ∷ []) op h t = rw (list_all-append test l (op ∷ []), (and_parts (list_all test l) true h).0, t) refl
+ops_added test (l ∷ m ∷ ls) op h t = rw ((and_parts (list_all test l) (list_all (list_all test) (m ∷ ls)) h).0, ops_added test (m ∷ ls) op (and_parts (list_all test l) (list_all (list_all test) (m ∷ ls)) h).1 t) refl
 
 -- ---- the words of the set
-
-or_left : (a b : Bool) → a ≡ true → (a || b) ≡ true
-or_left true b e = refl
-or_left false b e = absurd (false≢true e)
-
-or_right : (a b : Bool) → b ≡ true → (a || b) ≡ true
-or_right true b e = refl
-or_right false b e = e
 
 one_more : (a : Bool) (n : ℕ) → (a || eqb n 0) ≡ true → (a || nat_le (n + 1) 1) ≡ true
 one_more true n e = refl
@@ -283,8 +247,8 @@ device_goes set Devices s ws t a m r b w e =
     let make : ℕ → ℕ → Result State Reason = λ d n. demand ((eqb d (length s.devices)) && (nat_lt d 4 && nat_le n 8192)) Range >>= λ _. Ok (state Devices (record s { devices = s.devices ++ n ∷ [] })) in
     let k = two-takes number decimal Fits64 numbers number decimal Fits64 numbers make ws t e in
     let q = demand_ok ((eqb k.a (length s.devices)) && (nat_lt k.a 4 && nat_le k.b 8192)) Range _ t k.made in
-    let rest = and_right (eqb k.a (length s.devices)) (nat_lt k.a 4 && nat_le k.b 8192) q.0 in
-    goes_to set Devices s ws _ t q.1 (device_made set s k.a k.b ws r b (eqb-true _ _ (and_left (eqb k.a (length s.devices)) (nat_lt k.a 4 && nat_le k.b 8192) q.0)) (ltb-true k.a 4 (and_left (nat_lt k.a 4) (nat_le k.b 8192) rest)) (and_right (nat_lt k.a 4) (nat_le k.b 8192) rest) (k.words ∙ ap (λ (x : List ℕ). x ∷ decimal k.a ∷ decimal k.b ∷ []) w))
+    let rest = (and_parts (eqb k.a (length s.devices)) (nat_lt k.a 4 && nat_le k.b 8192) q.0).1 in
+    goes_to set Devices s ws _ t q.1 (device_made set s k.a k.b ws r b (eqb-true _ _ (and_parts (eqb k.a (length s.devices)) (nat_lt k.a 4 && nat_le k.b 8192) q.0).0) (ltb-true k.a 4 (and_parts (nat_lt k.a 4) (nat_le k.b 8192) rest).0) (and_parts (nat_lt k.a 4) (nat_le k.b 8192) rest).1 (k.words ∙ ap (λ (x : List ℕ). x ∷ decimal k.a ∷ decimal k.b ∷ []) w))
 device_goes set Start s ws t a m r b w e = absurd (false≢true a)
 device_goes set Headed s ws t a m r b w e = absurd (false≢true a)
 device_goes set Skipped s ws t a m r b w e = absurd (false≢true a)
@@ -309,7 +273,7 @@ unfolding step
 skip_goes set Devices s ws t a m r b w e =
     let k = one-takes number decimal Fits64 numbers (λ m. demand (nat_le 1 m && nat_le m (2 ^ 36)) Range >>= λ _. Ok (state Skipped (record s { skip = m }))) ws t e in
     let q = demand_ok (nat_le 1 k.a && nat_le k.a (2 ^ 36)) Range _ t k.made in
-    goes_to set Devices s ws _ t q.1 (skip_made set s k.a ws r b m (leb-true 1 k.a (and_left (nat_le 1 k.a) (nat_le k.a (2 ^ 36)) q.0)) (leb-true k.a (2 ^ 36) (and_right (nat_le 1 k.a) (nat_le k.a (2 ^ 36)) q.0)) (k.words ∙ ap (λ (x : List ℕ). x ∷ decimal k.a ∷ []) w))
+    goes_to set Devices s ws _ t q.1 (skip_made set s k.a ws r b m (leb-true 1 k.a (and_parts (nat_le 1 k.a) (nat_le k.a (2 ^ 36)) q.0).0) (leb-true k.a (2 ^ 36) (and_parts (nat_le 1 k.a) (nat_le k.a (2 ^ 36)) q.0).1) (k.words ∙ ap (λ (x : List ℕ). x ∷ decimal k.a ∷ []) w))
 skip_goes set Start s ws t a m r b w e = absurd (false≢true a)
 skip_goes set Headed s ws t a m r b w e = absurd (false≢true a)
 skip_goes set Skipped s ws t a m r b w e = absurd (false≢true a)
@@ -347,7 +311,7 @@ unfolding step
 actor_goes set p s ws t a m r b w e =
     let k = one-takes number decimal Fits64 numbers (λ n. demand ((eqb n (length s.actors)) && nat_lt n 16) Range >>= λ _. Ok (state Actors (record s { actors = s.actors ++ [] ∷ [] }))) ws t e in
     let q = demand_ok ((eqb k.a (length s.actors)) && nat_lt k.a 16) Range _ t k.made in
-    goes_to set p s ws _ t q.1 (actor_made set p s k.a ws (before_actor p s a r) b m (eqb-true _ _ (and_left (eqb k.a (length s.actors)) (nat_lt k.a 16) q.0)) (ltb-true k.a 16 (and_right (eqb k.a (length s.actors)) (nat_lt k.a 16) q.0)) (k.words ∙ ap (λ (x : List ℕ). x ∷ decimal k.a ∷ []) w))
+    goes_to set p s ws _ t q.1 (actor_made set p s k.a ws (before_actor p s a r) b m (eqb-true _ _ (and_parts (eqb k.a (length s.actors)) (nat_lt k.a 16) q.0).0) (ltb-true k.a 16 (and_parts (eqb k.a (length s.actors)) (nat_lt k.a 16) q.0).1) (k.words ∙ ap (λ (x : List ℕ). x ∷ decimal k.a ∷ []) w))
 
 op_made : (set : Words) (s : Program) (op : Op) (ws : Line) → Reached Actors s → IsBuilt set s → uses set op ≡ true → op_of_version s.version op ≡ true → op_fits (length s.devices) op ≡ true → operation_count s.actors < 100000 → ws ≡ op_words op → Goes set Actors s ws (state Actors (record s { actors = add_to_last s.actors op }))
 op_made set s op ws r b has new fits few words =
@@ -380,8 +344,8 @@ op_goes set Actors s ws t w a m r b h e =
     let o = bind_ok (op_at (length s.devices) w ws) _ t e in
     let q = demand_ok (nat_lt (operation_count s.actors) 100000) Limit _ t o.2 in
     let x = op-takes (length s.devices) w ws o.0 o.1 h in
-    let has : uses set o.0 ≡ true = ap (has_op set) x.word ∙ and_left (has_op set w) (word_of_version s.version w) m in
-    let new : op_of_version s.version o.0 ≡ true = new-word s.version o.0 ∙ ap (word_of_version s.version) x.word ∙ and_right (has_op set w) (word_of_version s.version w) m in
+    let has : uses set o.0 ≡ true = ap (has_op set) x.word ∙ (and_parts (has_op set w) (word_of_version s.version w) m).0 in
+    let new : op_of_version s.version o.0 ≡ true = new-word s.version o.0 ∙ ap (word_of_version s.version) x.word ∙ (and_parts (has_op set w) (word_of_version s.version w) m).1 in
     goes_to set Actors s ws _ t q.1 (op_made set s o.0 ws r b has new x.fits (ltb-true (operation_count s.actors) 100000 q.0) x.words)
 op_goes set Start s ws t w a m r b h e = absurd (false≢true a)
 op_goes set Headed s ws t w a m r b h e = absurd (false≢true a)

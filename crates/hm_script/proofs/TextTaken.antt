@@ -5,7 +5,7 @@ use Rattle.std.specs.List.{list_all, flat_map, find, concat}
 use Rattle.std.specs.Option.{ok_or, option_map}
 use Rattle.std.specs.Str.{bytes_eq}
 use Rattle.std.proofs.lemmas.Slice.Eq.{bytes_eq-Decides}
-use Rattle.std.proofs.lemmas.Bool.{false≢true, eqb-true}
+use Rattle.std.proofs.lemmas.Bool.{false≢true, eqb-true, and_parts}
 use Rattle.std.proofs.lemmas.List.{take_more, take_all, map_push}
 use Rattle.std.proofs.lemmas.List.Splits.{join_with_byte-slice_split}
 use Rattle.std.proofs.lemmas.Grind.{flat_map-append}
@@ -29,7 +29,6 @@ use Rattle.hm_script.specs.Reading.{demand}
 use Rattle.hm_script.specs.declared.words.Words.{Words}
 use Rattle.hm_script.specs.Built.{IsBuilt}
 use Rattle.hm_script.specs.Automaton.{State, state, start, empty, allows, permits, version_named, keyword_at, step, lines, onto_line, is_line, is_printable, line_text, read_header, read_text, next, finish, after, run, reading}
-use Rattle.hm_script.proofs.HexDigits.{and_left, and_right}
 use Rattle.hm_script.proofs.Steps.{bind_ok, demand_ok, ok_is}
 use Rattle.hm_script.proofs.Taken.{Reached, lines_read, Goes, goes_to, Line, frames_goes, device_goes, skip_goes, actor_goes, turns_goes, drain_goes, op_goes}
 
@@ -108,8 +107,8 @@ keyword_at_ok set t w k e =
     let d = demand_ok (allows t.part n.0 && permits set t.script n.0) Word _ k n.2 in
     subst (Allowed set t w) (ok_is n.0 k d.1) (record {
       names = keyword_names w n.0 (named_ok (keyword_named w) n.0 n.1);
-      allows = and_left (allows t.part n.0) (permits set t.script n.0) d.0;
-      permits = and_right (allows t.part n.0) (permits set t.script n.0) d.0;
+      allows = (and_parts (allows t.part n.0) (permits set t.script n.0) d.0).0;
+      permits = (and_parts (allows t.part n.0) (permits set t.script n.0) d.0).1;
     })
 
 -- ---- a line
@@ -173,7 +172,7 @@ line_parts l x e = by l (is_line l) refl e
         let n : ℕ = length (b ∷ bs) - 1 in
         let inside : n < length (b ∷ bs) = omega arith in
         let whole : n + 1 ≡ length (b ∷ bs) = omega arith in
-        let feed : get_or (b ∷ bs) n 0 ≡ 10 = eqb-true _ _ (and_left (eqb (get_or (b ∷ bs) n 0) 10) (list_all is_printable (take n (b ∷ bs))) h) in
+        let feed : get_or (b ∷ bs) n 0 ≡ 10 = eqb-true _ _ (and_parts (eqb (get_or (b ∷ bs) n 0) 10) (list_all is_printable (take n (b ∷ bs))) h).0 in
         sym (take_all (n + 1) (b ∷ bs) (omega arith)) ∙ take_more (b ∷ bs) n 0 inside ∙ ap (λ (c : ℕ). take n (b ∷ bs) ++ c ∷ []) feed
 
     by : (l : List ℕ) (t : Bool) → is_line l ≡ t → cond t (Ok (take (length l - 1) l)) (Err LineEnd) ≡ Ok x → l ≡ x ++ 10 ∷ []

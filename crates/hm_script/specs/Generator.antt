@@ -105,7 +105,11 @@ drawn_line x = let a = drawn_on x in drawn (Run (draw x 8) (1 + draw a 16)) (dra
 -- what the first actor begins with
 abbrev pub first_ops : List Op
 first_ops = Map 0 (span 0 256) ReadWrite ∷ Map 0 (span 256 64) Read ∷ Fork 0 1 ∷ Fork 0 2 ∷ Fork 0 3
-    ∷ Attach 0 0 0 (span 0 320) ∷ Attach 1 1 0 (span 0 320) ∷ Attach 2 0 1 (span 0 320) ∷ Attach 3 1 2 (span 0 320) ∷ []
+    ∷ Attach 0 0 0 (span 0 320)
+    ∷ Attach 1 1 0 (span 0 320)
+    ∷ Attach 2 0 1 (span 0 320)
+    ∷ Attach 3 1 2 (span 0 320)
+    ∷ []
 
 -- what the first actor has, the other actors and the schedule
 unfoldable pub generated : ℕ → Program

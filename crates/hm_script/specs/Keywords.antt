@@ -29,7 +29,26 @@ op_text Exclusive = codes "exclusive"
 op_text Add = codes "dadd"
 
 abbrev pub all_ops : List OpWord
-all_ops = Map ∷ Unmap ∷ Protect ∷ Load ∷ Store ∷ Fork ∷ Exit ∷ Attach ∷ Detach ∷ DeviceLoad ∷ DeviceStore ∷ ToDevice ∷ ToSystem ∷ Snap ∷ Evict ∷ Remove ∷ Exclusive ∷ Add ∷ []
+all_ops =
+    Map
+    ∷ Unmap
+    ∷ Protect
+    ∷ Load
+    ∷ Store
+    ∷ Fork
+    ∷ Exit
+    ∷ Attach
+    ∷ Detach
+    ∷ DeviceLoad
+    ∷ DeviceStore
+    ∷ ToDevice
+    ∷ ToSystem
+    ∷ Snap
+    ∷ Evict
+    ∷ Remove
+    ∷ Exclusive
+    ∷ Add
+    ∷ []
 
 -- the operation that the word names
 unfoldable pub op_named : List ℕ → Option OpWord

@@ -12,7 +12,15 @@ use Rattle.hm_script.specs.Gives.{Fails}
 use Rattle.hm_script.specs.Automaton.{State, state, refused}
 
 abbrev pub program_of : Reader → Program
-program_of r = record { version = r.version; frames = r.frames; devices = r.devices; skip = r.skip; actors = r.actors; schedule = r.schedule }
+program_of r =
+    record {
+      version = r.version;
+      frames = r.frames;
+      devices = r.devices;
+      skip = r.skip;
+      actors = r.actors;
+      schedule = r.schedule;
+    }
 
 abbrev pub state_of : Reader → State
 state_of r = state r.part (program_of r)

@@ -33,14 +33,16 @@ one f make words = do
   a ← f (word 1 words)
   make a
 
-abbrev pub two : {A B C : Type 0} → (List ℕ → Result A Reason) → (List ℕ → Result B Reason) → (A → B → Result C Reason) → List (List ℕ) → Result C Reason
+abbrev pub two : {A B C : Type 0} → (List ℕ → Result A Reason) → (List ℕ → Result B Reason)
+    → (A → B → Result C Reason) → List (List ℕ) → Result C Reason
 two f g make words = do
   _ ← shape 3 words
   a ← f (word 1 words)
   b ← g (word 2 words)
   make a b
 
-abbrev pub three : {A B C D : Type 0} → (List ℕ → Result A Reason) → (List ℕ → Result B Reason) → (List ℕ → Result C Reason) → (A → B → C → Result D Reason) → List (List ℕ) → Result D Reason
+abbrev pub three : {A B C D : Type 0} → (List ℕ → Result A Reason) → (List ℕ → Result B Reason)
+    → (List ℕ → Result C Reason) → (A → B → C → Result D Reason) → List (List ℕ) → Result D Reason
 three f g h make words = do
   _ ← shape 4 words
   a ← f (word 1 words)
@@ -48,7 +50,9 @@ three f g h make words = do
   c ← h (word 3 words)
   make a b c
 
-abbrev pub four : {A B C D E : Type 0} → (List ℕ → Result A Reason) → (List ℕ → Result B Reason) → (List ℕ → Result C Reason) → (List ℕ → Result D Reason) → (A → B → C → D → Result E Reason) → List (List ℕ) → Result E Reason
+abbrev pub four : {A B C D E : Type 0} → (List ℕ → Result A Reason) → (List ℕ → Result B Reason)
+    → (List ℕ → Result C Reason) → (List ℕ → Result D Reason) → (A → B → C → D → Result E Reason) → List (List ℕ)
+    → Result E Reason
 four f g h i make words = do
   _ ← shape 5 words
   a ← f (word 1 words)
@@ -57,7 +61,9 @@ four f g h i make words = do
   d ← i (word 4 words)
   make a b c d
 
-abbrev pub five : {A B C D E F : Type 0} → (List ℕ → Result A Reason) → (List ℕ → Result B Reason) → (List ℕ → Result C Reason) → (List ℕ → Result D Reason) → (List ℕ → Result E Reason) → (A → B → C → D → E → Result F Reason) → List (List ℕ) → Result F Reason
+abbrev pub five : {A B C D E F : Type 0} → (List ℕ → Result A Reason) → (List ℕ → Result B Reason)
+    → (List ℕ → Result C Reason) → (List ℕ → Result D Reason) → (List ℕ → Result E Reason)
+    → (A → B → C → D → E → Result F Reason) → List (List ℕ) → Result F Reason
 five f g h i j make words = do
   _ ← shape 6 words
   a ← f (word 1 words)
@@ -84,7 +90,8 @@ op_at devices word_of.Load = three number address number (λ p a n. checked devi
 op_at devices word_of.Store = three number address hex (λ p a b. checked devices (Store p a b))
 op_at devices word_of.Fork = two number number (λ p c. checked devices (Fork p c))
 op_at devices word_of.Exit = one number (λ p. checked devices (Exit p))
-op_at devices word_of.Attach = five number number number number number (λ m d p v n. checked devices (Attach m d p (span v n)))
+op_at devices word_of.Attach =
+    five number number number number number (λ m d p v n. checked devices (Attach m d p (span v n)))
 op_at devices word_of.Detach = one number (λ m. checked devices (Detach m))
 op_at devices word_of.DeviceLoad = three number address number (λ m a n. checked devices (DeviceLoad m a n))
 op_at devices word_of.DeviceStore = three number address hex (λ m a b. checked devices (DeviceStore m a b))

@@ -34,7 +34,8 @@ op_words (Load p a n) = codes "load" ∷ decimal p ∷ address_text a ∷ decima
 op_words (Store p a b) = codes "store" ∷ decimal p ∷ address_text a ∷ hex_text b ∷ []
 op_words (Fork p c) = codes "fork" ∷ decimal p ∷ decimal c ∷ []
 op_words (Exit p) = codes "exit" ∷ decimal p ∷ []
-op_words (Attach m d p s) = codes "attach" ∷ decimal m ∷ decimal d ∷ decimal p ∷ decimal s.first ∷ decimal s.count ∷ []
+op_words (Attach m d p s) =
+    codes "attach" ∷ decimal m ∷ decimal d ∷ decimal p ∷ decimal s.first ∷ decimal s.count ∷ []
 op_words (Detach m) = codes "detach" ∷ decimal m ∷ []
 op_words (DeviceLoad m a n) = codes "dload" ∷ decimal m ∷ address_text a ∷ decimal n ∷ []
 op_words (DeviceStore m a b) = codes "dstore" ∷ decimal m ∷ address_text a ∷ hex_text b ∷ []

@@ -40,7 +40,8 @@ impl Draws {
     }
 
     fn access(&mut self) -> Access
-        ensures gives { drawn (record { who = result.who; addr = result.addr; len = result.len }) self.new.state ≡ drawn_access self.old.state }
+        ensures gives { drawn (record { who = result.who; addr = result.addr; len = result.len }) self.new.state
+            ≡ drawn_access self.old.state }
         ensures who { result.who < 4 }
         ensures len { result.len ≤ 16 }
     {
@@ -73,7 +74,8 @@ impl Draws {
         requires most { 0 < most }
         requires few { most ≤ 8 }
         ensures who { result.0 ≡ draw self.old.state 4 }
-        ensures span { result.1 ≡ span (draw (drawn_on self.old.state) pages) (1 + draw (drawn_on (drawn_on self.old.state)) most) }
+        ensures span { result.1
+            ≡ span (draw (drawn_on self.old.state) pages) (1 + draw (drawn_on (drawn_on self.old.state)) most) }
         ensures moves { self.new.state ≡ drawn_on (drawn_on (drawn_on self.old.state)) }
         ensures bound { result.0 < 4 }
     {
@@ -269,7 +271,9 @@ impl Draws {
 
     /// Adds so many operations to the list.
     fn add_ops(&mut self, alloc: Global, ops: &mut OpList, count: u64) -> Result<(), NoMemory>
-        ensures { OnOk result (let more = drawn_list drawn_op self.old.state count in (ops.new ≡ ops.old ++ more.value) × (self.new.state ≡ more.rest)) }
+        ensures { OnOk result
+            (let more = drawn_list drawn_op self.old.state count in (ops.new ≡ ops.old ++ more.value)
+            × (self.new.state ≡ more.rest)) }
     {
         for _ in 0..count {
             let op = self.op(alloc)?;
@@ -285,7 +289,9 @@ impl Draws {
         actors: &mut ActorLists,
         count: u64,
     ) -> Result<(), NoMemory>
-        ensures { OnOk result (let more = drawn_list drawn_actor self.old.state count in (actors.new ≡ actors.old ++ more.value) × (self.new.state ≡ more.rest)) }
+        ensures { OnOk result
+            (let more = drawn_list drawn_actor self.old.state count in (actors.new ≡ actors.old ++ more.value)
+            × (self.new.state ≡ more.rest)) }
     {
         for _ in 0..count {
             let ops = self.actor(alloc)?;

@@ -24,6 +24,3 @@ pub use reason::{Reason, Refused, ScriptError};
 pub use script::{parse, parse_words};
 pub use version::upgrade;
 pub use words::{ALL_WORDS, BUILT_WORDS, Words};
-
-#[cfg(test)]
-mod tests;

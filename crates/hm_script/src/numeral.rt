@@ -94,7 +94,8 @@ pub fn address(word: &[u8]) -> Result<u64, Reason>
 
 /// The byte that two hexadecimal digits write.
 fn pair(high: u8, low: u8) -> Option<u8>
-    ensures { SomeIff result ((is_low_digit 16 high ≡ true) × (is_low_digit 16 low ≡ true)) (16 * digit_value high + digit_value low) }
+    ensures { SomeIff result ((is_low_digit 16 high ≡ true) × (is_low_digit 16 low ≡ true))
+        (16 * digit_value high + digit_value low) }
 {
     let high = digit(high, 16)?;
     let low = digit(low, 16)?;

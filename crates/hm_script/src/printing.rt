@@ -123,7 +123,8 @@ fn put_access(
     address: u64,
     len: u64,
 ) -> Result<(), NoMemory>
-    ensures { OnOk result (out.new ≡ out.old ++ line (word.now ∷ decimal number ∷ address_text address ∷ decimal len ∷ [])) }
+    ensures { OnOk result
+        (out.new ≡ out.old ++ line (word.now ∷ decimal number ∷ address_text address ∷ decimal len ∷ [])) }
 {
     out.extend(word)?;
     put_number(out, number)?;
@@ -141,7 +142,8 @@ fn put_store(
     address: u64,
     bytes: &[u8],
 ) -> Result<(), NoMemory>
-    ensures { OnOk result (out.new ≡ out.old ++ line (word.now ∷ decimal number ∷ address_text address ∷ hex_text bytes.now ∷ [])) }
+    ensures { OnOk result
+        (out.new ≡ out.old ++ line (word.now ∷ decimal number ∷ address_text address ∷ hex_text bytes.now ∷ [])) }
 {
     out.extend(word)?;
     put_number(out, number)?;
@@ -244,7 +246,8 @@ fn first_of(span: Span) -> u64
 
 /// A line of a word, a mirror and a span.
 fn put_span(out: &mut Text, word: &[u8], mirror: MirrorId, span: Span) -> Result<(), NoMemory>
-    ensures { OnOk result (out.new ≡ out.old ++ line (word.now ∷ decimal mirror ∷ decimal span.first ∷ decimal span.count ∷ [])) }
+    ensures { OnOk result
+        (out.new ≡ out.old ++ line (word.now ∷ decimal mirror ∷ decimal span.first ∷ decimal span.count ∷ [])) }
 {
     put_line(
         out,
@@ -285,7 +288,8 @@ fn put_ops(out: &mut Text, ops: &[Op]) -> Result<(), NoMemory>
 
 /// The lines of one actor.
 fn put_actor(out: &mut Text, actor: u64, ops: &OpList) -> Result<(), NoMemory>
-    ensures { OnOk result (out.new ≡ out.old ++ flat_map line ((codes "actor" ∷ decimal actor ∷ []) ∷ map op_words ops.now)) }
+    ensures { OnOk result
+        (out.new ≡ out.old ++ flat_map line ((codes "actor" ∷ decimal actor ∷ []) ∷ map op_words ops.now)) }
 {
     put_line(out, b"actor", &[actor])?;
     put_ops(out, ops.as_slice())

@@ -1,13 +1,13 @@
 use Rattle.std.proofs.Common.{◌<◌, ℕ, List, ◌∷◌, length, take}
 use Rattle.hm_script.specs.Spelling.{hex_text}
-use Rattle.hm_report.specs.Told.{Told, told, GoesOn}
+use Rattle.hm_report.specs.SinkState.{SinkState, sink_state, GoesOn}
 use Rattle.hm_report.proofs.outlet.put_hex.Given as goal
 
 -- the digits so far were added
-pub record SoFar (before now : Told) (kept keeps bytes : List ℕ) (count : ℕ) : Type 0 where
+pub record SoFar (before now : SinkState) (kept keeps bytes : List ℕ) (count : ℕ) : Type 0 where
   pub goes : GoesOn before now kept keeps (32 ∷ hex_text (take count bytes))
   pub room : length keeps < 8192
 
 abbrev pub invariant-loop-byte : goal.invariant-loop-byte
 invariant-loop-byte g l =
-    SoFar (told g.K.Sink.held g.K.Sink.failures g.K.Sink.wanted l.fn.sink) (told g.K.Sink.held g.K.Sink.failures g.K.Sink.wanted l.sink) l.fn.out l.out l.bytes l.byte-index
+    SoFar (sink_state g.K.Sink.held g.K.Sink.failures g.K.Sink.wanted l.fn.sink) (sink_state g.K.Sink.held g.K.Sink.failures g.K.Sink.wanted l.sink) l.fn.out l.out l.bytes l.byte-index

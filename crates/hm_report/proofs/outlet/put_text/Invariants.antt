@@ -1,16 +1,16 @@
 use Rattle.std.proofs.Common.{◌≤◌, ◌-◌, ℕ, List, length, take}
-use Rattle.hm_report.specs.Told.{Told, told, GoesOn}
+use Rattle.hm_report.specs.SinkState.{SinkState, sink_state, GoesOn}
 use Rattle.hm_report.proofs.outlet.put_text.Given as goal
 
 -- the bytes so far were added
-pub record SoFar (before now : Told) (kept keeps text : List ℕ) (at : ℕ) : Type 0 where
+pub record SoFar (before now : SinkState) (kept keeps text : List ℕ) (at : ℕ) : Type 0 where
   pub goes : GoesOn before now kept keeps (take at text)
   pub within : at ≤ length text
   pub room : length keeps ≤ 4096
 
 abbrev pub invariant-loop-at : goal.invariant-loop-at
 invariant-loop-at g l =
-    SoFar (told g.K.Sink.held g.K.Sink.failures g.K.Sink.wanted l.fn.sink) (told g.K.Sink.held g.K.Sink.failures g.K.Sink.wanted l.sink) l.fn.out l.out l.text l.at
+    SoFar (sink_state g.K.Sink.held g.K.Sink.failures g.K.Sink.wanted l.fn.sink) (sink_state g.K.Sink.held g.K.Sink.failures g.K.Sink.wanted l.sink) l.fn.out l.out l.text l.at
 
 abbrev pub decreases-loop-at : goal.decreases-loop-at
 decreases-loop-at g l = length l.text - l.at

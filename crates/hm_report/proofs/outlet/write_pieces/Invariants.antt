@@ -1,15 +1,15 @@
 use Rattle.std.proofs.Common.{◌≤◌, ◌-◌, ℕ, List, length, take}
-use Rattle.hm_report.specs.Told.{Told, told, Sends}
+use Rattle.hm_report.specs.SinkState.{SinkState, sink_state, Sends}
 use Rattle.hm_report.proofs.outlet.write_pieces.Given as goal
 
 -- the bytes so far were added
-pub record SoFar (before now : Told) (bytes : List ℕ) (at : ℕ) : Type 0 where
+pub record SoFar (before now : SinkState) (bytes : List ℕ) (at : ℕ) : Type 0 where
   pub sends : Sends before now (take at bytes)
   pub within : at ≤ length bytes
 
 abbrev pub invariant-loop-at : goal.invariant-loop-at
 invariant-loop-at g l =
-    SoFar (told g.K.Sink.held g.K.Sink.failures g.K.Sink.wanted l.fn.sink) (told g.K.Sink.held g.K.Sink.failures g.K.Sink.wanted l.sink) l.bytes l.at
+    SoFar (sink_state g.K.Sink.held g.K.Sink.failures g.K.Sink.wanted l.fn.sink) (sink_state g.K.Sink.held g.K.Sink.failures g.K.Sink.wanted l.sink) l.bytes l.at
 
 abbrev pub decreases-loop-at : goal.decreases-loop-at
 decreases-loop-at g l = length l.bytes - l.at

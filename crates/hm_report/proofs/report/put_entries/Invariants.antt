@@ -1,14 +1,14 @@
 use Rattle.std.proofs.Common.{◌≤◌, ℕ, List, length, take}
 use Rattle.hm_history.specs.declared.Entry.{Entry}
 use Rattle.hm_report.specs.Report.{entry_lines}
-use Rattle.hm_report.specs.Told.{Told, told, GoesOn}
+use Rattle.hm_report.specs.SinkState.{SinkState, sink_state, GoesOn}
 use Rattle.hm_report.proofs.report.put_entries.Given as goal
 
 -- the lines so far were added
-pub record SoFar (before now : Told) (kept keeps : List ℕ) (entries : List Entry) (count : ℕ) : Type 0 where
+pub record SoFar (before now : SinkState) (kept keeps : List ℕ) (entries : List Entry) (count : ℕ) : Type 0 where
   pub goes : GoesOn before now kept keeps (entry_lines 0 (take count entries))
   pub room : length keeps ≤ 5000
 
 abbrev pub invariant-loop-at : goal.invariant-loop-at
 invariant-loop-at g l =
-    SoFar (told g.K.Sink.held g.K.Sink.failures g.K.Sink.wanted l.fn.sink) (told g.K.Sink.held g.K.Sink.failures g.K.Sink.wanted l.sink) l.fn.out l.out l.entries l.at
+    SoFar (sink_state g.K.Sink.held g.K.Sink.failures g.K.Sink.wanted l.fn.sink) (sink_state g.K.Sink.held g.K.Sink.failures g.K.Sink.wanted l.sink) l.fn.out l.out l.entries l.at

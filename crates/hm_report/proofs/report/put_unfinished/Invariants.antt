@@ -1,14 +1,14 @@
 use Rattle.std.proofs.Common.{◌≤◌, ℕ, List, length, slice_index}
 use Rattle.hm_base.specs.Program.{Program}
 use Rattle.hm_report.specs.Report.{unfinished_among}
-use Rattle.hm_report.specs.Told.{Told, told, GoesOn}
+use Rattle.hm_report.specs.SinkState.{SinkState, sink_state, GoesOn}
 use Rattle.hm_report.proofs.report.put_unfinished.Given as goal
 
 -- the lines so far were added
-pub record SoFar (before now : Told) (kept keeps : List ℕ) (c : Program) (ended : ℕ → ℕ) (count : ℕ) : Type 0 where
+pub record SoFar (before now : SinkState) (kept keeps : List ℕ) (c : Program) (ended : ℕ → ℕ) (count : ℕ) : Type 0 where
   pub goes : GoesOn before now kept keeps (unfinished_among c ended count)
   pub room : length keeps ≤ 5000
 
 abbrev pub invariant-loop-actor : goal.invariant-loop-actor
 invariant-loop-actor g l =
-    SoFar (told g.K.Sink.held g.K.Sink.failures g.K.Sink.wanted l.fn.sink) (told g.K.Sink.held g.K.Sink.failures g.K.Sink.wanted l.sink) l.fn.out l.out l.script (λ a. slice_index l.ended a) l.actor
+    SoFar (sink_state g.K.Sink.held g.K.Sink.failures g.K.Sink.wanted l.fn.sink) (sink_state g.K.Sink.held g.K.Sink.failures g.K.Sink.wanted l.sink) l.fn.out l.out l.script (λ a. slice_index l.ended a) l.actor

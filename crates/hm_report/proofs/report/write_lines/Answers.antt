@@ -25,7 +25,7 @@ returns-in_err-put_lines-clause-err g c =
 
 pub put_unfinished-requires-clause-ended : goal.put_unfinished-requires-clause-ended
 put_unfinished-requires-clause-ended g c =
-    omega (arith, c.operations_ended-ended.ensures.len, c.fits.ensures.few_actors)
+    omega (arith, c.operations_ended-ended.ensures.len, c.facts.ensures.few_actors)
 
 pub returns-in_err-put_unfinished-clause-err : goal.returns-in_err-put_unfinished-clause-err
 returns-in_err-put_unfinished-clause-err g c =
@@ -33,7 +33,7 @@ returns-in_err-put_unfinished-clause-err g c =
     let script = c.args.script.now in
     let h = c.args.history.now.entries in
     let first = first_is script h c.args.text.now _ c.requires.text c.as_slice-entries.ensures in
-    let second = second_is script h _ c.fits.ensures.few_actors c.operations_ended-ended.ensures.each in
+    let second = second_is script h _ c.facts.ensures.few_actors c.operations_ended-ended.ensures.each in
     rw (p.1, p.2) (stops_in_unfinished _ _ _ script h (counted script h) c.args.out.now c.put_lines.new.out _ _ _ c.requires.empty first second c.in_ok-put_lines.ensures.ok c.in_err-put_unfinished.ensures.err)
 
 pub returns-clause-ok : goal.returns-clause-ok
@@ -41,7 +41,7 @@ returns-clause-ok g c =
     let script = c.args.script.now in
     let h = c.args.history.now.entries in
     let first = first_is script h c.args.text.now _ c.requires.text c.as_slice-entries.ensures in
-    let second = second_is script h _ c.fits.ensures.few_actors c.operations_ended-ended.ensures.each in
+    let second = second_is script h _ c.facts.ensures.few_actors c.operations_ended-ended.ensures.each in
     on_ok_weaker c.write_end.result
     (λ s. report_sends _ _ _ _ script h (counted script h) c.args.out.now c.put_lines.new.out c.put_unfinished.new.out _ _ c.len-count.result c.requires.empty first second c.len-count.ensures c.in_ok-put_lines.ensures.ok c.in_ok-put_unfinished.ensures.ok s)
     c.write_end.ensures.ok
@@ -51,7 +51,7 @@ returns-clause-err g c =
     let script = c.args.script.now in
     let h = c.args.history.now.entries in
     let first = first_is script h c.args.text.now _ c.requires.text c.as_slice-entries.ensures in
-    let second = second_is script h _ c.fits.ensures.few_actors c.operations_ended-ended.ensures.each in
+    let second = second_is script h _ c.facts.ensures.few_actors c.operations_ended-ended.ensures.each in
     IfErr-weaker c.write_end.result _ _
     (λ why s. stops_at_end _ _ _ _ script h (counted script h) c.args.out.now c.put_lines.new.out c.put_unfinished.new.out _ _ c.len-count.result why c.requires.empty first second c.len-count.ensures c.in_ok-put_lines.ensures.ok c.in_ok-put_unfinished.ensures.ok s)
     c.write_end.ensures.err

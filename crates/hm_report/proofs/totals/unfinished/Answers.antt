@@ -25,4 +25,4 @@ returns c =
     let script = c.args.script.now in
     let ended : ℕ → ℕ = λ a. slice_index c.operations_ended-ended.result a in
     let all : c.loop-actor.actor ≡ length script.actors = omega (arith, c.loop-actor-test.false, c.loop-actor.auto.actor-end, c.len-actor-end.ensures, ap (λ s. length s.actors) c.script.view_is) in
-    c.loop-actor.invariant.same ∙ ap (unfinished_count script ended) all ∙ count_same script ended (counted script c.args.history.now.entries) (length script.actors) (λ a lt. c.operations_ended-ended.ensures.each a (omega (arith, c.fits.ensures.few_actors)))
+    c.loop-actor.invariant.same ∙ ap (unfinished_count script ended) all ∙ count_same script ended (counted script c.args.history.now.entries) (length script.actors) (λ a lt. c.operations_ended-ended.ensures.each a (omega (arith, c.facts.ensures.few_actors)))

@@ -5,31 +5,32 @@ use Rattle.hm_io.specs.Streams.{Adds, AddsFront, WriteCause, WantCause}
 use Rattle.hm_report.specs.declared.outlet.Stop.{Stop}
 
 -- what a sink tells: the bytes that it holds, and its counts
-pub record Told : Type 0 where
+pub record SinkState : Type 0 where
   pub held : Option (List ℕ)
   pub faults : ℕ
   pub wants : ℕ
 
-abbrev pub told : {K : Type 0} → (K → Option (List ℕ)) → (K → ℕ) → (K → ℕ) → K → Told
-told held faults wants sink = record { held = held sink; faults = faults sink; wants = wants sink }
+abbrev pub sink_state : {K : Type 0} → (K → Option (List ℕ)) → (K → ℕ) → (K → ℕ) → K → SinkState
+sink_state held faults wants sink = record { held = held sink; faults = faults sink; wants = wants sink }
 
 -- these bytes were added
-pub record Sends (before after : Told) (bytes : List ℕ) : Type 0 where
+pub record Sends (before after : SinkState) (bytes : List ℕ) : Type 0 where
   pub bytes_are : Adds before.held after.held bytes
   pub faults : after.faults ≡ before.faults
   pub wants : after.wants ≡ before.wants
 
 -- of what the buffer kept, and of more, a front went out, and the rest is kept now
-pub record GoesOn (before after : Told) (kept keeps more : List ℕ) : Type 0 where
+pub record GoesOn (before after : SinkState) (kept keeps more : List ℕ) : Type 0 where
   pub front : List ℕ
   pub whole : kept ++ more ≡ front ++ keeps
   pub sends : Sends before after front
 
-abbrev pub StopCause : Told → Told → Stop → Type 0
+abbrev pub StopCause : SinkState → SinkState → Stop → Type 0
 StopCause before after Stop.Fault = WriteCause before.faults after.faults put.Failed × (after.wants ≡ before.wants)
-StopCause before after Stop.NoMemory = (after.faults ≡ before.faults) × WantCause before.wants after.wants put.NoMemory
+StopCause before after Stop.NoMemory =
+    (after.faults ≡ before.faults) × WantCause before.wants after.wants put.NoMemory
 
 -- a front of these bytes was added, and then the sink failed or wanted memory
-pub record Stops (before after : Told) (bytes : List ℕ) (why : Stop) : Type 0 where
+pub record Stops (before after : SinkState) (bytes : List ℕ) (why : Stop) : Type 0 where
   pub front : AddsFront before.held after.held bytes
   pub cause : StopCause before after why
