@@ -6,7 +6,7 @@ use Rattle.hm_history.specs.Due.{due}
 use Rattle.hm_history.specs.Run.{added, is_entry, turn, turns}
 use Rattle.hm_history.specs.declared.Entry.{Entry}
 use Rattle.hm_history.specs.declared.Progress.{Progress}
-use Rattle.hm_machine.specs.Overrun.{overruns_turns}
+use Rattle.hm_history.specs.Overrun.{overruns_turns}
 
 pub with_room : (h : List Entry) (e : Entry) → length h < 2000000 → added h (Progress.Did e) ≡ h ++ e ∷ []
 with_room h e room =

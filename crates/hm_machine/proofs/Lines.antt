@@ -5,8 +5,8 @@ use Rattle.hm_base.specs.declared.ops.ScheduleLine.{ScheduleLine}
 use Rattle.hm_history.specs.Run.{line_run}
 use Rattle.hm_history.specs.declared.Entry.{Entry}
 use Rattle.hm_history.specs.declared.StepError.{StepError}
-use Rattle.hm_world.specs.Told.{Told, halted_by}
-use Rattle.hm_machine.specs.Overrun.{overruns_line, overruns_lines}
+use Rattle.hm_world.specs.WorldValue.{WorldValue, halted_by}
+use Rattle.hm_history.specs.Overrun.{overruns_line, overruns_lines}
 use Rattle.hm_machine.specs.Turning.{CameTo, with_history}
 use Rattle.hm_machine.proofs.Rounds.{full_lines}
 use Rattle.hm_machine.proofs.Turns.{or_true, or_false}
@@ -21,13 +21,13 @@ pub line_at : {X : Type 0} (xs : List X) (i : ℕ) (x : X) → slice_get xs i �
 line_at xs i x e = rw (add-one i) (split_at xs i x e)
 
 -- the lines from position i on are left, which come to this history, and beyond a full one or not
-pub record Left (s t : Told) (i : ℕ) (h : List Entry) (b : Bool) : Type 0 where
+pub record Left (s t : WorldValue) (i : ℕ) (h : List Entry) (b : Bool) : Type 0 where
   pub same : t ≡ with_history s t.history
   pub left : fold (line_run s.script) t.history (drop i s.script.schedule) ≡ h
   pub beyond : overruns_lines s.script t.history (drop i s.script.schedule) ≡ b
 
 -- an error ends the lines, of which none that is left adds an entry
-pub lines_fail : (s t u : Told) (i : ℕ) (l : ScheduleLine) (e : StepError) (h : List Entry) (b : Bool) → Left s t i h b → slice_get t.script.schedule i ≡ Some l → CameTo t (line_run t.script t.history l) (overruns_line t.script t.history l) (Err e) u → CameTo s h b (Err e) u
+pub lines_fail : (s t u : WorldValue) (i : ℕ) (l : ScheduleLine) (e : StepError) (h : List Entry) (b : Bool) → Left s t i h b → slice_get t.script.schedule i ≡ Some l → CameTo t (line_run t.script t.history l) (overruns_line t.script t.history l) (Err e) u → CameTo s h b (Err e) u
 lines_fail s t u i l e h b before here came =
     by t.history e (subst (λ x. slice_get x.script.schedule i ≡ Some l) before.same here) before.left before.beyond (subst (λ x. CameTo x (line_run x.script x.history l) (overruns_line x.script x.history l) (Err e) u) before.same came)
   where
@@ -44,7 +44,7 @@ lines_fail s t u i l e h b before here came =
     by g StepError.NoMemory at left beyond came = came
 
 -- else a line less is left
-pub lines_go : (s t u : Told) (i : ℕ) (l : ScheduleLine) (x : ⊤) (h : List Entry) (b : Bool) → Left s t i h b → slice_get t.script.schedule i ≡ Some l → CameTo t (line_run t.script t.history l) (overruns_line t.script t.history l) (Ok x) u → Left s u (i + 1) h b
+pub lines_go : (s t u : WorldValue) (i : ℕ) (l : ScheduleLine) (x : ⊤) (h : List Entry) (b : Bool) → Left s t i h b → slice_get t.script.schedule i ≡ Some l → CameTo t (line_run t.script t.history l) (overruns_line t.script t.history l) (Ok x) u → Left s u (i + 1) h b
 lines_go s t u i l x h b before here came =
     by t.history (subst (λ y. slice_get y.script.schedule i ≡ Some l) before.same here) before.left before.beyond (subst (λ y. CameTo y (line_run y.script y.history l) (overruns_line y.script y.history l) (Ok x) u) before.same came)
   where

@@ -8,13 +8,13 @@ use Rattle.hm_history.specs.declared.Entry.{Entry}
 use Rattle.hm_history.specs.declared.Progress.{Progress}
 use Rattle.hm_history.specs.declared.StepError.{StepError}
 use Rattle.hm_history.specs.declared.Why.{Why}
-use Rattle.hm_world.specs.Told.{Told}
+use Rattle.hm_world.specs.WorldValue.{WorldValue}
 use Rattle.hm_machine.specs.declared.Turn.{Turn}
 use Rattle.hm_machine.specs.Turning.{TurnsTo, TurnsFrom, Turned, AddsTo, Adds, with_history}
 use Rattle.hm_machine.proofs.Fullness.{with_room}
 
 -- a machine that goes on
-goes_on : (t u : Told) (a : ℕ) (r : Result Turn StepError) → t.halted ≡ None → Turned t a r u → TurnsTo t (due t.script t.history a) r u
+goes_on : (t u : WorldValue) (a : ℕ) (r : Result Turn StepError) → t.halted ≡ None → Turned t a r u → TurnsTo t (due t.script t.history a) r u
 goes_on t u a r none turned = subst (λ x. TurnsFrom x t (due t.script t.history a) r u) none turned
 
 no_room : (h : List Entry) → length h ≡ 2000000 → not (has_room h) ≡ true
@@ -23,7 +23,7 @@ no_room h full = let high : ltb (length h) 2000000 ≡ false = grind (arith, nat
 some_room : (h : List Entry) → length h < 2000000 → not (has_room h) ≡ false
 some_room h few = let low : ltb (length h) 2000000 ≡ true = grind (arith, nat_tests) in ap not low
 
-pub did : (t u : Told) (a : ℕ) → t.halted ≡ None → Turned t a (Ok Turn.Did) u → Adds t a (Ok true) u
+pub did : (t u : WorldValue) (a : ℕ) → t.halted ≡ None → Turned t a (Ok Turn.Did) u → Adds t a (Ok true) u
 did t u a none turned = by (due t.script t.history a) (goes_on t u a (Ok Turn.Did) none turned)
   where
     by : (p : Progress) → TurnsTo t p (Ok Turn.Did) u → AddsTo t p (Ok true) u
@@ -34,7 +34,7 @@ did t u a none turned = by (due t.script t.history a) (goes_on t u a (Ok Turn.Di
     by (Progress.Waiting why) h = absurd h
     by Progress.Idle h = absurd h
 
-pub waited : (t u : Told) (a : ℕ) (w : Why) → t.halted ≡ None → Turned t a (Ok (Turn.Waiting w)) u → Adds t a (Ok false) u
+pub waited : (t u : WorldValue) (a : ℕ) (w : Why) → t.halted ≡ None → Turned t a (Ok (Turn.Waiting w)) u → Adds t a (Ok false) u
 waited t u a w none turned = by (due t.script t.history a) (goes_on t u a (Ok (Turn.Waiting w)) none turned)
   where
     by : (p : Progress) → TurnsTo t p (Ok (Turn.Waiting w)) u → AddsTo t p (Ok false) u
@@ -42,7 +42,7 @@ waited t u a w none turned = by (due t.script t.history a) (goes_on t u a (Ok (T
     by (Progress.Waiting why) h = (h.1, refl, λ x. refl)
     by Progress.Idle h = absurd h
 
-pub idled : (t u : Told) (a : ℕ) → t.halted ≡ None → Turned t a (Ok Turn.Idle) u → Adds t a (Ok false) u
+pub idled : (t u : WorldValue) (a : ℕ) → t.halted ≡ None → Turned t a (Ok Turn.Idle) u → Adds t a (Ok false) u
 idled t u a none turned = by (due t.script t.history a) (goes_on t u a (Ok Turn.Idle) none turned)
   where
     by : (p : Progress) → TurnsTo t p (Ok Turn.Idle) u → AddsTo t p (Ok false) u
@@ -51,7 +51,7 @@ idled t u a none turned = by (due t.script t.history a) (goes_on t u a (Ok Turn.
     by Progress.Idle h = (h, refl, λ x. refl)
 
 -- an error adds nothing
-pub failed : (t u : Told) (a : ℕ) (e : StepError) → t.halted ≡ None → Turned t a (Err e) u → Adds t a (Err e) u
+pub failed : (t u : WorldValue) (a : ℕ) (e : StepError) → t.halted ≡ None → Turned t a (Err e) u → Adds t a (Err e) u
 failed t u a e none turned = by (due t.script t.history a) e (goes_on t u a (Err e) none turned)
   where
     by : (p : Progress) (e : StepError) → TurnsTo t p (Err e) u → AddsTo t p (Err e) u

@@ -4,8 +4,8 @@ use Rattle.std.specs.Prelude.{Ok, Err, ◌||◌}
 use Rattle.hm_history.specs.Run.{turn, turns}
 use Rattle.hm_history.specs.declared.Entry.{Entry}
 use Rattle.hm_history.specs.declared.StepError.{StepError}
-use Rattle.hm_world.specs.Told.{Told, halted_by}
-use Rattle.hm_machine.specs.Overrun.{overruns_turn, overruns_turns}
+use Rattle.hm_world.specs.WorldValue.{WorldValue, halted_by}
+use Rattle.hm_history.specs.Overrun.{overruns_turn, overruns_turns}
 use Rattle.hm_machine.specs.Turning.{Adds, CameTo, with_history}
 use Rattle.hm_machine.proofs.Fullness.{full_turns, quiet_turn, quiet_within, still_turns}
 
@@ -16,13 +16,13 @@ pub or_false : (x y : Bool) → x ≡ false → (x || y) ≡ y
 or_false x y e = ap (λ z. z || y) e
 
 -- so many turns of the actor are left, which come to this history, and beyond a full one or not
-pub record Left (s t : Told) (a n : ℕ) (h : List Entry) (b : Bool) : Type 0 where
+pub record Left (s t : WorldValue) (a n : ℕ) (h : List Entry) (b : Bool) : Type 0 where
   pub same : t ≡ with_history s t.history
   pub left : turns s.script t.history a n ≡ h
   pub beyond : overruns_turns s.script t.history a n ≡ b
 
 -- an error ends the turns, of which none that is left adds an entry
-pub turns_fail : (s t u : Told) (a n k : ℕ) (e : StepError) (h : List Entry) (b : Bool) → n ≡ suc k → Left s t a n h b → Adds t a (Err e) u → CameTo s h b (Err e) u
+pub turns_fail : (s t u : WorldValue) (a n k : ℕ) (e : StepError) (h : List Entry) (b : Bool) → n ≡ suc k → Left s t a n h b → Adds t a (Err e) u → CameTo s h b (Err e) u
 turns_fail s t u a n k e h b less before adds = by t.history e before.left before.beyond (subst (λ x. Adds x a (Err e) u) before.same adds)
   where
     by : (g : List Entry) (e : StepError) → turns s.script g a n ≡ h → overruns_turns s.script g a n ≡ b → Adds (with_history s g) a (Err e) u → CameTo s h b (Err e) u
@@ -33,7 +33,7 @@ turns_fail s t u a n k e h b less before adds = by t.history e before.left befor
     by g StepError.NoMemory left beyond adds = (ap (λ x. x.script) adds, ap (λ x. x.halted) adds)
 
 -- so does a turn that adds none
-pub turns_rest : (s t u : Told) (a n : ℕ) (h : List Entry) (b : Bool) → Left s t a n h b → Adds t a (Ok false) u → (u ≡ with_history s h) × (b ≡ false)
+pub turns_rest : (s t u : WorldValue) (a n : ℕ) (h : List Entry) (b : Bool) → Left s t a n h b → Adds t a (Ok false) u → (u ≡ with_history s h) × (b ≡ false)
 turns_rest s t u a n h b before adds = by t.history before.left before.beyond (subst (λ x. Adds x a (Ok false) u) before.same adds)
   where
     by : (g : List Entry) → turns s.script g a n ≡ h → overruns_turns s.script g a n ≡ b → Adds (with_history s g) a (Ok false) u → (u ≡ with_history s h) × (b ≡ false)
@@ -43,7 +43,7 @@ turns_rest s t u a n h b before adds = by t.history before.left before.beyond (s
         (adds.0 ∙ ap (with_history s) (still ∙ sym (still_turns s.script g a n still) ∙ left), sym beyond ∙ quiet_within s.script g a n quiet)
 
 -- else a turn less is left
-pub turns_go : (s t u : Told) (a n k : ℕ) (more : Bool) (h : List Entry) (b : Bool) → n ≡ suc k → Left s t a n h b → Adds t a (Ok more) u → Left s u a k h b
+pub turns_go : (s t u : WorldValue) (a n k : ℕ) (more : Bool) (h : List Entry) (b : Bool) → n ≡ suc k → Left s t a n h b → Adds t a (Ok more) u → Left s u a k h b
 turns_go s t u a n k more h b less before adds = by t.history before.left before.beyond (subst (λ x. Adds x a (Ok more) u) before.same adds)
   where
     by : (g : List Entry) → turns s.script g a n ≡ h → overruns_turns s.script g a n ≡ b → Adds (with_history s g) a (Ok more) u → Left s u a k h b

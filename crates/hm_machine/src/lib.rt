@@ -2,25 +2,23 @@
 #![tactic(auto)]
 
 ghost use Rattle.std.specs.Prelude.{◌≡◌, ◌<◌, ◌≤◌, length, slice_get, IfOk, None, Some, false};
+ghost use Rattle.hm_base.specs.declared.limits.TheConstants.{MOST_ACTORS};
 ghost use Rattle.hm_base.specs.declared.ops.ScheduleLine.{ScheduleLine};
 ghost use Rattle.hm_history.specs.Due.{due};
 ghost use Rattle.hm_history.specs.Run.{run, turns, turns_on, round, drained, enough, has_room, actors_of, line_run};
 ghost use Rattle.hm_history.specs.declared.Progress.{Progress};
-ghost use Rattle.hm_world.specs.Told.{opening, halted_by, MayHalt};
-ghost use Rattle.hm_machine.specs.Overrun.{overruns, overruns_line, overruns_turns, some_overruns};
+ghost use Rattle.hm_world.specs.WorldValue.{opening, halted_by, MayHalt};
+ghost use Rattle.hm_history.specs.Overrun.{overruns, overruns_line, overruns_turns, some_overruns};
 ghost use Rattle.hm_machine.specs.Turning.{Turned, TurnsTo, Adds, CameTo};
 
-use hm_base::{Actor, NoMemory, ScheduleLine, Script};
+use hm_base::{Actor, MOST_ENTRIES, NoMemory, ScheduleLine, Script};
 use hm_history::{Entry, History, Progress, StepError, Why};
 use hm_reads::Reads;
 use hm_world::World;
 use std::alloc::Global;
 use std::marker::Model;
 
-/// As many entries as a history has at most.
-const MOST_ENTRIES: u64 = 2_000_000;
-
-/// What a turn came to.
+/// What a turn of a machine came to. An entry that it added is the history's last, and is not copied out.
 #[derive(Clone, Copy, PartialEq, Eq, Debug)]
 pub enum Turn {
     /// It added an entry, which is the history's last.
@@ -39,9 +37,9 @@ pub struct Machine {
 }
 
 impl Model for Machine {
-    ghost use Rattle.hm_world.specs.Told.{Told};
+    ghost use Rattle.hm_world.specs.WorldValue.{WorldValue};
 
-    ghost Value = { Told };
+    ghost Value = { WorldValue };
 
     ghost view = { λ m. m.world };
 }
@@ -57,6 +55,7 @@ impl Machine {
         })
     }
 
+    /// The world that the turns go on.
     pub fn world(&self) -> &World
         ensures { result.now ≡ self.now }
     {
@@ -87,7 +86,7 @@ impl Machine {
         requires due { due self.old.script self.old.history entry.actor ≡ Progress.Did entry }
         ensures { TurnsTo self.old (Progress.Did entry) result self.new }
     {
-        self.world.stands();
+        self.world.facts();
         if self.world.history().len() == MOST_ENTRIES {
             return Err(self.halt(StepError::Full(MOST_ENTRIES)));
         }
@@ -104,7 +103,7 @@ impl Machine {
         if let Some(error) = self.world.halted() {
             return Err(error);
         }
-        self.world.stands();
+        self.world.facts();
         match hm_steps::due(&self.world, self.alloc, actor) {
             Ok(Progress::Did(entry)) => self.add(entry),
             Ok(Progress::Waiting(why)) => Ok(Turn::Waiting(why)),
@@ -129,7 +128,8 @@ impl Machine {
     /// So many turns of one actor. After a wait none of them can add an entry, so they are not made.
     fn turns(&mut self, actor: Actor, count: u32) -> Result<(), StepError>
         requires { self.old.halted ≡ None }
-        ensures { CameTo self.old (turns self.old.script self.old.history actor count) (overruns_turns self.old.script self.old.history actor count) result self.new }
+        ensures { CameTo self.old (turns self.old.script self.old.history actor count)
+            (overruns_turns self.old.script self.old.history actor count) result self.new }
     {
         for made in 0..count {
             if !self.adds(actor)? {
@@ -153,9 +153,9 @@ impl Machine {
 
     fn actors(&self) -> u32
         ensures count { result ≡ length self.now.script.actors }
-        ensures few { result ≤ 16 }
+        ensures few { result ≤ MOST_ACTORS }
     {
-        self.world.stands();
+        self.world.facts();
         self.world.script().actors.len() as u32
     }
 
@@ -203,7 +203,8 @@ impl Machine {
     fn turns_beyond(&mut self) -> Result<(), StepError>
         requires running { self.old.halted ≡ None }
         requires full { has_room self.old.history ≡ false }
-        ensures { CameTo self.old self.old.history (some_overruns self.old.script self.old.history (actors_of self.old.script)) result self.new }
+        ensures { CameTo self.old self.old.history
+            (some_overruns self.old.script self.old.history (actors_of self.old.script)) result self.new }
     {
         for number in 0..self.actors() {
             self.adds(Actor::new(number))?;
@@ -214,7 +215,8 @@ impl Machine {
     /// Rounds until nothing is left to do. An error where that filled the history and some actor has an entry due.
     fn drain(&mut self) -> Result<(), StepError>
         requires { self.old.halted ≡ None }
-        ensures { CameTo self.old (line_run self.old.script self.old.history ScheduleLine.Drain) (overruns_line self.old.script self.old.history ScheduleLine.Drain) result self.new }
+        ensures { CameTo self.old (line_run self.old.script self.old.history ScheduleLine.Drain)
+            (overruns_line self.old.script self.old.history ScheduleLine.Drain) result self.new }
     {
         self.rounds()?;
         if self.has_room() {
@@ -241,7 +243,8 @@ impl Machine {
 
     fn run_line(&mut self, line: ScheduleLine) -> Result<(), StepError>
         requires { self.old.halted ≡ None }
-        ensures { CameTo self.old (line_run self.old.script self.old.history line) (overruns_line self.old.script self.old.history line) result self.new }
+        ensures { CameTo self.old (line_run self.old.script self.old.history line)
+            (overruns_line self.old.script self.old.history line) result self.new }
     {
         match line {
             ScheduleLine::Run { actor, count } => self.turns(actor, count),
@@ -261,6 +264,3 @@ impl Machine {
         Ok(())
     }
 }
-
-#[cfg(test)]
-mod tests;

@@ -15,7 +15,7 @@ use Rattle.hm_history.specs.declared.Entry.{Entry}
 use Rattle.hm_history.specs.declared.Progress.{Progress}
 use Rattle.hm_history.proofs.RunLemmas.{line_due}
 use Rattle.hm_laws.specs.NeverStuck.{NeverStuck}
-use Rattle.hm_machine.specs.Overrun.{overruns_turn, some_overruns, overruns_line, overruns_lines, overruns}
+use Rattle.hm_history.specs.Overrun.{overruns_turn, some_overruns, overruns_line, overruns_lines, overruns}
 use Rattle.hm_script.specs.Built.{has_drain}
 use Rattle.hm_top.specs.Drained.{IsDone, IsDrained}
 use Rattle.hm_top.proofs.Rounds.{Ends, below, drains_end}

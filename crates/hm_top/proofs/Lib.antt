@@ -1,3 +1,4 @@
-mod Counted
 mod Rounds
 mod Drains
+mod Ending
+mod Complete

@@ -1,11 +1,11 @@
 -- What a replay reads, runs and writes, by the script in its answer.
-use Rattle.std.specs.Prelude.{◌≡◌, ℕ, ◌⊎◌, Bool, true, false, List, [], length, Option, Some, None, Err}
+use Rattle.std.specs.Prelude.{◌≡◌, ℕ, Bool, true, false, List, [], length, Option, Some, None, Err}
 use Rattle.hm_base.specs.Program.{Program, IsScript}
 use Rattle.hm_history.specs.Legal.{Legal}
 use Rattle.hm_history.specs.Run.{run}
 use Rattle.hm_history.specs.declared.Entry.{Entry}
 use Rattle.hm_history.specs.declared.StepError.{StepError}
-use Rattle.hm_machine.specs.Overrun.{overruns}
+use Rattle.hm_history.specs.Overrun.{overruns}
 use Rattle.hm_report.specs.Report.{report}
 use Rattle.hm_script.specs.Automaton.{reading}
 use Rattle.hm_script.specs.BadLine.{IsFirstBad}
@@ -13,7 +13,7 @@ use Rattle.hm_script.specs.Built.{IsBuilt}
 use Rattle.hm_script.specs.Spelling.{text}
 use Rattle.hm_script.specs.declared.reason.Refused.{Refused}
 use Rattle.hm_script.specs.declared.words.Words.{Words}
-use Rattle.hm_world.specs.Told.{Told, HasDue}
+use Rattle.hm_world.specs.WorldValue.{WorldValue, HasDue}
 
 -- the bytes are the text of the script in the answer
 abbrev pub IsTextOf : Option Program → List ℕ → Type 0
@@ -25,9 +25,10 @@ abbrev pub IsNoText : Words → List ℕ → Type 0
 IsNoText words bytes = (s : Program) → IsScript s → IsBuilt words s → text s ≡ bytes → ⊥
 
 -- the bytes are no script's text; the first bad line is told, with the first reason that holds of it
-abbrev pub IsRefusalOf : Words → Option Refused → List ℕ → Type 0
-IsRefusalOf words None bytes = ⊥
-IsRefusalOf words (Some r) bytes = IsNoText words bytes × IsFirstBad words bytes r.line × (reading words bytes ≡ Err r)
+pub record IsRefusalOf (words : Words) (refused : Refused) (bytes : List ℕ) : Type 0 where
+  pub no_text : IsNoText words bytes
+  pub first : IsFirstBad words bytes refused.line
+  pub reason : reading words bytes ≡ Err refused
 
 -- the history is the script's run: its schedule's turns in order, each adding what is due
 abbrev pub IsRunOf : Option Program → List Entry → Type 0
@@ -55,24 +56,8 @@ IsWithin None = ⊥
 IsWithin (Some s) = overruns s ≡ false
 
 -- a machine after its schedule's turns, and whether one of them found an entry due and the history full
-pub record Replayed (before after : Told) (full : Bool) : Type 0 where
+pub record Replayed (before after : WorldValue) (full : Bool) : Type 0 where
   pub script : after.script ≡ before.script
   pub history : after.history ≡ run before.script
   pub beyond : overruns before.script ≡ full
   pub halted : full ≡ true → after.halted ≡ Some (StepError.Full 2000000)
-
--- the statuses at which a script's report went out whole
-abbrev pub HasReported : ℕ → Type 0
-HasReported status = (status ≡ 0) ⊎ (status ≡ 7)
-
--- the statuses at which a script's report goes out, whole or in part
-abbrev pub HasRun : ℕ → Type 0
-HasRun status = (status ≡ 0) ⊎ ((status ≡ 5) ⊎ (status ≡ 7))
-
--- the statuses at which the source was read to its end
-abbrev pub HasEnded : ℕ → Type 0
-HasEnded status = (status ≡ 0) ⊎ ((status ≡ 3) ⊎ ((status ≡ 5) ⊎ (status ≡ 7)))
-
--- the statuses that a call ends with
-abbrev pub IsStatus : ℕ → Type 0
-IsStatus status = (status ≡ 0) ⊎ ((status ≡ 2) ⊎ ((status ≡ 3) ⊎ ((status ≡ 4) ⊎ ((status ≡ 5) ⊎ ((status ≡ 6) ⊎ ((status ≡ 7) ⊎ (status ≡ 8)))))))

@@ -3,12 +3,9 @@
 
 mod input;
 mod messages;
+mod status;
 mod top;
 
 pub use messages::message;
+pub use status::Status;
 pub use top::{Ended, run};
-
-#[cfg(test)]
-mod tests;
-#[cfg(test)]
-mod worked;

@@ -1,5 +1,5 @@
 use Rattle.hm_history.specs.Run.{run}
-use Rattle.hm_machine.specs.Overrun.{overruns}
+use Rattle.hm_history.specs.Overrun.{overruns}
 use Rattle.hm_machine.proofs.Lines.{Left}
 use Rattle.hm_machine.proofs.Machine.replay.Given as goal
 

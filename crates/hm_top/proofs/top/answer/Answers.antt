@@ -1,15 +1,17 @@
-use Rattle.std.proofs.Common.{◌≡◌, ◌∙◌, ap, inl, inr, subst, sym}
-use Rattle.hm_io.specs.Streams.{AddsFront}
-use Rattle.hm_report.specs.Report.{report}
+use Rattle.std.proofs.Common.{Some, sym, subst}
+use Rattle.hm_top.specs.Ends.{HasRun}
+use Rattle.hm_top.proofs.Ending.{ran, ran_full, ran_whole}
 use Rattle.hm_top.proofs.top.answer.Goals.{in-Done+then-full, in-Done+else-full, in-Fault}
 use Rattle.hm_top.proofs.top.answer.Goals as goal
 
-pub returns-clause-front : goal.returns-clause-front
-returns-clause-front g c = λ at_5. elim c.match-write_report.branch [
-  | in-Done+then-full w ↦ let no : 7 ≡ 5 = sym w.status-is ∙ at_5 in cc
-  | in-Done+else-full w ↦ let no : 0 ≡ 5 = sym w.status-is ∙ at_5 in cc
-  | in-Fault w ↦ subst (λ s. AddsFront (g.K.Sink.held c.args.sink.now) (g.K.Sink.held c.write_report.new.sink) (report s c.in-Ok.ran.history.entries)) c.in-Ok.ensures.script w.in-Fault.ensures.text
-]
-
-pub returns-in-NoMemory-clause-want : goal.returns-in-NoMemory-clause-want
-returns-in-NoMemory-clause-want g c = λ at_6. elim c.in-NoMemory.ensures.wants [ inl same ↦ inl (ap (λ t. t.held) same) | inr more ↦ inr more.1 ]
+pub returns-clause-ran : goal.returns-clause-ran
+returns-clause-ran g c =
+    let s = c.args.script in
+    let d = c.in-Ok.ran.script in
+    let h = c.in-Ok.ran.history.entries in
+    let e = c.in-Ok.ensures in
+    elim c.match-write_report.branch [
+      | in-Done+then-full w ↦ subst (HasRun (Some d) h) (sym w.status-is) (ran_full s d h e.script e.run e.legal (e.full w.if-full.true) (e.alone w.if-full.true))
+      | in-Done+else-full w ↦ subst (HasRun (Some d) h) (sym w.status-is) (ran_whole s d h e.script e.run e.legal (e.within w.if-full.false) (e.ended w.if-full.false))
+      | in-Fault w ↦ subst (HasRun (Some d) h) (sym w.status-is) (ran s d h e.script e.run e.legal)
+    ]

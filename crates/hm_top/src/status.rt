@@ -1,0 +1,44 @@
+// How a call ended.
+ghost use Rattle.std.specs.Prelude.{◌≡◌};
+ghost use Rattle.hm_top.specs.Messages.{code_of};
+
+use hm_script::Refused;
+
+/// How a call ended.
+#[derive(Clone, Copy, Debug, PartialEq, Eq)]
+pub enum Status {
+    /// The schedule's turns were made, and the report went out whole.
+    Done,
+    /// The words ask for nothing that there is.
+    Usage,
+    /// No script has the bytes as its text: the first bad line and its reason.
+    Refused(Refused),
+    /// The source failed.
+    ReadFault,
+    /// The sink failed, and a front of the report went out.
+    WriteFault,
+    /// Memory ran out.
+    NoMemory,
+    /// A turn found an entry due and the history full. The report went out whole.
+    HistoryFull,
+    /// The source has more bytes than a script.
+    TooLong,
+}
+
+impl Status {
+    /// The program's exit code.
+    pub fn code(&self) -> u8
+        ensures { result ≡ code_of self.now }
+    {
+        match self {
+            Status::Done => 0,
+            Status::Usage => 2,
+            Status::Refused(_) => 3,
+            Status::ReadFault => 4,
+            Status::WriteFault => 5,
+            Status::NoMemory => 6,
+            Status::HistoryFull => 7,
+            Status::TooLong => 8,
+        }
+    }
+}
