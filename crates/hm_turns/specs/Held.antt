@@ -13,11 +13,14 @@ module _ {S : Type 0} (script : S → Program) (history : S → List Entry) (hal
 
   -- a step that tells this leaves the count as it was
   abbrev KeepsCount : Tells → Type 0
-  KeepsCount tells = (st : Step (Option S)) (m : Me (Option S) Known) (n : ℕ) (m' : Me (Option S) Known) → tells st m n m' → m'.0.busy ≡ m.0.busy
+  KeepsCount tells =
+      (st : Step (Option S)) (m : Me (Option S) Known) (n : ℕ) (m' : Me (Option S) Known) → tells st m n m'
+      → m'.0.busy ≡ m.0.busy
 
   -- each kind of step of the table, and a split and a join
   pub record OnlyHeldTurnsCount : Type 0 where
-    pub take : (st : Step (Option S)) (m : Me (Option S) Known) (n : ℕ) (m' : Me (Option S) Known) → took script history halt st m n m' → m'.0.busy ≢ m.0.busy
+    pub take : (st : Step (Option S)) (m : Me (Option S) Known) (n : ℕ) (m' : Me (Option S) Known)
+        → took script history halt st m n m' → m'.0.busy ≢ m.0.busy
         → (n ≢ 0) × (m'.0.busy ≡ m.0.busy + 1) × (st.word ≡ 1) × (st.first ≡ 0) × (st.second ≡ 1)
     pub note : KeepsCount (noted script history halt)
     pub raise : KeepsCount raised_as

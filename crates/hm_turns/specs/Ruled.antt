@@ -76,7 +76,8 @@ pub record IsOut (log : List Entry) (stopped : Option StepError) (words : List �
   pub others : (j : ℕ) (v : Known) → get_elem? views j ≡ some v → j ≢ seat → v.holds ≡ false
 
 module _ {S : Type 0} (script : S → Program) (history : S → List Entry) (halt : S → Option StepError) where
-  pub record IsHome (of : Program) (log : List Entry) (stopped : Option StepError) (homes : List (maybe.Option (Option S))) : Type 0 where
+  pub record IsHome (of : Program) (log : List Entry) (stopped : Option StepError)
+      (homes : List (maybe.Option (Option S))) : Type 0 where
     pub value : S
     pub at : get_elem? homes 0 ≡ some (some (Some value))
     pub script_is : script value ≡ of
@@ -122,7 +123,22 @@ no_script = record { version = One; frames = 0; devices = []; skip = 0; actors =
 
 -- the view of the first seat
 abbrev pub opened : Program → Known
-opened of = record { script = of; list = []; other = []; own = []; shares = all_shares; loaded = 0; marks = []; busy = 0; stops = 0; told = None; ahead = false; marked = false; holds = false }
+opened of =
+    record {
+      script = of;
+      list = [];
+      other = [];
+      own = [];
+      shares = all_shares;
+      loaded = 0;
+      marks = [];
+      busy = 0;
+      stops = 0;
+      told = None;
+      ahead = false;
+      marked = false;
+      holds = false;
+    }
 
 -- the first seat takes the value, with its history and its mark
 abbrev pub winner : Known → List Entry → Option StepError → Known
@@ -133,7 +149,13 @@ kept_out v = record v { busy = v.busy + 1 }
 
 -- the history became longer by one entry
 abbrev pub grown : Known → List Entry → Entry → Known
-grown v log e = record v { list = log; own = v.own ++ record { at = length v.list; entry = e } ∷ []; ahead = true; marked = is_none (last_touched log) }
+grown v log e =
+    record v {
+      list = log;
+      own = v.own ++ record { at = length v.list; entry = e } ∷ [];
+      ahead = true;
+      marked = is_none (last_touched log);
+    }
 
 -- the mark is raised
 abbrev pub raised : Known → Known
@@ -157,7 +179,8 @@ abbrev pub left_of : Known → Known
 left_of v = record v { shares = v.shares - 1 }
 
 abbrev pub right_of : Known → Known
-right_of v = record v { own = []; shares = 1; busy = 0; stops = 0; other = []; ahead = false; marked = false; holds = false }
+right_of v =
+    record v { own = []; shares = 1; busy = 0; stops = 0; other = []; ahead = false; marked = false; holds = false }
 
 abbrev pub both_of : Known → Known → Known
 both_of v w = record {
@@ -178,7 +201,22 @@ both_of v w = record {
 
 -- what a view is once it was taken in
 abbrev pub spent : Known
-spent = record { script = no_script; list = []; other = []; own = []; shares = 0; loaded = 0; marks = []; busy = 0; stops = 0; told = None; ahead = false; marked = false; holds = false }
+spent =
+    record {
+      script = no_script;
+      list = [];
+      other = [];
+      own = [];
+      shares = 0;
+      loaded = 0;
+      marks = [];
+      busy = 0;
+      stops = 0;
+      told = None;
+      ahead = false;
+      marked = false;
+      holds = false;
+    }
 
 abbrev pub compared : Known → Known
 compared v = record v { other = [] }
@@ -196,13 +234,15 @@ module _ {S : Type 0} (script : S → Program) (history : S → List Entry) (hal
   abbrev pub took : At S → Sat S → ℕ → Sat S → Type 0
   took st m n m' =
       (n ≡ 0 → (x : S) × Won m.0 x × (m' ≡ (winner m.0 (history x) (halt x), (0, Some x) ∷ [])))
-      × (n ≢ 0 → (m' ≡ (kept_out m.0, [])) × (m.0.shares ≢ all_shares) × (st.word ≡ 1) × (st.first ≡ 0) × (st.second ≡ 1))
+      × (n ≢ 0 → (m' ≡ (kept_out m.0, [])) × (m.0.shares ≢ all_shares) × (st.word ≡ 1) × (st.first ≡ 0)
+      × (st.second ≡ 1))
 
   -- the value in hand has one entry more
   abbrev pub noted : At S → Sat S → ℕ → Sat S → Type 0
   noted st m n m' =
       (m'.0.busy ≡ m.0.busy)
-      × ((x : S) (e : Entry) → m.1 ≡ (0, Some x) ∷ [] → history x ≡ m.0.list ++ e ∷ [] → m' ≡ (grown m.0 (history x) e, m.1))
+      × ((x : S) (e : Entry) → m.1 ≡ (0, Some x) ∷ [] → history x ≡ m.0.list ++ e ∷ [] → m'
+      ≡ (grown m.0 (history x) e, m.1))
 
   abbrev pub published_as : At S → Sat S → ℕ → Sat S → Type 0
   published_as st m n m' = m' ≡ (even m.0, m.1)
@@ -219,7 +259,9 @@ told_count v n = record v { loaded = n }
 
 -- the count was loaded
 abbrev pub counted_as : {S : Type 0} → At S → Sat S → ℕ → Sat S → Type 0
-counted_as st m n m' = (m' ≡ (told_count m.0 n, m.1)) × (m.0.loaded ≤ n) × (length m.0.list ≤ n) × (m.0.shares ≡ all_shares → n ≡ length m.0.list)
+counted_as st m n m' =
+    (m' ≡ (told_count m.0 n, m.1)) × (m.0.loaded ≤ n) × (length m.0.list ≤ n)
+    × (m.0.shares ≡ all_shares → n ≡ length m.0.list)
 
 abbrev pub told_mark : Known → ℕ → ℕ → Known
 told_mark v p k = record v { marks = v.marks ++ record { proc = p; at = k; upto = v.loaded } ∷ [] }
@@ -233,8 +275,30 @@ compared_as st m n m' = (m' ≡ (compared m.0, m.1)) × IsPrefix m.0.other m.0.l
 
 -- what contracts see of a pass
 abbrev pub sight_of : TableId → List Known → Sight
-sight_of table [] = record { desk = record { table = table; script = no_script }; list = []; own = []; shares = 0; loaded = 0; marks = []; busy = 0; stops = 0; told = None }
-sight_of table (v ∷ vs) = record { desk = record { table = table; script = v.script }; list = v.list; own = v.own; shares = v.shares; loaded = v.loaded; marks = v.marks; busy = v.busy; stops = v.stops; told = v.told }
+sight_of table [] =
+    record {
+      desk = record { table = table; script = no_script };
+      list = [];
+      own = [];
+      shares = 0;
+      loaded = 0;
+      marks = [];
+      busy = 0;
+      stops = 0;
+      told = None;
+    }
+sight_of table (v ∷ vs) =
+    record {
+      desk = record { table = table; script = v.script };
+      list = v.list;
+      own = v.own;
+      shares = v.shares;
+      loaded = v.loaded;
+      marks = v.marks;
+      busy = v.busy;
+      stops = v.stops;
+      told = v.told;
+    }
 
 -- the holder's list is longer than what is published
 pub record IsAhead (v : Known) : Type 0 where

@@ -39,7 +39,8 @@ module _ {S : Type 0} where
 module _ {S : Type 0} (script : S → Program) (history : S → List Entry) (halt : S → Option StepError) where
   abbrev pub Takes : Place S → Option S → Place S → Type 0
   Takes old None new = (old.me.0.shares ≢ all_shares) × Becomes old new (kept_out old.me.0) []
-  Takes old (Some x) new = Won script history halt old.me.0 x × Becomes old new (winner old.me.0 (history x) (halt x)) ((0, None) ∷ [])
+  Takes old (Some x) new =
+      Won script history halt old.me.0 x × Becomes old new (winner old.me.0 (history x) (halt x)) ((0, None) ∷ [])
 
   -- the value that a seat gives back
   pub record IsGivable (seat : Place S) (x : S) : Type 0 where

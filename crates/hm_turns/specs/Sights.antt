@@ -86,7 +86,18 @@ either_told (Some e) w = Some e
 
 -- the first pass
 abbrev pub whole_of : Desk → Sight
-whole_of d = record { desk = d; list = []; own = []; shares = all_shares; loaded = 0; marks = []; busy = 0; stops = 0; told = None }
+whole_of d =
+    record {
+      desk = d;
+      list = [];
+      own = [];
+      shares = all_shares;
+      loaded = 0;
+      marks = [];
+      busy = 0;
+      stops = 0;
+      told = None;
+    }
 
 -- the new pass of a split
 abbrev pub half_of : Sight → Sight
@@ -119,7 +130,8 @@ pub record IsShown (v : Sight) (list : List Entry) : Type 0 where
   pub counted : v.loaded ≤ length list
   pub marked : AreMarks list v.marks
 
-module _ (legal : Program → List Entry → Type 0) (due : Program → List Entry → ℕ → Progress) (actor : ℕ) (v : Sight) where
+module _ (legal : Program → List Entry → Type 0) (due : Program → List Entry → ℕ → Progress) (actor : ℕ)
+    (v : Sight) where
   -- what was answered is due to the actor after a legal history h
   pub record Answers (p : Progress) (h : List Entry) (w : Sight) : Type 0 where
     pub legal_is : legal v.desk.script h

@@ -34,11 +34,13 @@ IsItsCause due before NoMemory = Unit {0}
 -- a step of a value that is not halted answers what is due, and adds it where it is an entry; or it fails, adds
 -- nothing, and the value is halted
 abbrev pub Steps : Progress → List Entry → Result Progress StepError → List Entry → Option StepError → Type 0
-Steps due before (Ok p) after halt = (p ≡ due) × (after ≡ history_after before p) × (halt ≡ None) × (IsEntry p → length before < most_entries)
+Steps due before (Ok p) after halt =
+    (p ≡ due) × (after ≡ history_after before p) × (halt ≡ None) × (IsEntry p → length before < most_entries)
 Steps due before (Err e) after halt = IsItsCause due before e × (after ≡ before) × (halt ≡ Some e)
 
 -- a value that is halted answers why, and stays as it is
-abbrev pub StepsFrom : Option StepError → Progress → List Entry → Result Progress StepError → List Entry → Option StepError → Type 0
+abbrev pub StepsFrom : Option StepError → Progress → List Entry → Result Progress StepError → List Entry
+    → Option StepError → Type 0
 StepsFrom None due before result after halt = Steps due before result after halt
 StepsFrom (Some e) due before result after halt = (result ≡ Err e) × (after ≡ before) × (halt ≡ Some e)
 

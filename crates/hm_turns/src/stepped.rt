@@ -30,7 +30,8 @@ pub trait Stepped: Drop {
         requires { actor < length (script self.old).actors }
         ensures script { script self.new ≡ script self.old }
         ensures after { legal (script self.new) (history self.new) }
-        ensures answer { StepsFrom (halt self.old) (due (script self.old) (history self.old) actor) (history self.old) result (history self.new) (halt self.new) };
+        ensures answer { StepsFrom (halt self.old) (due (script self.old) (history self.old) actor)
+            (history self.old) result (history self.new) (halt self.new) };
 
     /// The error of the step that halted it.
     fn halted(&self) -> Option<StepError>

@@ -1,4 +1,4 @@
-// What a try for the turn comes to.
+// The answers of `try_turn`.
 use hm_history::{Progress, StepError};
 
 /// What a try for the turn comes to.

@@ -32,7 +32,7 @@ const TURN: usize = 1;
 /// The word of the first of 32 marks, one for each process.
 const MARKS: usize = 2;
 
-type Place<S> = Seat<Option<S>, Known>;
+type Seated<S> = Seat<Option<S>, Known>;
 
 /// One stepped value, whose steps are made one at a time by whoever has the turn. No call waits for another.
 #[derive(Drop)]
@@ -77,8 +77,8 @@ impl<S: Stepped> Turns<S> {
         Ok((Turns { board }, pass))
     }
 
-    /// Gives what keeps the script in range where only its value is at hand; it does nothing.
-    pub fn fits(&self)
+    /// Costs nothing: it hands the prover the invariant.
+    pub fn facts(&self)
         ensures { IsScript self.now.script }
     {
         let _ = &self.board;
@@ -145,7 +145,11 @@ impl<S: Stepped> Turns<S> {
     /// is shown later no entry from there up to the last count touches it.
     pub fn mark(&self, pass: &mut Pass, proc: Proc) -> u64
         requires own { pass.old.desk ≡ self.now }
-        ensures { pass.new ≡ record pass.old { marks = pass.old.marks ++ record { proc = proc; at = result; upto = pass.old.loaded } ∷ [] } }
+        ensures { pass.new
+            ≡ record pass.old {
+              marks = pass.old.marks ++ record { proc = proc; at = result; upto = pass.old.loaded }
+                  ∷ [];
+            } }
     {
         let mut seat = seat_of(mem::replace(&mut pass.badge, Badge::blank()));
         let mark = mark_at(&self.board, &mut seat, proc);
@@ -173,7 +177,7 @@ impl<S: Stepped> Turns<S> {
 }
 
 // The seat of a pass, and back.
-fn seat_of<S>(badge: Badge<Known>) -> Place<S>
+fn seat_of<S>(badge: Badge<Known>) -> Seated<S>
     requires { AreResting badge.views }
     ensures idle { IsIdle result × OwnsItsOwn result }
     ensures sight { sight_of badge.table_id badge.views ≡ sight result }
@@ -181,7 +185,7 @@ fn seat_of<S>(badge: Badge<Known>) -> Place<S>
     badge.into_seat()
 }
 
-fn badge_of<S>(seat: Place<S>) -> Badge<Known>
+fn badge_of<S>(seat: Seated<S>) -> Badge<Known>
     requires { IsIdle seat × OwnsItsOwn seat }
     ensures resting { AreResting result.views }
     ensures sight { sight_of result.table_id result.views ≡ sight seat }
@@ -190,19 +194,21 @@ fn badge_of<S>(seat: Place<S>) -> Badge<Known>
 }
 
 // Cuts a seat with one share off.
-fn split_at<S: Stepped>(board: &Board<S>, seat: &mut Place<S>) -> Place<S>
+fn split_at<S: Stepped>(board: &Board<S>, seat: &mut Seated<S>) -> Seated<S>
     requires table { (seat.old.table_id ≡ board.now.shared.table_id) × IsSized seat.old.table_id }
     requires idle { IsIdle seat.old }
     requires shares { 1 < seat.old.me.0.shares }
-    ensures old { IsIdle seat.new × (sight seat.new ≡ record (sight seat.old) { shares = (sight seat.old).shares - 1 }) }
+    ensures old { IsIdle seat.new
+        × (sight seat.new ≡ record (sight seat.old) { shares = (sight seat.old).shares - 1 }) }
     ensures new { IsIdle result × OwnsItsOwn result × (sight result ≡ half_of (sight seat.old)) }
 {
     board.shared.split_seat::<Cut>(seat)
 }
 
 // Takes in a seat, and compares what the two have seen.
-fn join_at<S: Stepped>(board: &Board<S>, seat: &mut Place<S>, other: Place<S>)
-    requires table { (seat.old.table_id ≡ board.now.shared.table_id) × (other.table_id ≡ board.now.shared.table_id) × IsSized seat.old.table_id }
+fn join_at<S: Stepped>(board: &Board<S>, seat: &mut Seated<S>, other: Seated<S>)
+    requires table { (seat.old.table_id ≡ board.now.shared.table_id) × (other.table_id ≡ board.now.shared.table_id)
+        × IsSized seat.old.table_id }
     requires idle { IsIdle seat.old × IsIdle other }
     ensures idle { IsIdle seat.new × OwnsItsOwn seat.new }
     ensures both { sight seat.new ≡ joined (sight seat.old) (sight other) }
@@ -212,7 +218,7 @@ fn join_at<S: Stepped>(board: &Board<S>, seat: &mut Place<S>, other: Place<S>)
     board.shared.load::<Compare>(seat, COUNT);
 }
 
-fn count_at<S: Stepped>(board: &Board<S>, seat: &mut Place<S>) -> u64
+fn count_at<S: Stepped>(board: &Board<S>, seat: &mut Seated<S>) -> u64
     requires table { (seat.old.table_id ≡ board.now.shared.table_id) × IsSized seat.old.table_id }
     requires idle { IsIdle seat.old }
     ensures seat { Becomes seat.old seat.new (told_count seat.old.me.0 result) [] }
@@ -222,7 +228,7 @@ fn count_at<S: Stepped>(board: &Board<S>, seat: &mut Place<S>) -> u64
     board.shared.load::<Count>(seat, COUNT)
 }
 
-fn mark_at<S: Stepped>(board: &Board<S>, seat: &mut Place<S>, proc: Proc) -> u64
+fn mark_at<S: Stepped>(board: &Board<S>, seat: &mut Seated<S>, proc: Proc) -> u64
     requires table { (seat.old.table_id ≡ board.now.shared.table_id) × IsSized seat.old.table_id }
     requires idle { IsIdle seat.old }
     ensures { Becomes seat.old seat.new (told_mark seat.old.me.0 proc result) [] }
@@ -233,7 +239,7 @@ fn mark_at<S: Stepped>(board: &Board<S>, seat: &mut Place<S>, proc: Proc) -> u64
 }
 
 // The value, and the length of its history.
-fn close_at<S: Stepped>(board: Board<S>, seat: Place<S>) -> (S, u64)
+fn close_at<S: Stepped>(board: Board<S>, seat: Seated<S>) -> (S, u64)
     requires table { (seat.table_id ≡ board.shared.table_id) × IsSized seat.table_id }
     requires idle { IsIdle seat }
     requires whole { seat.me.0.shares ≡ all_shares }
@@ -258,7 +264,7 @@ fn close_at<S: Stepped>(board: Board<S>, seat: Place<S>) -> (S, u64)
 }
 
 // Takes the turn and the value. None where another seat has it.
-fn take<S: Stepped>(board: &Board<S>, seat: &mut Place<S>) -> Option<S>
+fn take<S: Stepped>(board: &Board<S>, seat: &mut Seated<S>) -> Option<S>
     requires table { (seat.old.table_id ≡ board.now.shared.table_id) × IsSized seat.old.table_id }
     requires idle { IsIdle seat.old }
     ensures { Takes S.script S.history S.halt seat.old result seat.new }
@@ -270,7 +276,7 @@ fn take<S: Stepped>(board: &Board<S>, seat: &mut Place<S>) -> Option<S>
 }
 
 // Gives the value and the turn back.
-fn give<S: Stepped>(board: &Board<S>, seat: &mut Place<S>, stepped: S)
+fn give<S: Stepped>(board: &Board<S>, seat: &mut Seated<S>, stepped: S)
     requires table { (seat.old.table_id ≡ board.now.shared.table_id) × IsSized seat.old.table_id }
     requires givable { IsGivable S.script S.history S.halt seat.old stepped }
     requires list { S.history stepped ≡ seat.old.me.0.list }
@@ -281,7 +287,7 @@ fn give<S: Stepped>(board: &Board<S>, seat: &mut Place<S>, stepped: S)
 }
 
 // Raises the mark of the process that the last entry touches.
-fn raise<S: Stepped>(board: &Board<S>, seat: &mut Place<S>, touched: Option<Proc>, length: u64)
+fn raise<S: Stepped>(board: &Board<S>, seat: &mut Seated<S>, touched: Option<Proc>, length: u64)
     requires table { (seat.old.table_id ≡ board.now.shared.table_id) × IsSized seat.old.table_id }
     requires ahead { IsAhead seat.old.me.0 }
     requires touched { touched ≡ last_touched seat.old.me.0.list }
@@ -296,11 +302,12 @@ fn raise<S: Stepped>(board: &Board<S>, seat: &mut Place<S>, touched: Option<Proc
 }
 
 // Gives the value and the turn back, where the history is longer by an entry, which is published.
-fn give_longer<S: Stepped>(board: &Board<S>, seat: &mut Place<S>, stepped: S, entry: &Entry)
+fn give_longer<S: Stepped>(board: &Board<S>, seat: &mut Seated<S>, stepped: S, entry: &Entry)
     requires table { (seat.old.table_id ≡ board.now.shared.table_id) × IsSized seat.old.table_id }
     requires givable { IsGivable S.script S.history S.halt seat.old stepped }
     requires list { S.history stepped ≡ seat.old.me.0.list ++ entry.now ∷ [] }
-    ensures { Becomes seat.old seat.new (freed (even (raised (grown seat.old.me.0 (S.history stepped) entry.now))) (S.halt stepped)) [] }
+    ensures { Becomes seat.old seat.new
+        (freed (even (raised (grown seat.old.me.0 (S.history stepped) entry.now))) (S.halt stepped)) [] }
 {
     let _ = entry;
     let length = stepped.length();
@@ -313,7 +320,7 @@ fn give_longer<S: Stepped>(board: &Board<S>, seat: &mut Place<S>, stepped: S, en
 }
 
 // Makes a turn.
-fn turn_at<S: Stepped>(board: &Board<S>, seat: &mut Place<S>, actor: Actor) -> Turn
+fn turn_at<S: Stepped>(board: &Board<S>, seat: &mut Seated<S>, actor: Actor) -> Turn
     requires table { (seat.old.table_id ≡ board.now.shared.table_id) × IsSized seat.old.table_id }
     requires idle { IsIdle seat.old }
     requires actor { actor < length seat.old.me.0.script.actors }

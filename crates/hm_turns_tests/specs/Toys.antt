@@ -12,7 +12,8 @@ use Rattle.hm_history.specs.declared.Why.{Why}
 use Rattle.hm_turns_tests.specs.declared.toy.Choice.{Choice}
 
 abbrev pub script_of : ℕ → ℕ → Program
-script_of actors entries = record { version = One; frames = entries; devices = []; skip = 0; actors = replicate actors []; schedule = [] }
+script_of actors entries =
+    record { version = One; frames = entries; devices = []; skip = 0; actors = replicate actors []; schedule = [] }
 
 abbrev pub entries_of : ℕ → List Entry → ℕ
 entries_of a es = count_by (λ (e : Entry). e.actor == a) es
@@ -32,7 +33,8 @@ abbrev pub must_wait : Program → List Entry → ℕ → Bool
 must_wait s es a = nat_lt (entries_of 0 es) (entries_of a es) && nat_lt (entries_of 0 es) s.frames
 
 abbrev pub decided : Program → List Entry → ℕ → Choice
-decided s es a = if nat_lt (entries_of a es) s.frames then (if must_wait s es a then Choice.Wait else Choice.Add) else Choice.Rest
+decided s es a =
+    if nat_lt (entries_of a es) s.frames then (if must_wait s es a then Choice.Wait else Choice.Add) else Choice.Rest
 
 abbrev pub progress_of : ℕ → Choice → Progress
 progress_of a Choice.Add = Did (entry_of a)

@@ -176,7 +176,7 @@ impl Stepped for Toy {
     }
 
     fn length(&self) -> u64 {
-        self.script.fits();
+        self.script.facts();
         self.history.len() as u64
     }
 

@@ -17,9 +17,6 @@ abbrev of_some : Sight → Option Sight → Sight
 of_some d None = d
 of_some d (Some x) = x
 
-pub are_none : (d : Desk) → AreOf d []
-are_none d i p e = absurd (let h = e in cc)
-
 pub are_more : (d : Desk) (ps : List Sight) (q : Sight) → AreOf d ps → q.desk ≡ d → AreOf d (ps ++ q ∷ [])
 are_more d [] q all own zero p e = ap (λ (o : Option Sight). (of_some q o).desk) (sym e) ∙ own
 are_more d [] q all own (suc i) p e = absurd (let h = e in cc)

@@ -25,7 +25,8 @@ gathered v (p ∷ ps) = joined (gathered v ps) p
 pub record IsGathered (old : Sight) (passes : List Sight) (new : Sight) : Type 0 where
   pub first : IsPrefix old.list new.list
   pub told : is_halted old.told ≡ true → is_halted new.told ≡ true
-  pub each : (i : ℕ) (p : Sight) → slice_get passes i ≡ Some p → IsPrefix p.list new.list × (is_halted p.told ≡ true → is_halted new.told ≡ true)
+  pub each : (i : ℕ) (p : Sight) → slice_get passes i ≡ Some p
+      → IsPrefix p.list new.list × (is_halted p.told ≡ true → is_halted new.told ≡ true)
 
 -- after some beginning of the history the actor's operations have ended, or a halt was told
 abbrev pub HasEnded : (Program → List Entry → ℕ → Progress) → Program → List Entry → Bool → ℕ → Type 0

@@ -22,6 +22,7 @@ impl Model for Passes {
 }
 
 impl Passes {
+    /// An empty list, without memory.
     pub fn new(alloc: Global) -> Passes
         ensures { result ≡ [] }
     {
@@ -30,22 +31,23 @@ impl Passes {
         }
     }
 
+    /// Adds a pass at the end.
     pub fn push(&mut self, item: Pass) -> Result<(), NoMemory>
         ensures ok { OnOk result (self.new ≡ self.old ++ item ∷ []) }
         ensures err { OnErr result (self.new ≡ self.old) }
     {
-        match self.items.push(item) {
-            Ok(_) => Ok(()),
-            Err(_) => Err(NoMemory),
-        }
+        self.items.push(item)?;
+        Ok(())
     }
 
+    /// How many passes there are.
     pub fn len(&self) -> u64
         ensures { result ≡ length self.now }
     {
         self.items.len() as u64
     }
 
+    /// The pass at a place, counted from 0.
     pub fn get(&self, at: u64) -> Option<&Pass>
         ensures { option_copied result ≡ slice_get self.now at }
     {

@@ -99,7 +99,9 @@ fn run_jobs<R: Threads + Wait + Sync, S: Stepped + Send, G: Gate + Sync>(
 ) -> Result<Vec<Pass>, AllocError>
     requires { (i : ℕ) (j : Job) → i < length jobs.items → j ≡ slice_index_or jobs.items i j → IsJobOf turns.now j }
     ensures len { IfOk result (λ done. length done.items ≡ length jobs.items) }
-    ensures each { IfOk result (λ done. (i : ℕ) (p : Sight) (j : Job) → i < length jobs.items → DoesJob S.due (slice_index_or jobs.items i j) (slice_index_or done.items i p)) }
+    ensures each { IfOk result
+        (λ done. (i : ℕ) (p : Sight) (j : Job) → i < length jobs.items
+        → DoesJob S.due (slice_index_or jobs.items i j) (slice_index_or done.items i p)) }
 {
     let worker = |job: Job| -> Pass
         requires { IsJobOf turns.now job }
@@ -128,7 +130,7 @@ pub fn run_actors<R: Threads + Wait + Sync, S: Stepped + Send, G: Gate + Sync>(
     requires count { length passes ≡ length turns.now.script.actors }
     ensures { IfOk result (λ done. AllWork S.due passes done) }
 {
-    turns.fits();
+    turns.facts();
     let Passes { items } = passes;
     let jobs = jobs_of(alloc, items)?;
     match run_jobs(rt, turns, jobs, gate) {
