@@ -1,0 +1,19 @@
+// The leaves: a few vectors by hand, and drawn calls whose answers are compared with plain lists.
+#![tactic(auto)]
+
+#[cfg(test)]
+mod areas;
+#[cfg(test)]
+mod drawn;
+#[cfg(test)]
+mod frames;
+#[cfg(test)]
+mod intervals;
+#[cfg(test)]
+mod mirrors;
+#[cfg(test)]
+mod tables;
+#[cfg(test)]
+mod uses;
+#[cfg(test)]
+mod words;

@@ -1,0 +1,88 @@
+// A table against a plain list of pages and entries.
+ghost use Rattle.std.specs.Prelude.{◌≡◌, ◌^◌, ◌<◌, true};
+ghost use Rattle.hm_base.specs.Pages.{covers, IsSpan};
+
+use crate::drawn::after;
+use hm_base::{Frame, Page, PoolId, Span};
+use mirror_tables::{MirrorEntry, MirrorTable, Target};
+use std::test::Fail;
+
+fn span(first: u64, count: u64) -> Span
+    requires { IsSpan (record { first = first; count = count }) }
+    ensures { result ≡ record { first = first; count = count } }
+{
+    Span::new(Page::new(first), count)
+}
+
+fn set(table: &mut MirrorTable, page: u64, entry: MirrorEntry) -> Result<(), Fail>
+    requires page { page < 2 ^ 36 }
+    requires window { covers table.old.window page ≡ true }
+    ensures { table.new.window ≡ table.old.window }
+{
+    table.reserve(Page::new(page)).map_err(|_| "no memory")?;
+    table.set_reserved(Page::new(page), entry);
+    Ok(())
+}
+
+fn drawn_entry(x: u64) -> MirrorEntry {
+    let number = (x & 0xff) as u32;
+    let target = match x >> 8 & 3 {
+        0 => Target::Zero,
+        1 => Target::Sole(number),
+        _ => Target::At(Frame {
+            pool: PoolId::System,
+            number,
+        }),
+    };
+    MirrorEntry {
+        target,
+        writable: x >> 10 & 1 == 1,
+        from: x,
+    }
+}
+
+fn entry_in(plain: &[(u64, MirrorEntry)], page: u64) -> Option<MirrorEntry> {
+    plain.iter().find(|of| of.0 == page).map(|of| of.1)
+}
+
+fn agree(table: &MirrorTable, plain: &[(u64, MirrorEntry)]) -> bool {
+    for page in 0..64u64 {
+        if table.get(Page::new(page)) != entry_in(plain, page) {
+            return false;
+        }
+    }
+    true
+}
+
+// A page of the window is set, or the pages of a span are erased.
+fn turn(table: &mut MirrorTable, plain: &mut Vec<(u64, MirrorEntry)>, x: u64) -> Result<(), Fail>
+    requires { table.old.window ≡ record { first = 16; count = 32 } }
+    ensures { table.new.window ≡ table.old.window }
+{
+    if x >> 33 & 7 == 0 {
+        let first = x >> 36 & 63;
+        let count = 1 + (x >> 42 & 15);
+        let end = first + count;
+        table.erase(span(first, count));
+        plain.retain(|of| of.0 < first || end <= of.0);
+    } else {
+        let page = 16 + (x >> 36 & 31);
+        set(table, page, drawn_entry(x >> 41))?;
+        plain.retain(|of| of.0 != page);
+        plain.push((page, drawn_entry(x >> 41)))?;
+    }
+    Ok(())
+}
+
+#[test]
+fn the_table_agrees_with_a_list(rt: HostRuntime) -> Result<(), Fail> {
+    let mut table = MirrorTable::new(rt.alloc(), span(16, 32));
+    let mut plain = Vec::new(rt.alloc());
+    let mut x: u64 = 1;
+    for _ in 0..3_000u64 {
+        x = after(x);
+        turn(&mut table, &mut plain, x)?;
+        assert!(rt; agree(&table, &plain));
+    }
+    Ok(())
+}

@@ -1,0 +1,67 @@
+// The map of words in four levels of tables, against a plain list.
+ghost use Rattle.std.specs.Prelude.{◌≢◌, ◌^◌, ◌<◌};
+
+use crate::drawn::after;
+use hm_base::Page;
+use radix_tables::Radix;
+use std::test::Fail;
+
+fn set(map: &mut Radix, page: Page, word: u64) -> Result<(), Fail>
+    requires { word ≢ 0 }
+{
+    map.reserve(page).map_err(|_| "no memory")?;
+    map.set_reserved(page, word);
+    Ok(())
+}
+
+fn next(map: &Radix, page: u64) -> Option<u64>
+    requires { page < 2 ^ 36 }
+{
+    let (next, _word) = map.next_at_or_after(Page::new(page))?;
+    Some(next.number())
+}
+
+/// The page of a short list that differs from the others in each level.
+fn page_of(choice: u64) -> u64
+    requires { choice < 64 }
+    ensures { result < 2 ^ 36 }
+{
+    let (a, b, c) = (choice % 4, choice / 4 % 4, choice / 16);
+    a * 170 + b * 512 * 130 + c * (1 << 33)
+}
+
+fn next_in(plain: &[u64], from: u64) -> Option<u64> {
+    let mut best = None;
+    for choice in 0..plain.len() as u64 {
+        if choice < 64 && plain[choice as usize] != 0 {
+            let page = page_of(choice);
+            if page >= from && best.is_none_or(|least| page < least) {
+                best = Some(page);
+            }
+        }
+    }
+    best
+}
+
+#[test]
+fn answers_as_a_plain_list(rt: HostRuntime) -> Result<(), Fail> {
+    let mut map = Radix::new(rt.alloc());
+    let mut plain = [0; 64];
+    let mut random: u64 = 1;
+    for _step in 0..400u64 {
+        random = after(random);
+        let choice = (random >> 40) % 64;
+        let page = page_of(choice);
+        if random >> 63 == 0 {
+            map.clear(Page::new(page));
+            plain[choice as usize] = 0;
+        } else {
+            set(&mut map, Page::new(page), choice + 1)?;
+            plain[choice as usize] = choice + 1;
+        }
+        let other = (random >> 33) % 64;
+        assert_eq!(rt; map.get(Page::new(page_of(other))), plain[other as usize]);
+        assert_eq!(rt; next(&map, page_of(other)), next_in(&plain, page_of(other)));
+    }
+    Ok(())
+}

@@ -1,0 +1,9 @@
+// Streams, the text of scripts and reports: what the stored runs do not show.
+#![tactic(auto)]
+
+#[cfg(test)]
+mod reports;
+#[cfg(test)]
+mod scripts;
+#[cfg(test)]
+mod streams;

@@ -1,0 +1,66 @@
+// What calls of sources and sinks come to, through their traits.
+use hm_io::{Got, MemorySink, MemorySource, Put, Sink, Source, StdSink, SureSink, SureSource};
+
+// What the next read into three bytes comes to, and the bytes that are then there.
+fn read<S: Source>(source: &mut S) -> (Got, [u8; 3]) {
+    let mut into = [0; 3];
+    let got = source.read(&mut into);
+    (got, into)
+}
+
+fn write<K: Sink>(sink: &mut K, from: &[u8; 2]) -> Put {
+    sink.write(from)
+}
+
+#[test]
+fn memory_source_gives_pieces_and_planned_faults(rt: HostRuntime) {
+    let mut source = MemorySource::new(rt.alloc(), b"abcde", 2, &[2, 5]).expect(&rt, "memory");
+    let wanted = [
+        (Got::Bytes(2), *b"ab\0"),
+        (Got::Failed, [0; 3]),
+        (Got::Bytes(2), *b"cd\0"),
+        (Got::Bytes(1), *b"e\0\0"),
+        (Got::Failed, [0; 3]),
+        (Got::Ended, [0; 3]),
+    ];
+    for want in wanted {
+        assert_eq!(rt; read(&mut source), want);
+    }
+    assert_eq!(rt; source.faults(), 2);
+}
+
+#[test]
+fn memory_sink_keeps_to_its_room(rt: HostRuntime) {
+    let mut sink = MemorySink::new(rt.alloc(), 5, &[2]).expect(&rt, "memory");
+    let wanted = [Put::Took(2), Put::Failed, Put::Took(2), Put::Failed];
+    for want in wanted {
+        assert_eq!(rt; write(&mut sink, b"ab"), want);
+    }
+    assert_eq!(rt; sink.held(), b"abab".as_slice());
+    assert_eq!(rt; (sink.faults(), sink.wants()), (2, 0));
+}
+
+#[test]
+fn sure_streams_never_fail(rt: HostRuntime) {
+    let mut source = SureSource::new(rt.alloc(), b"abcd").expect(&rt, "memory");
+    for want in [
+        (Got::Bytes(3), *b"abc"),
+        (Got::Bytes(1), *b"d\0\0"),
+        (Got::Ended, [0; 3]),
+    ] {
+        assert_eq!(rt; read(&mut source), want);
+    }
+    assert_eq!(rt; source.faults(), 0);
+    let mut sink = SureSink::new(rt.alloc());
+    assert_eq!(rt; write(&mut sink, b"ab"), Put::Took(2));
+    assert_eq!(rt; write(&mut sink, b"cd"), Put::Took(2));
+    assert_eq!(rt; sink.held(), b"abcd".as_slice());
+    assert_eq!(rt; (sink.faults(), sink.wants()), (0, 0));
+}
+
+#[test]
+fn standard_output_takes_a_line(rt: HostRuntime) {
+    let mut sink = StdSink::new(rt.stdout());
+    assert_eq!(rt; write(&mut sink, b"\n\n"), Put::Took(2));
+    assert_eq!(rt; (sink.faults(), sink.wants()), (0, 0));
+}
