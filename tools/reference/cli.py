@@ -1,0 +1,51 @@
+#!/usr/bin/env python3
+"""A definitional program: slow, short, and proved by nobody. It makes the reports that tests expect.
+
+    tools/reference/cli.py replay < SCRIPT        the report that hmmrun must write
+    tools/reference/cli.py check < REPORT         `legal N`, or `bad L` with the first line that is not legal
+
+Messages and statuses are those of hmmrun.
+"""
+import sys
+
+import report as reports
+import script as scripts
+from run import Machine
+
+REPORT_BYTES = 268_435_456
+
+
+def replay(data):
+    if len(data) > scripts.SCRIPT_BYTES:
+        return 8, 'script too long', ''
+    try:
+        machine = Machine(scripts.parse(data))
+    except scripts.Refused as refused:
+        return 3, 'script line {}: {}'.format(*refused.args), ''
+    full = machine.replay()
+    return (7, 'history full', reports.report(machine)) if full else (0, '', reports.report(machine))
+
+
+def check(data):
+    if len(data) > REPORT_BYTES:
+        return 8, 'script too long', ''
+    try:
+        return 0, '', f'legal {reports.check(data)}\n'
+    except reports.NotLegal as bad:
+        return 1, 'not legal', f'bad {bad.args[0]}\n'
+
+
+def main():
+    words = {'replay': replay, 'check': check}
+    if len(sys.argv) != 2 or sys.argv[1] not in words:
+        status, message, text = 2, 'usage: cli.py replay | check', ''
+    else:
+        status, message, text = words[sys.argv[1]](sys.stdin.buffer.read())
+    sys.stdout.write(text)
+    if message:
+        sys.stderr.write(f'hmmrun: {message}\n')
+    sys.exit(status)
+
+
+if __name__ == '__main__':
+    main()
