@@ -15,7 +15,7 @@ use Rattle.hm_history.specs.After.{After}
 use Rattle.hm_history.specs.Operation.{is_migration}
 use Rattle.hm_laws.specs.Records.{Among}
 use Rattle.hm_laws.proofs.Histories.Sound.{small}
-use Rattle.hm_quiet.specs.Keeping.{WasDealt}
+use Rattle.hm_quiet.specs.Keeping.{IsThere, WasDealt}
 use Rattle.hm_quiet.specs.Quiet.{QuietMoves, SelectedMove, selected}
 use Rattle.hm_quiet.specs.Rest.{IsAtRest, OthersRest}
 use Rattle.hm_quiet.specs.Quiet.{EndsSoon, QuietEnds}
@@ -103,8 +103,8 @@ all_of : (P : Migrating → Type 0) (xs : List Migrating) → ((x : Migrating) �
 all_of P xs h k d l = h (slice_index_or xs k d) (among_at xs k d l)
 
 first_well : (c : Program) (s : After) (o : Op) → is_migration o ≡ true → StaysWell c o s [] (first_phase o ∷ []) []
-first_well c s (Op.ToDevice m r) i = (refl, tt, tt, refl)
-first_well c s (Op.ToSystem m r) i = (refl, tt, tt, refl)
+first_well c s (Op.ToDevice m r) i = (refl, tt, tt, refl, tt)
+first_well c s (Op.ToSystem m r) i = (refl, tt, tt, refl, tt)
 first_well c s o i = cc
 
 pub selected_move : SelectedMove
@@ -115,6 +115,7 @@ selected_move c h a o i b = record {
   last = record { actor = a; kind = z.last };
   split = z.split;
   each = subst (All (WasDealt c o z.front)) (sym same) (all_of (WasDealt c o z.front) ((fold (state_next c) u z.front).going a).pages z.well.0.each);
+  there = subst (λ (v : State). All (λ x. x.moved ≡ true → IsThere v.after o x.page) (v.going a).pages) (sym (state_after c h z.front)) (all_of (λ x. x.moved ≡ true → IsThere (fold (state_next c) u z.front).after o x.page) ((fold (state_next c) u z.front).going a).pages z.well.3);
   tells = subst (λ xs. (z.last ≡ Kind.Migrated (count_by (λ x. x.moved) xs)) ⊎ (z.last ≡ Kind.Refused Cause.Outside)) (sym same) z.well.0.tells;
 }
   where

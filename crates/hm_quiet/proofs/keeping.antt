@@ -6,4 +6,6 @@ pub mod MigrationsKeepWell
 pub mod SelectedPages
 pub mod MovesDeal
 pub mod MigrationsDeal
+pub mod PagesReturn
+pub mod PagesArrive
 pub mod MigrationsEnd

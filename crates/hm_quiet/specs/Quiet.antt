@@ -14,7 +14,7 @@ use Rattle.hm_history.specs.declared.Entry.{Entry}
 use Rattle.hm_history.specs.declared.Kind.{Kind}
 use Rattle.hm_history.specs.declared.phases.Migrating.{Migrating}
 use Rattle.hm_history.specs.Operation.{is_migration}
-use Rattle.hm_quiet.specs.Keeping.{keeps_well, WasDealt}
+use Rattle.hm_quiet.specs.Keeping.{keeps_well, IsThere, WasDealt}
 use Rattle.hm_quiet.specs.Rest.{IsAtRest, OthersRest}
 
 -- an operation of an actor that begins where nobody has one under way: the history has entries that were due, the
@@ -56,14 +56,16 @@ abbrev pub selected : Program → List Entry → ℕ → List Migrating
 selected c h a = ((state_of c h).going a).pages
 
 -- a migration that ends so, and before its last entry each page that it selected has moved, or the script skips it, or
--- an entry says that no frame was free for it; and the last entry tells how many have moved, or that the operation is
--- refused, since its pages lie outside the window or the mirror is not attached
+-- an entry says that no frame was free for it; a page that has moved is in a frame of the pool that it was to go to; and
+-- the last entry tells how many have moved, or that the operation is refused, since its pages lie outside the window or
+-- the mirror is not attached
 pub record EndsMoving (c : Program) (o : Op) (h : List Entry) (a n : ℕ) : Type 0 where
   pub all : EndsWithAll c h a n
   pub front : List Entry
   pub last : Entry
   pub split : all.soon.entries ≡ front ++ last ∷ []
   pub each : All (WasDealt c o front) (selected c (h ++ front) a)
+  pub there : All (λ x. x.moved ≡ true → IsThere (state_of c (h ++ front)).after o x.page) (selected c (h ++ front) a)
   pub tells : (last.kind ≡ Kind.Migrated (count_by (λ x. x.moved) (selected c (h ++ front) a)))
       ⊎ (last.kind ≡ Kind.Refused Cause.Outside)
 

@@ -16,7 +16,8 @@ pub fn quiet_moves()
 {}
 
 /// Such a migration moves each page that it selected, but for those that the script skips, and those for which it
-/// found no frame free; and its last entry tells how many it moved, or that the operation is refused.
+/// found no frame free. A page that it moved is in a frame of the pool that it was to go to. Its last entry tells how
+/// many it moved, or that the operation is refused.
 pub fn selected_pages_move()
     ensures { SelectedMove }
 {}

@@ -218,5 +218,5 @@ pub come_fresh : (s : After) (o : Op) (xs : List Migrating) (step : MoveStep) (f
 come_fresh s o xs step from fr = come_by s o xs (FreshAt s o xs) (FreshCome s o xs) step from (record {
   here = λ st n x h e. later_fresh s o xs st n st x.page (λ u i. on_page st n x.page Commit u (found_above s o xs st n x e) i) h;
   over = λ st after n nx h e. later_fresh s o xs st n after 0 (λ u i. on_step st after n Commit u nx i) h;
-  ended = λ n h. tt;
+  ended = λ n h e. tt;
 }) fr

@@ -63,7 +63,7 @@ Deals c o s xs (Phase.Settle g ∷ below) done = Given_under c o xs below None d
 Deals c o s xs st done = Unit {0}
 
 abbrev pub DealsOn : Program → Op → After → ℕ → List Migrating → List Entry → Kind → List Migrating → List Phase → Type 0
-DealsOn c o s a xs done k ys st = Onward (Deals c o) (Answered c o) s a xs done k ys st
+DealsOn c o s a xs done k ys st = Onward (Deals c o) (λ _. Answered c o) s a xs done k ys st
 
 abbrev pub DealTo : Program → After → ℕ → Op → List Migrating → MoveStep → ℕ → List Entry → Option Migrating → Kind → Type 0
 DealTo c s a o xs step v done x k = DealsOn c o s a xs done k (recorded_at x xs k) (after_migration step x k (seen_moves s o step v x k))

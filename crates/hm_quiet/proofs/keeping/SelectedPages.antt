@@ -105,19 +105,19 @@ same_steps Finish Finish e = refl
 turned : (i k : MoveStep) → same_step k i ≡ true → i ≡ k
 turned i k e = sym (same_steps k i e)
 
-within_says : (step : MoveStep) (from next : ℕ) (k : MoveStep) (v : ℕ) → is_past step from k v ≡ false → is_past step next k v ≡ true → (step ≡ k) × (from ≤ v) × (v < next)
+pub within_says : (step : MoveStep) (from next : ℕ) (k : MoveStep) (v : ℕ) → is_past step from k v ≡ false → is_past step next k v ≡ true → (step ≡ k) × (from ≤ v) × (v < next)
 within_says step from next k v f t = let z = by (comes_before k step) (same_step k step) f t in (turned step k z.0, z.1, z.2)
   where
     by : (b d : Bool) → (b || (d && nat_lt v from)) ≡ false → (b || (d && nat_lt v next)) ≡ true → (d ≡ true) × (from ≤ v) × (v < next)
     by b d f t = (grind (arith, nat_tests), grind (arith, nat_tests), grind (arith, nat_tests))
 
-over_says : (step after : MoveStep) (from : ℕ) (k : MoveStep) (v : ℕ) → IsNext step after → is_past step from k v ≡ false → is_past after 0 k v ≡ true → (step ≡ k) × (from ≤ v)
+pub over_says : (step after : MoveStep) (from : ℕ) (k : MoveStep) (v : ℕ) → IsNext step after → is_past step from k v ≡ false → is_past after 0 k v ≡ true → (step ≡ k) × (from ≤ v)
 over_says step after from k v nx f t = let z = by (comes_before k after) (comes_before k step) (same_step k step) (same_step k after) (nx k) f t in (turned step k z.0, z.1)
   where
     by : (z b d i : Bool) → z ≡ (b || d) → (b || (d && nat_lt v from)) ≡ false → (z || (i && nat_lt v 0)) ≡ true → (d ≡ true) × (from ≤ v)
     by z b d i j f t = (grind (arith, nat_tests), grind (arith, nat_tests))
 
-none_at : (s : After) (o : Op) (step : MoveStep) (from : ℕ) (y : Migrating) → from ≤ y.page → (nat_le from y.page && concerns s o step y) ≡ false → concerns s o step y ≡ false
+pub none_at : (s : After) (o : Op) (step : MoveStep) (from : ℕ) (y : Migrating) → from ≤ y.page → (nat_le from y.page && concerns s o step y) ≡ false → concerns s o step y ≡ false
 none_at s o step from y l h = by (concerns s o step y) h
   where
     by : (b : Bool) → (nat_le from y.page && b) ≡ false → b ≡ false
@@ -144,7 +144,7 @@ pub come_given : (c : Program) (s : After) (o : Op) (xs : List Migrating) (done 
 come_given c s o xs done step from r gv = come_by s o xs (λ st n. Given c o xs st n None done) (GivenCome c o xs done) step from (record {
   here = λ st n x h e. later_given c s o xs done st n st x.page (λ k y i f t. let w = within_says st n x.page k y.page f t in (w.0, none_at s o st n y w.1 (find_before (λ x. nat_le n x.page && concerns s o st x) xs x y r e i w.2))) h;
   over = λ st after n nx h e. later_given c s o xs done st n after 0 (λ k y i f t. let w = over_says st after n k y.page nx f t in (w.0, none_at s o st n y w.1 (find_none (λ x. nat_le n x.page && concerns s o st x) xs y e i))) h;
-  ended = λ n h y i. record { taken = λ p. (h y i).taken refl; moved = λ p d. (h y i).moved refl d };
+  ended = λ n h e y i. record { taken = λ p. (h y i).taken refl; moved = λ p d. (h y i).moved refl d };
 }) gv
 
 -- past one page more

@@ -111,7 +111,7 @@ found_at s o xs step next = find (λ x. nat_le next x.page && concerns s o step 
 pub record Comes (s : After) (o : Op) (xs : List Migrating) (K : MoveStep → ℕ → Type 0) (P : Option (MoveStep × Migrating) → Type 0) : Type 0 where
   pub here : (step : MoveStep) (next : ℕ) (x : Migrating) → K step next → found_at s o xs step next ≡ Some x → P (Some (step, x))
   pub over : (step after : MoveStep) (next : ℕ) → IsNext step after → K step next → found_at s o xs step next ≡ None → K after 0
-  pub ended : (next : ℕ) → K Finish next → P None
+  pub ended : (next : ℕ) → K Finish next → found_at s o xs Finish next ≡ None → P None
 
 pub come_by : (s : After) (o : Op) (xs : List Migrating) (K : MoveStep → ℕ → Type 0) (P : Option (MoveStep × Migrating) → Type 0) (step : MoveStep) (next : ℕ) → Comes s o xs K P → K step next → P (coming s o xs (Phase.Moves step next))
 come_by s o xs K P step next go h = from step next h
@@ -124,7 +124,7 @@ come_by s o xs K P step next go h = from step next h
         by None e = over e
 
     at_finish : (next : ℕ) → K Finish next → P (come_to s o xs (steps_from Finish) next)
-    at_finish next h = in_step Finish [] next h (λ e. go.ended next h)
+    at_finish next h = in_step Finish [] next h (go.ended next h)
 
     at_own_table : (next : ℕ) → K SetOwnTable next → P (come_to s o xs (steps_from SetOwnTable) next)
     at_own_table next h = in_step SetOwnTable (steps_from Finish) next h (λ e. at_finish 0 (go.over SetOwnTable Finish next table_finish h e))
@@ -166,5 +166,5 @@ pub come_bounds : (c : Program) (y : View) (s : After) (o : Op) (xs : List Migra
 come_bounds c y s o xs step next = come_by s o xs (λ st n. records_left c y st n xs ≤ records_left c y step next xs) (Bounds c y step next xs) step next (record {
   here = λ st n x h e. omega (arith, h, records_later c y st n st x.page xs (λ k v i. on_page st n x.page k v (found_above s o xs st n x e) i));
   over = λ st after n nx h e. omega (arith, h, records_later c y st n after 0 xs (λ k v i. on_step st after n k v nx i));
-  ended = λ n h. tt;
+  ended = λ n h e. tt;
 }) (omega arith)
