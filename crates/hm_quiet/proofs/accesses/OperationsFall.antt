@@ -1,5 +1,5 @@
 -- Accesses, and operations that take a page alone, at all their stacks.
-use Rattle.std.proofs.Common.{◌≡◌, ℕ, ◌+◌, ◌≤◌, ◌⊎◌, inl, inr, Bool, true, false, ◌&&◌, ◌||◌, not, nat_le, Option, Some, None, List, [], ◌∷◌, refl, sym, ap, ◌∙◌, arith}
+use Rattle.std.proofs.Common.{◌≡◌, ℕ, ◌+◌, ◌≤◌, ◌⊎◌, inl, inr, Bool, true, false, ◌&&◌, ◌||◌, not, nat_le, Option, Some, None, List, [], ◌∷◌, refl, ap, ◌∙◌, arith}
 use Rattle.std.proofs.lemmas.Bool.Decides.{nat_tests}
 use Rattle.std.proofs.lemmas.Bool.{cases_eq, and_parts}
 use Rattle.hm_base.specs.Pages.{Pages, one_page}
@@ -32,7 +32,7 @@ use Rattle.hm_laws.specs.Records.{starts_empty}
 use Rattle.hm_laws.proofs.Due.Good.{Good, either, either_option}
 use Rattle.hm_quiet.proofs.measure.Left.{view, stage_now}
 use Rattle.hm_quiet.proofs.measure.Counts.{Few}
-use Rattle.hm_quiet.proofs.measure.Shapes.{is_access, on_fault, on_drops, is_deciding, on_copied, on_finish}
+use Rattle.hm_quiet.proofs.measure.Shapes.{is_access, on_fault, on_drops, is_deciding, on_copied, on_finish, no_test}
 use Rattle.hm_quiet.proofs.alone.NeverWaits.{Alone}
 use Rattle.hm_quiet.proofs.alone.Ends.{StepsTo, EachFalls}
 use Rattle.hm_quiet.proofs.faults.TakesFall.{Fits, if_true, if_false}
@@ -41,9 +41,6 @@ use Rattle.hm_quiet.proofs.faults.DecisionsFall.{decide_to}
 use Rattle.hm_quiet.proofs.accesses.GuardsFall.{OnAccess, told_in, replace_in, restore_in, seize_in, catch_in, freeze_in, nothing_in, nothing_alone_in}
 use Rattle.hm_quiet.proofs.accesses.PiecesFall.{piece_steps, fetched_steps, begun_steps, noted_steps, drop_decide_steps, armed_steps, taken_steps}
 use Rattle.hm_quiet.proofs.accesses.HomeFalls.{alone_steps, copy_steps, copied_steps, finish_steps, kept_steps, settle_steps, give_up_steps}
-
-no_test : false ≡ true → ⊥
-no_test h = true_false true refl (sym h)
 
 -- an actor that is alone and has no frame locked finds none locked
 pub unlocked : (s : After) (t : Past) (a : ℕ) → Alone s a → Holds s t a (Locks_only []) → (g : Frame) → s.locks.frame g ≡ None

@@ -41,7 +41,7 @@ use Rattle.hm_laws.proofs.Due.Spans.{this_page}
 use Rattle.hm_laws.proofs.Due.Good.{Good, either, either_option}
 use Rattle.hm_quiet.proofs.measure.Left.{View, view, placed_view, left, told_left, direct_at, moving_at, frame_page, alone_left, frames_left, op_device, under_left, caught_left, past_frame, body_left}
 use Rattle.hm_quiet.proofs.measure.Counts.{Few}
-use Rattle.hm_quiet.proofs.measure.Shapes.{on_frames, on_frame_body, on_left}
+use Rattle.hm_quiet.proofs.measure.Shapes.{on_frames, on_frame_body, on_left, no_test}
 use Rattle.hm_quiet.proofs.alone.Ends.{StepsTo}
 use Rattle.hm_quiet.proofs.counts.CountsBelow.{told_few}
 use Rattle.hm_quiet.proofs.spans.TellingsFall.{told_falls}
@@ -51,9 +51,6 @@ use Rattle.hm_quiet.proofs.accesses.HomeFalls.{used_place, named_directly, other
 
 abbrev pub OnFrames : List Phase → Type 0
 OnFrames st = on_frames st ≡ true
-
-pub no_test : false ≡ true → ⊥
-no_test h = true_false true refl (sym h)
 
 -- frames from one on
 x_of : Program → Op → ℕ
@@ -72,13 +69,13 @@ next_frame x v k h l m = omega (arith, mul-le-mul_right h (less x v k l m), one 
 abbrev pub InGuardF : Program → After → Past → ℕ → Op → List Migrating → ℕ → Pages → Bool → Option ℕ → Body → List Phase → Kind → Type 0
 InGuardF c s t a o xs p r met told body below k = Good c s t a o xs (Phase.Guard p r met told body) below (Do k) → StepsTo c s a o xs (Phase.Guard p r met told body) below OnFrames (Do k)
 
-pub told_inf : (c : Program) (s : After) (t : Past) (a : ℕ) (o : Op) (xs : List Migrating) (p : ℕ) (r : Pages) (met : Bool) (told : Option ℕ) (body : Body) (below : List Phase) → Sound c s t → on_frame_body body below ≡ true →
+pub told_in_frames : (c : Program) (s : After) (t : Past) (a : ℕ) (o : Op) (xs : List Migrating) (p : ℕ) (r : Pages) (met : Bool) (told : Option ℕ) (body : Body) (below : List Phase) → Sound c s t → on_frame_body body below ≡ true →
     InGuardF c s t a o xs p r met told body below (body_or_end s p r (due_body s a o p r (s.places.place p r.first) body)) → InGuardF c s t a o xs p r met told body below (due_guard s a o p r met told body)
-told_inf c s t a o xs p r met told body below so on h = either_option (InGuardF c s t a o xs p r met told body below) (to_tell s p r met told) _ _ (λ e. h) (λ m e g. (told_falls c s t a o xs p r met told body below m so e, on))
+told_in_frames c s t a o xs p r met told body below so on h = either_option (InGuardF c s t a o xs p r met told body below) (to_tell s p r met told) _ _ (λ e. h) (λ m e g. (told_falls c s t a o xs p r met told body below m so e, on))
 
-pub catch_inf : (c : Program) (s : After) (t : Past) (a : ℕ) (o : Op) (xs : List Migrating) (p : ℕ) (r : Pages) (met : Bool) (told : Option ℕ) (f : Frame) (v n : ℕ) → Sound c s t → is_evicting o ≡ true →
+pub catch_in_frames : (c : Program) (s : After) (t : Past) (a : ℕ) (o : Op) (xs : List Migrating) (p : ℕ) (r : Pages) (met : Bool) (told : Option ℕ) (f : Frame) (v n : ℕ) → Sound c s t → is_evicting o ≡ true →
     InGuardF c s t a o xs p r met told (Body.Catch f) (Phase.Frames v n ∷ []) (body_or_end s p r (due_body s a o p r (s.places.place p r.first) (Body.Catch f)))
-catch_inf c s t a o xs p r met told f v n so ev = by (is_frame (names_directly (s.places.place p r.first)) f && is_none (s.locks.frame f)) refl
+catch_in_frames c s t a o xs p r met told f v n so ev = by (is_frame (names_directly (s.places.place p r.first)) f && is_none (s.locks.frame f)) refl
   where
     w : Bool
     w = writable (s.places.place p r.first)
@@ -109,9 +106,9 @@ catch_inf c s t a o xs p r met told f v n so ev = by (is_frame (names_directly (
         at true i (Some g) h = absurd h.0
     by false e gd = (omega (arith, before false ev e), refl)
 
-pub freeze_inf : (c : Program) (s : After) (t : Past) (a : ℕ) (o : Op) (xs : List Migrating) (p : ℕ) (r : Pages) (met : Bool) (told : Option ℕ) (f g : Frame) (w : KeptAt) (v n : ℕ) → Sound c s t → f ≡ g →
+pub freeze_in_frames : (c : Program) (s : After) (t : Past) (a : ℕ) (o : Op) (xs : List Migrating) (p : ℕ) (r : Pages) (met : Bool) (told : Option ℕ) (f g : Frame) (w : KeptAt) (v n : ℕ) → Sound c s t → f ≡ g →
     InGuardF c s t a o xs p r met told (Body.Freeze f) (Phase.Emptying g w ∷ Phase.Frames v n ∷ []) (body_or_end s p r (due_body s a o p r (s.places.place p r.first) (Body.Freeze f)))
-freeze_inf c s t a o xs p r met told f g w v n so same = by (is_frame (names_directly (s.places.place p r.first)) f) refl
+freeze_in_frames c s t a o xs p r met told f g w v n so same = by (is_frame (names_directly (s.places.place p r.first)) f) refl
   where
     k : Kind
     k = Kind.Place p r.first (Place.Moving f (writable (s.places.place p r.first)))
@@ -136,12 +133,12 @@ freeze_inf c s t a o xs p r met told f g w v n so same = by (is_frame (names_dir
         before : body_left c (view s) s.locks.frame a o xs p r (s.places.place p r.first) (Body.Freeze f) (Phase.Emptying g w ∷ Phase.Frames v n ∷ []) ≡ 1 + (alone_left c (view s) g (frame_page (view s) g) + frames_left c (view s) o v)
         before = if_false (is_frame (names_directly (s.places.place p r.first)) f) (2 + (alone_left c y g r.first + frames_left c y o v)) (1 + (alone_left c (view s) g (frame_page (view s) g) + frames_left c (view s) o v)) e
 
-pub nothing_inf : (c : Program) (s : After) (t : Past) (a : ℕ) (o : Op) (xs : List Migrating) (p : ℕ) (r : Pages) (met : Bool) (told : Option ℕ) (f : Frame) (w : KeptAt) (v n : ℕ) → InGuardF c s t a o xs p r met told Body.Nothing (Phase.Emptying f w ∷ Phase.Frames v n ∷ []) (Kind.End p r (seq_ended s.sequences p))
-nothing_inf c s t a o xs p r met told f w v n gd = (omega arith, refl)
+pub nothing_in_frames : (c : Program) (s : After) (t : Past) (a : ℕ) (o : Op) (xs : List Migrating) (p : ℕ) (r : Pages) (met : Bool) (told : Option ℕ) (f : Frame) (w : KeptAt) (v n : ℕ) → InGuardF c s t a o xs p r met told Body.Nothing (Phase.Emptying f w ∷ Phase.Frames v n ∷ []) (Kind.End p r (seq_ended s.sequences p))
+nothing_in_frames c s t a o xs p r met told f w v n gd = (omega arith, refl)
 
 -- one frame emptied
-pub alone_f : (c : Program) (s : After) (t : Past) (a : ℕ) (o : Op) (xs : List Migrating) (f : Frame) (w : KeptAt) (v n : ℕ) → Sound c s t → Few c s → StepsTo c s a o xs (Phase.Emptying f w) (Phase.Frames v n ∷ []) OnFrames (Do (due_emptying c s f w))
-alone_f c s t a o xs f w v n so fw = either_option P (lowest_direct s.places f) _ _
+pub alone_in_frames : (c : Program) (s : After) (t : Past) (a : ℕ) (o : Op) (xs : List Migrating) (f : Frame) (w : KeptAt) (v n : ℕ) → Sound c s t → Few c s → StepsTo c s a o xs (Phase.Emptying f w) (Phase.Frames v n ∷ []) OnFrames (Do (due_emptying c s f w))
+alone_in_frames c s t a o xs f w v n so fw = either_option P (lowest_direct s.places f) _ _
     (λ e. either_option P (lowest_free c s.places PoolId.System) _ _ (λ i. given (is_remove o)) (λ g i. (omega arith, refl)))
     (λ x e. start_at x e)
   where
@@ -188,8 +185,8 @@ alone_f c s t a o xs f w v n so fw = either_option P (lowest_direct s.places f) 
         less : told + body_left c (view s) s.locks.frame a o xs x.0 (one_page x.1) z (Body.Freeze f) (Phase.Emptying f w ∷ Phase.Frames v n ∷ []) < alone_left c (view s) f (frame_page (view s) f) + frames_left c (view s) o v
         less = omega (arith, body, fits, ap (alone_left c (view s) f) page)
 
-pub copy_f : (c : Program) (s : After) (a : ℕ) (o : Op) (xs : List Migrating) (f g i j : Frame) (k v n : ℕ) → k ≤ 7 → StepsTo c s a o xs (Phase.Copy f g k) (Phase.Copied i j ∷ Phase.Frames v n ∷ []) OnFrames (Do (Kind.Copied f g (Some k)))
-copy_f c s a o xs f g i j k v n h = by (nat_lt k 7) refl
+pub copy_in_frames : (c : Program) (s : After) (a : ℕ) (o : Op) (xs : List Migrating) (f g i j : Frame) (k v n : ℕ) → k ≤ 7 → StepsTo c s a o xs (Phase.Copy f g k) (Phase.Copied i j ∷ Phase.Frames v n ∷ []) OnFrames (Do (Kind.Copied f g (Some k)))
+copy_in_frames c s a o xs f g i j k v n h = by (nat_lt k 7) refl
   where
     less : (b : Bool) → nat_lt k 7 ≡ b → b ≡ true → k < 7
     less b e i = grind (arith, nat_tests)
@@ -204,30 +201,30 @@ copy_f c s a o xs f g i j k v n h = by (nat_lt k 7) refl
     by true e = (one (moving_at (view s) i (frame_page (view s) i) + 3 + frames_left c (view s) o v) (less true e refl), refl)
     by false e = (last (moving_at (view s) i (frame_page (view s) i) + 3 + frames_left c (view s) o v), refl)
 
-pub copied_f : (c : Program) (s : After) (a : ℕ) (o : Op) (xs : List Migrating) (f g : Frame) (v n : ℕ) → StepsTo c s a o xs (Phase.Copied f g) (Phase.Frames v n ∷ []) OnFrames (Do (Kind.Committed f g))
-copied_f c s a o xs f g v n = (omega arith, refl)
+pub copied_in_frames : (c : Program) (s : After) (a : ℕ) (o : Op) (xs : List Migrating) (f g : Frame) (v n : ℕ) → StepsTo c s a o xs (Phase.Copied f g) (Phase.Frames v n ∷ []) OnFrames (Do (Kind.Committed f g))
+copied_in_frames c s a o xs f g v n = (omega arith, refl)
 
 -- pages return
-pub finish_f : (c : Program) (s : After) (t : Past) (a : ℕ) (o : Op) (xs : List Migrating) (f : Frame) (to : Option Frame) (below : List Phase) → Sound c s t → Few c s → on_left to below ≡ true → Good c s t a o xs (Phase.Finish f to) below (Do (due_finish s f to)) → StepsTo c s a o xs (Phase.Finish f to) below OnFrames (Do (due_finish s f to))
-finish_f c s t a o xs f (Some g) (Phase.Frames v n ∷ []) so fw e = either_option P (lowest_moving s.places f) _ _ (λ i gd. (omega arith, refl))
+pub finish_in_frames : (c : Program) (s : After) (t : Past) (a : ℕ) (o : Op) (xs : List Migrating) (f : Frame) (to : Option Frame) (below : List Phase) → Sound c s t → Few c s → on_left to below ≡ true → Good c s t a o xs (Phase.Finish f to) below (Do (due_finish s f to)) → StepsTo c s a o xs (Phase.Finish f to) below OnFrames (Do (due_finish s f to))
+finish_in_frames c s t a o xs f (Some g) (Phase.Frames v n ∷ []) so fw e = either_option P (lowest_moving s.places f) _ _ (λ i gd. (omega arith, refl))
     (λ x i gd. (omega (arith, fewer_moving c s t a f g (writable (s.places.place x.0 x.1)) x so fw (kept c s t a (Kind.Place x.0 x.1 (place_in g (writable (s.places.place x.0 x.1)))) so gd.0) i), refl))
   where
     P : Kind → Type 0
     P k = Good c s t a o xs (Phase.Finish f (Some g)) (Phase.Frames v n ∷ []) (Do k) → StepsTo c s a o xs (Phase.Finish f (Some g)) (Phase.Frames v n ∷ []) OnFrames (Do k)
-finish_f c s t a o xs f None (Phase.Frames v n ∷ []) so fw e = either_option P (lowest_moving s.places f) _ _ (λ i. either_option P (lowest_named s.places f) _ _ (λ j gd. (omega arith, refl)) (λ x j gd. (omega arith, refl)))
+finish_in_frames c s t a o xs f None (Phase.Frames v n ∷ []) so fw e = either_option P (lowest_moving s.places f) _ _ (λ i. either_option P (lowest_named s.places f) _ _ (λ j gd. (omega arith, refl)) (λ x j gd. (omega arith, refl)))
     (λ x i gd. (omega (arith, fewer_moving c s t a f f (writable (s.places.place x.0 x.1)) x so fw (kept c s t a (Kind.Place x.0 x.1 (place_in f (writable (s.places.place x.0 x.1)))) so gd.0) i), refl))
   where
     P : Kind → Type 0
     P k = Good c s t a o xs (Phase.Finish f None) (Phase.Frames v n ∷ []) (Do k) → StepsTo c s a o xs (Phase.Finish f None) (Phase.Frames v n ∷ []) OnFrames (Do k)
-finish_f c s t a o xs f None (Phase.GiveUp None ∷ []) so fw e = either_option P (lowest_moving s.places f) _ _ (λ i. either_option P (lowest_named s.places f) _ _ (λ j gd. (omega arith, refl)) (λ x j gd. (omega arith, refl)))
+finish_in_frames c s t a o xs f None (Phase.GiveUp None ∷ []) so fw e = either_option P (lowest_moving s.places f) _ _ (λ i. either_option P (lowest_named s.places f) _ _ (λ j gd. (omega arith, refl)) (λ x j gd. (omega arith, refl)))
     (λ x i gd. (omega (arith, fewer_moving c s t a f f (writable (s.places.place x.0 x.1)) x so fw (kept c s t a (Kind.Place x.0 x.1 (place_in f (writable (s.places.place x.0 x.1)))) so gd.0) i), refl))
   where
     P : Kind → Type 0
     P k = Good c s t a o xs (Phase.Finish f None) (Phase.GiveUp None ∷ []) (Do k) → StepsTo c s a o xs (Phase.Finish f None) (Phase.GiveUp None ∷ []) OnFrames (Do k)
-finish_f c s t a o xs f to below so fw e = absurd (no_test e)
+finish_in_frames c s t a o xs f to below so fw e = absurd (no_test e)
 
-pub settle_f : (c : Program) (s : After) (a : ℕ) (o : Op) (xs : List Migrating) (g : Frame) (v n : ℕ) → StepsTo c s a o xs (Phase.Settle g) (Phase.Frames v n ∷ []) OnFrames (Do (settle s g))
-settle_f c s a o xs g v n = either_option (λ k. StepsTo c s a o xs (Phase.Settle g) (Phase.Frames v n ∷ []) OnFrames (Do k)) (lowest_named s.places g) _ _ (λ e. (omega arith, refl)) (λ x e. (omega arith, refl))
+pub settle_in_frames : (c : Program) (s : After) (a : ℕ) (o : Op) (xs : List Migrating) (g : Frame) (v n : ℕ) → StepsTo c s a o xs (Phase.Settle g) (Phase.Frames v n ∷ []) OnFrames (Do (settle s g))
+settle_in_frames c s a o xs g v n = either_option (λ k. StepsTo c s a o xs (Phase.Settle g) (Phase.Frames v n ∷ []) OnFrames (Do k)) (lowest_named s.places g) _ _ (λ e. (omega arith, refl)) (λ x e. (omega arith, refl))
 
 -- the frames in order
 abbrev StartsF : Program → After → ℕ → Op → List Migrating → ℕ → ℕ → ℕ × ℕ → Option Frame → Type 0
@@ -242,9 +239,9 @@ direct_of (Place.Moving g w) f e h = absurd (h e)
 direct_of Place.Empty f e h = cc
 direct_of Place.Zero f e h = cc
 
-start_f : (c : Program) (s : After) (t : Past) (a : ℕ) (o : Op) (xs : List Migrating) (v n k : ℕ) (x : ℕ × ℕ) → Sound c s t → Few c s → is_evicting o ≡ true → s.locks.frame (dev_frame (op_device o) k) ≡ None → v ≤ k → k < slice_index c.devices (op_device o) → lowest_named s.places (dev_frame (op_device o) k) ≡ Some x →
+start_in_frames : (c : Program) (s : After) (t : Past) (a : ℕ) (o : Op) (xs : List Migrating) (v n k : ℕ) (x : ℕ × ℕ) → Sound c s t → Few c s → is_evicting o ≡ true → s.locks.frame (dev_frame (op_device o) k) ≡ None → v ≤ k → k < slice_index c.devices (op_device o) → lowest_named s.places (dev_frame (op_device o) k) ≡ Some x →
     StepsTo c s a o xs (Phase.Frames v n) [] OnFrames (Do (start_entry s x.0 (one_page x.1)))
-start_f c s t a o xs v n k x so fw ev lk l m e = subst (StartsF c s a o xs v n x) (sym named) (less, refl)
+start_in_frames c s t a o xs v n k x so fw ev lk l m e = subst (StartsF c s a o xs v n x) (sym named) (less, refl)
   where
     f : Frame
     f = dev_frame (op_device o) k
@@ -318,7 +315,7 @@ frames_of : (c : Program) (s : After) (t : Past) (a : ℕ) (o : Op) (xs : List M
 frames_of c s t a o xs remove v n so fw ev rm lk = either P (remove && not (s.places.withdrawn d)) _ _
     (λ e. (withdrawn_less s.places.withdrawn d ((slice_index c.devices d - v) * home_cost c) 0 (is_remove o) (ap (λ b. b && not (s.places.withdrawn d)) rm ∙ e), refl))
     (λ e. either_option P (held_from c s.places d v) _ _ (λ i. either Pk remove _ _ (λ j. either Pk (s.places.removed d) _ _ (λ l. (omega arith, refl)) (λ l. (omega arith, refl))) (λ j. (omega arith, refl)))
-    (λ k i. either_option P (other_locker s.locks (dev_frame d k) a) _ _ (λ j. either_option P (lowest_named s.places (dev_frame d k)) _ _ (λ l. (frames_less c s o v k (above k i) (below k i), refl)) (λ x l. start_f c s t a o xs v n k x so fw ev (lk (dev_frame d k)) (above k i) (below k i) l))
+    (λ k i. either_option P (other_locker s.locks (dev_frame d k) a) _ _ (λ j. either_option P (lowest_named s.places (dev_frame d k)) _ _ (λ l. (frames_less c s o v k (above k i) (below k i), refl)) (λ x l. start_in_frames c s t a o xs v n k x so fw ev (lk (dev_frame d k)) (above k i) (below k i) l))
     (λ b j. either P remove _ _ (λ l. tt) (λ l. (frames_less c s o v k (above k i) (below k i), refl)))))
   where
     d : ℕ

@@ -31,9 +31,8 @@ use Rattle.hm_laws.specs.Sound.{Sound}
 use Rattle.hm_laws.specs.Records.{Among}
 use Rattle.hm_laws.specs.Facts.{HoldsAll, facts}
 use Rattle.hm_laws.proofs.Due.Good.{either, either_option}
-use Rattle.hm_quiet.proofs.measure.Shapes.{on_moves}
+use Rattle.hm_quiet.proofs.measure.Shapes.{on_moves, no_test}
 use Rattle.hm_quiet.proofs.keeping.FreshPages.{StaysFresh}
-use Rattle.hm_quiet.proofs.migrations.StepsFall.{no_test}
 use Rattle.hm_quiet.proofs.keeping.SelectedPages.{Dealt, Given, given_more, given_with, in_first_step}
 use Rattle.hm_quiet.proofs.keeping.MovesDeal.{Deals, DealsOn, moves_deal}
 

@@ -26,11 +26,11 @@ use Rattle.hm_laws.specs.Records.{is_past, Among}
 use Rattle.hm_laws.specs.Facts.{HoldsAll, facts, readying}
 use Rattle.hm_laws.proofs.Migration.Records.{one_of_page, source_found}
 use Rattle.hm_laws.proofs.Due.Good.{Good, either, either_option}
-use Rattle.hm_quiet.proofs.measure.Shapes.{on_moves}
+use Rattle.hm_quiet.proofs.measure.Shapes.{on_moves, no_test}
 use Rattle.hm_quiet.proofs.keeping.FreshPages.{FreshAt, StaysFresh}
 use Rattle.hm_quiet.proofs.alone.NeverWaits.{Alone}
 use Rattle.hm_quiet.proofs.accesses.HomeFalls.{moving_names, named_directly}
-use Rattle.hm_quiet.proofs.migrations.StepsFall.{no_test, known_page}
+use Rattle.hm_quiet.proofs.migrations.StepsFall.{known_page}
 use Rattle.hm_quiet.proofs.keeping.FreshStays.{Keeps, select_keeps, freeze_keeps, fresh_keeps}
 use Rattle.hm_quiet.proofs.keeping.MovesKeepWell.{moves_keeps}
 

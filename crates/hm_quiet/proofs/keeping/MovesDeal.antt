@@ -39,6 +39,7 @@ use Rattle.hm_quiet.proofs.keeping.FreshPages.{FreshAt}
 use Rattle.hm_quiet.proofs.alone.EndsWell.{Onward}
 use Rattle.hm_quiet.proofs.keeping.FreshStays.{FreshCome, come_fresh}
 use Rattle.hm_quiet.proofs.keeping.SelectedPages.{Left, Given, GivenCome, given_more, left_by, in_first_step, come_given, dealt_other, given_past, given_with}
+use Rattle.hm_quiet.proofs.measure.Shapes.{no_test}
 
 -- of the last entry of a migration, after which its records are given up
 pub record Answered (c : Program) (o : Op) (xs : List Migrating) (done : List Entry) (last : Kind) : Type 0 where
@@ -67,9 +68,6 @@ DealsOn c o s a xs done k ys st = Onward (Deals c o) (λ _. Answered c o) s a xs
 
 abbrev pub DealTo : Program → After → ℕ → Op → List Migrating → MoveStep → ℕ → List Entry → Option Migrating → Kind → Type 0
 DealTo c s a o xs step v done x k = DealsOn c o s a xs done k (recorded_at x xs k) (after_migration step x k (seen_moves s o step v x k))
-
-no_test : false ≡ true → ⊥
-no_test h = true_false true refl (sym h)
 
 others_deals : (c : Program) (s : After) (a : ℕ) (o : Op) (xs : List Migrating) (v page : ℕ) (f g : Option Frame) (m : Bool) (done : List Entry) → is_direct s f ≡ true → DealTo c s a o xs FreezeOthers v done (Some (record { page = page; source = f; dest = g; moved = m })) (others_of s f)
 others_deals c s a o xs v page None g m done d = absurd (no_test d)

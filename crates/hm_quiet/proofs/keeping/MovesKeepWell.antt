@@ -37,12 +37,10 @@ use Rattle.hm_quiet.specs.Keeping.{keeps_well}
 use Rattle.hm_quiet.proofs.migrations.RecordsLeft.{on_page}
 use Rattle.hm_quiet.proofs.keeping.FreshPages.{FreshAt, StaysFresh}
 use Rattle.hm_quiet.proofs.keeping.FreshStays.{Keeps, FreshCome, come_fresh, later_fresh, record_fresh}
+use Rattle.hm_quiet.proofs.measure.Shapes.{no_test}
 
 abbrev KeepTo : After → ℕ → Op → List Migrating → MoveStep → ℕ → Option Migrating → Kind → Type 0
 KeepTo s a o xs step v x k = StaysFresh (next s a k) o (recorded_at x xs k) (after_migration step x k (seen_moves s o step v x k)) × (keeps_well k ≡ true)
-
-no_test : false ≡ true → ⊥
-no_test h = true_false true refl (sym h)
 
 on_one : (st : MoveStep) (v u : ℕ) → is_past st v Commit u ≡ true → is_past st (v + 1) Commit u ≡ true
 on_one st v u e = on_page st v (v + 1) Commit u (omega arith) e

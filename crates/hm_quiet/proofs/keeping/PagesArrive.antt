@@ -43,9 +43,8 @@ use Rattle.hm_laws.proofs.Migration.EachStep.{from_first, commits_on}
 use Rattle.hm_laws.proofs.Migration.PagePast.{not_before}
 use Rattle.hm_laws.proofs.Migration.Records.{one_of_page, records_each, step_says}
 use Rattle.hm_quiet.specs.Keeping.{IsThere}
-use Rattle.hm_quiet.proofs.measure.Shapes.{on_moves}
+use Rattle.hm_quiet.proofs.measure.Shapes.{on_moves, no_test}
 use Rattle.hm_quiet.proofs.alone.EndsWell.{Onward}
-use Rattle.hm_quiet.proofs.migrations.StepsFall.{no_test}
 use Rattle.hm_quiet.proofs.migrations.RecordsLeft.{come_by}
 use Rattle.hm_quiet.proofs.keeping.FreshPages.{StaysFresh}
 use Rattle.hm_quiet.proofs.keeping.PagesReturn.{Back, page_after, all_back}

@@ -1,10 +1,12 @@
 -- The stacks of operations that move no frame.
-use Rattle.std.specs.Prelude.{Bool, true, false, not, ◌&&◌, Option, Some, None, List, [], ◌∷◌}
+use Rattle.std.specs.Prelude.{◌≡◌, Bool, true, false, not, ◌&&◌, Option, Some, None, List, [], ◌∷◌}
 use Rattle.hm_base.specs.declared.Frame.{Frame}
 use Rattle.hm_base.specs.declared.ops.Op.{Op}
 use Rattle.hm_history.specs.declared.phases.Body.{Body}
 use Rattle.hm_history.specs.declared.phases.Phase.{Phase}
 use Rattle.hm_laws.specs.Shapes.{of_system}
+use Rattle.std.proofs.Common.{refl}
+use Rattle.hm_history.proofs.Tests.{true_false}
 
 -- the answer stands below
 abbrev pub is_answering : List Phase → Bool
@@ -194,3 +196,7 @@ on_moves (Phase.Settle g ∷ below) = is_moves below
 on_moves (Phase.Lost v g ∷ below) = is_moves below
 on_moves (Phase.Drop g ∷ below) = is_moves below
 on_moves st = false
+
+-- a test of a stack that fails does not stand
+pub no_test : false ≡ true → ⊥
+no_test h = true_false false h refl

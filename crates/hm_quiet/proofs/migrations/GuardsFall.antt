@@ -34,14 +34,14 @@ use Rattle.hm_laws.proofs.Migration.Records.{fresh_found, one_of_page}
 use Rattle.hm_laws.proofs.Due.Good.{Good, either_option}
 use Rattle.hm_quiet.proofs.measure.Left.{View, view, placed_view, left, source_left, record_left, records_left, body_left}
 use Rattle.hm_quiet.proofs.measure.Counts.{Few}
-use Rattle.hm_quiet.proofs.measure.Shapes.{on_move_body}
+use Rattle.hm_quiet.proofs.measure.Shapes.{on_move_body, no_test}
 use Rattle.hm_quiet.proofs.alone.Ends.{StepsTo}
 use Rattle.hm_quiet.proofs.spans.TellingsFall.{told_falls}
 use Rattle.hm_quiet.proofs.faults.TakesFall.{if_true, if_false}
 use Rattle.hm_quiet.proofs.accesses.HomeFalls.{fewer_moving, not_moving}
 use Rattle.hm_quiet.proofs.migrations.RecordsLeft.{sum_most, same_record}
 use Rattle.hm_quiet.proofs.migrations.ItemsLeft.{source_apart, records_returned}
-use Rattle.hm_quiet.proofs.migrations.StepsFall.{OnMoves, no_test}
+use Rattle.hm_quiet.proofs.migrations.StepsFall.{OnMoves}
 
 abbrev pub InGuardM : Program → After → Past → ℕ → Op → List Migrating → ℕ → Pages → Bool → Option ℕ → Body → List Phase → Kind → Type 0
 InGuardM c s t a o xs p r met told body below k = Good c s t a o xs (Phase.Guard p r met told body) below (Do k) → StepsTo c s a o xs (Phase.Guard p r met told body) below OnMoves (Do k)

@@ -19,10 +19,10 @@ use Rattle.hm_laws.specs.Sound.{Sound}
 use Rattle.hm_laws.specs.Facts.{HoldsAll, facts}
 use Rattle.hm_laws.proofs.Due.Good.{Good}
 use Rattle.hm_quiet.proofs.measure.Counts.{Few}
-use Rattle.hm_quiet.proofs.measure.Shapes.{on_move_body, is_moves}
+use Rattle.hm_quiet.proofs.measure.Shapes.{on_move_body, is_moves, no_test}
 use Rattle.hm_quiet.proofs.alone.Ends.{StepsTo, EachFalls}
 use Rattle.hm_quiet.proofs.accesses.OperationsFall.{in_seven}
-use Rattle.hm_quiet.proofs.migrations.StepsFall.{no_test, OnMoves}
+use Rattle.hm_quiet.proofs.migrations.StepsFall.{OnMoves}
 use Rattle.hm_quiet.proofs.migrations.MovesFall.{moves_steps}
 use Rattle.hm_quiet.proofs.migrations.GuardsFall.{told_inm, freeze_inm, nothing_inm, fresh_inm, copy_m, finish_m, settle_m}
 use Rattle.hm_quiet.proofs.migrations.SelectionFalls.{select_in, ready_m, begin_m}

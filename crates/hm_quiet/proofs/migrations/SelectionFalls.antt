@@ -1,5 +1,5 @@
 -- A migration's first guard: pages frozen, or found fresh.
-use Rattle.std.proofs.Common.{◌≡◌, ℕ, ◌+◌, ◌*◌, ◌-◌, ◌<◌, ◌≤◌, Bool, true, false, ◌==◌, nat_lt, Option, Some, None, List, [], ◌∷◌, ◌++◌, refl, sym, ap, arith}
+use Rattle.std.proofs.Common.{◌≡◌, ℕ, ◌+◌, ◌*◌, ◌-◌, ◌<◌, ◌≤◌, Bool, true, false, ◌==◌, nat_lt, Option, Some, None, List, [], ◌∷◌, ◌++◌, refl, ap, arith}
 use Rattle.std.proofs.Math.Nat.{mul-le-mul_right}
 use Rattle.std.proofs.lemmas.Bool.Decides.{nat_tests}
 use Rattle.hm_base.specs.declared.cause.Cause.{Cause}
@@ -27,7 +27,6 @@ use Rattle.hm_history.specs.declared.phases.Migrating.{Migrating}
 use Rattle.hm_history.specs.declared.phases.Body.{Body}
 use Rattle.hm_history.specs.declared.phases.Phase.{Phase}
 use Rattle.hm_history.specs.declared.phases.Next.TheVariants.{Do}
-use Rattle.hm_history.proofs.Tests.{true_false}
 use Rattle.hm_history.proofs.Frames.{is_frame_of}
 use Rattle.hm_laws.specs.Past.{Past, past_next}
 use Rattle.hm_laws.specs.Allowed.{next}
@@ -44,6 +43,7 @@ use Rattle.hm_quiet.proofs.migrations.RecordsLeft.{sum_most, sum_more}
 use Rattle.hm_quiet.proofs.migrations.ItemsLeft.{source_apart}
 use Rattle.hm_quiet.proofs.migrations.StepsFall.{OnMoves}
 use Rattle.hm_quiet.proofs.migrations.GuardsFall.{InGuardM}
+use Rattle.hm_quiet.proofs.measure.Shapes.{no_test}
 
 -- a new record costs no more than bringing a frame home
 unless_most : (b : Bool) (n : ℕ) → unless b n ≤ n
@@ -144,10 +144,6 @@ select_in c s t a o xs p r met told n step v fw pb = either (λ z. P (body_or_en
 
     selects : n < last_of r → P (select_page s a o p n)
     selects l = either P (is_to_device o) _ _ (λ e. either_option P (rights_of s.plain p n) _ _ (λ i. passed l KeptWhy.NotHere) (λ w i. to_device l (s.places.place p n) refl)) (λ e. to_system l (mirror_dev s.plain (op_mirror o)) (s.places.place p n) refl)
-
--- its first turns
-no_test : false ≡ true → ⊥
-no_test h = true_false true refl (sym h)
 
 whole_span : (r : Pages) (h : ℕ) → span_from r.first r * h ≡ r.count * h
 whole_span r h = ap (λ k. k * h) (same r)

@@ -23,7 +23,6 @@ use Rattle.hm_history.specs.declared.Kind.{Kind}
 use Rattle.hm_history.specs.declared.phases.Migrating.{Migrating}
 use Rattle.hm_history.specs.declared.phases.Body.{Body}
 use Rattle.hm_history.specs.declared.phases.Phase.{Phase}
-use Rattle.hm_history.proofs.Tests.{true_false}
 use Rattle.hm_history.proofs.Frames.{is_frame_from}
 use Rattle.hm_laws.specs.Past.{Past}
 use Rattle.hm_laws.specs.Sound.{Sound}
@@ -37,7 +36,7 @@ use Rattle.hm_laws.proofs.Migration.Good.{seen_moves}
 use Rattle.hm_laws.proofs.Due.Good.{either, either_option}
 use Rattle.hm_quiet.proofs.measure.Left.{View, view, placed_view, left, told_left, frame_page, moving_at, records_left, body_left}
 use Rattle.hm_quiet.proofs.measure.Counts.{Few}
-use Rattle.hm_quiet.proofs.measure.Shapes.{on_moves}
+use Rattle.hm_quiet.proofs.measure.Shapes.{on_moves, no_test}
 use Rattle.hm_quiet.proofs.counts.CountsBelow.{told_few}
 use Rattle.hm_quiet.proofs.counts.UsesOfAFrame.{page_is}
 use Rattle.hm_quiet.proofs.faults.TakesFall.{if_true}
@@ -51,9 +50,6 @@ OnMoves st = on_moves st ≡ true
 -- what an entry of a migration leads to, at this record, if it is allowed
 abbrev pub MoveTo : Program → After → Past → ℕ → Op → List Migrating → MoveStep → ℕ → Option Migrating → Kind → Type 0
 MoveTo c s t a o xs step v x k = Allowed c s t a k → (left c (next s a k) a o (recorded_at x xs k) (after_migration step x k (seen_moves s o step v x k)) < records_left c (view s) step v xs + 1) × OnMoves (after_migration step x k (seen_moves s o step v x k))
-
-pub no_test : false ≡ true → ⊥
-no_test h = true_false true refl (sym h)
 
 -- a frame is taken, or the page passed
 pub fetch_to : (c : Program) (s : After) (t : Past) (a : ℕ) (o : Op) (xs : List Migrating) (step : MoveStep) (v page : ℕ) (f g : Option Frame) (m : Bool) → WellListed xs → Among xs (record { page = page; source = f; dest = g; moved = m }) → records_left c (view s) TakeAndCopy page xs ≤ records_left c (view s) step v xs →

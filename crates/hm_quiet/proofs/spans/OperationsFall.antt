@@ -1,5 +1,5 @@
 -- Operations that move no frame, at all their stacks.
-use Rattle.std.proofs.Common.{◌≡◌, ℕ, Bool, true, false, Option, List, [], ◌∷◌, refl, sym, subst}
+use Rattle.std.proofs.Common.{◌≡◌, ℕ, Bool, true, Option, List, [], ◌∷◌, refl, sym, subst}
 use Rattle.hm_base.specs.Pages.{Pages}
 use Rattle.hm_base.specs.Program.{Program}
 use Rattle.hm_base.specs.declared.ops.Op.{Op}
@@ -9,19 +9,15 @@ use Rattle.hm_history.specs.declared.phases.Migrating.{Migrating}
 use Rattle.hm_history.specs.declared.phases.Phase.{Phase}
 use Rattle.hm_history.specs.declared.phases.Body.{Body}
 use Rattle.hm_history.specs.declared.phases.Next.TheVariants.{Do}
-use Rattle.hm_history.proofs.Tests.{true_false}
 use Rattle.hm_laws.specs.Past.{Past}
 use Rattle.hm_laws.specs.Sound.{Sound}
 use Rattle.hm_laws.specs.Facts.{readying, HoldsAll, facts}
 use Rattle.hm_laws.proofs.Due.Good.{Good}
 use Rattle.hm_quiet.proofs.measure.Counts.{Few}
-use Rattle.hm_quiet.proofs.measure.Shapes.{is_simple, on_span}
+use Rattle.hm_quiet.proofs.measure.Shapes.{is_simple, on_span, no_test}
 use Rattle.hm_quiet.proofs.alone.Ends.{StepsTo, EachFalls}
 use Rattle.hm_quiet.proofs.spans.BeginsFall.{OnSimple, begin_steps, locked_steps, fork_opens}
 use Rattle.hm_quiet.proofs.spans.GuardsFall.{GuardSteps, zap_steps, narrow_steps, widen_steps, fork_steps, answer_steps, pages_steps, drop_steps}
-
-no_test : false ≡ true → ⊥
-no_test h = true_false true refl (sym h)
 
 ready_steps : (c : Program) (s : After) (t : Past) (a : ℕ) (o : Op) (xs : List Migrating) → is_simple o ≡ true → Few c s → HoldsAll s t a (readying o xs) → StepsTo c s a o xs Phase.Ready [] OnSimple (Do (due_ready s o))
 ready_steps c s t a (Op.Fork p d) xs i f h = (fork_opens c s a xs p d f, refl)
