@@ -41,16 +41,17 @@ mends_most c o touch (Place.Moving f w) = omega (arith, copies_most c o touch)
 mends_most c o touch (Place.Own d n w) = omega (arith, copies_most c o touch)
 mends_most c o touch (Place.Exclusive n b) = omega arith
 
-tail_ready : (c : Program) (o : Op) (touch : Touch) → tail c o touch ≤ ready c o touch
-tail_ready c o (Cpu k) = omega arith
-tail_ready c o (Walk k at q) = omega arith
-tail_ready c o Sole = omega arith
+-- once the place suits no more is left than once the page is a writable system page
+pub tail_less : (c : Program) (o : Op) (touch : Touch) → tail c o touch ≤ ready c o touch
+tail_less c o (Cpu k) = omega arith
+tail_less c o (Walk k at q) = omega arith
+tail_less c o Sole = omega arith
 
 pub stage_most : (c : Program) (y : View) (a : ℕ) (o : Op) (touch : Touch) (x : Place) → stage c y a o touch x ≤ most c touch + ready c o touch
 stage_most c y a o touch x = by (is_over y a o touch x) (is_ready touch x)
   where
     by : (b d : Bool) → (if b then tail c o touch else if d then ready c o touch else (mends c o touch x + ready c o touch)) ≤ most c touch + ready c o touch
-    by true d = omega (arith, tail_ready c o touch)
+    by true d = omega (arith, tail_less c o touch)
     by false true = omega arith
     by false false = omega (arith, mends_most c o touch x)
 

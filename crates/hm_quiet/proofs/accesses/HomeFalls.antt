@@ -49,6 +49,7 @@ use Rattle.hm_quiet.proofs.counts.UsesOfAFrame.{direct_frozen, moving_frozen, mo
 use Rattle.hm_quiet.proofs.faults.StagesLeft.{stage_any, stage_mends, ends_left, home_most, decide_home}
 use Rattle.hm_quiet.proofs.faults.TakesFall.{Fits, if_true, if_false, later_less, tail_stage}
 use Rattle.hm_quiet.proofs.accesses.GuardsFall.{OnAccess}
+use Rattle.hm_laws.proofs.Kept.Frames.{names_stays}
 
 -- what is left below after a `place`, where that page's stage is no more
 pub home_change : (c : Program) (y : View) (a : ℕ) (o : Op) (touch : Touch) (q u : ℕ) (x : Place) → stage_home c y a o touch x ≤ stage_home c y a o touch (y.place q u) → home_now c (placed_view y q u x) a o touch ≤ home_now c y a o touch
@@ -216,16 +217,13 @@ moving_names (Place.Sys n w) f e = cc
 moving_names (Place.Own d n w) f e = cc
 moving_names (Place.Exclusive n b) f e = cc
 
-pub names_used : (z : Place) (f : Frame) → names z ≡ Some f → is_empty_place z ≡ false
-names_used z f e = grind arith
-
 -- where all that name a frame are on one page, those under way are counted there
 moving_page : (c : Program) (s : After) (t : Past) (f : Frame) (u : ℕ) → Sound c s t → ((q v : ℕ) → names (s.places.place q v) ≡ Some f → v ≡ u) → moving_at (view s) f (frame_page (view s) f) ≤ moving_at (view s) f u
 moving_page c s t f u so on = by (lowest (λ p v. is_frame (names (s.places.place p v)) f) s.places.placed) refl
   where
     none : (v q : ℕ) → lowest (λ p v. is_frame (names (s.places.place p v)) f) s.places.placed ≡ None → is_frame (moving_frame (s.places.place q v)) f ≡ true → false ≡ true
     none v q i h = let e : names (s.places.place q v) ≡ Some f = moving_names (s.places.place q v) f (is_frame_from (moving_frame (s.places.place q v)) f h) in
-        absurd (true_false (is_frame (names (s.places.place q v)) f) (is_frame_of (names (s.places.place q v)) f e) (lowest_none (λ p v. is_frame (names (s.places.place p v)) f) s.places.placed q v i (so.places.listed q v (names_used (s.places.place q v) f e))))
+        absurd (true_false (is_frame (names (s.places.place q v)) f) (is_frame_of (names (s.places.place q v)) f e) (lowest_none (λ p v. is_frame (names (s.places.place p v)) f) s.places.placed q v i (so.places.listed q v (names_stays (s.places.place q v) f e))))
 
     by : (x : Option (ℕ × ℕ)) → lowest (λ p v. is_frame (names (s.places.place p v)) f) s.places.placed ≡ x → moving_at (view s) f (elim x as (λ z. ℕ) [ None ↦ 0 | Some z ↦ z.1 ]) ≤ moving_at (view s) f u
     by None i = omega (arith, count_more (λ q. is_frame (moving_frame (s.places.place q 0)) f) (λ q. false) 32 (λ q l h. none 0 q i h), count_none 32)
@@ -253,7 +251,7 @@ fewer_moving c s t a f g w x so fw so2 e = omega (arith, moving_page c (next s a
     page = page_is c s t x.0 x.1 f so named
 
     process : x.0 < 32
-    process = fw.few_processes x.0 x.1 (names_used (s.places.place x.0 x.1) f named)
+    process = fw.few_processes x.0 x.1 (names_stays (s.places.place x.0 x.1) f named)
 
     on : (q v : ℕ) → names (with_place s.places.place x.0 x.1 (place_in g w) q v) ≡ Some f → v ≡ x.1
     on q v h = at ((q == x.0) && (v == x.1)) refl h

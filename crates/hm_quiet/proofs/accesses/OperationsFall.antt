@@ -7,7 +7,6 @@ use Rattle.hm_base.specs.Program.{Program}
 use Rattle.hm_base.specs.declared.Frame.{Frame}
 use Rattle.hm_base.specs.declared.Place.{Place}
 use Rattle.hm_base.specs.declared.ops.Op.{Op}
-use Rattle.hm_history.specs.Words.{same_frame}
 use Rattle.hm_history.specs.Plain.{in_window, mirror_proc}
 use Rattle.hm_history.specs.Locks.{writer}
 use Rattle.hm_history.specs.After.{After}
@@ -22,8 +21,7 @@ use Rattle.hm_history.specs.declared.phases.Body.{Body}
 use Rattle.hm_history.specs.declared.phases.Phase.{Phase}
 use Rattle.hm_history.specs.declared.phases.Next.{Next}
 use Rattle.hm_history.specs.declared.phases.Next.TheVariants.{Do, Wait}
-use Rattle.hm_history.proofs.Tests.{true_false}
-use Rattle.hm_history.proofs.Frames.{frame_tells}
+use Rattle.hm_history.proofs.Frames.{frame_same}
 use Rattle.hm_laws.specs.Past.{Past}
 use Rattle.hm_laws.specs.Sound.{Sound}
 use Rattle.hm_laws.specs.Shapes.{of_system, begins}
@@ -102,13 +100,6 @@ taken_at c s t a o xs touch g (Place.Own d n w) h = absurd (no_test h.1.1.1.1.1.
 taken_at c s t a o xs touch g (Place.Moving f w) h = absurd (no_test h.1.1.1.1.1.0)
 taken_at c s t a o xs touch g (Place.Exclusive n b) h = absurd (no_test h.1.1.1.1.1.0)
 
-pub same_frames : (f g : Frame) → same_frame f g ≡ true → f ≡ g
-same_frames f g h = by (frame_tells f g)
-  where
-    by : ((same_frame f g ≡ true) × (f ≡ g)) ⊎ ((same_frame f g ≡ false) × (f ≡ g → ⊥)) → f ≡ g
-    by (inl e) = e.1
-    by (inr e) = absurd (true_false (same_frame f g) h e.0)
-
 dev_of : (x y : Bool) → (x && not y) ≡ true → y ≡ false
 dev_of x y h = grind arith
 
@@ -118,7 +109,7 @@ guard_steps c s t a o xs p r met told (Body.Replace over g) (Phase.Decide touch 
 guard_steps c s t a o xs p r met told Body.Restore (Phase.Decide touch ∷ []) i so e h gd = told_in c s t a o xs p r met told Body.Restore (Phase.Decide touch ∷ []) so e (restore_in c s t a o xs p r met told touch) gd
 guard_steps c s t a o xs p r met told (Body.Seize f) (Phase.Decide touch ∷ []) i so e h gd = told_in c s t a o xs p r met told (Body.Seize f) (Phase.Decide touch ∷ []) so e (seize_in c s t a o xs p r met told f touch so) gd
 guard_steps c s t a o xs p r met told (Body.Catch f) (Phase.Decide touch ∷ []) i so e h gd = told_in c s t a o xs p r met told (Body.Catch f) (Phase.Decide touch ∷ []) so e (catch_in c s t a o xs p r met told f touch so (access_evicts o i).0 (dev_of true (of_system f) e)) gd
-guard_steps c s t a o xs p r met told (Body.Freeze f) (Phase.Emptying g w ∷ Phase.Decide touch ∷ []) i so e h gd = told_in c s t a o xs p r met told (Body.Freeze f) (Phase.Emptying g w ∷ Phase.Decide touch ∷ []) so e (freeze_in c s t a o xs p r met told f g w touch so (same_frames f g h.1.1.1.0) (dev_of true (of_system g) e)) gd
+guard_steps c s t a o xs p r met told (Body.Freeze f) (Phase.Emptying g w ∷ Phase.Decide touch ∷ []) i so e h gd = told_in c s t a o xs p r met told (Body.Freeze f) (Phase.Emptying g w ∷ Phase.Decide touch ∷ []) so e (freeze_in c s t a o xs p r met told f g w touch so (frame_same f g h.1.1.1.0) (dev_of true (of_system g) e)) gd
 guard_steps c s t a o xs p r met told Body.Nothing (Phase.Decide touch ∷ []) i so e h gd = told_in c s t a o xs p r met told Body.Nothing (Phase.Decide touch ∷ []) so e (nothing_in c s t a o xs p r met told touch) gd
 guard_steps c s t a o xs p r met told Body.Nothing (Phase.Emptying g w ∷ Phase.Decide touch ∷ []) i so e h gd = told_in c s t a o xs p r met told Body.Nothing (Phase.Emptying g w ∷ Phase.Decide touch ∷ []) so e (nothing_alone_in c s t a o xs p r met told g w touch (dev_of true (of_system g) e)) gd
 guard_steps c s t a o xs p r met told body below i so e h gd = absurd (no_test e)

@@ -61,7 +61,7 @@ other_process place p v x q ne = grind (arith, nat_tests)
 this_process : (place : ℕ → ℕ → Place) (p v : ℕ) (x : Place) → with_place place p v x p v ≡ x
 this_process place p v x = grind (arith, nat_tests)
 
-other_page : (place : ℕ → ℕ → Place) (p v : ℕ) (x : Place) (q u : ℕ) → (u ≡ v → ⊥) → with_place place p v x q u ≡ place q u
+pub other_page : (place : ℕ → ℕ → Place) (p v : ℕ) (x : Place) (q u : ℕ) → (u ≡ v → ⊥) → with_place place p v x q u ≡ place q u
 other_page place p v x q u ne = grind (arith, nat_tests)
 
 -- frozen: one fewer names it directly, and at most one more does as under way

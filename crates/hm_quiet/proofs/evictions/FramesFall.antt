@@ -47,7 +47,9 @@ use Rattle.hm_quiet.proofs.counts.CountsBelow.{told_few}
 use Rattle.hm_quiet.proofs.spans.TellingsFall.{told_falls}
 use Rattle.hm_quiet.proofs.counts.UsesOfAFrame.{direct_frozen, moving_frozen, page_is, home_fits}
 use Rattle.hm_quiet.proofs.faults.TakesFall.{if_true, if_false}
-use Rattle.hm_quiet.proofs.accesses.HomeFalls.{used_place, named_directly, others_fit, fewer_moving, names_used}
+use Rattle.hm_quiet.proofs.accesses.HomeFalls.{used_place, named_directly, others_fit, fewer_moving}
+use Rattle.hm_laws.proofs.Kept.Frames.{names_stays}
+use Rattle.hm_laws.proofs.Other.Emptied.{direct_of}
 
 abbrev pub OnFrames : List Phase → Type 0
 OnFrames st = on_frames st ≡ true
@@ -231,14 +233,6 @@ abbrev StartsF : Program → After → ℕ → Op → List Migrating → ℕ →
 StartsF c s a o xs v n x z = (told_left (next s a (start_entry s x.0 (one_page x.1))) x.0 (one_page x.1) (some_overlap s.sequences x.0 (one_page x.1)) None + body_left c (view s) s.locks.frame a o xs x.0 (one_page x.1) (s.places.place x.0 x.1) (catching z) (Phase.Frames (number_of z) n ∷ []) < frames_left c (view s) o v)
     × OnFrames (Phase.Guard x.0 (one_page x.1) (some_overlap s.sequences x.0 (one_page x.1)) None (catching z) ∷ Phase.Frames (number_of z) n ∷ [])
 
-direct_of : (z : Place) (f : Frame) → names z ≡ Some f → (moving_frame z ≡ Some f → ⊥) → names_directly z ≡ Some f
-direct_of (Place.Sys n w) f e h = e
-direct_of (Place.Own d n w) f e h = e
-direct_of (Place.Exclusive n b) f e h = e
-direct_of (Place.Moving g w) f e h = absurd (h e)
-direct_of Place.Empty f e h = cc
-direct_of Place.Zero f e h = cc
-
 start_in_frames : (c : Program) (s : After) (t : Past) (a : ℕ) (o : Op) (xs : List Migrating) (v n k : ℕ) (x : ℕ × ℕ) → Sound c s t → Few c s → is_evicting o ≡ true → s.locks.frame (dev_frame (op_device o) k) ≡ None → v ≤ k → k < slice_index c.devices (op_device o) → lowest_named s.places (dev_frame (op_device o) k) ≡ Some x →
     StepsTo c s a o xs (Phase.Frames v n) [] OnFrames (Do (start_entry s x.0 (one_page x.1)))
 start_in_frames c s t a o xs v n k x so fw ev lk l m e = subst (StartsF c s a o xs v n x) (sym named) (less, refl)
@@ -269,7 +263,7 @@ start_in_frames c s t a o xs v n k x so fw ev lk l m e = subst (StartsF c s a o 
     y = placed_view (view s) x.0 x.1 (Place.Moving f (writable z))
 
     process : x.0 < 32
-    process = fw.few_processes x.0 x.1 (names_used z f named)
+    process = fw.few_processes x.0 x.1 (names_stays z f named)
 
     told : ℕ
     told = told_left (next s a (start_entry s x.0 (one_page x.1))) x.0 (one_page x.1) (some_overlap s.sequences x.0 (one_page x.1)) None

@@ -19,13 +19,14 @@ use Rattle.hm_laws.proofs.Due.Good.{Good}
 use Rattle.hm_quiet.proofs.measure.Counts.{Few}
 use Rattle.hm_quiet.proofs.measure.Shapes.{on_frame_body, is_frames, on_copied_frames, no_test}
 use Rattle.hm_quiet.proofs.alone.Ends.{StepsTo, EachFalls}
-use Rattle.hm_quiet.proofs.accesses.OperationsFall.{unlocked, same_frames, in_seven}
+use Rattle.hm_quiet.proofs.accesses.OperationsFall.{unlocked, in_seven}
 use Rattle.hm_quiet.proofs.evictions.FramesFall.{OnFrames, told_in_frames, catch_in_frames, freeze_in_frames, nothing_in_frames, alone_in_frames, copy_in_frames, copied_in_frames, finish_in_frames, settle_in_frames, frames_steps}
+use Rattle.hm_history.proofs.Frames.{frame_same}
 
 guard_steps : (c : Program) (s : After) (t : Past) (a : ℕ) (o : Op) (xs : List Migrating) (p : ℕ) (r : Pages) (met : Bool) (told : Option ℕ) (body : Body) (below : List Phase) → is_evicting o ≡ true → Sound c s t → on_frame_body body below ≡ true → HoldsAll s t a (facts o xs (Phase.Guard p r met told body ∷ below)) → Good c s t a o xs (Phase.Guard p r met told body) below (Do (due_guard s a o p r met told body)) →
     StepsTo c s a o xs (Phase.Guard p r met told body) below OnFrames (Do (due_guard s a o p r met told body))
 guard_steps c s t a o xs p r met told (Body.Catch f) (Phase.Frames v n ∷ []) i so e h gd = told_in_frames c s t a o xs p r met told (Body.Catch f) (Phase.Frames v n ∷ []) so e (catch_in_frames c s t a o xs p r met told f v n so i) gd
-guard_steps c s t a o xs p r met told (Body.Freeze f) (Phase.Emptying g w ∷ Phase.Frames v n ∷ []) i so e h gd = told_in_frames c s t a o xs p r met told (Body.Freeze f) (Phase.Emptying g w ∷ Phase.Frames v n ∷ []) so e (freeze_in_frames c s t a o xs p r met told f g w v n so (same_frames f g h.1.1.1.0)) gd
+guard_steps c s t a o xs p r met told (Body.Freeze f) (Phase.Emptying g w ∷ Phase.Frames v n ∷ []) i so e h gd = told_in_frames c s t a o xs p r met told (Body.Freeze f) (Phase.Emptying g w ∷ Phase.Frames v n ∷ []) so e (freeze_in_frames c s t a o xs p r met told f g w v n so (frame_same f g h.1.1.1.0)) gd
 guard_steps c s t a o xs p r met told Body.Nothing (Phase.Emptying g w ∷ Phase.Frames v n ∷ []) i so e h gd = told_in_frames c s t a o xs p r met told Body.Nothing (Phase.Emptying g w ∷ Phase.Frames v n ∷ []) so e (nothing_in_frames c s t a o xs p r met told g w v n) gd
 guard_steps c s t a o xs p r met told body below i so e h gd = absurd (no_test e)
 

@@ -17,18 +17,13 @@ use Rattle.hm_history.specs.declared.phases.Phase.{Phase}
 use Rattle.hm_laws.proofs.Due.Spans.{this_page}
 use Rattle.hm_quiet.proofs.measure.Left.{View, view, placed_view, left, piece_cost, later, tail, extra, ready, mends, is_over, is_ready, stage, stage_home, stage_now, home_now, decide_most, decide_left, repeats_now, piece_left}
 use Rattle.hm_quiet.proofs.measure.Shapes.{is_access, on_access}
-use Rattle.hm_quiet.proofs.StartsWithinBound.{cpu_most, mirror_most}
+use Rattle.hm_quiet.proofs.StartsWithinBound.{cpu_most, mirror_most, tail_less}
 
 pub stage_over : (c : Program) (y : View) (a : ℕ) (o : Op) (touch : Touch) (x : Place) → is_over y a o touch x ≡ true → stage c y a o touch x ≡ tail c o touch
 stage_over c y a o touch x e = ap (λ b. if b then tail c o touch else if is_ready touch x then ready c o touch else (mends c o touch x + ready c o touch)) e
 
 pub stage_mends : (c : Program) (y : View) (a : ℕ) (o : Op) (touch : Touch) (x : Place) → is_over y a o touch x ≡ false → is_ready touch x ≡ false → stage c y a o touch x ≡ mends c o touch x + ready c o touch
 stage_mends c y a o touch x e f = ap (λ b. if b then tail c o touch else if is_ready touch x then ready c o touch else (mends c o touch x + ready c o touch)) e ∙ ap (λ b. if b then ready c o touch else (mends c o touch x + ready c o touch)) f
-
-tail_less : (c : Program) (o : Op) (touch : Touch) → tail c o touch ≤ ready c o touch
-tail_less c o (Cpu k) = omega arith
-tail_less c o (Walk k at q) = omega arith
-tail_less c o Sole = omega arith
 
 pub stage_any : (c : Program) (y : View) (a : ℕ) (o : Op) (touch : Touch) (x : Place) → stage c y a o touch x ≤ mends c o touch x + ready c o touch
 stage_any c y a o touch x = by (is_over y a o touch x) (is_ready touch x)

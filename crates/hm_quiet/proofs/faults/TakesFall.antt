@@ -31,6 +31,7 @@ use Rattle.hm_laws.proofs.Due.Good.{either, either_option}
 use Rattle.hm_quiet.proofs.measure.Left.{View, view, left, piece_cost, later, tail, extra, ready, copies, mends, is_over, is_ready, stage, stage_now, home_now, decide_left, retried, repeats_now, piece_left, noted_left}
 use Rattle.hm_quiet.proofs.measure.Shapes.{is_access, on_access}
 use Rattle.hm_quiet.proofs.faults.StagesLeft.{stage_over, stage_mends, now_placed, ends_left}
+use Rattle.hm_quiet.proofs.StartsWithinBound.{tail_less}
 
 -- whose touch an operation's fault is
 abbrev pub Fits : Op → Touch → Type 0
@@ -45,11 +46,6 @@ Dec c s a o xs touch k = (left c (next s a k) a o xs (after_decide o touch k (se
 abbrev pub Decs : Program → After → ℕ → Op → List Migrating → Touch → Next → Type 0
 Decs c s a o xs touch (Do k) = Dec c s a o xs touch k
 Decs c s a o xs touch (Wait y) = ⊤
-
-tail_less : (c : Program) (o : Op) (touch : Touch) → tail c o touch ≤ ready c o touch
-tail_less c o (Cpu k) = omega arith
-tail_less c o (Walk k at q) = omega arith
-tail_less c o Sole = omega arith
 
 pub tail_stage : (c : Program) (y : View) (a : ℕ) (o : Op) (touch : Touch) (x : Place) → tail c o touch ≤ stage c y a o touch x
 tail_stage c y a o touch x = by (is_over y a o touch x) (is_ready touch x)

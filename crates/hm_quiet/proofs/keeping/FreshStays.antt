@@ -37,6 +37,7 @@ use Rattle.hm_quiet.specs.Keeping.{keeps_well}
 use Rattle.hm_quiet.proofs.keeping.FreshPages.{FreshAt, StaysFresh}
 use Rattle.hm_quiet.proofs.alone.NeverWaits.{Alone}
 use Rattle.hm_quiet.proofs.migrations.RecordsLeft.{on_page, on_step, found_above, come_by}
+use Rattle.hm_quiet.proofs.counts.UsesOfAFrame.{other_page}
 
 abbrev pub Keeps : Program → After → ℕ → Op → List Migrating → Phase → List Phase → Next → Type 0
 Keeps c s a o xs top below (Do k) = StaysFresh (next s a k) o (recorded top (seen_at s o xs top k).page xs k) (stack_after o (top ∷ below) k (seen_at s o xs top k)) × (keeps_well k ≡ true)
@@ -56,10 +57,6 @@ nobody s a b f al e = by (s.locks.frame f) refl e
           where
             apart : (a == d) ≡ false → d ≡ a → ⊥
             apart j k = grind (arith, nat_tests)
-
--- a place on another page
-other_page : (place : ℕ → ℕ → Place) (p v : ℕ) (x : Place) (q u : ℕ) → (u ≡ v → ⊥) → with_place place p v x q u ≡ place q u
-other_page place p v x q u ne = grind (arith, nat_tests)
 
 placed_fresh : (s : After) (a : ℕ) (o : Op) (xs : List Migrating) (step : MoveStep) (v p u : ℕ) (x : Place) → ((w : Migrating) → Among xs w → w.source ≡ None → is_past step v Commit w.page ≡ false → w.page ≡ u → ⊥) → FreshAt s o xs step v → FreshAt (next s a (Kind.Place p u x)) o xs step v
 placed_fresh s a o xs step v p u x apart h w i e n = ap has_no_frame (other_page s.places.place p u x (mirror_proc s.plain (op_mirror o)) w.page (apart w i e n)) ∙ h w i e n

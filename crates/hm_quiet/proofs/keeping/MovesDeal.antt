@@ -28,7 +28,7 @@ use Rattle.hm_history.specs.declared.phases.Phase.{Phase}
 use Rattle.hm_history.proofs.Tests.{true_false}
 use Rattle.hm_laws.specs.Past.{Past}
 use Rattle.hm_laws.specs.Sound.{Sound}
-use Rattle.hm_laws.specs.Records.{is_past, Among}
+use Rattle.hm_laws.specs.Records.{Among}
 use Rattle.hm_laws.specs.Facts.{HoldsAll, facts}
 use Rattle.hm_laws.proofs.Migration.Good.{seen_moves}
 use Rattle.hm_laws.proofs.Migration.Coming.{Came, came_to}
@@ -40,6 +40,7 @@ use Rattle.hm_quiet.proofs.alone.EndsWell.{Onward}
 use Rattle.hm_quiet.proofs.keeping.FreshStays.{FreshCome, come_fresh}
 use Rattle.hm_quiet.proofs.keeping.SelectedPages.{Left, Given, GivenCome, given_more, left_by, in_first_step, come_given, dealt_other, given_past, given_with}
 use Rattle.hm_quiet.proofs.measure.Shapes.{no_test}
+use Rattle.hm_laws.proofs.Migration.PagePast.{not_before}
 
 -- of the last entry of a migration, after which its records are given up
 pub record Answered (c : Program) (o : Op) (xs : List Migrating) (done : List Entry) (last : Kind) : Type 0 where
@@ -94,13 +95,10 @@ fetch_deals c s a o xs step v page f g m done gv = either P (skips c o page) _ _
     taken h (Some i) = given_with c o xs TakeAndCopy (page + 1) None (done ++ record { actor = a; kind = Kind.Take h } ∷ []) (record { page = page; source = Some i; dest = Some h; moved = m }) (record { taken = λ p. inl refl; moved = λ p d. absurd (no_test p) }) (dealt_other c o xs TakeAndCopy page None done (record { actor = a; kind = Kind.Take h }) gv)
     taken h None = given_with c o xs TakeAndCopy (page + 1) None (done ++ record { actor = a; kind = Kind.Take h } ∷ []) (record { page = page; source = None; dest = Some h; moved = m }) (record { taken = λ p. inl refl; moved = λ p d. absurd (no_test p) }) (dealt_other c o xs TakeAndCopy page None done (record { actor = a; kind = Kind.Take h }) gv)
 
-here_not : (v : ℕ) → is_past Commit v Commit v ≡ false
-here_not v = grind (arith, nat_tests)
-
 commit_deals : (c : Program) (s : After) (a : ℕ) (o : Op) (xs : List Migrating) (step : MoveStep) (v page : ℕ) (f g : Option Frame) (m : Bool) (done : List Entry) → Among xs (record { page = page; source = f; dest = g; moved = m }) → is_some g ≡ true → ((u : ℕ) → next_cursor step u ≡ Phase.Moves Commit (u + 1)) → FreshAt s o xs Commit page → Given c o xs Commit page None done → DealTo c s a o xs step v done (Some (record { page = page; source = f; dest = g; moved = m })) (commit_page s (mirror_proc s.plain (op_mirror o)) page f g)
 commit_deals c s a o xs step v page (Some f) (Some g) m done am sm ns fr gv = given_with c o xs Commit (page + 1) None (done ++ record { actor = a; kind = Kind.Committed f g } ∷ []) (record { page = page; source = Some f; dest = Some g; moved = true }) (record { taken = λ p. inl refl; moved = λ p d. inr refl }) (dealt_other c o xs Commit page None done (record { actor = a; kind = Kind.Committed f g }) gv)
 commit_deals c s a o xs step v page None (Some g) m done am sm ns fr gv = either (DealTo c s a o xs step v done (Some (record { page = page; source = None; dest = Some g; moved = m }))) (has_no_frame (s.places.place p page)) _ _
-    (λ e. starts (next_cursor step page) (ns page)) (λ e. absurd (true_false (has_no_frame (s.places.place p page)) (fr (record { page = page; source = None; dest = Some g; moved = m }) am refl (here_not page)) e))
+    (λ e. starts (next_cursor step page) (ns page)) (λ e. absurd (true_false (has_no_frame (s.places.place p page)) (fr (record { page = page; source = None; dest = Some g; moved = m }) am refl (not_before page)) e))
   where
     p : ℕ
     p = mirror_proc s.plain (op_mirror o)

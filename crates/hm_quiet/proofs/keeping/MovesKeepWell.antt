@@ -1,7 +1,6 @@
 -- The steps of a migration keep nothing for another's sake.
 use Rattle.std.proofs.Common.{◌≡◌, ℕ, ◌+◌, Bool, true, false, is_some, Option, Some, None, List, [], ◌∷◌, refl, sym, subst, arith}
 use Rattle.std.specs.Prelude.{count_by}
-use Rattle.std.proofs.lemmas.Bool.Decides.{nat_tests}
 use Rattle.hm_base.specs.Pages.{one_page}
 use Rattle.hm_base.specs.Program.{Program}
 use Rattle.hm_base.specs.declared.cause.Cause.{Cause}
@@ -38,6 +37,7 @@ use Rattle.hm_quiet.proofs.migrations.RecordsLeft.{on_page}
 use Rattle.hm_quiet.proofs.keeping.FreshPages.{FreshAt, StaysFresh}
 use Rattle.hm_quiet.proofs.keeping.FreshStays.{Keeps, FreshCome, come_fresh, later_fresh, record_fresh}
 use Rattle.hm_quiet.proofs.measure.Shapes.{no_test}
+use Rattle.hm_laws.proofs.Migration.PagePast.{not_before}
 
 abbrev KeepTo : After → ℕ → Op → List Migrating → MoveStep → ℕ → Option Migrating → Kind → Type 0
 KeepTo s a o xs step v x k = StaysFresh (next s a k) o (recorded_at x xs k) (after_migration step x k (seen_moves s o step v x k)) × (keeps_well k ≡ true)
@@ -67,13 +67,10 @@ fetch_keeps c s a o xs step v page f g m am fr = either P (skips c o page) _ _ (
     taken h (Some i) am = (record_fresh s o xs (record { page = page; source = Some i; dest = Some h; moved = m }) (record { page = page; source = Some i; dest = g; moved = m }) TakeAndCopy (page + 1) refl refl am (after_one s o xs TakeAndCopy page fr), refl)
     taken h None am = (record_fresh s o xs (record { page = page; source = None; dest = Some h; moved = m }) (record { page = page; source = None; dest = g; moved = m }) TakeAndCopy (page + 1) refl refl am (after_one s o xs TakeAndCopy page fr), refl)
 
-here_not : (v : ℕ) → is_past Commit v Commit v ≡ false
-here_not v = grind (arith, nat_tests)
-
 commit_keeps : (s : After) (a : ℕ) (o : Op) (xs : List Migrating) (step : MoveStep) (v page : ℕ) (f g : Option Frame) (m : Bool) → Among xs (record { page = page; source = f; dest = g; moved = m }) → is_some g ≡ true → ((u : ℕ) → next_cursor step u ≡ Phase.Moves Commit (u + 1)) → FreshAt s o xs Commit page → KeepTo s a o xs step v (Some (record { page = page; source = f; dest = g; moved = m })) (commit_page s (mirror_proc s.plain (op_mirror o)) page f g)
 commit_keeps s a o xs step v page (Some f) (Some g) m am sm ns fr = (record_fresh s o xs (record { page = page; source = Some f; dest = Some g; moved = true }) (record { page = page; source = Some f; dest = Some g; moved = m }) Commit (page + 1) refl refl am (after_one s o xs Commit page fr), refl)
 commit_keeps s a o xs step v page None (Some g) m am sm ns fr = either (KeepTo s a o xs step v (Some (record { page = page; source = None; dest = Some g; moved = m }))) (has_no_frame (s.places.place (mirror_proc s.plain (op_mirror o)) page)) _ _
-    (λ e. starts e (next_cursor step page) (ns page)) (λ e. absurd (true_false (has_no_frame (s.places.place (mirror_proc s.plain (op_mirror o)) page)) (fr (record { page = page; source = None; dest = Some g; moved = m }) am refl (here_not page)) e))
+    (λ e. starts e (next_cursor step page) (ns page)) (λ e. absurd (true_false (has_no_frame (s.places.place (mirror_proc s.plain (op_mirror o)) page)) (fr (record { page = page; source = None; dest = Some g; moved = m }) am refl (not_before page)) e))
   where
     starts : has_no_frame (s.places.place (mirror_proc s.plain (op_mirror o)) page) ≡ true → (w : Phase) → w ≡ Phase.Moves Commit (page + 1) → StaysFresh (next s a (start_entry s (mirror_proc s.plain (op_mirror o)) (one_page page))) o xs (Phase.Guard (mirror_proc s.plain (op_mirror o)) (one_page page) (some_overlap s.sequences (mirror_proc s.plain (op_mirror o)) (one_page page)) None (Body.Fresh g) ∷ w ∷ []) × (true ≡ true)
     starts e w i = subst (λ w. StaysFresh (next s a (start_entry s (mirror_proc s.plain (op_mirror o)) (one_page page))) o xs (Phase.Guard (mirror_proc s.plain (op_mirror o)) (one_page page) (some_overlap s.sequences (mirror_proc s.plain (op_mirror o)) (one_page page)) None (Body.Fresh g) ∷ w ∷ []) × (true ≡ true)) (sym i) ((after_one s o xs Commit page fr, e), refl)

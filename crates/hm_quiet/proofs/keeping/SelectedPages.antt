@@ -19,7 +19,7 @@ use Rattle.hm_history.proofs.Tests.{true_false}
 use Rattle.hm_laws.specs.Records.{same_step}
 use Rattle.hm_laws.specs.Records.{is_past, Among, rising_pages, comes_before}
 use Rattle.hm_laws.proofs.Migration.Coming.{find_none, find_before}
-use Rattle.hm_laws.proofs.Migration.Records.{with_among}
+use Rattle.hm_laws.proofs.Migration.Records.{with_among, step_says}
 use Rattle.hm_quiet.specs.Keeping.{lacks_frame}
 use Rattle.hm_quiet.proofs.migrations.RecordsLeft.{IsNext, come_by}
 
@@ -74,36 +74,8 @@ in_first_step c o xs step v but done e x i = record { taken = λ p. absurd (take
     commit SetOwnTable v u e p = true_false false e refl
     commit Finish v u e p = true_false false e refl
 
--- on to a later step, past pages for which it was past, or for which the step has nothing to do
-same_steps : (i k : MoveStep) → same_step i k ≡ true → i ≡ k
-same_steps FreezeOthers FreezeOthers e = refl
-same_steps FreezeOthers TakeAndCopy e = absurd (true_false false e refl)
-same_steps FreezeOthers Commit e = absurd (true_false false e refl)
-same_steps FreezeOthers SetOwnTable e = absurd (true_false false e refl)
-same_steps FreezeOthers Finish e = absurd (true_false false e refl)
-same_steps TakeAndCopy FreezeOthers e = absurd (true_false false e refl)
-same_steps TakeAndCopy TakeAndCopy e = refl
-same_steps TakeAndCopy Commit e = absurd (true_false false e refl)
-same_steps TakeAndCopy SetOwnTable e = absurd (true_false false e refl)
-same_steps TakeAndCopy Finish e = absurd (true_false false e refl)
-same_steps Commit FreezeOthers e = absurd (true_false false e refl)
-same_steps Commit TakeAndCopy e = absurd (true_false false e refl)
-same_steps Commit Commit e = refl
-same_steps Commit SetOwnTable e = absurd (true_false false e refl)
-same_steps Commit Finish e = absurd (true_false false e refl)
-same_steps SetOwnTable FreezeOthers e = absurd (true_false false e refl)
-same_steps SetOwnTable TakeAndCopy e = absurd (true_false false e refl)
-same_steps SetOwnTable Commit e = absurd (true_false false e refl)
-same_steps SetOwnTable SetOwnTable e = refl
-same_steps SetOwnTable Finish e = absurd (true_false false e refl)
-same_steps Finish FreezeOthers e = absurd (true_false false e refl)
-same_steps Finish TakeAndCopy e = absurd (true_false false e refl)
-same_steps Finish Commit e = absurd (true_false false e refl)
-same_steps Finish SetOwnTable e = absurd (true_false false e refl)
-same_steps Finish Finish e = refl
-
 turned : (i k : MoveStep) → same_step k i ≡ true → i ≡ k
-turned i k e = sym (same_steps k i e)
+turned i k e = sym (step_says k i e)
 
 pub within_says : (step : MoveStep) (from next : ℕ) (k : MoveStep) (v : ℕ) → is_past step from k v ≡ false → is_past step next k v ≡ true → (step ≡ k) × (from ≤ v) × (v < next)
 within_says step from next k v f t = let z = by (comes_before k step) (same_step k step) f t in (turned step k z.0, z.1, z.2)

@@ -17,7 +17,7 @@ use Rattle.hm_laws.specs.Records.{is_past, Among, WellListed}
 use Rattle.hm_laws.proofs.Migration.Records.{one_of_page}
 use Rattle.hm_quiet.proofs.measure.Left.{View, placed_view, unless, direct_at, moving_at, source_left, record_left, records_left}
 use Rattle.hm_quiet.proofs.counts.CountsBelow.{count_more}
-use Rattle.hm_quiet.proofs.counts.UsesOfAFrame.{direct_frozen, moving_frozen}
+use Rattle.hm_quiet.proofs.counts.UsesOfAFrame.{direct_frozen, moving_frozen, other_page}
 use Rattle.hm_quiet.proofs.migrations.RecordsLeft.{sum_most, sum_less, source_later, on_page}
 
 -- at its page a step is not past, and after it is
@@ -66,10 +66,6 @@ finish_none c y v = omega (arith, here_all v 1, past_none v 1)
 -- all records, where that of x is so much less
 pub item : (c : Program) (y : View) (st : MoveStep) (xs : List Migrating) (x : Migrating) (k : ℕ) → Among xs x → source_left c y st (x.page + 1) x.page x.source + k ≤ source_left c y st x.page x.page x.source → records_left c y st (x.page + 1) xs + k ≤ records_left c y st x.page xs
 item c y st xs x k i h = sum_less (record_left c y st x.page) (record_left c y st (x.page + 1)) xs x k i (λ w j. source_later c y st x.page st (x.page + 1) w.page w.source (λ k e. on_page st x.page (x.page + 1) k w.page (omega arith) e)) h
-
--- another page placed
-other_page : (place : ℕ → ℕ → Place) (p v : ℕ) (x : Place) (q u : ℕ) → (u ≡ v → ⊥) → with_place place p v x q u ≡ place q u
-other_page place p v x q u ne = grind (arith, nat_tests)
 
 pub source_apart : (c : Program) (y : View) (p v : ℕ) (x : Place) (st : MoveStep) (n u : ℕ) (f : Option Frame) → (u ≡ v → ⊥) → source_left c (placed_view y p v x) st n u f ≤ source_left c y st n u f
 source_apart c y p v x st n u None ne = omega arith

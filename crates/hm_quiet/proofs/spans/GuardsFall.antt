@@ -51,8 +51,8 @@ ends_guard : (c : Program) (s : After) (a : ℕ) (o : Op) (xs : List Migrating) 
 ends_guard c s a o xs p r met told n e = (ending (is_add o) _ (told_left s p r met told) (2 * zap_left (s.plain.areas p) o r n) e, refl)
 
 -- a page is emptied
-zap_less : (m k n : ℕ) → k + 1 ≤ n → m + (2 * k + 2) < m + (2 * n + 2)
-zap_less m k n h = omega arith
+page_less : (m k n : ℕ) → k + 1 ≤ n → m + (2 * k + 2) < m + (2 * n + 2)
+page_less m k n h = omega arith
 
 drop_less : (m k n : ℕ) → k + 1 ≤ n → 1 + (m + (2 * k + 2)) < m + (2 * n + 2)
 drop_less m k n h = omega arith
@@ -64,7 +64,7 @@ zapped c s a o xs p r met told n u h = by (orphan s.locks s.places (Kind.Place p
     v = next s a (Kind.Place p u Place.Empty)
 
     by : (z : Option Frame) → (left c v a o xs (dropping z (Phase.Guard p r met told (Body.Zap (u + 1)) ∷ Phase.Answer ∷ [])) < left c s a o xs (Phase.Guard p r met told (Body.Zap n) ∷ Phase.Answer ∷ [])) × OnSimple (dropping z (Phase.Guard p r met told (Body.Zap (u + 1)) ∷ Phase.Answer ∷ []))
-    by None = (zap_less (told_left s p r met told) (zap_left (s.plain.areas p) o r (u + 1)) (zap_left (s.plain.areas p) o r n) h, refl)
+    by None = (page_less (told_left s p r met told) (zap_left (s.plain.areas p) o r (u + 1)) (zap_left (s.plain.areas p) o r n) h, refl)
     by (Some f) = (drop_less (told_left s p r met told) (zap_left (s.plain.areas p) o r (u + 1)) (zap_left (s.plain.areas p) o r n) h, refl)
 
 zap_fewer : (s : After) (o : Op) (p : ℕ) (r : Pages) (n u : ℕ) → zaps o ≡ true → n ≤ u → u < last_of r → is_some (rights_of s.plain p u) ≡ true → zap_left (s.plain.areas p) o r (u + 1) + 1 ≤ zap_left (s.plain.areas p) o r n
@@ -179,9 +179,6 @@ fork_adds o z = cc
 to_half : (m k n : ℕ) → k + 1 ≤ n → m + (2 * k + 3) < m + (2 * n + 2)
 to_half m k n h = omega arith
 
-to_next : (m k n : ℕ) → k + 1 ≤ n → m + (2 * k + 2) < m + (2 * n + 2)
-to_next m k n h = omega arith
-
 from_half : (m k : ℕ) → m + (2 * k + 2) < m + (2 * k + 3)
 from_half m k = omega arith
 
@@ -237,7 +234,7 @@ fork_steps c s t a p d xs r met told n false so h = either_option (ForkP c s t a
     by (Some u) e = either (λ k. ForkP c s t a p d xs r met told n false (body_or_end s p r k)) (nat_lt u (r.first + r.count)) (Some (fork_page s p d u)) None
         (λ l. either (ForkP c s t a p d xs r met told n false) (writable (s.places.place p u)) (Kind.Place p u (narrowed (s.places.place p u))) (Kind.Place d u (s.places.place p u))
         (λ w. fork_parent c s t a p d xs r met told n u fewer)
-        (λ w. fork_child c s t a p d xs r met told n u false (not_itself c s t a p d so h.1.1.1.1.1.0.0.1 h.1.1.1.1.1.0.2) (to_next (told_left s p r met told) (pages_from (u + 1) (s.plain.areas p)) (pages_from n (s.plain.areas p)) fewer)))
+        (λ w. fork_child c s t a p d xs r met told n u false (not_itself c s t a p d so h.1.1.1.1.1.0.0.1 h.1.1.1.1.1.0.2) (page_less (told_left s p r met told) (pages_from (u + 1) (s.plain.areas p)) (pages_from n (s.plain.areas p)) fewer)))
         (λ l. ended)
       where
         says : NextSays s.places is_used p n u
