@@ -1,5 +1,5 @@
 -- Frames and places: which frame a place names, what is the same, and what becomes of the write right.
-use Rattle.std.specs.Prelude.{ℕ, ◌+◌, Bool, true, false, not, ◌&&◌, ◌==◌, cond, if◌then◌else◌, Option, Some, None}
+use Rattle.std.specs.Prelude.{ℕ, ◌+◌, Bool, true, false, not, ◌&&◌, ◌==◌, if◌then◌else◌, Option, Some, None}
 use Rattle.hm_base.specs.declared.PoolId.{PoolId}
 use Rattle.hm_base.specs.declared.PoolId.TheVariants.{System, Device}
 use Rattle.hm_base.specs.declared.Frame.{Frame}

@@ -1,5 +1,5 @@
 -- A script as contracts see it, and what keeps it in range.
-use Rattle.std.specs.Prelude.{ℕ, ◌+◌, ◌^◌, ◌≤◌, ◌≡◌, Bool, true, false, ◌&&◌, ◌||◌, not, List, [], ◌∷◌, ◌++◌, length, nat_lt, nat_le}
+use Rattle.std.specs.Prelude.{ℕ, zero, suc, ◌+◌, ◌^◌, ◌≤◌, ◌≡◌, Bool, true, false, ◌&&◌, ◌||◌, not, List, [], ◌∷◌, ◌++◌, length, nat_lt, nat_le}
 use Rattle.std.specs.List.{list_all}
 use Rattle.hm_base.specs.Pages.{Pages}
 use Rattle.hm_base.specs.declared.ops.Op.{Op}
@@ -114,3 +114,13 @@ abbrev pub add_to_last : List (List Op) → Op → List (List Op)
 add_to_last [] op = []
 add_to_last (l ∷ []) op = (l ++ op ∷ []) ∷ []
 add_to_last (l ∷ m ∷ ls) op = l ∷ add_to_last (m ∷ ls) op
+
+-- the operation at the end of the list at this place
+abbrev pub add_to_list : List (List Op) → ℕ → Op → List (List Op)
+add_to_list [] n op = []
+add_to_list (l ∷ ls) zero op = (l ++ op ∷ []) ∷ ls
+add_to_list (l ∷ ls) (suc n) op = l ∷ add_to_list ls n op
+
+-- the script with the operation at the end of that actor's list
+abbrev pub with_op : Program → ℕ → Op → Program
+with_op s actor op = record s { actors = add_to_list s.actors actor op }

@@ -106,7 +106,7 @@ impl ListOf<u8> {
 }
 
 impl ListOf<ListOf<Op>> {
-    ghost use Rattle.hm_base.specs.Program.{add_to_last};
+    ghost use Rattle.hm_base.specs.Program.{add_to_last, add_to_list};
 
     /// Adds an operation at the end of the last list.
     pub fn push_to_last(&mut self, op: Op) -> Result<(), NoMemory>
@@ -116,6 +116,16 @@ impl ListOf<ListOf<Op>> {
     {
         let last = self.items.len() - 1;
         let list = &mut self.items[last];
+        list.push(op)
+    }
+
+    /// Adds an operation at the end of the list at this place, counted from 0.
+    pub fn push_to(&mut self, at: u64, op: Op) -> Result<(), NoMemory>
+        requires { at < length self.old }
+        ensures ok { OnOk result (self.new ≡ add_to_list self.old at op) }
+        ensures err { OnErr result (self.new ≡ self.old) }
+    {
+        let list = &mut self.items[at as usize];
         list.push(op)
     }
 }

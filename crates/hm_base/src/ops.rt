@@ -1,6 +1,8 @@
 // Operations and scripts.
+ghost use Rattle.std.specs.Prelude.{◌≡◌, ◌<◌, length, true, OnOk, OnErr};
+
 use crate::lists::{ActorLists, Bytes, DeviceList, Schedule};
-use crate::{Actor, Dev, MirrorId, Page, Proc, Span};
+use crate::{Actor, Dev, MirrorId, NoMemory, Page, Proc, Span};
 use std::marker::Model;
 
 /// What an area allows: `PROT_READ`, or `PROT_READ | PROT_WRITE`.
@@ -162,12 +164,25 @@ impl Model for Script {
 }
 
 impl Script {
-    ghost use Rattle.hm_base.specs.Program.{IsScript};
+    ghost use Rattle.hm_base.specs.Program.{IsScript, op_fits, op_of_version, operation_count, with_op};
 
     /// Costs nothing: it hands the prover the invariant.
     pub fn facts(&self)
         ensures { IsScript self.now }
     {
         let _ = &self.frames;
+    }
+
+    /// Adds an operation at the end of the actor's list. A script has at most 100,000 operations, and one of version 1
+    /// none of the two that version 2 brought.
+    pub fn push_op(&mut self, actor: Actor, op: Op) -> Result<(), NoMemory>
+        requires declared { actor < length self.old.actors }
+        requires fits { op_fits (length self.old.devices) op ≡ true }
+        requires few { operation_count self.old.actors < 100000 }
+        requires version { op_of_version self.old.version op ≡ true }
+        ensures ok { OnOk result (self.new ≡ with_op self.old actor op) }
+        ensures err { OnErr result (self.new ≡ self.old) }
+    {
+        self.actors.push_to(actor.number() as u64, op)
     }
 }
