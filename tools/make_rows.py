@@ -273,17 +273,21 @@ WRONG = [
     ('skipped_unasked', 'a page is passed over that the rule does not name', FROZEN.replace('take d0.0;', ''), 'kept 16 skipped', 'kept'),
     ('kept_with_a_frame_free', 'a page is kept for want of a frame while one is free', FROZEN.replace('take d0.0;', ''), 'kept 16 noframe', 'kept'),
     ('maps_twice', 'a map over a page that has an area', FIRST_STORE + 'wlock p0', 'mapped p0 16 1 r', 'answers'),
+    ('sets_unattached', 'a table entry of a mirror that was never attached', FIRST_STORE, 'set m7 16 s0 w 7', 'places'),
+    ('loads_unattached', 'a load through the table of a mirror that was never attached', FIRST_STORE + 'set m7 16 s0 w 7', 'loaded m7 0x10000 41', 'places'),
+    ('fails_unattached', 'a mirror that was never attached fails for want of a frame', FIRST_STORE, 'failed m7 0x10000 1 3', 'answers'),
+    ('stores_unattached', 'a store through a mirror that was never attached writes the bytes of process 0', FIRST_STORE + 'stored m7 0x10000 42', 'loaded p0 0x10000 42', 'answers'),
 ]
 TESTS = {
     'answers': 'plain_accepts (after {h}).plain ({k})',
-    'places': 'places_accept script (mirror_proc (after {h}).plain) (after {h}).places {a} ({k})',
+    'places': 'places_accept script (mirror_owner (after {h}).plain) (after {h}).places {a} ({k})',
     'frames': 'fails_rightly script {h} (record {{ actor = {a}; kind = {k} }})',
     'sequences': 'sequences_accept (after {h}).sequences {a} ({k})', 'untold': 'uses_untold {h} ({k})',
     'guarded': 'narrows_guarded (after {h}).sequences (after {h}).places.place {a} ({k})',
     'kept': 'kept_rightly script (state_of script {h}) (record {{ actor = {a}; kind = {k} }})',
 }
 DEFINITIONS = {
-    'Rattle.hm_history.specs.After': ['after'], 'Rattle.hm_history.specs.Plain': ['mirror_proc', 'plain_accepts'],
+    'Rattle.hm_history.specs.After': ['after'], 'Rattle.hm_history.specs.Plain': ['mirror_owner', 'plain_accepts'],
     'Rattle.hm_history.specs.Places': ['places_accept'], 'Rattle.hm_history.specs.Sequences': ['sequences_accept'],
     'Rattle.hm_history.specs.Lookups': ['uses_untold', 'narrows_guarded'],
     'Rattle.hm_history.specs.Legal': ['Legal', 'fails_rightly', 'kept_rightly'],

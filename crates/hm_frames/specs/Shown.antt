@@ -8,9 +8,9 @@ use Rattle.hm_base.specs.declared.Place.{Place}
 use Rattle.hm_base.specs.declared.Place.TheVariants.{Empty}
 use Rattle.hm_base.specs.Program.{Program}
 use Rattle.hm_history.specs.Words.{names, page_of}
-use Rattle.hm_history.specs.Plain.{Plain, proc_of, mirror_proc}
+use Rattle.hm_history.specs.Plain.{Plain, owner, mirror_owner}
 use Rattle.hm_history.specs.Places.{Places, frame_of, pool_size, lowest_free}
-use Rattle.hm_history.specs.Contents.{backing}
+use Rattle.hm_history.specs.Contents.{backing, place_for}
 use Rattle.hm_history.specs.After.{After}
 use Rattle.hm_history.specs.declared.Kind.{Kind}
 use Rattle.hm_frames.specs.Pools.{PoolState, PoolsState, pool_at, is_held_in, locker_in, lowest_free_in, backing_in, piece_of_part, is_removed_in, is_withdrawn_in}
@@ -49,8 +49,8 @@ FramesShown c s x =
 -- the place that an entry is about, before it
 abbrev pub entry_place : Plain → Places → Kind → Place
 entry_place s t (Kind.Place p v x) = t.place p v
-entry_place s t (Kind.Stored who at bs) = t.place (proc_of s who) (page_of at)
-entry_place s t (Kind.Added m at was now) = t.place (mirror_proc s m) (page_of at)
+entry_place s t (Kind.Stored who at bs) = place_for t (owner s who) (page_of at)
+entry_place s t (Kind.Added m at was now) = place_for t (mirror_owner s m) (page_of at)
 entry_place s t k = Empty
 
 -- a copy is made between two held frames, whole or by one of eight parts

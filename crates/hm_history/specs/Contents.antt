@@ -3,7 +3,7 @@ use Rattle.std.specs.Prelude.{ℕ, ◌+◌, ◌*◌, ◌&&◌, nat_le, nat_lt, i
 use Rattle.hm_base.specs.declared.Frame.{Frame}
 use Rattle.hm_base.specs.declared.Place.{Place}
 use Rattle.hm_history.specs.Words.{with_frame, page_of}
-use Rattle.hm_history.specs.Plain.{Plain, proc_of, mirror_proc, with_bytes}
+use Rattle.hm_history.specs.Plain.{Plain, owner, mirror_owner, with_bytes}
 use Rattle.hm_history.specs.Places.{Places, stands_for}
 use Rattle.hm_history.specs.declared.Kind.{Kind}
 
@@ -33,6 +33,11 @@ abbrev pub stored_in : (Frame → ℕ → ℕ) → Option Frame → ℕ → List
 stored_in f None at bs = f
 stored_in f (Some g) at bs = with_frame f g (with_piece (f g) at bs)
 
+-- the place that an access is through; none where its mirror was never attached
+abbrev pub place_for : Places → Option ℕ → ℕ → Place
+place_for t None v = Place.Empty
+place_for t (Some p) v = t.place p v
+
 -- one eighth of a frame copied, or all of it
 abbrev pub with_part_copied : (ℕ → ℕ) → (ℕ → ℕ) → Option ℕ → ℕ → ℕ
 with_part_copied from to None = from
@@ -42,7 +47,7 @@ with_part_copied from to (Some k) = λ o. if nat_le (512 * k) o && nat_lt o (512
 abbrev pub contents_next : Plain → Places → (Frame → ℕ → ℕ) → Kind → Frame → ℕ → ℕ
 contents_next s t f (Kind.Take g) = with_frame f g zeros
 contents_next s t f (Kind.Copied g h part) = with_frame f h (with_part_copied (f g) (f h) part)
-contents_next s t f (Kind.Stored x at bs) = stored_in f (backing t (t.place (proc_of s x) (page_of at))) at bs
+contents_next s t f (Kind.Stored x at bs) = stored_in f (backing t (place_for t (owner s x) (page_of at))) at bs
 contents_next s t f (Kind.Added m at was now) =
-    stored_in f (backing t (t.place (mirror_proc s m) (page_of at))) at (now ∷ [])
+    stored_in f (backing t (place_for t (mirror_owner s m) (page_of at))) at (now ∷ [])
 contents_next s t f _ = f

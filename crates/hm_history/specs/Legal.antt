@@ -8,7 +8,7 @@ use Rattle.hm_base.specs.declared.PoolId.{PoolId}
 use Rattle.hm_base.specs.declared.Place.{Place}
 use Rattle.hm_base.specs.declared.ops.Op.{Op}
 use Rattle.hm_history.specs.Words.{names}
-use Rattle.hm_history.specs.Plain.{rights_of, mirror_proc, mirror_dev, plain_accepts}
+use Rattle.hm_history.specs.Plain.{rights_of, mirror_proc, mirror_dev, mirror_owner, plain_accepts}
 use Rattle.hm_history.specs.Places.{lowest_free, places_accept}
 use Rattle.hm_history.specs.Sequences.{sequences_accept}
 use Rattle.hm_history.specs.Locks.{is_locker}
@@ -121,7 +121,7 @@ pub record MayFollow (c : Program) (h : List Entry) (e : Entry) : Type 0 where
   pub is_due : due c h e.actor ≡ Progress.Did e  -- each entry is due to its actor
   pub answers : IsTrue (plain_accepts (after h).plain e.kind)  -- answers are by plain bytes
   -- places, frames and mirror tables
-  pub places : IsTrue (places_accept c (mirror_proc (after h).plain) (after h).places e.actor e.kind)
+  pub places : IsTrue (places_accept c (mirror_owner (after h).plain) (after h).places e.actor e.kind)
   pub frames : IsTrue (fails_rightly c h e)  -- no frame was free
   pub sequences : IsTrue (sequences_accept (after h).sequences e.actor e.kind)  -- sequences
   pub untold : IsTrue (uses_untold h e.kind)  -- no use of a told table entry

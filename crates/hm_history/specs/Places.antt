@@ -9,6 +9,7 @@ use Rattle.hm_base.specs.declared.PoolId.TheVariants.{System, Device}
 use Rattle.hm_base.specs.declared.Frame.{Frame}
 use Rattle.hm_base.specs.declared.Place.{Place}
 use Rattle.hm_base.specs.declared.Place.TheVariants.{Empty, Zero, Sys, Own, Moving, Exclusive}
+use Rattle.hm_history.specs.Plain.{owned}
 use Rattle.hm_history.specs.Words.{with_at, with_frame, least, page_of, sys_frame, same_frame, is_frame, names, names_directly, moving_frame, is_empty_place, writable}
 use Rattle.hm_history.specs.declared.Who.TheVariants.{Cpu, Mirror}
 use Rattle.hm_history.specs.declared.TableRight.{TableRight}
@@ -30,7 +31,7 @@ pub record Places : Type 0 where
   pub withdrawn : ℕ → Bool
   pub removed : ℕ → Bool
   pub table : ℕ → ℕ → Option TableEntry
-  pub device : ℕ → ℕ  -- a mirror's device
+  pub device : ℕ → Option ℕ  -- a mirror's device; none where it was never attached
 
 -- at the start no page is mapped and no frame is held
 abbrev pub places_start : Places
@@ -42,7 +43,7 @@ places_start = record {
   withdrawn = λ d. false;
   removed = λ d. false;
   table = λ m v. None;
-  device = λ m. 0;
+  device = λ m. None;
 }
 
 -- it is that page
@@ -79,7 +80,7 @@ places_next s (Kind.Set m v f w from) =
 places_next s (Kind.Told m r q) = record s { table = erased_table s.table m (covers r) }
 places_next s (Kind.Detaching m q) = record s { table = erased_table s.table m (λ v. true) }
 places_next s (Kind.Detached m) = record s { table = erased_table s.table m (λ v. true) }
-places_next s (Kind.Attached m d p r q) = record s { device = with_at s.device m d }
+places_next s (Kind.Attached m d p r q) = record s { device = with_at s.device m (Some d) }
 places_next s _ = s
 
 -- the lowest of the pages that pass the test, by process and then by page
@@ -259,23 +260,24 @@ abbrev pub holds_target : Places → Option Frame → Bool
 holds_target s None = true
 holds_target s (Some f) = s.held f
 
--- whether there is a next state of places, for an entry of an actor; `proc` gives a mirror's process. An access goes
--- through a place or table entry that allows it, a place names held frames, `take` gives the lowest free frame of a
--- pool that is not withdrawn, a dropped frame is named by no place, no place shares what a writable one stands for, a
--- table names no other device's frame, and a removed device holds no frame
-abbrev pub places_accept : Program → (ℕ → ℕ) → Places → ℕ → Kind → Bool
+-- whether there is a next state of places, for an entry of an actor; `proc` gives a mirror's process, if it was ever
+-- attached. An access goes through a place or table entry that allows it, a place names held frames, `take` gives the
+-- lowest free frame of a pool that is not withdrawn, a dropped frame is named by no place, no place shares what a
+-- writable one stands for, only a mirror that was attached has table entries, none of another device's frame, and a
+-- removed device holds no frame
+abbrev pub places_accept : Program → (ℕ → Option ℕ) → Places → ℕ → Kind → Bool
 places_accept c proc s a (Kind.Loaded (Cpu p) at bs) = cpu_reads (s.place p (page_of at))
-places_accept c proc s a (Kind.Loaded (Mirror m) at bs) = table_reads s m (proc m) (page_of at)
+places_accept c proc s a (Kind.Loaded (Mirror m) at bs) = owned (proc m) (λ p. table_reads s m p (page_of at))
 places_accept c proc s a (Kind.Stored (Cpu p) at bs) = cpu_writes (s.place p (page_of at))
-places_accept c proc s a (Kind.Stored (Mirror m) at bs) = table_writes s m (proc m) (page_of at)
-places_accept c proc s a (Kind.Fetched m at bs) = table_sole s a m (proc m) (page_of at)
-places_accept c proc s a (Kind.Added m at was now) = table_sole s a m (proc m) (page_of at)
+places_accept c proc s a (Kind.Stored (Mirror m) at bs) = owned (proc m) (λ p. table_writes s m p (page_of at))
+places_accept c proc s a (Kind.Fetched m at bs) = owned (proc m) (λ p. table_sole s a m p (page_of at))
+places_accept c proc s a (Kind.Added m at was now) = owned (proc m) (λ p. table_sole s a m p (page_of at))
 places_accept c proc s a (Kind.Place p v x) =
     holds_target s (names x) && one_writer (places_next s (Kind.Place p v x))
 places_accept c proc s a (Kind.Committed f g) = one_writer (places_next s (Kind.Committed f g))
 places_accept c proc s a (Kind.Take f) =
     is_frame (lowest_free c s f.pool) f && not (is_removed s f.pool) && one_writer (places_next s (Kind.Take f))
 places_accept c proc s a (Kind.Drop f) = s.held f && is_none (lowest_named s f)
-places_accept c proc s a (Kind.Set m v f w from) = is_for_device f (s.device m)
+places_accept c proc s a (Kind.Set m v f w from) = owned (s.device m) (is_for_device f)
 places_accept c proc s a (Kind.Removed d) = is_none (held_from c s d 0)
 places_accept c proc s a _ = true

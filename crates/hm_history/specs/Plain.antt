@@ -1,6 +1,6 @@
 -- What processes and mirrors are, apart from where their pages lie: the plain state. It is the meaning of a
 -- private anonymous mapping, and migration does nothing here.
-use Rattle.std.specs.Prelude.{ℕ, ◌+◌, ◌-◌, Bool, true, false, not, ◌&&◌, ◌||◌, nat_lt, nat_le, ◌==◌, if◌then◌else◌, Option, Some, None, is_some, is_none, List, [], ◌∷◌, length, slice_index}
+use Rattle.std.specs.Prelude.{ℕ, ◌+◌, ◌-◌, Bool, true, false, not, ◌&&◌, ◌||◌, nat_lt, nat_le, ◌==◌, if◌then◌else◌, Option, Some, None, is_some, is_none, option_map, List, [], ◌∷◌, length, slice_index}
 use Rattle.hm_base.specs.Pages.{Pages, one_page, covers, lies_in}
 pub use Rattle.hm_base.specs.Areas.{without, with_rights, with_area, meets, all_mapped, rights_at}
 use Rattle.hm_base.specs.declared.area.Area.{Area}
@@ -93,15 +93,29 @@ is_attached s m = mirror_passes is_attached_state (s.mirrors m)
 abbrev pub in_window : Plain → ℕ → Pages → Bool
 in_window s m r = mirror_passes (λ x. is_attached_state x && lies_in r x.window) (s.mirrors m)
 
--- the process of a mirror
+-- the process of a mirror that was attached; of another 0, which no step reads
 abbrev pub mirror_proc : Plain → ℕ → ℕ
 mirror_proc s m = elim (s.mirrors m) [ None ↦ 0 | Some x ↦ x.proc ]
 
--- the device of a mirror
+-- the device of a mirror that was attached; of another 0, which no step reads
 abbrev pub mirror_dev : Plain → ℕ → ℕ
 mirror_dev s m = elim (s.mirrors m) [ None ↦ 0 | Some x ↦ x.dev ]
 
--- the process of an access
+-- the process to which a mirror belongs; none where it was never attached
+abbrev pub mirror_owner : Plain → ℕ → Option ℕ
+mirror_owner s m = option_map (λ x. x.proc) (s.mirrors m)
+
+-- the process whose memory an access is of; none where its mirror was never attached
+abbrev pub owner : Plain → Who → Option ℕ
+owner s (Cpu p) = Some p
+owner s (Mirror m) = mirror_owner s m
+
+-- there is such a process or device, and it passes the test
+abbrev pub owned : Option ℕ → (ℕ → Bool) → Bool
+owned None test = false
+owned (Some p) test = test p
+
+-- the process of an access, where it has one, and else 0
 abbrev pub proc_of : Plain → Who → ℕ
 proc_of s (Cpu p) = p
 proc_of s (Mirror m) = mirror_proc s m
@@ -119,6 +133,11 @@ with_zeros f r at = if covers r (page_of at) then 0 else f at
 abbrev pub with_bytes : (ℕ → ℕ) → ℕ → List ℕ → ℕ → ℕ
 with_bytes f at bs x = if nat_le at x && nat_lt x (at + length bs) then slice_index bs (x - at) else f x
 
+-- all bytes after some were written for this process; without a process nothing is written
+abbrev pub written_for : (ℕ → ℕ → ℕ) → Option ℕ → ℕ → List ℕ → ℕ → ℕ → ℕ
+written_for f None at bs = f
+written_for f (Some p) at bs = with_at f p (with_bytes (f p) at bs)
+
 -- the plain state after an entry
 abbrev pub plain_next : Plain → Kind → Plain
 plain_next s (Kind.Mapped p r w) = record s {
@@ -127,10 +146,8 @@ plain_next s (Kind.Mapped p r w) = record s {
 }
 plain_next s (Kind.Unmapped p r) = record s { areas = with_at s.areas p (without r (s.areas p)) }
 plain_next s (Kind.Protected p r w) = record s { areas = with_at s.areas p (with_rights r w (s.areas p)) }
-plain_next s (Kind.Stored x at bs) = let p = proc_of s x in
-    record s { bytes = with_at s.bytes p (with_bytes (s.bytes p) at bs) }
-plain_next s (Kind.Added m at was now) = let p = mirror_proc s m in
-    record s { bytes = with_at s.bytes p (with_bytes (s.bytes p) at (now ∷ [])) }
+plain_next s (Kind.Stored x at bs) = record s { bytes = written_for s.bytes (owner s x) at bs }
+plain_next s (Kind.Added m at was now) = record s { bytes = written_for s.bytes (mirror_owner s m) at (now ∷ []) }
 plain_next s (Kind.Named p child) = record s { named = with_at s.named child true }
 plain_next s (Kind.Forked p child) = record s {
   there = with_at s.there child true;
@@ -153,8 +170,8 @@ touched s (Kind.Mapped p r w) = Some p
 touched s (Kind.Unmapped p r) = Some p
 touched s (Kind.Protected p r w) = Some p
 touched s (Kind.Exited p) = Some p
-touched s (Kind.Stored x at bs) = Some (proc_of s x)
-touched s (Kind.Added m at was now) = Some (mirror_proc s m)
+touched s (Kind.Stored x at bs) = owner s x
+touched s (Kind.Added m at was now) = mirror_owner s m
 touched s (Kind.Forked p child) = Some child
 touched s _ = None
 
@@ -185,7 +202,7 @@ plain_bytes s x at n = bytes_from (s.bytes (proc_of s x)) at n
 
 -- a failure has its cause; that no frame is free wants a page with an area, and a forbidden write a read-only one
 abbrev pub may_fail : Plain → Who → ℕ → Cause → Bool
-may_fail s x v Cause.NoFrame = s.there (proc_of s x) && is_some (rights_of s (proc_of s x) v)
+may_fail s x v Cause.NoFrame = owned (owner s x) (λ p. s.there p && is_some (rights_of s p v))
 may_fail s x v Cause.Forbidden = is_cause (cause_at s x v true) Cause.Forbidden
 may_fail s x v why = is_cause (cause_at s x v false) why
 

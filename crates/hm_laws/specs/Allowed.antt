@@ -8,7 +8,7 @@ use Rattle.hm_base.specs.declared.Place.{Place}
 use Rattle.hm_base.specs.declared.Place.TheVariants.{Sys, Own}
 use Rattle.hm_base.specs.declared.ops.Rights.TheVariants.{Read}
 use Rattle.hm_history.specs.Words.{page_of, sys_frame, dev_frame, names, names_directly, moving_frame, writable, is_empty_place}
-use Rattle.hm_history.specs.Plain.{MirrorState, rights_of, is_read_write, is_attached_state, is_attached, plain_accepts, mirror_proc}
+use Rattle.hm_history.specs.Plain.{MirrorState, rights_of, is_read_write, is_attached_state, is_attached, plain_accepts, mirror_owner}
 use Rattle.hm_history.specs.Places.{is_exclusive, lowest_free, places_accept}
 use Rattle.hm_history.specs.Sequences.{interval_seq, sequences_accept}
 use Rattle.hm_history.specs.Lookups.{loses, is_guarded}
@@ -225,7 +225,7 @@ abbrev pub PlainOk : After → Kind → Type 0
 PlainOk s k = plain_accepts s.plain k ≡ true
 
 abbrev pub PlacesOk : Program → After → ℕ → Kind → Type 0
-PlacesOk c s a k = places_accept c (mirror_proc s.plain) s.places a k ≡ true
+PlacesOk c s a k = places_accept c (mirror_owner s.plain) s.places a k ≡ true
 
 abbrev pub SequencesOk : After → ℕ → Kind → Type 0
 SequencesOk s a k = sequences_accept s.sequences a k ≡ true

@@ -2,7 +2,7 @@
 use Rattle.std.specs.Prelude.{◌≡◌, ℕ, ◌%◌, false, true, Some, is_some, List, [], IsTrue}
 use Rattle.hm_base.specs.Program.{Program, IsScript}
 use Rattle.hm_history.specs.Words.{page_of, is_empty_place}
-use Rattle.hm_history.specs.Plain.{rights_of, plain_accepts, mirror_proc}
+use Rattle.hm_history.specs.Plain.{rights_of, plain_accepts, mirror_owner}
 use Rattle.hm_history.specs.Places.{places_accept}
 use Rattle.hm_history.specs.Sequences.{sequences_accept}
 use Rattle.hm_history.specs.Lookups.{narrows_guarded}
@@ -46,7 +46,7 @@ RulesAreKept =
 -- the entry passes the tests that legality makes of a state
 pub record MayStand (c : Program) (s : After) (a : ℕ) (k : Kind) : Type 0 where
   pub answers : IsTrue (plain_accepts s.plain k)
-  pub places : IsTrue (places_accept c (mirror_proc s.plain) s.places a k)
+  pub places : IsTrue (places_accept c (mirror_owner s.plain) s.places a k)
   pub sequences : IsTrue (sequences_accept s.sequences a k)
   pub guarded : IsTrue (narrows_guarded s.sequences s.places.place a k)
 

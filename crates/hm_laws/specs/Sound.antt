@@ -90,19 +90,19 @@ stands_so Detaching Removed = true
 stands_so Gone Out = true
 stands_so x y = false
 
-pub record Pairing (x : MirrorState) (y : Interval) (d : ℕ) : Type 0 where
+pub record Pairing (x : MirrorState) (y : Interval) (d : Option ℕ) : Type 0 where
   pub proc : y.proc ≡ x.proc
   pub window : y.window ≡ x.window
   pub stage : stands_so x.stage y.stage ≡ true
-  pub device : d ≡ x.dev
+  pub device : d ≡ Some x.dev
 
-abbrev pub Paired : Option MirrorState → Option Interval → ℕ → Type 0
+abbrev pub Paired : Option MirrorState → Option Interval → Option ℕ → Type 0
 Paired None None d = Unit {0}
 Paired (Some x) (Some y) d = Pairing x y d
 Paired x y d = ⊥
 
 pub record MirrorRules (mirrors : ℕ → Option MirrorState) (interval : ℕ → Option Interval)
-    (device : ℕ → ℕ) : Type 0 where
+    (device : ℕ → Option ℕ) : Type 0 where
   pub paired : (m : ℕ) → Paired (mirrors m) (interval m) (device m)
 
 -- a mirror's process was there when it came

@@ -25,11 +25,11 @@ state_in o = option_map state_of (option_map (λ x. x.info) o)
 abbrev pub shown_in : ℕ → Option Mirror → Option TableEntry
 shown_in v o = option_map shown_entry (entry_in v o)
 
-abbrev pub device_in : Option Mirror → ℕ
-device_in o = elim (option_map (λ x. x.info) o) [ None ↦ 0 | Some x ↦ x.device ]
+abbrev pub device_in : Option Mirror → Option ℕ
+device_in o = option_map (λ x. x.device) (option_map (λ x. x.info) o)
 
 -- from one state to another mirror m changes to x
-record IsChange (m : ℕ) (x : Option Mirror) (mirrors next_mirrors : ℕ → Option MirrorState) (table next_table : ℕ → ℕ → Option TableEntry) (device next_device : ℕ → ℕ) : Type 0 where
+record IsChange (m : ℕ) (x : Option Mirror) (mirrors next_mirrors : ℕ → Option MirrorState) (table next_table : ℕ → ℕ → Option TableEntry) (device next_device : ℕ → Option ℕ) : Type 0 where
   state_here : m < 32 → state_in x ≡ next_mirrors m
   window_here : m < 32 → HasWindow x
   entry_here : (v : ℕ) → m < 32 → shown_in v x ≡ next_table m v
@@ -43,7 +43,7 @@ each_of P xs m x n here other k l =
     subst (P k) (sym (at_set (mirror_at xs) xs m x None k (omega (arith, n)) refl))
     (with_case P (mirror_at xs) m x k (λ e. here (omega arith)) (λ ne. other k ne l))
 
-changed : (m : ℕ) (x : Option Mirror) (mirrors next_mirrors : ℕ → Option MirrorState) (table next_table : ℕ → ℕ → Option TableEntry) (device next_device : ℕ → ℕ) (xs : List (Option Mirror))
+changed : (m : ℕ) (x : Option Mirror) (mirrors next_mirrors : ℕ → Option MirrorState) (table next_table : ℕ → ℕ → Option TableEntry) (device next_device : ℕ → Option ℕ) (xs : List (Option Mirror))
     → MirrorsShown mirrors table device xs → IsChange m x mirrors next_mirrors table next_table device next_device → MirrorsShown next_mirrors next_table next_device (with_mirror xs m x)
 changed m x mirrors next_mirrors table next_table device next_device xs h c = record {
   len = len_set xs m x 32 h.len;
@@ -59,15 +59,15 @@ none_in None e = refl
 none_in (Some x) e = absurd (let b : ⊥ = cc in b)
 
 attached_kept : (s : Plain) (t : Places) (m d p : ℕ) (r : Pages) (xs : List (Option Mirror)) → MirrorsShown s.mirrors t.table t.device xs → is_none (s.mirrors m) ≡ true
-    → MirrorsShown (with_at s.mirrors m (Some (record { dev = d; proc = p; window = r; stage = attachment_of MirrorStage.Attached }))) t.table (with_at t.device m d) (with_mirror xs m (Some (attached d p r)))
+    → MirrorsShown (with_at s.mirrors m (Some (record { dev = d; proc = p; window = r; stage = attachment_of MirrorStage.Attached }))) t.table (with_at t.device m (Some d)) (with_mirror xs m (Some (attached d p r)))
 attached_kept s t m d p r xs h f = changed m (Some (attached d p r)) s.mirrors _ t.table t.table t.device _ xs h (record {
   state_here = λ l. sym (here_at s.mirrors m _);
   window_here = λ l. refl;
   entry_here = λ v l. let none = none_in (mirror_at xs m) (ap (λ o. is_none o) (h.infos m l) ∙ f) in sym (ap (shown_in v) none) ∙ h.entries m v l;
-  device_here = λ l. sym (here_at t.device m d);
+  device_here = λ l. sym (here_at t.device m (Some d));
   state_else = λ k ne. other_at s.mirrors m k _ ne;
   entry_else = λ k v ne. refl;
-  device_else = λ k ne. other_at t.device m k d ne;
+  device_else = λ k ne. other_at t.device m k (Some d) ne;
 })
 
 -- a mirror goes

@@ -42,10 +42,10 @@ proc_of xs m = elim (info_of xs m) [ None ↦ 0 | Some x ↦ x.process ]
 abbrev pub device_of : List (Option Mirror) → ℕ → ℕ
 device_of xs m = elim (info_of xs m) [ None ↦ 0 | Some x ↦ x.device ]
 
--- whose memory an access is of
-abbrev pub accessed_proc : List (Option Mirror) → Who → ℕ
-accessed_proc xs (Who.Cpu p) = p
-accessed_proc xs (Who.Mirror m) = proc_of xs m
+-- whose memory an access is of; nobody's where its mirror has not come
+abbrev pub owner_of : List (Option Mirror) → Who → Option ℕ
+owner_of xs (Who.Cpu p) = Some p
+owner_of xs (Who.Mirror m) = option_map (λ x. x.process) (info_of xs m)
 
 abbrev pub entry_in : ℕ → Option Mirror → Option MirrorEntry
 entry_in v None = None

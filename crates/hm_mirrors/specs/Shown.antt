@@ -5,7 +5,7 @@ use Rattle.hm_history.specs.Plain.{MirrorState, Attachment, Attached, Detaching,
 use Rattle.hm_history.specs.Places.{TableEntry}
 use Rattle.hm_history.specs.declared.Kind.{Kind}
 use Rattle.hm_mirrors.specs.Entries.{is_kept_right}
-use Rattle.hm_mirrors.specs.Mirrors.{mirror_at, info_of, device_of, table_of}
+use Rattle.hm_mirrors.specs.Mirrors.{mirror_at, info_of, table_of}
 use Rattle.hm_mirrors.specs.declared.info.MirrorStage.{MirrorStage}
 use Rattle.hm_mirrors.specs.declared.info.MirrorInfo.{MirrorInfo}
 use Rattle.hm_mirrors.specs.declared.info.Mirror.{Mirror}
@@ -22,13 +22,13 @@ abbrev pub HasWindow : Option Mirror → Type 0
 HasWindow None = ⊤
 HasWindow (Some x) = x.table.window ≡ x.info.window
 
-pub record MirrorsShown (mirrors : ℕ → Option MirrorState) (table : ℕ → ℕ → Option TableEntry) (device : ℕ → ℕ)
+pub record MirrorsShown (mirrors : ℕ → Option MirrorState) (table : ℕ → ℕ → Option TableEntry) (device : ℕ → Option ℕ)
     (xs : List (Option Mirror)) : Type 0 where
   pub len : length xs ≡ 32
   pub infos : (m : ℕ) → m < 32 → option_map state_of (info_of xs m) ≡ mirrors m
   pub windows : (m : ℕ) → m < 32 → HasWindow (mirror_at xs m)
   pub entries : (m v : ℕ) → m < 32 → table_of xs m v ≡ table m v
-  pub devices : (m : ℕ) → m < 32 → device_of xs m ≡ device m
+  pub devices : (m : ℕ) → m < 32 → option_map (λ x. x.device) (info_of xs m) ≡ device m
 
 -- what a change asks of the state: a mirror that comes was not there, and an entry is set in the window of a mirror
 -- that is there

@@ -1,7 +1,7 @@
 // The mirrors by number.
 ghost use Rattle.std.specs.Prelude.{◌≡◌, ◌<◌, Some, None, OnOk, OnErr, IfOk, is_some};
 ghost use Rattle.hm_history.specs.Places.{entry_passes, is_sole};
-ghost use Rattle.hm_mirrors.specs.Mirrors.{mirrors_start, mirrors_next, mirror_at, info_of, is_attached_of, in_window_of, proc_of, device_of, accessed_proc, entry_of, table_of, room_of, room_for, reserved, MirrorsRoom, CanStep, HasRoom, InTable, changed_mirror, with_mirror, attached, standing_as, erased_in, set_in, with_room};
+ghost use Rattle.hm_mirrors.specs.Mirrors.{mirrors_start, mirrors_next, mirror_at, info_of, is_attached_of, in_window_of, proc_of, device_of, owner_of, entry_of, table_of, room_of, room_for, reserved, MirrorsRoom, CanStep, HasRoom, InTable, changed_mirror, with_mirror, attached, standing_as, erased_in, set_in, with_room};
 ghost use Rattle.hm_history.specs.Due.{is_usable};
 ghost use Rattle.hm_base.specs.Pages.{lies_in};
 ghost use Rattle.hm_mirrors.specs.Entries.{entry_for, target_for};
@@ -209,13 +209,16 @@ impl Mirrors {
         }
     }
 
-    /// The process whose memory an access is of.
-    pub fn proc_of(&self, who: Who) -> Proc
-        ensures { result ≡ accessed_proc self.now who }
+    /// The process whose memory an access is of, if its mirror has come.
+    pub fn owner(&self, who: Who) -> Option<Proc>
+        ensures { result ≡ owner_of self.now who }
     {
         match who {
-            Who::Cpu(proc) => proc,
-            Who::Mirror(mirror) => self.mirror_proc(mirror),
+            Who::Cpu(proc) => Some(proc),
+            Who::Mirror(mirror) => match self.info(mirror) {
+                Some(info) => Some(info.process),
+                None => None,
+            },
         }
     }
 

@@ -22,7 +22,7 @@ placeless None = None
 placeless (Some x) = Some (record { target = x.target; right = x.right; from = 0 })
 
 abbrev pub forget_places : Places → Places
-forget_places t = record t { table = λ m v. placeless (t.table m v); committed_to = λ f. None; device = λ m. 0 }
+forget_places t = record t { table = λ m v. placeless (t.table m v); committed_to = λ f. None; device = λ m. None }
 
 abbrev pub forget_after : After → After
 forget_after s =

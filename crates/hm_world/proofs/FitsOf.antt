@@ -5,11 +5,11 @@ use Rattle.hm_base.specs.Program.{Program}
 use Rattle.hm_base.specs.declared.Frame.{Frame}
 use Rattle.hm_base.specs.declared.Place.{Place}
 use Rattle.hm_base.specs.declared.ops.Op.{Op}
-use Rattle.hm_history.specs.Words.{names}
-use Rattle.hm_history.specs.Plain.{MirrorState, Attachment, area_refusal, is_attached_state, mirror_passes}
+use Rattle.hm_history.specs.Words.{names, page_of}
+use Rattle.hm_history.specs.Plain.{MirrorState, Attachment, owner, mirror_owner, area_refusal, is_attached_state, mirror_passes}
 use Rattle.hm_history.specs.Places.{pool_size}
 use Rattle.hm_history.specs.Sequences.{Interval, Stage}
-use Rattle.hm_history.specs.Contents.{backing}
+use Rattle.hm_history.specs.Contents.{backing, place_for}
 use Rattle.hm_history.specs.After.{After}
 use Rattle.hm_history.specs.declared.Kind.{Kind}
 use Rattle.hm_history.specs.declared.TableRight.{TableRight}
@@ -31,13 +31,18 @@ use Rattle.hm_mirrors.specs.Entries.{is_kept_right}
 pub backs_held : (c : Program) (s : After) (t : Past) → Sound c s t → (p v : ℕ) (f : Frame) → backing s.places (s.places.place p v) ≡ Some f → s.places.held f ≡ true
 backs_held c s t so p v f e = so.frames.stands_held p v f (sym (backing_is s.places (s.places.place p v)) ∙ e)
 
+-- the frame behind the page of an access is held
+access_held : (c : Program) (s : After) (t : Past) → Sound c s t → (x : Option ℕ) (v : ℕ) (f : Frame) → backing s.places (place_for s.places x v) ≡ Some f → s.places.held f ≡ true
+access_held c s t so None v f e = cc
+access_held c s t so (Some p) v f e = backs_held c s t so p v f e
+
 pub frames_fit : (c : Program) (s : After) (t : Past) (a : ℕ) (k : Kind) → Sound c s t → Allowed c s t a k → CopiesRightly s k → FramesFit c s k
 frames_fit c s t a (Kind.Take f) so ok fair = ok
 frames_fit c s t a (Kind.Drop f) so ok fair = so.frames.locked_held f a ok.mine
 frames_fit c s t a (Kind.Done f) so ok fair = ap is_some ok.0.mine
 frames_fit c s t a (Kind.Place p v x) so ok fair = (ok.frames.names_held, so.frames.names_held p v)
-frames_fit c s t a (Kind.Stored who at bs) so ok fair = (backs_held c s t so _ _, ok.3)
-frames_fit c s t a (Kind.Added m at was n) so ok fair = backs_held c s t so _ _
+frames_fit c s t a (Kind.Stored who at bs) so ok fair = (access_held c s t so (owner s.plain who) (page_of at), ok.3)
+frames_fit c s t a (Kind.Added m at was n) so ok fair = access_held c s t so (mirror_owner s.plain m) (page_of at)
 frames_fit c s t a (Kind.Copied f g None) so ok fair = record {
   source = so.frames.names_held fair.0 fair.1 f fair.2;
   target = so.frames.locked_held g a ok.mine;
@@ -73,7 +78,7 @@ spaces_fit c s t a (Kind.Protected p r w) ok = λ l. not_refused (s.plain.there 
 spaces_fit c s t a k ok = tt
 
 -- a mirror that is attached, or leaves, has an interval that stands so
-stands_with : (x : Option MirrorState) (y : Option Interval) (d : ℕ) → Paired x y d → (z : Interval) → y ≡ Some z → (m : MirrorState) × (x ≡ Some m) × (stands_so m.stage z.stage ≡ true)
+stands_with : (x : Option MirrorState) (y : Option Interval) (d : Option ℕ) → Paired x y d → (z : Interval) → y ≡ Some z → (m : MirrorState) × (x ≡ Some m) × (stands_so m.stage z.stage ≡ true)
 stands_with None None d h z e = cc
 stands_with (Some m) (Some y) d h z e = (m, refl, subst (λ w. stands_so m.stage w.stage ≡ true) (some_is y z e) h.stage)
   where

@@ -3,7 +3,8 @@
 ghost use Rattle.std.specs.Prelude.{◌≡◌, ◌+◌, ◌<◌, Some, is_some, IsTrue};
 ghost use Rattle.hm_base.specs.Program.{op_in_range};
 ghost use Rattle.hm_history.specs.Words.{page_of};
-ghost use Rattle.hm_history.specs.Plain.{proc_of};
+ghost use Rattle.hm_history.specs.Plain.{owner};
+ghost use Rattle.hm_history.specs.Contents.{place_for};
 ghost use Rattle.hm_history.specs.Locks.{orphan};
 ghost use Rattle.hm_history.specs.Sequences.{some_overlap};
 ghost use Rattle.hm_history.specs.Going.{seen_overlap, seen_place, coming, coming_page, op_at, seen_at};
@@ -21,13 +22,22 @@ use hm_reads::Reads;
 use hm_reads::operations::{page_of, touch_page, touch_proc};
 
 impl World {
-    fn accessed_place(&self, who: Who, addr: u64) -> Place
-        ensures { result ≡ (now self.now).after.places.place (proc_of (now self.now).after.plain who) (page_of addr) }
+    fn place_at(&self, proc: Proc, addr: u64) -> Place
+        ensures { result ≡ (now self.now).after.places.place proc (page_of addr) }
     {
         if addr < 1 << 48 {
-            self.tables.place(self.mirrors.proc_of(who), page_of(addr))
+            self.tables.place(proc, page_of(addr))
         } else {
             Place::Empty
+        }
+    }
+
+    fn accessed_place(&self, who: Who, addr: u64) -> Place
+        ensures { result ≡ place_for (now self.now).after.places (owner (now self.now).after.plain who) (page_of addr) }
+    {
+        match self.mirrors.owner(who) {
+            Some(proc) => self.place_at(proc, addr),
+            None => Place::Empty,
         }
     }
 

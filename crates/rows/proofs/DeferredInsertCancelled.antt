@@ -12,7 +12,7 @@ use Rattle.hm_history.specs.Words.{sys_frame}
 use Rattle.hm_history.specs.declared.Entry.{Entry}
 use Rattle.hm_history.specs.Run.{run}
 use Rattle.hm_history.specs.After.{after}
-use Rattle.hm_history.specs.Plain.{mirror_proc, plain_accepts}
+use Rattle.hm_history.specs.Plain.{mirror_owner, plain_accepts}
 use Rattle.hm_history.specs.Places.{places_accept}
 use Rattle.hm_history.specs.Sequences.{sequences_accept}
 use Rattle.hm_history.specs.Legal.{Legal}
@@ -149,11 +149,11 @@ legal = (
 )
 
 -- place p1 16 sys s0 r, by actor 0
-tried_1 : places_accept script (mirror_proc (after (take 10 history)).plain) (after (take 10 history)).places 0 (Kind.Place 1 16 (Place.Sys 0 false)) ≡ false
+tried_1 : places_accept script (mirror_owner (after (take 10 history)).plain) (after (take 10 history)).places 0 (Kind.Place 1 16 (Place.Sys 0 false)) ≡ false
 tried_1 = refl
 
 -- place p1 16 sys s0 r, by actor 0
-tried_2 : places_accept script (mirror_proc (after (take 11 history)).plain) (after (take 11 history)).places 0 (Kind.Place 1 16 (Place.Sys 0 false)) ≡ true
+tried_2 : places_accept script (mirror_owner (after (take 11 history)).plain) (after (take 11 history)).places 0 (Kind.Place 1 16 (Place.Sys 0 false)) ≡ true
 tried_2 = refl
 
 -- detached m0, by actor 1

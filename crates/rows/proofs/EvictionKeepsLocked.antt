@@ -15,7 +15,7 @@ use Rattle.hm_history.specs.Words.{sys_frame, dev_frame}
 use Rattle.hm_history.specs.declared.Entry.{Entry}
 use Rattle.hm_history.specs.Run.{run}
 use Rattle.hm_history.specs.After.{after}
-use Rattle.hm_history.specs.Plain.{mirror_proc}
+use Rattle.hm_history.specs.Plain.{mirror_owner}
 use Rattle.hm_history.specs.Places.{places_accept}
 use Rattle.hm_history.specs.Lookups.{narrows_guarded}
 use Rattle.hm_history.specs.Legal.{Legal, kept_rightly}
@@ -205,15 +205,15 @@ tried_1 : kept_rightly script (state_of script (take 22 history)) (record { acto
 tried_1 = refl
 
 -- take s1, by actor 1
-tried_2 : places_accept script (mirror_proc (after (take 21 history)).plain) (after (take 21 history)).places 1 (Kind.Take (sys_frame 1)) ≡ false
+tried_2 : places_accept script (mirror_owner (after (take 21 history)).plain) (after (take 21 history)).places 1 (Kind.Take (sys_frame 1)) ≡ false
 tried_2 = refl
 
 -- take s0, by actor 1
-tried_3 : places_accept script (mirror_proc (after (take 21 history)).plain) (after (take 21 history)).places 1 (Kind.Take (sys_frame 0)) ≡ true
+tried_3 : places_accept script (mirror_owner (after (take 21 history)).plain) (after (take 21 history)).places 1 (Kind.Take (sys_frame 0)) ≡ true
 tried_3 = refl
 
 -- take d0.0, by actor 1
-tried_4 : places_accept script (mirror_proc (after (take 21 history)).plain) (after (take 21 history)).places 1 (Kind.Take (dev_frame 0 0)) ≡ false
+tried_4 : places_accept script (mirror_owner (after (take 21 history)).plain) (after (take 21 history)).places 1 (Kind.Take (dev_frame 0 0)) ≡ false
 tried_4 = refl
 
 -- kept d0.0 locked a2, by actor 2
@@ -233,35 +233,35 @@ tried_8 : kept_rightly script (state_of script (take 22 history)) (record { acto
 tried_8 = refl
 
 -- place p0 16 sys s0 w, by actor 1
-tried_9 : places_accept script (mirror_proc (after (take 20 history)).plain) (after (take 20 history)).places 1 (Kind.Place 0 16 (Place.Sys 0 true)) ≡ false
+tried_9 : places_accept script (mirror_owner (after (take 20 history)).plain) (after (take 20 history)).places 1 (Kind.Place 0 16 (Place.Sys 0 true)) ≡ false
 tried_9 = refl
 
 -- drop d0.0, by actor 1
-tried_10 : places_accept script (mirror_proc (after (take 33 history)).plain) (after (take 33 history)).places 1 (Kind.Drop (dev_frame 0 0)) ≡ false
+tried_10 : places_accept script (mirror_owner (after (take 33 history)).plain) (after (take 33 history)).places 1 (Kind.Drop (dev_frame 0 0)) ≡ false
 tried_10 = refl
 
 -- drop d0.0, by actor 1
-tried_11 : places_accept script (mirror_proc (after (take 35 history)).plain) (after (take 35 history)).places 1 (Kind.Drop (dev_frame 0 0)) ≡ true
+tried_11 : places_accept script (mirror_owner (after (take 35 history)).plain) (after (take 35 history)).places 1 (Kind.Drop (dev_frame 0 0)) ≡ true
 tried_11 = refl
 
 -- drop s0, by actor 1
-tried_12 : places_accept script (mirror_proc (after (take 35 history)).plain) (after (take 35 history)).places 1 (Kind.Drop (sys_frame 0)) ≡ false
+tried_12 : places_accept script (mirror_owner (after (take 35 history)).plain) (after (take 35 history)).places 1 (Kind.Drop (sys_frame 0)) ≡ false
 tried_12 = refl
 
 -- drop s1, by actor 1
-tried_13 : places_accept script (mirror_proc (after (take 35 history)).plain) (after (take 35 history)).places 1 (Kind.Drop (sys_frame 1)) ≡ false
+tried_13 : places_accept script (mirror_owner (after (take 35 history)).plain) (after (take 35 history)).places 1 (Kind.Drop (sys_frame 1)) ≡ false
 tried_13 = refl
 
 -- removed d0, by actor 3
-tried_14 : places_accept script (mirror_proc (after (take 24 history)).plain) (after (take 24 history)).places 3 (Kind.Removed 0) ≡ false
+tried_14 : places_accept script (mirror_owner (after (take 24 history)).plain) (after (take 24 history)).places 3 (Kind.Removed 0) ≡ false
 tried_14 = refl
 
 -- removed d0, by actor 3
-tried_15 : places_accept script (mirror_proc (after (take 39 history)).plain) (after (take 39 history)).places 3 (Kind.Removed 0) ≡ true
+tried_15 : places_accept script (mirror_owner (after (take 39 history)).plain) (after (take 39 history)).places 3 (Kind.Removed 0) ≡ true
 tried_15 = refl
 
 -- take d0.0, by actor 3
-tried_16 : places_accept script (mirror_proc (after (take 39 history)).plain) (after (take 39 history)).places 3 (Kind.Take (dev_frame 0 0)) ≡ false
+tried_16 : places_accept script (mirror_owner (after (take 39 history)).plain) (after (take 39 history)).places 3 (Kind.Take (dev_frame 0 0)) ≡ false
 tried_16 = refl
 
 -- place p0 16 moving d0.0 w, by actor 1
@@ -297,17 +297,17 @@ tried_24 : narrows_guarded (after (take 33 history)).sequences (after (take 33 h
 tried_24 = refl
 
 -- place p1 16 sys s0 r, by actor 1
-tried_25 : places_accept script (mirror_proc (after (take 34 history)).plain) (after (take 34 history)).places 1 (Kind.Place 1 16 (Place.Sys 0 false)) ≡ false
+tried_25 : places_accept script (mirror_owner (after (take 34 history)).plain) (after (take 34 history)).places 1 (Kind.Place 1 16 (Place.Sys 0 false)) ≡ false
 tried_25 = refl
 
 -- place p0 16 sys s0 w, by actor 1
-tried_26 : places_accept script (mirror_proc (after (take 34 history)).plain) (after (take 34 history)).places 1 (Kind.Place 0 16 (Place.Sys 0 true)) ≡ true
+tried_26 : places_accept script (mirror_owner (after (take 34 history)).plain) (after (take 34 history)).places 1 (Kind.Place 0 16 (Place.Sys 0 true)) ≡ true
 tried_26 = refl
 
 -- committed d0.0 s0, by actor 1
-tried_27 : places_accept script (mirror_proc (after (take 33 history ++ (record { actor = 1; kind = Kind.Place 1 16 (Place.Sys 0 false) } ∷ []))).plain) (after (take 33 history ++ (record { actor = 1; kind = Kind.Place 1 16 (Place.Sys 0 false) } ∷ []))).places 1 (Kind.Committed (dev_frame 0 0) (sys_frame 0)) ≡ false
+tried_27 : places_accept script (mirror_owner (after (take 33 history ++ (record { actor = 1; kind = Kind.Place 1 16 (Place.Sys 0 false) } ∷ []))).plain) (after (take 33 history ++ (record { actor = 1; kind = Kind.Place 1 16 (Place.Sys 0 false) } ∷ []))).places 1 (Kind.Committed (dev_frame 0 0) (sys_frame 0)) ≡ false
 tried_27 = refl
 
 -- committed d0.0 s0, by actor 1
-tried_28 : places_accept script (mirror_proc (after (take 33 history)).plain) (after (take 33 history)).places 1 (Kind.Committed (dev_frame 0 0) (sys_frame 0)) ≡ true
+tried_28 : places_accept script (mirror_owner (after (take 33 history)).plain) (after (take 33 history)).places 1 (Kind.Committed (dev_frame 0 0) (sys_frame 0)) ≡ true
 tried_28 = refl

@@ -16,7 +16,7 @@ use Rattle.hm_history.specs.Words.{sys_frame}
 use Rattle.hm_history.specs.declared.Entry.{Entry}
 use Rattle.hm_history.specs.Run.{run}
 use Rattle.hm_history.specs.After.{after}
-use Rattle.hm_history.specs.Plain.{mirror_proc, plain_accepts}
+use Rattle.hm_history.specs.Plain.{mirror_owner, plain_accepts}
 use Rattle.hm_history.specs.Places.{places_accept}
 use Rattle.hm_history.specs.Lookups.{narrows_guarded}
 use Rattle.hm_history.specs.Legal.{Legal, fails_rightly}
@@ -185,31 +185,31 @@ legal = (
 )
 
 -- fetched m0 0x10000 00, by actor 0
-tried_1 : places_accept script (mirror_proc (after (take 11 history)).plain) (after (take 11 history)).places 0 (Kind.Fetched 0 0x10000 (0 ∷ [])) ≡ true
+tried_1 : places_accept script (mirror_owner (after (take 11 history)).plain) (after (take 11 history)).places 0 (Kind.Fetched 0 0x10000 (0 ∷ [])) ≡ true
 tried_1 = refl
 
 -- fetched m0 0x10000 00, by actor 1
-tried_2 : places_accept script (mirror_proc (after (take 11 history)).plain) (after (take 11 history)).places 1 (Kind.Fetched 0 0x10000 (0 ∷ [])) ≡ false
+tried_2 : places_accept script (mirror_owner (after (take 11 history)).plain) (after (take 11 history)).places 1 (Kind.Fetched 0 0x10000 (0 ∷ [])) ≡ false
 tried_2 = refl
 
 -- loaded m0 0x10000 00, by actor 0
-tried_3 : places_accept script (mirror_proc (after (take 11 history)).plain) (after (take 11 history)).places 0 (Kind.Loaded (Who.Mirror 0) 0x10000 (0 ∷ [])) ≡ false
+tried_3 : places_accept script (mirror_owner (after (take 11 history)).plain) (after (take 11 history)).places 0 (Kind.Loaded (Who.Mirror 0) 0x10000 (0 ∷ [])) ≡ false
 tried_3 = refl
 
 -- loaded m0 0x10000 00, by actor 0
-tried_4 : places_accept script (mirror_proc (after (take 10 history ++ (record { actor = 0; kind = Kind.Set 0 16 (Some (sys_frame 0)) TableRight.Write 10 } ∷ []))).plain) (after (take 10 history ++ (record { actor = 0; kind = Kind.Set 0 16 (Some (sys_frame 0)) TableRight.Write 10 } ∷ []))).places 0 (Kind.Loaded (Who.Mirror 0) 0x10000 (0 ∷ [])) ≡ false
+tried_4 : places_accept script (mirror_owner (after (take 10 history ++ (record { actor = 0; kind = Kind.Set 0 16 (Some (sys_frame 0)) TableRight.Write 10 } ∷ []))).plain) (after (take 10 history ++ (record { actor = 0; kind = Kind.Set 0 16 (Some (sys_frame 0)) TableRight.Write 10 } ∷ []))).places 0 (Kind.Loaded (Who.Mirror 0) 0x10000 (0 ∷ [])) ≡ false
 tried_4 = refl
 
 -- fetched m0 0x10000 00, by actor 0
-tried_5 : places_accept script (mirror_proc (after (take 10 history ++ (record { actor = 0; kind = Kind.Set 0 16 (Some (sys_frame 0)) TableRight.Write 10 } ∷ []))).plain) (after (take 10 history ++ (record { actor = 0; kind = Kind.Set 0 16 (Some (sys_frame 0)) TableRight.Write 10 } ∷ []))).places 0 (Kind.Fetched 0 0x10000 (0 ∷ [])) ≡ false
+tried_5 : places_accept script (mirror_owner (after (take 10 history ++ (record { actor = 0; kind = Kind.Set 0 16 (Some (sys_frame 0)) TableRight.Write 10 } ∷ []))).plain) (after (take 10 history ++ (record { actor = 0; kind = Kind.Set 0 16 (Some (sys_frame 0)) TableRight.Write 10 } ∷ []))).places 0 (Kind.Fetched 0 0x10000 (0 ∷ [])) ≡ false
 tried_5 = refl
 
 -- loaded p0 0x10000 00, by actor 0
-tried_6 : places_accept script (mirror_proc (after (take 12 history)).plain) (after (take 12 history)).places 0 (Kind.Loaded (Who.Cpu 0) 0x10000 (0 ∷ [])) ≡ false
+tried_6 : places_accept script (mirror_owner (after (take 12 history)).plain) (after (take 12 history)).places 0 (Kind.Loaded (Who.Cpu 0) 0x10000 (0 ∷ [])) ≡ false
 tried_6 = refl
 
 -- stored p0 0x10000 00, by actor 0
-tried_7 : places_accept script (mirror_proc (after (take 12 history)).plain) (after (take 12 history)).places 0 (Kind.Stored (Who.Cpu 0) 0x10000 (0 ∷ [])) ≡ false
+tried_7 : places_accept script (mirror_owner (after (take 12 history)).plain) (after (take 12 history)).places 0 (Kind.Stored (Who.Cpu 0) 0x10000 (0 ∷ [])) ≡ false
 tried_7 = refl
 
 -- place p0 16 sys s0 w, by actor 0

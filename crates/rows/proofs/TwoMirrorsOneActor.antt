@@ -12,7 +12,7 @@ use Rattle.hm_history.specs.Words.{sys_frame, dev_frame}
 use Rattle.hm_history.specs.declared.Entry.{Entry}
 use Rattle.hm_history.specs.Run.{run}
 use Rattle.hm_history.specs.After.{after}
-use Rattle.hm_history.specs.Plain.{mirror_proc}
+use Rattle.hm_history.specs.Plain.{mirror_owner}
 use Rattle.hm_history.specs.Places.{places_accept}
 use Rattle.hm_history.specs.Sequences.{sequences_accept}
 use Rattle.hm_history.specs.Legal.{Legal}
@@ -257,13 +257,13 @@ tried_13 : sequences_accept (after (take 11 history ++ (record { actor = 1; kind
 tried_13 = refl
 
 -- set m0 16 d1.0 w 12, by actor 0
-tried_14 : places_accept script (mirror_proc (after (take 12 history)).plain) (after (take 12 history)).places 0 (Kind.Set 0 16 (Some (dev_frame 1 0)) TableRight.Write 12) ≡ false
+tried_14 : places_accept script (mirror_owner (after (take 12 history)).plain) (after (take 12 history)).places 0 (Kind.Set 0 16 (Some (dev_frame 1 0)) TableRight.Write 12) ≡ false
 tried_14 = refl
 
 -- set m1 16 d1.0 w 12, by actor 0
-tried_15 : places_accept script (mirror_proc (after (take 12 history)).plain) (after (take 12 history)).places 0 (Kind.Set 1 16 (Some (dev_frame 1 0)) TableRight.Write 12) ≡ true
+tried_15 : places_accept script (mirror_owner (after (take 12 history)).plain) (after (take 12 history)).places 0 (Kind.Set 1 16 (Some (dev_frame 1 0)) TableRight.Write 12) ≡ true
 tried_15 = refl
 
 -- set m0 16 zero w 12, by actor 0
-tried_16 : places_accept script (mirror_proc (after (take 12 history)).plain) (after (take 12 history)).places 0 (Kind.Set 0 16 None TableRight.Write 12) ≡ true
+tried_16 : places_accept script (mirror_owner (after (take 12 history)).plain) (after (take 12 history)).places 0 (Kind.Set 0 16 None TableRight.Write 12) ≡ true
 tried_16 = refl

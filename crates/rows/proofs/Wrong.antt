@@ -15,7 +15,7 @@ use Rattle.hm_history.specs.declared.Kind.{Kind}
 use Rattle.hm_history.specs.Words.{sys_frame, dev_frame}
 use Rattle.hm_history.specs.declared.Entry.{Entry}
 use Rattle.hm_history.specs.After.{after}
-use Rattle.hm_history.specs.Plain.{mirror_proc, plain_accepts}
+use Rattle.hm_history.specs.Plain.{mirror_owner, plain_accepts}
 use Rattle.hm_history.specs.Places.{places_accept}
 use Rattle.hm_history.specs.Sequences.{sequences_accept}
 use Rattle.hm_history.specs.Lookups.{uses_untold, narrows_guarded}
@@ -159,7 +159,7 @@ before_fork_leaves_right =
     record { actor = 0; kind = Kind.Named 0 1 } ∷
     record { actor = 0; kind = Kind.Start 0 (record { first = 0; count = 68719476736 }) 2 } ∷ []
 
-fork_leaves_right : places_accept script (mirror_proc (after before_fork_leaves_right).plain) (after before_fork_leaves_right).places 0 (Kind.Place 1 16 (Place.Sys 0 false)) ≡ false
+fork_leaves_right : places_accept script (mirror_owner (after before_fork_leaves_right).plain) (after before_fork_leaves_right).places 0 (Kind.Place 1 16 (Place.Sys 0 false)) ≡ false
 fork_leaves_right = refl
 
 -- the CPU reads device memory
@@ -173,7 +173,7 @@ before_reads_device_memory =
     record { actor = 0; kind = Kind.Place 0 16 (Place.Own 0 0 true) } ∷
     record { actor = 0; kind = Kind.Runlock 0 } ∷ []
 
-reads_device_memory : places_accept script (mirror_proc (after before_reads_device_memory).plain) (after before_reads_device_memory).places 0 (Kind.Loaded (Who.Cpu 0) 0x10000 (0 ∷ [])) ≡ false
+reads_device_memory : places_accept script (mirror_owner (after before_reads_device_memory).plain) (after before_reads_device_memory).places 0 (Kind.Loaded (Who.Cpu 0) 0x10000 (0 ∷ [])) ≡ false
 reads_device_memory = refl
 
 -- a device is removed while a frame is held
@@ -184,7 +184,7 @@ before_removed_with_a_frame =
     record { actor = 0; kind = Kind.Take (dev_frame 0 0) } ∷
     record { actor = 0; kind = Kind.Withdrawn 0 } ∷ []
 
-removed_with_a_frame : places_accept script (mirror_proc (after before_removed_with_a_frame).plain) (after before_removed_with_a_frame).places 0 (Kind.Removed 0) ≡ false
+removed_with_a_frame : places_accept script (mirror_owner (after before_removed_with_a_frame).plain) (after before_removed_with_a_frame).places 0 (Kind.Removed 0) ≡ false
 removed_with_a_frame = refl
 
 -- a failure for want of a frame while one is free
@@ -204,7 +204,7 @@ before_takes_another =
     record { actor = 0; kind = Kind.Mapped 0 (record { first = 16; count = 1 }) Rights.ReadWrite } ∷
     record { actor = 0; kind = Kind.Rlock 0 } ∷ []
 
-takes_another : places_accept script (mirror_proc (after before_takes_another).plain) (after before_takes_another).places 0 (Kind.Take (sys_frame 1)) ≡ false
+takes_another : places_accept script (mirror_owner (after before_takes_another).plain) (after before_takes_another).places 0 (Kind.Take (sys_frame 1)) ≡ false
 takes_another = refl
 
 -- a frame of a withdrawn device is taken
@@ -212,7 +212,7 @@ abbrev before_takes_withdrawn : List Entry
 before_takes_withdrawn =
     record { actor = 0; kind = Kind.Withdrawn 0 } ∷ []
 
-takes_withdrawn : places_accept script (mirror_proc (after before_takes_withdrawn).plain) (after before_takes_withdrawn).places 0 (Kind.Take (dev_frame 0 0)) ≡ false
+takes_withdrawn : places_accept script (mirror_owner (after before_takes_withdrawn).plain) (after before_takes_withdrawn).places 0 (Kind.Take (dev_frame 0 0)) ≡ false
 takes_withdrawn = refl
 
 -- a frame is dropped that a place names
@@ -226,7 +226,7 @@ before_drops_named =
     record { actor = 0; kind = Kind.Runlock 0 } ∷
     record { actor = 0; kind = Kind.Stored (Who.Cpu 0) 0x10000 (65 ∷ []) } ∷ []
 
-drops_named : places_accept script (mirror_proc (after before_drops_named).plain) (after before_drops_named).places 0 (Kind.Drop (sys_frame 0)) ≡ false
+drops_named : places_accept script (mirror_owner (after before_drops_named).plain) (after before_drops_named).places 0 (Kind.Drop (sys_frame 0)) ≡ false
 drops_named = refl
 
 -- a load answers another byte
@@ -274,7 +274,7 @@ before_stores_shared =
     record { actor = 0; kind = Kind.End 0 (record { first = 0; count = 68719476736 }) 2 } ∷
     record { actor = 0; kind = Kind.Forked 0 1 } ∷ []
 
-stores_shared : places_accept script (mirror_proc (after before_stores_shared).plain) (after before_stores_shared).places 0 (Kind.Stored (Who.Cpu 0) 0x10000 (66 ∷ [])) ≡ false
+stores_shared : places_accept script (mirror_owner (after before_stores_shared).plain) (after before_stores_shared).places 0 (Kind.Stored (Who.Cpu 0) 0x10000 (66 ∷ [])) ≡ false
 stores_shared = refl
 
 -- the finish gives a right that was not there
@@ -306,7 +306,7 @@ before_finishes_writable =
     record { actor = 0; kind = Kind.Take (dev_frame 0 0) } ∷
     record { actor = 0; kind = Kind.Committed (sys_frame 0) (dev_frame 0 0) } ∷ []
 
-finishes_writable : places_accept script (mirror_proc (after before_finishes_writable).plain) (after before_finishes_writable).places 0 (Kind.Place 0 16 (Place.Own 0 0 true)) ≡ false
+finishes_writable : places_accept script (mirror_owner (after before_finishes_writable).plain) (after before_finishes_writable).places 0 (Kind.Place 0 16 (Place.Own 0 0 true)) ≡ false
 finishes_writable = refl
 
 -- a page is passed over that the rule does not name
@@ -363,3 +363,61 @@ before_maps_twice =
 
 maps_twice : plain_accepts (after before_maps_twice).plain (Kind.Mapped 0 (record { first = 16; count = 1 }) Rights.Read) ≡ false
 maps_twice = refl
+
+-- a table entry of a mirror that was never attached
+abbrev before_sets_unattached : List Entry
+before_sets_unattached =
+    record { actor = 0; kind = Kind.Wlock 0 } ∷
+    record { actor = 0; kind = Kind.Mapped 0 (record { first = 16; count = 1 }) Rights.ReadWrite } ∷
+    record { actor = 0; kind = Kind.Rlock 0 } ∷
+    record { actor = 0; kind = Kind.Take (sys_frame 0) } ∷
+    record { actor = 0; kind = Kind.Place 0 16 (Place.Sys 0 true) } ∷
+    record { actor = 0; kind = Kind.Runlock 0 } ∷
+    record { actor = 0; kind = Kind.Stored (Who.Cpu 0) 0x10000 (65 ∷ []) } ∷ []
+
+sets_unattached : places_accept script (mirror_owner (after before_sets_unattached).plain) (after before_sets_unattached).places 0 (Kind.Set 7 16 (Some (sys_frame 0)) TableRight.Write 7) ≡ false
+sets_unattached = refl
+
+-- a load through the table of a mirror that was never attached
+abbrev before_loads_unattached : List Entry
+before_loads_unattached =
+    record { actor = 0; kind = Kind.Wlock 0 } ∷
+    record { actor = 0; kind = Kind.Mapped 0 (record { first = 16; count = 1 }) Rights.ReadWrite } ∷
+    record { actor = 0; kind = Kind.Rlock 0 } ∷
+    record { actor = 0; kind = Kind.Take (sys_frame 0) } ∷
+    record { actor = 0; kind = Kind.Place 0 16 (Place.Sys 0 true) } ∷
+    record { actor = 0; kind = Kind.Runlock 0 } ∷
+    record { actor = 0; kind = Kind.Stored (Who.Cpu 0) 0x10000 (65 ∷ []) } ∷
+    record { actor = 0; kind = Kind.Set 7 16 (Some (sys_frame 0)) TableRight.Write 7 } ∷ []
+
+loads_unattached : places_accept script (mirror_owner (after before_loads_unattached).plain) (after before_loads_unattached).places 0 (Kind.Loaded (Who.Mirror 7) 0x10000 (65 ∷ [])) ≡ false
+loads_unattached = refl
+
+-- a mirror that was never attached fails for want of a frame
+abbrev before_fails_unattached : List Entry
+before_fails_unattached =
+    record { actor = 0; kind = Kind.Wlock 0 } ∷
+    record { actor = 0; kind = Kind.Mapped 0 (record { first = 16; count = 1 }) Rights.ReadWrite } ∷
+    record { actor = 0; kind = Kind.Rlock 0 } ∷
+    record { actor = 0; kind = Kind.Take (sys_frame 0) } ∷
+    record { actor = 0; kind = Kind.Place 0 16 (Place.Sys 0 true) } ∷
+    record { actor = 0; kind = Kind.Runlock 0 } ∷
+    record { actor = 0; kind = Kind.Stored (Who.Cpu 0) 0x10000 (65 ∷ []) } ∷ []
+
+fails_unattached : plain_accepts (after before_fails_unattached).plain (Kind.Failed (Who.Mirror 7) 0x10000 1 Cause.NoFrame) ≡ false
+fails_unattached = refl
+
+-- a store through a mirror that was never attached writes the bytes of process 0
+abbrev before_stores_unattached : List Entry
+before_stores_unattached =
+    record { actor = 0; kind = Kind.Wlock 0 } ∷
+    record { actor = 0; kind = Kind.Mapped 0 (record { first = 16; count = 1 }) Rights.ReadWrite } ∷
+    record { actor = 0; kind = Kind.Rlock 0 } ∷
+    record { actor = 0; kind = Kind.Take (sys_frame 0) } ∷
+    record { actor = 0; kind = Kind.Place 0 16 (Place.Sys 0 true) } ∷
+    record { actor = 0; kind = Kind.Runlock 0 } ∷
+    record { actor = 0; kind = Kind.Stored (Who.Cpu 0) 0x10000 (65 ∷ []) } ∷
+    record { actor = 0; kind = Kind.Stored (Who.Mirror 7) 0x10000 (66 ∷ []) } ∷ []
+
+stores_unattached : plain_accepts (after before_stores_unattached).plain (Kind.Loaded (Who.Cpu 0) 0x10000 (66 ∷ [])) ≡ false
+stores_unattached = refl

@@ -9,7 +9,8 @@ use Rattle.hm_base.specs.declared.Frame.{Frame}
 use Rattle.hm_base.specs.declared.Place.{Place}
 use Rattle.hm_base.specs.declared.ops.Op.{Op}
 use Rattle.hm_history.specs.Words.{sys_frame, writable, page_of}
-use Rattle.hm_history.specs.Plain.{MirrorState, rights_of, is_read_write, is_attached_state, mirror_passes, is_attached, in_window, mirror_proc, cause_at, plain_bytes}
+use Rattle.hm_history.specs.Plain.{MirrorState, rights_of, is_read_write, is_attached_state, mirror_passes, is_attached, in_window, mirror_proc, mirror_owner, owned, cause_at, plain_bytes}
+use Rattle.hm_history.proofs.Owners.{owned_from}
 use Rattle.hm_history.specs.Places.{TableEntry, entry_passes, table_sole, is_sole, is_exclusive_by, is_exclusive_of, same_target}
 use Rattle.hm_history.specs.After.{After}
 use Rattle.hm_history.specs.Due.{has_exclusive, due_add, due_fetched, failed}
@@ -38,7 +39,7 @@ record HasAlone (s : After) (a m v : ℕ) : Type 0 where
   window : in_window s.plain m (one_page v) ≡ true
   some : is_some (s.plain.mirrors m) ≡ true
   cause : cause_at s.plain (Who.Mirror m) v true ≡ None
-  table : table_sole s.places a m (mirror_proc s.plain m) v ≡ true
+  table : owned (mirror_owner s.plain m) (λ p. table_sole s.places a m p v) ≡ true
 
 sole_is : (r : TableRight) → is_sole r ≡ true → r ≡ TableRight.Sole
 sole_is TableRight.Read h = cc
@@ -79,7 +80,7 @@ alone_says c s t a m v so h = of (entry_of (λ x. is_sole x.right) (s.places.tab
           window = window;
           some = ap is_some ex;
           cause = write_says s.plain m v window rights.0 rights.1;
-          table = passes_is (λ i. is_sole i.right && is_exclusive_of (s.places.place (mirror_proc s.plain m) v) a i.target) (s.places.table m v) e.0 e.1 (and_from (is_sole e.0.right) _ e.2 place.1);
+          table = owned_from s.plain m (λ p. table_sole s.places a m p v) (ap is_some ex) (passes_is (λ i. is_sole i.right && is_exclusive_of (s.places.place (mirror_proc s.plain m) v) a i.target) (s.places.table m v) e.0 e.1 (and_from (is_sole e.0.right) _ e.2 place.1));
         }
           where
             proc : x.proc ≡ mirror_proc s.plain m

@@ -145,7 +145,7 @@ take_ok c s t a o xs touch suited out so h r co w = by (lowest_free c s.places P
     th = (h.1.0.1, there_of c s t _ _ so (some_write _ r))
 
     by : (x : Option Frame) → lowest_free c s.places PoolId.System ≡ x → Good c s t a o xs (Phase.Decide touch) [] (elim x [ Some g ↦ Do (Kind.Take g) | None ↦ Do (fails o (piece_of touch) Cause.NoFrame) ])
-    by None e = out.fail Cause.NoFrame (no_frame s.plain (op_who o) _ th.1 (some_write _ r)) (λ i. e)
+    by None e = out.fail Cause.NoFrame (no_frame s.plain (op_who o) _ h.1.0.0 th.1 (some_write _ r)) (λ i. e)
     by (Some g) e = (free, tt, taken_facts c s t a o xs touch g (free_says c s.places PoolId.System g e).0 so free h th r (s.places.place (proc_of s.plain (op_who o)) (touch_page o touch)) refl co w)
       where
         free : lowest_free c s.places g.pool ≡ Some g

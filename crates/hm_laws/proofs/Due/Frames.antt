@@ -47,7 +47,7 @@ use Rattle.hm_laws.proofs.Own.WhileEmptying.{one_more}
 
 -- an access fails for want of a frame
 pub give_up_ok : (c : Program) (s : After) (t : Past) (a : ℕ) (o : Op) (xs : List Migrating) (touch : Touch) → touch_page o touch ≡ at_page o (piece_of touch) → HoldsAll s t a (No_guard ∷ Locks_only [] ∷ under o (Phase.GiveUp (Some touch) ∷ [])) → Good c s t a o xs (Phase.GiveUp (Some touch)) [] (Do (failed o (piece_of touch) Cause.NoFrame))
-give_up_ok c s t a o xs touch page h = ((release_locked s a (proc_of s.plain (op_who o)) h.1.1.1.0.1.0, no_frame s.plain (op_who o) (at_page o (piece_of touch)) h.1.1.1.0.1.1 (ap (λ v. is_some (rights_of s.plain (proc_of s.plain (op_who o)) v)) (sym page) ∙ h.1.1.1.0.2)), tt, ends_ok o xs (piece_of touch) (next s a (failed o (piece_of touch) Cause.NoFrame)) t a (here_at s.locks.map a None, (h.0, (h.1.0, tt))))
+give_up_ok c s t a o xs touch page h = ((release_locked s a (proc_of s.plain (op_who o)) h.1.1.1.0.1.0, no_frame s.plain (op_who o) (at_page o (piece_of touch)) h.1.1.1.0.0 h.1.1.1.0.1.1 (ap (λ v. is_some (rights_of s.plain (proc_of s.plain (op_who o)) v)) (sym page) ∙ h.1.1.1.0.2)), tt, ends_ok o xs (piece_of touch) (next s a (failed o (piece_of touch) Cause.NoFrame)) t a (here_at s.locks.map a None, (h.0, (h.1.0, tt))))
 
 pub refuse_ok : (c : Program) (s : After) (t : Past) (a : ℕ) (o : Op) (xs : List Migrating) → HoldsAll s t a (No_guard ∷ Locks_only [] ∷ under o (Phase.GiveUp None ∷ [])) → Good c s t a o xs (Phase.GiveUp None) [] (Do (Kind.Refused Cause.NoFrame))
 refuse_ok c s t a o xs h = (release_none s a h.1.1.1.0, tt, (here_at s.locks.map a None, (h.0, (h.1.0, tt))))

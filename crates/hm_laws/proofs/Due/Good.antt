@@ -2,6 +2,7 @@
 use Rattle.std.proofs.Common.{◌≤◌}
 use Rattle.std.proofs.Common.{◌≡◌, ℕ, ◌+◌, ◌%◌, ◌<◌, ◌⊎◌, inl, inr, Bool, true, false, ◌==◌, ◌&&◌, nat_lt, if◌then◌else◌, not, is_some, is_none, Option, Some, None, List, [], ◌∷◌, refl, sym, ap, ◌∙◌, subst, arith, length}
 use Rattle.std.proofs.lemmas.Bool.Decides.{nat_tests}
+use Rattle.std.proofs.lemmas.Bool.{and_from}
 use Rattle.hm_base.specs.Program.{Program}
 use Rattle.hm_base.specs.declared.cause.Cause.{Cause}
 use Rattle.hm_base.specs.declared.PoolId.{PoolId}
@@ -22,7 +23,8 @@ use Rattle.hm_laws.specs.Sound.{LockRules, Sound}
 use Rattle.hm_laws.specs.Allowed.{next, shows, Clean, MayRelease, ReadsThere, WritesThere, Allowed}
 use Rattle.std.specs.Prelude.{⊤}
 use Rattle.hm_laws.proofs.State.Search.{least_none}
-use Rattle.hm_laws.specs.Facts.{Is, takes_lock, has_piece, nothing_held, facts, HoldsAll}
+use Rattle.hm_history.proofs.Owners.{owned_from}
+use Rattle.hm_laws.specs.Facts.{HasProc, Is, takes_lock, has_piece, nothing_held, facts, HoldsAll}
 use Rattle.hm_history.specs.Due.{proc_of_op}
 use Rattle.hm_history.specs.Plain.{may_fail, in_window, outside_cause, proc_of, mirror_proc}
 use Rattle.hm_base.specs.Pages.{one_page}
@@ -166,8 +168,9 @@ outside s m v h = grind (arith, nat_tests)
 pub no_area : (s : Plain) (x : Who) (v : ℕ) → outside_cause s x v ≡ false → is_none (rights_of s (proc_of s x) v) ≡ true → may_fail s x v Cause.Unmapped ≡ true
 no_area s x v i e = grind (arith, nat_tests)
 
-pub no_frame : (s : Plain) (x : Who) (v : ℕ) → s.there (proc_of s x) ≡ true → is_some (rights_of s (proc_of s x) v) ≡ true → may_fail s x v Cause.NoFrame ≡ true
-no_frame s x v t r = grind (arith, nat_tests)
+pub no_frame : (s : Plain) (x : Who) (v : ℕ) → HasProc s x → s.there (proc_of s x) ≡ true → is_some (rights_of s (proc_of s x) v) ≡ true → may_fail s x v Cause.NoFrame ≡ true
+no_frame s (Who.Cpu p) v h t r = and_from (s.there p) _ t r
+no_frame s (Who.Mirror m) v h t r = owned_from s m (λ p. s.there p && is_some (rights_of s p v)) h (and_from (s.there (mirror_proc s m)) _ t r)
 
 pub read_only : (s : Plain) (x : Who) (v : ℕ) → outside_cause s x v ≡ false → s.there (proc_of s x) ≡ true → is_none (rights_of s (proc_of s x) v) ≡ false → is_read_only (rights_of s (proc_of s x) v) ≡ true → may_fail s x v Cause.Forbidden ≡ true
 read_only s x v i t n r = grind (arith, nat_tests)

@@ -7,7 +7,8 @@ use Rattle.hm_base.specs.Program.{Program}
 use Rattle.hm_base.specs.declared.cause.Cause.{Cause}
 use Rattle.hm_base.specs.declared.ops.Op.{Op}
 use Rattle.hm_history.specs.Plain.{MirrorState, Plain, is_attached_state, mirror_passes, is_attached, in_window, mirror_proc}
-use Rattle.hm_history.specs.Places.{TableEntry, may_read, may_write}
+use Rattle.hm_history.proofs.Owners.{owned_from}
+use Rattle.hm_history.specs.Places.{TableEntry, may_read, may_write, table_reads, table_writes}
 use Rattle.hm_history.specs.Sequences.{Interval, interval_seq, interval_proc, sequences_accept}
 use Rattle.hm_history.specs.After.{After}
 use Rattle.hm_history.specs.Operation.{op_piece, op_bytes}
@@ -111,7 +112,7 @@ load_mirror_ok c s t a m at n k xs so h = either P (in_window s.plain m (one_pag
 
     answers : in_window s.plain m (one_page (at_page (Op.DeviceLoad m at n) k)) ≡ true → (e : TableEntry) × (s.places.table m (at_page (Op.DeviceLoad m at n) k) ≡ Some e) × (may_read e.right ≡ true) → P (Do (answer_of_piece s (Op.DeviceLoad m at n) k))
     answers w e = let says : TableSays s m (at_page (Op.DeviceLoad m at n) k) e.0 = table_says c s t m (at_page (Op.DeviceLoad m at n) k) e.0 so e.1 e.2 in
-        ((release_none s a h.1.0, loaded_bytes s m (op_piece o k).0 (op_piece o k).1 (read_cause s m (at_page o k) e.0 w says), says.reads), tt, ends_ok o xs k (next s a (answer_of_piece s o k)) t a (here_at s.locks.map a None, h.1.1))
+        ((release_none s a h.1.0, loaded_bytes s m (op_piece o k).0 (op_piece o k).1 (read_cause s m (at_page o k) e.0 w says), owned_from s.plain m (λ p. table_reads s.places m p (at_page o k)) says.some says.reads), tt, ends_ok o xs k (next s a (answer_of_piece s o k)) t a (here_at s.locks.map a None, h.1.1))
 
 pub store_mirror_ok : (c : Program) (s : After) (t : Past) (a m at : ℕ) (bs : List ℕ) (k : ℕ) (xs : List Migrating) → InPage (op_piece (Op.DeviceStore m at bs) k).0 (length (op_bytes (Op.DeviceStore m at bs) (op_piece (Op.DeviceStore m at bs) k))) → Sound c s t → HoldsAll s t a (Is (has_piece (Op.DeviceStore m at bs) k) ∷ nothing_held) → Good c s t a (Op.DeviceStore m at bs) xs (Phase.Piece k) [] (due_mirror s (Op.DeviceStore m at bs) k m)
 store_mirror_ok c s t a m at bs k xs short so h = either P (in_window s.plain m (one_page (at_page o k))) _ _
@@ -129,4 +130,4 @@ store_mirror_ok c s t a m at bs k xs short so h = either P (in_window s.plain m 
 
     answers : in_window s.plain m (one_page (at_page (Op.DeviceStore m at bs) k)) ≡ true → (e : TableEntry) × (s.places.table m (at_page (Op.DeviceStore m at bs) k) ≡ Some e) × (may_write e.right ≡ true) → P (Do (answer_of_piece s (Op.DeviceStore m at bs) k))
     answers w e = let says : TableSays s m (at_page (Op.DeviceStore m at bs) k) e.0 = table_says c s t m (at_page (Op.DeviceStore m at bs) k) e.0 so e.1 (allows_write e.0.right e.2) in
-        ((release_none s a h.1.0, ap is_none (write_cause c s t m (at_page o k) e.0 so w says e.2), says.writes e.2, short), tt, ends_ok o xs k (next s a (answer_of_piece s o k)) t a (here_at s.locks.map a None, h.1.1))
+        ((release_none s a h.1.0, ap is_none (write_cause c s t m (at_page o k) e.0 so w says e.2), owned_from s.plain m (λ p. table_writes s.places m p (at_page o k)) says.some (says.writes e.2), short), tt, ends_ok o xs k (next s a (answer_of_piece s o k)) t a (here_at s.locks.map a None, h.1.1))

@@ -3,8 +3,9 @@ use Rattle.std.proofs.Common.{◌≡◌, ℕ, Bool, true, false, ◌||◌, is_no
 use Rattle.std.proofs.lemmas.Bool.{and_parts}
 use Rattle.hm_base.specs.Program.{Program}
 use Rattle.hm_base.specs.declared.PoolId.{PoolId}
-use Rattle.hm_history.specs.Plain.{plain_accepts, mirror_proc}
-use Rattle.hm_history.specs.Places.{TableEntry, lowest_free, places_accept, entry_passes, table_reads}
+use Rattle.hm_history.specs.Plain.{plain_accepts, mirror_proc, mirror_owner, owned}
+use Rattle.hm_history.specs.Places.{TableEntry, lowest_free, places_accept, entry_passes, table_reads, table_writes, table_sole}
+use Rattle.hm_history.proofs.Owners.{owned_proc}
 use Rattle.hm_history.specs.Sequences.{sequences_accept}
 use Rattle.hm_history.specs.Lookups.{narrows_guarded}
 use Rattle.hm_history.specs.After.{After}
@@ -72,13 +73,19 @@ entry_untold : (c : Program) (h : List Entry) (s : After) (past : Past) (m v : �
 entry_untold c h s past m v so pa test e = let x = entry_of test (s.places.table m v) e in
     untold_entry h s.length past s.places.table pa m v x.0 x.1 (so.untold.untold m v x.0 x.1) (so.untold.set_rightly m v x.0 x.1)
 
+reads_untold : (c : Program) (h : List Entry) (s : After) (past : Past) (m v : ℕ) → Sound c s past → Untold h s past → table_reads s.places m (mirror_proc s.plain m) v ≡ true → is_untold h m v ≡ true
+reads_untold c h s past m v so pa e = entry_untold c h s past m v so pa _ e
+
+sole_untold : (c : Program) (h : List Entry) (s : After) (past : Past) (a m v : ℕ) → Sound c s past → Untold h s past → owned (mirror_owner s.plain m) (λ p. table_sole s.places a m p v) ≡ true → is_untold h m v ≡ true
+sole_untold c h s past a m v so pa e = let alone : table_sole s.places a m (mirror_proc s.plain m) v ≡ true = owned_proc s.plain m (λ p. table_sole s.places a m p v) e in entry_untold c h s past m v so pa _ alone
+
 untold_of : (c : Program) (h : List Entry) (s : After) (past : Past) (a : ℕ) (k : Kind) → Sound c s past → Untold h s past → Allowed c s past a k → uses_untold h k ≡ true
 untold_of c h s past a (Kind.Loaded (Who.Cpu p) at bs) so pa ok = refl
 untold_of c h s past a (Kind.Stored (Who.Cpu p) at bs) so pa ok = refl
-untold_of c h s past a (Kind.Loaded (Who.Mirror m) at bs) so pa ok = entry_untold c h s past m (page_of at) so pa _ ok.2
-untold_of c h s past a (Kind.Stored (Who.Mirror m) at bs) so pa ok = entry_untold c h s past m (page_of at) so pa _ (and_parts (table_reads s.places m (mirror_proc s.plain m) (page_of at)) _ ok.2).0
-untold_of c h s past a (Kind.Fetched m at bs) so pa ok = entry_untold c h s past m (page_of at) so pa _ ok.1
-untold_of c h s past a (Kind.Added m at was now) so pa ok = entry_untold c h s past m (page_of at) so pa _ ok.1
+untold_of c h s past a (Kind.Loaded (Who.Mirror m) at bs) so pa ok = reads_untold c h s past m (page_of at) so pa (owned_proc s.plain m (λ p. table_reads s.places m p (page_of at)) ok.2)
+untold_of c h s past a (Kind.Stored (Who.Mirror m) at bs) so pa ok = reads_untold c h s past m (page_of at) so pa (and_parts (table_reads s.places m (mirror_proc s.plain m) (page_of at)) _ (owned_proc s.plain m (λ p. table_writes s.places m p (page_of at)) ok.2)).0
+untold_of c h s past a (Kind.Fetched m at bs) so pa ok = sole_untold c h s past a m (page_of at) so pa ok.1
+untold_of c h s past a (Kind.Added m at was now) so pa ok = sole_untold c h s past a m (page_of at) so pa ok.1
 untold_of c h s past a k so pa ok = refl
 
 -- reasons
@@ -90,7 +97,7 @@ pub may_follow : (c : Program) (h : List Entry) (e : Entry) (t : Past) → Small
 may_follow c h e t sm st pa short d = record {
   is_due = d;
   answers = subst (λ s. plain_accepts s.plain e.kind ≡ true) (after_is c h) (answers_of c (state_of c h).after t e.actor e.kind ok);
-  places = subst (λ s. places_accept c (mirror_proc s.plain) s.places e.actor e.kind ≡ true) (after_is c h) (places_of c (state_of c h).after t e.actor e.kind st.sound ok);
+  places = subst (λ s. places_accept c (mirror_owner s.plain) s.places e.actor e.kind ≡ true) (after_is c h) (places_of c (state_of c h).after t e.actor e.kind st.sound ok);
   frames = frames_of c h e.actor ok_turn.op (u.going e.actor).pages e.kind ok_turn.top (λ g. (short e.actor (gives_top (state_of c h) e.actor ok_turn.top ok_turn.below ok_turn.is_stack g)).1) (subst (λ s. Fair c s e.actor ok_turn.op (u.going e.actor).pages e.kind ok_turn.top) (after_is c h) ok_turn.fair);
   sequences = subst (λ s. sequences_accept s.sequences e.actor e.kind ≡ true) (after_is c h) (sequences_of c (state_of c h).after t e.actor e.kind ok);
   untold = untold_of c h (state_of c h).after t e.actor e.kind st.sound pa ok;

@@ -1,13 +1,14 @@
 -- The contents of pages after an entry.
-use Rattle.std.proofs.Common.{◌≡◌, ◌≢◌, ℕ, ◌+◌, ◌*◌, ◌%◌, ◌<◌, ◌≤◌, ◌⊎◌, inl, inr, Bool, true, false, ◌&&◌, Option, Some, None, List, [], ◌∷◌, refl, sym, ap, ◌∙◌, arith, length, unwrap_or}
+use Rattle.std.proofs.Common.{subst, ◌≡◌, ◌≢◌, ℕ, ◌+◌, ◌*◌, ◌%◌, ◌<◌, ◌≤◌, ◌⊎◌, inl, inr, Bool, true, false, ◌&&◌, Option, Some, None, List, [], ◌∷◌, refl, sym, ap, ◌∙◌, arith, length, unwrap_or}
 use Rattle.std.proofs.lemmas.Bool.Decides.{nat_tests}
 use Rattle.hm_base.specs.Program.{Program}
 use Rattle.hm_base.specs.declared.Frame.{Frame}
 use Rattle.hm_base.specs.declared.Place.{Place}
 use Rattle.hm_history.specs.Words.{with_at, same_frame, sys_frame, dev_frame, with_frame, names, moving_frame, writable, is_empty_place, page_of}
-use Rattle.hm_history.specs.Plain.{with_bytes, proc_of, mirror_proc}
-use Rattle.hm_history.specs.Places.{Places, TableEntry, with_place, cpu_writes, entry_passes, table_reads, table_sole, may_write, is_sole, is_exclusive_of}
-use Rattle.hm_history.specs.Contents.{zeros, backing, shown_by, with_piece, stored_in, with_part_copied}
+use Rattle.hm_history.specs.Plain.{with_bytes, written_for, proc_of, mirror_proc, owner, mirror_owner, owned}
+use Rattle.hm_history.proofs.Owners.{owned_proc, owned_there, owner_is}
+use Rattle.hm_history.specs.Places.{Places, TableEntry, with_place, cpu_writes, entry_passes, table_reads, table_writes, table_sole, may_write, is_sole, is_exclusive_of}
+use Rattle.hm_history.specs.Contents.{zeros, backing, place_for, shown_by, with_piece, stored_in, with_part_copied}
 use Rattle.hm_history.specs.After.{After}
 use Rattle.hm_history.specs.declared.Who.{Who}
 use Rattle.hm_history.specs.declared.Kind.{Kind}
@@ -76,10 +77,19 @@ written_to k a c s p at bs (Who.Cpu q) e h = can (s.places.place p (page_of at))
   where
     can : (x : Place) → cpu_writes x ≡ true → writable x ≡ true
     can x h = grind arith
-written_to k a c s p at bs (Who.Mirror m) e h = rw e (last (table_reads s.places m (mirror_proc s.plain m) (page_of at)) (entry_passes (λ x. may_write x.right) (s.places.table m (page_of at))) _ h)
+written_to k a c s p at bs (Who.Mirror m) e h = rw e (last (table_reads s.places m (mirror_proc s.plain m) (page_of at)) (entry_passes (λ x. may_write x.right) (s.places.table m (page_of at))) _ (owned_proc s.plain m (λ q. table_writes s.places m q (page_of at)) h))
   where
     last : (x y z : Bool) → (x && (y && z)) ≡ true → z ≡ true
     last x y z h = grind arith
+
+-- who writes has a process
+pub writer_is : (a : ℕ) (c : Program) (s : After) (at : ℕ) (bs : List ℕ) (x : Who) → PlacesOk c s a (Kind.Stored x at bs) → owner s.plain x ≡ Some (proc_of s.plain x)
+writer_is a c s at bs (Who.Cpu p) h = refl
+writer_is a c s at bs (Who.Mirror m) h = owner_is s.plain m (owned_there s.plain m (λ q. table_writes s.places m q (page_of at)) h)
+
+-- who adds to a byte has a process, and the page alone
+pub adder_is : (s : After) (a m at : ℕ) → owned (mirror_owner s.plain m) (λ p. table_sole s.places a m p (page_of at)) ≡ true → (mirror_owner s.plain m ≡ Some (mirror_proc s.plain m)) × (table_sole s.places a m (mirror_proc s.plain m) (page_of at) ≡ true)
+adder_is s a m at h = (owner_is s.plain m (owned_there s.plain m (λ p. table_sole s.places a m p (page_of at)) h), owned_proc s.plain m (λ p. table_sole s.places a m p (page_of at)) h)
 
 pub added_to : (s : After) (a m at : ℕ) → table_sole s.places a m (mirror_proc s.plain m) (page_of at) ≡ true → writable (s.places.place (mirror_proc s.plain m) (page_of at)) ≡ true
 added_to s a m at h = by (s.places.table m (page_of at)) (s.places.place (mirror_proc s.plain m) (page_of at)) h
@@ -99,6 +109,10 @@ stored_reads c s t so p at bs i w = let f : (f : Frame) × (stood s.places.commi
     by f e q x h n None ey r al = grind (arith, nat_tests, same_page at (length bs) x i, ap (λ j. stood s.places.committed_to (s.places.place j (page_of x))) {x = q} {y = p})
     by f e q x h n (Some g) ey r al = grind (arith, nat_tests, same_page at (length bs) x i, frame_tells g f, back x)
 
+-- frames show the plain bytes after a write for this process
+abbrev WrittenFor : After → ℕ → List ℕ → Option ℕ → Type 0
+WrittenFor s at bs p = ContentsRules s.plain.there (written_for s.plain.bytes p at bs) s.places.place s.places.committed_to (stored_in s.contents (backing s.places (place_for s.places p (page_of at))) at bs)
+
 pub reads_kept : (c : Program) (s : After) (t : Past) (a : ℕ) → Sound c s t → (k : Kind) → Allowed c s t a k →
     ContentsRules (next s a k).plain.there (next s a k).plain.bytes (next s a k).places.place (next s a k).places.committed_to (next s a k).contents
 reads_kept c s t a so (Kind.Mapped p r w) ok = record {
@@ -110,8 +124,8 @@ reads_kept c s t a so (Kind.Forked p d) ok = record {
 reads_kept c s t a so (Kind.Exited p) ok = record {
   reads = λ q x h n. so.reads.reads q x (grind (arith, nat_tests)) n;
 }
-reads_kept c s t a so (Kind.Stored x at bs) ok = stored_reads c s t so (proc_of s.plain x) at bs ok.3 (written_to (Kind.Stored x at bs) a c s (proc_of s.plain x) at bs x refl ok.2)
-reads_kept c s t a so (Kind.Added m at was now) ok = stored_reads c s t so (mirror_proc s.plain m) at (now ∷ []) (omega arith) (added_to s a m at ok.1)
+reads_kept c s t a so (Kind.Stored x at bs) ok = subst (WrittenFor s at bs) (sym (writer_is a c s at bs x ok.2)) (stored_reads c s t so (proc_of s.plain x) at bs ok.3 (written_to (Kind.Stored x at bs) a c s (proc_of s.plain x) at bs x refl ok.2))
+reads_kept c s t a so (Kind.Added m at was now) ok = let mine = adder_is s a m at ok.1 in subst (WrittenFor s at (now ∷ [])) (sym mine.0) (stored_reads c s t so (mirror_proc s.plain m) at (now ∷ []) (omega arith) (added_to s a m at mine.1))
 reads_kept c s t a so (Kind.Take f) ok = record {
   reads = λ q x h n. ap (λ (g : ℕ → ℕ). g (x % 4096)) (ap (shown_by (with_frame s.contents f zeros)) (stood_else s.places.committed_to f None (s.places.place q (page_of x)) (unnamed q (page_of x))) ∙ shown_else s.contents f zeros (stood s.places.committed_to (s.places.place q (page_of x))) (unstood q (page_of x))) ∙ so.reads.reads q x h n;
 }

@@ -17,21 +17,21 @@ use Rattle.hm_history.specs.Sequences.{InTree, InsertDeferred, RemoveDeferred, R
 use Rattle.hm_history.proofs.Updates.{other_at, here_at, at_cases, with_case}
 
 -- the mirror of an interval, and the interval of a mirror
-pub interval_of : (mirrors : ℕ → Option MirrorState) (interval : ℕ → Option Interval) (device : ℕ → ℕ) → MirrorRules mirrors interval device → (m : ℕ) (x : MirrorState) → mirrors m ≡ Some x → (y : Interval) × (interval m ≡ Some y) × Pairing x y (device m)
+pub interval_of : (mirrors : ℕ → Option MirrorState) (interval : ℕ → Option Interval) (device : ℕ → Option ℕ) → MirrorRules mirrors interval device → (m : ℕ) (x : MirrorState) → mirrors m ≡ Some x → (y : Interval) × (interval m ≡ Some y) × Pairing x y (device m)
 interval_of mirrors interval device h m x e = by (interval m) refl (subst (λ i. Paired i (interval m) (device m)) e (h.paired m))
   where
     by : (i : Option Interval) → interval m ≡ i → Paired (Some x) i (device m) → (y : Interval) × (interval m ≡ Some y) × Pairing x y (device m)
     by None ei p = absurd p
     by (Some y) ei p = (y, ei, p)
 
-pub mirror_of : (mirrors : ℕ → Option MirrorState) (interval : ℕ → Option Interval) (device : ℕ → ℕ) → MirrorRules mirrors interval device → (m : ℕ) (y : Interval) → interval m ≡ Some y → (x : MirrorState) × (mirrors m ≡ Some x) × Pairing x y (device m)
+pub mirror_of : (mirrors : ℕ → Option MirrorState) (interval : ℕ → Option Interval) (device : ℕ → Option ℕ) → MirrorRules mirrors interval device → (m : ℕ) (y : Interval) → interval m ≡ Some y → (x : MirrorState) × (mirrors m ≡ Some x) × Pairing x y (device m)
 mirror_of mirrors interval device h m y e = by (mirrors m) refl (subst (λ i. Paired (mirrors m) i (device m)) e (h.paired m))
   where
     by : (i : Option MirrorState) → mirrors m ≡ i → Paired i (Some y) (device m) → (x : MirrorState) × (mirrors m ≡ Some x) × Pairing x y (device m)
     by None ei p = absurd p
     by (Some x) ei p = (x, ei, p)
 
-pub no_interval : (mirrors : ℕ → Option MirrorState) (interval : ℕ → Option Interval) (device : ℕ → ℕ) → MirrorRules mirrors interval device → (m : ℕ) → mirrors m ≡ None → interval m ≡ None
+pub no_interval : (mirrors : ℕ → Option MirrorState) (interval : ℕ → Option Interval) (device : ℕ → Option ℕ) → MirrorRules mirrors interval device → (m : ℕ) → mirrors m ≡ None → interval m ≡ None
 no_interval mirrors interval device h m e = by (interval m) refl (subst (λ i. Paired i (interval m) (device m)) e (h.paired m))
   where
     by : (i : Option Interval) → interval m ≡ i → Paired None i (device m) → interval m ≡ None
@@ -48,7 +48,7 @@ attached_listens Detaching g h k = cc
 attached_listens Gone g h k = cc
 
 -- an attached mirror's interval listens
-pub listening : (x : MirrorState) (y : Interval) (d : ℕ) → Pairing x y d → is_attached_state x ≡ true → listens y.stage ≡ true
+pub listening : (x : MirrorState) (y : Interval) (d : Option ℕ) → Pairing x y d → is_attached_state x ≡ true → listens y.stage ≡ true
 listening x y d p h = by x.stage p.stage refl
   where
     is_attached_at : (t : Attachment) → x.stage ≡ t → is_attached_state x ≡ is_attached_state (record { dev = 0; proc = 0; window = record { first = 0; count = 0 }; stage = t })
@@ -74,7 +74,7 @@ settled_so Gone RemoveDeferred h = cc
 settled_so Gone Removed h = cc
 settled_so Gone Out h = refl
 
-settled_pair : (p d : ℕ) (x : Option MirrorState) (y : Option Interval) → Paired x y d → Paired x (applied p y) d
+settled_pair : (p : ℕ) (d : Option ℕ) (x : Option MirrorState) (y : Option Interval) → Paired x y d → Paired x (applied p y) d
 settled_pair p d None None h = h
 settled_pair p d None (Some y) h = absurd h
 settled_pair p d (Some x) None h = absurd h
@@ -84,13 +84,13 @@ settled_pair p d (Some x) (Some y) h = by (y.proc == p)
     by true = record { proc = h.proc; window = h.window; stage = settled_so x.stage y.stage h.stage; device = h.device }
     by false = h
 
-seq_pair : (q d : ℕ) (x : Option MirrorState) (y : Option Interval) → Paired x y d → Paired x (with_seq q y) d
+seq_pair : (q : ℕ) (d : Option ℕ) (x : Option MirrorState) (y : Option Interval) → Paired x y d → Paired x (with_seq q y) d
 seq_pair q d None None h = h
 seq_pair q d None (Some y) h = absurd h
 seq_pair q d (Some x) None h = absurd h
 seq_pair q d (Some x) (Some y) h = record { proc = h.proc; window = h.window; stage = h.stage; device = h.device }
 
-stage_pair : (t : Attachment) (g : Stage) (d : ℕ) (x : Option MirrorState) (y : Option Interval) → stands_so t g ≡ true → Paired x y d → Paired (with_attachment t x) (with_stage g y) d
+stage_pair : (t : Attachment) (g : Stage) (d : Option ℕ) (x : Option MirrorState) (y : Option Interval) → stands_so t g ≡ true → Paired x y d → Paired (with_attachment t x) (with_stage g y) d
 stage_pair t g d None None e h = h
 stage_pair t g d None (Some y) e h = absurd h
 stage_pair t g d (Some x) None e h = absurd h
@@ -98,10 +98,10 @@ stage_pair t g d (Some x) (Some y) e h = record { proc = h.proc; window = h.wind
 
 pub mirrors_kept : (c : Program) (s : After) (t : Past) (a : ℕ) → Sound c s t → (k : Kind) → Allowed c s t a k → MirrorRules (next s a k).plain.mirrors (next s a k).sequences.interval (next s a k).places.device
 mirrors_kept c s t a so (Kind.Attached m d p r q) ok = record {
-  paired = λ k. with_case (λ i x. Paired x (with_at s.sequences.interval m (Some new) i) (with_at s.places.device m d i)) s.plain.mirrors m (Some (record { dev = d; proc = p; window = r; stage = Attached })) k
-      (λ here. subst (λ y. Paired (Some (record { dev = d; proc = p; window = r; stage = Attached })) y (with_at s.places.device m d m)) (sym (here_at s.sequences.interval m (Some new)))
-      (record { proc = refl; window = refl; stage = by (is_odd (s.sequences.seq p)); device = here_at s.places.device m d }))
-      (λ ne. subst (λ y. Paired (s.plain.mirrors k) y (with_at s.places.device m d k)) (sym (other_at s.sequences.interval m k (Some new) ne)) (subst (λ y. Paired (s.plain.mirrors k) (s.sequences.interval k) y) (sym (other_at s.places.device m k d ne)) (so.mirrors.paired k)));
+  paired = λ k. with_case (λ i x. Paired x (with_at s.sequences.interval m (Some new) i) (with_at s.places.device m (Some d) i)) s.plain.mirrors m (Some (record { dev = d; proc = p; window = r; stage = Attached })) k
+      (λ here. subst (λ y. Paired (Some (record { dev = d; proc = p; window = r; stage = Attached })) y (with_at s.places.device m (Some d) m)) (sym (here_at s.sequences.interval m (Some new)))
+      (record { proc = refl; window = refl; stage = by (is_odd (s.sequences.seq p)); device = here_at s.places.device m (Some d) }))
+      (λ ne. subst (λ y. Paired (s.plain.mirrors k) y (with_at s.places.device m (Some d) k)) (sym (other_at s.sequences.interval m k (Some new) ne)) (subst (λ y. Paired (s.plain.mirrors k) (s.sequences.interval k) y) (sym (other_at s.places.device m k (Some d) ne)) (so.mirrors.paired k)));
 }
   where
     new : Interval

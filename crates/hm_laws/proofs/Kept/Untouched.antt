@@ -4,7 +4,7 @@ use Rattle.std.proofs.lemmas.Bool.Decides.{nat_tests}
 use Rattle.hm_base.specs.Areas.{without, with_rights, with_area, rights_at}
 use Rattle.hm_base.specs.Program.{Program}
 use Rattle.hm_history.specs.Words.{with_at, writable, is_empty_place, page_of}
-use Rattle.hm_history.specs.Plain.{with_bytes, with_zeros, proc_of, mirror_proc}
+use Rattle.hm_history.specs.Plain.{with_bytes, with_zeros, written_for, proc_of, mirror_proc}
 use Rattle.hm_history.specs.Places.{with_place}
 use Rattle.hm_history.specs.After.{After}
 use Rattle.hm_history.specs.declared.locks.MapLock.{MapLock}
@@ -17,7 +17,7 @@ use Rattle.std.proofs.lemmas.Bool.{cases_eq}
 use Rattle.hm_laws.proofs.Kept.AreaCuts.{rights_without, rights_with, rights_added, no_meet}
 use Rattle.hm_laws.proofs.Kept.Pools.{areas_at}
 use Rattle.hm_laws.proofs.Kept.Areas.{placed_cases, writable_stays}
-use Rattle.hm_laws.proofs.Kept.Contents.{same_page, written_to, added_to}
+use Rattle.hm_laws.proofs.Kept.Contents.{same_page, written_to, added_to, writer_is, adder_is}
 use Rattle.hm_history.proofs.Updates.{other_at}
 
 -- a byte is 0, or somebody has the process for himself
@@ -63,11 +63,11 @@ untouched_kept c s t a so (Kind.Wlock p) ok = record {
   untouched = λ q x h n r. locked_else s.locks.map a q (s.plain.bytes q x) (lock_on p true) (so.untouched.untouched q x h n r) (λ e. grind (arith, ok.1));
 }
 untouched_kept c s t a so (Kind.Stored y at bs) ok = record {
-  untouched = λ q x h n r. subst (IsClean (with_at s.locks.map a None) q) (sym (unwritten s (proc_of s.plain y) at bs ok.3 (written_to (Kind.Stored y at bs) a c s (proc_of s.plain y) at bs y refl ok.2) q x n))
-      (locked_else s.locks.map a q (s.plain.bytes q x) None (so.untouched.untouched q x h n r) (λ e. ok.0 q e h x n r));
+  untouched = λ q x h n r. subst (λ p. IsClean (with_at s.locks.map a None) q (written_for s.plain.bytes p at bs q x)) (sym (writer_is a c s at bs y ok.2)) (subst (IsClean (with_at s.locks.map a None) q) (sym (unwritten s (proc_of s.plain y) at bs ok.3 (written_to (Kind.Stored y at bs) a c s (proc_of s.plain y) at bs y refl ok.2) q x n))
+      (locked_else s.locks.map a q (s.plain.bytes q x) None (so.untouched.untouched q x h n r) (λ e. ok.0 q e h x n r)));
 }
 untouched_kept c s t a so (Kind.Added m at was now) ok = record {
-  untouched = λ q x h n r. subst (IsClean s.locks.map q) (sym (unwritten s (mirror_proc s.plain m) at (now ∷ []) (omega arith) (added_to s a m at ok.1) q x n)) (so.untouched.untouched q x h n r);
+  untouched = λ q x h n r. let mine = adder_is s a m at ok.1 in subst (λ p. IsClean s.locks.map q (written_for s.plain.bytes p at (now ∷ []) q x)) (sym mine.0) (subst (IsClean s.locks.map q) (sym (unwritten s (mirror_proc s.plain m) at (now ∷ []) (omega arith) (added_to s a m at mine.1) q x n)) (so.untouched.untouched q x h n r));
 }
 untouched_kept c s t a so (Kind.Mapped p r w) ok = record { untouched = λ q x h n i. by q x h n i (cases_eq q p) }
   where

@@ -7,8 +7,9 @@ use Rattle.hm_base.specs.declared.Frame.{Frame}
 use Rattle.hm_base.specs.declared.Place.{Place}
 use Rattle.hm_history.specs.Words.{with_frame, names, names_directly, moving_frame, page_of}
 use Rattle.hm_history.specs.Plain.{MirrorState, is_attached_state, mirror_passes, mirror_proc, proc_of}
-use Rattle.hm_history.specs.Places.{TableEntry, with_place, cpu_writes, table_reads}
-use Rattle.hm_history.specs.Contents.{zeros}
+use Rattle.hm_history.specs.Places.{TableEntry, with_place, cpu_writes, table_reads, table_writes}
+use Rattle.hm_history.proofs.Owners.{owned_proc}
+use Rattle.hm_history.specs.Contents.{zeros, backing, place_for, stored_in}
 use Rattle.hm_history.specs.After.{After}
 use Rattle.hm_history.specs.declared.Who.{Who}
 use Rattle.hm_history.specs.declared.Kind.{Kind}
@@ -20,7 +21,7 @@ use Rattle.hm_laws.specs.Moves.{Parts, IsReturning, IsReturned}
 use Rattle.hm_laws.specs.Spares.{Spares}
 use Rattle.hm_laws.proofs.Kept.Pools.{free_says}
 use Rattle.hm_laws.proofs.Kept.Areas.{placed_cases}
-use Rattle.hm_laws.proofs.Kept.Contents.{stood_else, commit_cases}
+use Rattle.hm_laws.proofs.Kept.Contents.{stood_else, commit_cases, writer_is, adder_is}
 use Rattle.hm_laws.proofs.Kept.Frames.{moving_names, names_moving, direct_names}
 use Rattle.hm_laws.proofs.Kept.Tables.{matches_committed}
 use Rattle.hm_laws.proofs.Other.Frames.{frame_else, not_mine, not_about, not_free, lock_keeps, fresh_other, stored_else, contents_other}
@@ -170,16 +171,16 @@ not_frozen_cpu x f w m = grind arith
 
 unwritten : (c : Program) (s : After) (t : Past) (a : ℕ) (x : Who) (at : ℕ) (bs : List ℕ) (f : Frame) → Sound c s t → PlacesOk c s a (Kind.Stored x at bs) → moving_frame (s.places.place (proc_of s.plain x) (page_of at)) ≡ Some f → s.places.committed_to f ≡ None → ⊥
 unwritten c s t a (Who.Cpu p) at bs f so ok m n = not_frozen_cpu (s.places.place p (page_of at)) f ok m
-unwritten c s t a (Who.Mirror i) at bs f so ok m n = let e = entry_of _ (s.places.table i (page_of at)) (and_parts (table_reads s.places i (mirror_proc s.plain i) (page_of at)) _ ok).0 in table_entry c s t i (page_of at) e.0 f so e.1 m n
+unwritten c s t a (Who.Mirror i) at bs f so ok m n = let e = entry_of _ (s.places.table i (page_of at)) (and_parts (table_reads s.places i (mirror_proc s.plain i) (page_of at)) _ (owned_proc s.plain i (λ p. table_writes s.places i p (page_of at)) ok)).0 in table_entry c s t i (page_of at) e.0 f so e.1 m n
 
 pub frozen_contents : (c : Program) (s : After) (t : Past) (a b : ℕ) → Sound c s t → (k : Kind) → Allowed c s t a k → (f : Frame) → Spares s a b k f → IsFrozen s b f → (next s a k).contents f ≡ s.contents f
 frozen_contents c s t a b so (Kind.Take g) ok f sp h = frame_else s.contents g f zeros (not_free c s t b f g so h.0.mine ok)
 frozen_contents c s t a b so (Kind.Copied i g k) ok f sp h = frame_else s.contents g f _ (not_about s a b (Kind.Copied i g k) f g sp (λ j. j) h.0.mine ok.mine)
-frozen_contents c s t a b so (Kind.Stored y at bs) ok f sp h = stored_else s (proc_of s.plain y) (page_of at) at bs f (λ n. unwritten c s t a y at bs f so ok.2 (names_moving (s.places.place (proc_of s.plain y) (page_of at)) f (h.0.stood_by _ _ n) (h.1 _ _ (h.0.stood_by _ _ n))) h.0.fresh)
-frozen_contents c s t a b so (Kind.Added m at was now) ok f sp h = stored_else s (mirror_proc s.plain m) (page_of at) at (now ∷ []) f (λ n. sole (names_moving (s.places.place (mirror_proc s.plain m) (page_of at)) f (h.0.stood_by _ _ n) (h.1 _ _ (h.0.stood_by _ _ n))))
+frozen_contents c s t a b so (Kind.Stored y at bs) ok f sp h = ap (λ i. stored_in s.contents (backing s.places (place_for s.places i (page_of at))) at bs f) (writer_is a c s at bs y ok.2) ∙ stored_else s (proc_of s.plain y) (page_of at) at bs f (λ n. unwritten c s t a y at bs f so ok.2 (names_moving (s.places.place (proc_of s.plain y) (page_of at)) f (h.0.stood_by _ _ n) (h.1 _ _ (h.0.stood_by _ _ n))) h.0.fresh)
+frozen_contents c s t a b so (Kind.Added m at was now) ok f sp h = ap (λ i. stored_in s.contents (backing s.places (place_for s.places i (page_of at))) at (now ∷ []) f) (adder_is s a m at ok.1).0 ∙ stored_else s (mirror_proc s.plain m) (page_of at) at (now ∷ []) f (λ n. sole (names_moving (s.places.place (mirror_proc s.plain m) (page_of at)) f (h.0.stood_by _ _ n) (h.1 _ _ (h.0.stood_by _ _ n))))
   where
     sole : moving_frame (s.places.place (mirror_proc s.plain m) (page_of at)) ≡ Some f → ⊥
-    sole mv = let e = entry_of _ (s.places.table m (page_of at)) ok.1 in table_entry c s t m (page_of at) e.0 f so e.1 mv h.0.fresh
+    sole mv = let e = entry_of _ (s.places.table m (page_of at)) (adder_is s a m at ok.1).1 in table_entry c s t m (page_of at) e.0 f so e.1 mv h.0.fresh
 frozen_contents c s t a b so k ok f sp h = refl
 
 -- what was copied of it to a frame that nobody uses is there

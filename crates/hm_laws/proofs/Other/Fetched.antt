@@ -7,8 +7,8 @@ use Rattle.hm_base.specs.Pages.{covers}
 use Rattle.hm_base.specs.Program.{Program}
 use Rattle.hm_base.specs.declared.Place.{Place}
 use Rattle.hm_history.specs.Words.{with_at, is_empty_place, page_of}
-use Rattle.hm_history.specs.Plain.{MirrorState, mirror_proc, proc_of, rights_of, with_bytes, with_zeros}
-use Rattle.hm_history.specs.Places.{TableEntry, with_place, cpu_writes, entry_passes, table_reads, may_read, is_target, stands_for, is_sole, is_exclusive, is_exclusive_by, is_exclusive_of}
+use Rattle.hm_history.specs.Plain.{MirrorState, mirror_proc, proc_of, rights_of, with_bytes, with_zeros, written_for}
+use Rattle.hm_history.specs.Places.{TableEntry, with_place, cpu_writes, entry_passes, table_reads, table_writes, may_read, is_target, stands_for, is_sole, is_exclusive, is_exclusive_by, is_exclusive_of}
 use Rattle.hm_history.specs.After.{After}
 use Rattle.hm_history.specs.declared.Who.{Who}
 use Rattle.hm_history.specs.declared.Kind.{Kind}
@@ -18,7 +18,8 @@ use Rattle.hm_laws.specs.Allowed.{next, InPage, PlacesOk, Allowed}
 use Rattle.hm_laws.specs.Facts.{HasProc, Fetched_at, Holds}
 use Rattle.hm_laws.proofs.Kept.AreaCuts.{rights_none, no_meet}
 use Rattle.hm_laws.proofs.Kept.Areas.{placed_cases}
-use Rattle.hm_laws.proofs.Kept.Contents.{same_page}
+use Rattle.hm_laws.proofs.Kept.Contents.{same_page, writer_is, adder_is}
+use Rattle.hm_history.proofs.Owners.{owned_proc}
 use Rattle.hm_laws.proofs.Other.Mirrors.{who_keeps}
 use Rattle.hm_history.proofs.Updates.{other_at, here_at}
 use Rattle.hm_history.proofs.Tests.{true_false}
@@ -63,7 +64,7 @@ stored_shared c s a at bs (Who.Cpu q) h = can (s.places.place q (page_of at)) h
   where
     can : (x : Place) → cpu_writes x ≡ true → is_exclusive x ≡ false
     can x h = grind arith
-stored_shared c s a at bs (Who.Mirror m) h = reads_shared (λ y. may_read y.right) (λ y. is_target (stands_for s.places (s.places.place (mirror_proc s.plain m) (page_of at))) y.target) (s.places.place (mirror_proc s.plain m) (page_of at)) (s.places.table m (page_of at)) (and_parts (table_reads s.places m (mirror_proc s.plain m) (page_of at)) _ h).0
+stored_shared c s a at bs (Who.Mirror m) h = reads_shared (λ y. may_read y.right) (λ y. is_target (stands_for s.places (s.places.place (mirror_proc s.plain m) (page_of at))) y.target) (s.places.place (mirror_proc s.plain m) (page_of at)) (s.places.table m (page_of at)) (and_parts (table_reads s.places m (mirror_proc s.plain m) (page_of at)) _ (owned_proc s.plain m (λ p. table_writes s.places m p (page_of at)) h)).0
   where
     last : (x y z : Bool) → (x && (y && not z)) ≡ true → z ≡ false
     last x y z k = grind arith
@@ -99,9 +100,9 @@ bytes_alone c s t a b p x so ne been h (Kind.Mapped q r w) ok = by (cases_eq p q
     by (inl e) = ap (λ j. with_at s.plain.bytes q (with_zeros (s.plain.bytes q) r) j x) e ∙ ap (λ (g : ℕ → ℕ). g x) (here_at s.plain.bytes q (with_zeros (s.plain.bytes q) r)) ∙ outside (covers r (page_of x)) refl e ∙ sym (ap (λ j. s.plain.bytes j x) e)
     by (inr n) = ap (λ (g : ℕ → ℕ). g x) (other_at s.plain.bytes q p _ n)
 bytes_alone c s t a b p x so ne been h (Kind.Forked q d) ok = ap (λ (g : ℕ → ℕ). g x) (other_at s.plain.bytes d p _ (λ e. true_false (s.plain.been d) (ap s.plain.been (sym e) ∙ been) ok.2.1))
-bytes_alone c s t a b p x so ne been h (Kind.Stored y at bs) ok = written_elsewhere s.plain.bytes (proc_of s.plain y) at bs ok.3 p x (λ e i. true_false (is_exclusive (s.places.place p (page_of x))) (exclusive_by (s.places.place p (page_of x)) b h)
+bytes_alone c s t a b p x so ne been h (Kind.Stored y at bs) ok = ap (λ i. written_for s.plain.bytes i at bs p x) (writer_is a c s at bs y ok.2) ∙ written_elsewhere s.plain.bytes (proc_of s.plain y) at bs ok.3 p x (λ e i. true_false (is_exclusive (s.places.place p (page_of x))) (exclusive_by (s.places.place p (page_of x)) b h)
     (ap (λ j. is_exclusive (s.places.place j (page_of x))) e ∙ ap (λ j. is_exclusive (s.places.place (proc_of s.plain y) j)) i ∙ stored_shared c s a at bs y ok.2))
-bytes_alone c s t a b p x so ne been h (Kind.Added m at was now) ok = written_elsewhere s.plain.bytes (mirror_proc s.plain m) at (now ∷ []) (omega arith) p x (λ e i. ne (added_alone (s.places.table m (page_of at)) (s.places.place (mirror_proc s.plain m) (page_of at)) a b ok.1
+bytes_alone c s t a b p x so ne been h (Kind.Added m at was now) ok = let mine = adder_is s a m at ok.1 in ap (λ i. written_for s.plain.bytes i at (now ∷ []) p x) mine.0 ∙ written_elsewhere s.plain.bytes (mirror_proc s.plain m) at (now ∷ []) (omega arith) p x (λ e i. ne (added_alone (s.places.table m (page_of at)) (s.places.place (mirror_proc s.plain m) (page_of at)) a b mine.1
     (ap (λ j. is_exclusive_by j b) (ap (s.places.place (mirror_proc s.plain m)) (sym i) ∙ ap (λ j. s.places.place j (page_of x)) (sym e)) ∙ h)))
 bytes_alone c s t a b p x so ne been h k ok = refl
 

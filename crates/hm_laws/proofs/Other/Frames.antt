@@ -8,7 +8,7 @@ use Rattle.hm_base.specs.declared.Place.{Place}
 use Rattle.hm_history.specs.Words.{same_frame, with_frame, names, moving_frame, writable, page_of}
 use Rattle.hm_history.specs.Plain.{proc_of, mirror_proc}
 use Rattle.hm_history.specs.Places.{with_place, lowest_free}
-use Rattle.hm_history.specs.Contents.{zeros, backing, shown_by, stored_in, with_part_copied}
+use Rattle.hm_history.specs.Contents.{zeros, backing, place_for, shown_by, stored_in, with_part_copied}
 use Rattle.hm_history.specs.After.{After}
 use Rattle.hm_history.specs.declared.Kind.{Kind}
 use Rattle.hm_laws.specs.Stood.{stood, is_moving}
@@ -18,7 +18,7 @@ use Rattle.hm_laws.specs.Allowed.{next, shows, IsUnused, OwnsFrame, Allowed}
 use Rattle.hm_laws.specs.Spares.{Apart, Spares, Another, Own}
 use Rattle.hm_laws.proofs.Kept.Pools.{free_says}
 use Rattle.hm_laws.proofs.Kept.Areas.{placed_cases, places_kept}
-use Rattle.hm_laws.proofs.Kept.Contents.{backing_is, stood_else, commit_cases, shown_else, written_to, added_to}
+use Rattle.hm_laws.proofs.Kept.Contents.{backing_is, stood_else, commit_cases, shown_else, written_to, added_to, writer_is, adder_is}
 use Rattle.hm_laws.proofs.Kept.PlaceLocks.{LockMove, Stays, Settles, Freezes, Leaves}
 use Rattle.hm_laws.proofs.Kept.Frames.{moving_names, stands_itself, lock_move}
 use Rattle.hm_history.proofs.Tests.{some_none, true_false}
@@ -134,8 +134,8 @@ stored_else s p v at bs f n = rw (backing_is s.places (s.places.place p v)) (by 
 pub contents_other : (c : Program) (s : After) (t : Past) (a b : ℕ) → Sound c s t → (k : Kind) → Allowed c s t a k → (f : Frame) → Spares s a b k f → IsUnused s b f → (next s a k).contents f ≡ s.contents f
 contents_other c s t a b so (Kind.Take g) ok f sp h = frame_else s.contents g f zeros (not_free c s t b f g so h.mine ok)
 contents_other c s t a b so (Kind.Copied i g k) ok f sp h = frame_else s.contents g f _ (not_about s a b (Kind.Copied i g k) f g sp (λ j. j) h.mine ok.mine)
-contents_other c s t a b so (Kind.Stored y at bs) ok f sp h = stored_else s (proc_of s.plain y) (page_of at) at bs f (h.unstood (proc_of s.plain y) (page_of at))
-contents_other c s t a b so (Kind.Added m at was now) ok f sp h = stored_else s (mirror_proc s.plain m) (page_of at) at (now ∷ []) f (h.unstood (mirror_proc s.plain m) (page_of at))
+contents_other c s t a b so (Kind.Stored y at bs) ok f sp h = ap (λ i. stored_in s.contents (backing s.places (place_for s.places i (page_of at))) at bs f) (writer_is a c s at bs y ok.2) ∙ stored_else s (proc_of s.plain y) (page_of at) at bs f (h.unstood (proc_of s.plain y) (page_of at))
+contents_other c s t a b so (Kind.Added m at was now) ok f sp h = let mine = adder_is s a m at ok.1 in ap (λ i. stored_in s.contents (backing s.places (place_for s.places i (page_of at))) at (now ∷ []) f) mine.0 ∙ stored_else s (mirror_proc s.plain m) (page_of at) at (now ∷ []) f (h.unstood (mirror_proc s.plain m) (page_of at))
 contents_other c s t a b so k ok f sp h = refl
 
 -- what a page shows that is not writable
@@ -156,8 +156,8 @@ shows_after c s t a so (Kind.Take g) ok q u n o l = ap (λ (i : ℕ → ℕ). i 
     free : s.places.held g ≡ false
     free = (free_says c s.places g.pool g ok).1
 shows_after c s t a so (Kind.Copied i g k) ok q u n o l = ap (λ (i : ℕ → ℕ). i o) (shown_else s.contents g (with_part_copied (s.contents i) (s.contents g) k) (stood s.places.committed_to (s.places.place q u)) (ok.unstood q u))
-shows_after c s t a so (Kind.Stored y at bs) ok q u n o l = ap (λ (i : ℕ → ℕ). i o) (stored_shows c s t (proc_of s.plain y) (page_of at) at bs so (written_to (Kind.Stored y at bs) a c s (proc_of s.plain y) at bs y refl ok.2) q u n)
-shows_after c s t a so (Kind.Added m at was now) ok q u n o l = ap (λ (i : ℕ → ℕ). i o) (stored_shows c s t (mirror_proc s.plain m) (page_of at) at (now ∷ []) so (added_to s a m at ok.1) q u n)
+shows_after c s t a so (Kind.Stored y at bs) ok q u n o l = ap (λ i. shown_by (stored_in s.contents (backing s.places (place_for s.places i (page_of at))) at bs) (stood s.places.committed_to (s.places.place q u)) o) (writer_is a c s at bs y ok.2) ∙ ap (λ (i : ℕ → ℕ). i o) (stored_shows c s t (proc_of s.plain y) (page_of at) at bs so (written_to (Kind.Stored y at bs) a c s (proc_of s.plain y) at bs y refl ok.2) q u n)
+shows_after c s t a so (Kind.Added m at was now) ok q u n o l = let mine = adder_is s a m at ok.1 in ap (λ i. shown_by (stored_in s.contents (backing s.places (place_for s.places i (page_of at))) at (now ∷ [])) (stood s.places.committed_to (s.places.place q u)) o) mine.0 ∙ ap (λ (i : ℕ → ℕ). i o) (stored_shows c s t (mirror_proc s.plain m) (page_of at) at (now ∷ []) so (added_to s a m at mine.1) q u n)
 shows_after c s t a so (Kind.Committed i g) ok q u n o l = by (commit_cases s.places.committed_to i g (s.places.place q u))
   where
     by : ((moving_frame (s.places.place q u) ≡ Some i) × (stood (with_frame s.places.committed_to i (Some g)) (s.places.place q u) ≡ Some g)) ⊎ ((moving_frame (s.places.place q u) ≡ Some i → ⊥) × (stood (with_frame s.places.committed_to i (Some g)) (s.places.place q u) ≡ stood s.places.committed_to (s.places.place q u))) →

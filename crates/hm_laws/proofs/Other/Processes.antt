@@ -5,7 +5,7 @@ use Rattle.hm_base.specs.Areas.{rights_at}
 use Rattle.hm_base.specs.Program.{Program}
 use Rattle.hm_base.specs.declared.Place.{Place}
 use Rattle.hm_history.specs.Words.{with_at, writable, is_empty_place, page_of}
-use Rattle.hm_history.specs.Plain.{rights_of, with_bytes, proc_of, mirror_proc}
+use Rattle.hm_history.specs.Plain.{rights_of, with_bytes, written_for, proc_of, mirror_proc}
 use Rattle.hm_history.specs.Places.{with_place}
 use Rattle.hm_history.specs.Locks.{releases}
 use Rattle.hm_history.specs.After.{After}
@@ -17,7 +17,7 @@ use Rattle.hm_laws.specs.Sound.{Sound}
 use Rattle.hm_laws.specs.Allowed.{next, shows, HasChild, MayPlace, Reader, Writer, Parent, Mover, InPage, Allowed}
 use Rattle.std.proofs.lemmas.Bool.{cases_eq, and_parts, not-true}
 use Rattle.hm_laws.proofs.Kept.Areas.{placed_cases}
-use Rattle.hm_laws.proofs.Kept.Contents.{same_page, written_to, added_to}
+use Rattle.hm_laws.proofs.Kept.Contents.{same_page, written_to, added_to, writer_is, adder_is}
 use Rattle.hm_history.proofs.Updates.{other_at, here_at}
 use Rattle.hm_history.proofs.Tests.{some_none, true_false}
 
@@ -76,8 +76,8 @@ pub bytes_other : (c : Program) (s : After) (t : Past) (a b p : ℕ) (w : Bool) 
     (x : ℕ) → writable (s.places.place p (page_of x)) ≡ false → (next s a k).plain.bytes p x ≡ s.plain.bytes p x
 bytes_other c s t a b p w so ne h e (Kind.Mapped q r y) ok x n = ap (λ (f : ℕ → ℕ). f x) (other_at s.plain.bytes q p _ (not_writer c s t a b p w so ne h q ok.0.0))
 bytes_other c s t a b p w so ne h e (Kind.Forked q d) ok x n = ap (λ (f : ℕ → ℕ). f x) (other_at s.plain.bytes d p _ (not_born c s t p d so e ok.2.1))
-bytes_other c s t a b p w so ne h e (Kind.Stored y at bs) ok x n = written_other s (proc_of s.plain y) at bs ok.3 (written_to (Kind.Stored y at bs) a c s (proc_of s.plain y) at bs y refl ok.2) p x n
-bytes_other c s t a b p w so ne h e (Kind.Added m at was now) ok x n = written_other s (mirror_proc s.plain m) at (now ∷ []) (omega arith) (added_to s a m at ok.1) p x n
+bytes_other c s t a b p w so ne h e (Kind.Stored y at bs) ok x n = ap (λ i. written_for s.plain.bytes i at bs p x) (writer_is a c s at bs y ok.2) ∙ written_other s (proc_of s.plain y) at bs ok.3 (written_to (Kind.Stored y at bs) a c s (proc_of s.plain y) at bs y refl ok.2) p x n
+bytes_other c s t a b p w so ne h e (Kind.Added m at was now) ok x n = let mine = adder_is s a m at ok.1 in ap (λ i. written_for s.plain.bytes i at (now ∷ []) p x) mine.0 ∙ written_other s (mirror_proc s.plain m) at (now ∷ []) (omega arith) (added_to s a m at mine.1) p x n
 bytes_other c s t a b p w so ne h e k ok x n = refl
 
 -- who places a page of a process that another has for itself, or of the child of another, is a mover

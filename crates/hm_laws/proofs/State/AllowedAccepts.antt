@@ -8,7 +8,7 @@ use Rattle.hm_base.specs.declared.PoolId.{PoolId}
 use Rattle.hm_base.specs.declared.Frame.{Frame}
 use Rattle.hm_base.specs.declared.Place.{Place}
 use Rattle.hm_history.specs.Words.{same_frame, is_frame, names, writable}
-use Rattle.hm_history.specs.Plain.{plain_accepts, mirror_proc}
+use Rattle.hm_history.specs.Plain.{plain_accepts, mirror_owner, owned}
 use Rattle.hm_history.specs.Places.{Places, is_page, lowest, lowest_named, lowest_free, is_withdrawn, places_accept, one_writer, stands_for, is_frame_target, holds_target, is_for_device, is_removed}
 use Rattle.hm_history.specs.Sequences.{Interval, sequences_accept}
 use Rattle.hm_history.specs.Lookups.{loses, is_guarded, narrows_guarded}
@@ -115,7 +115,7 @@ pub is_none_of : {X : Type 0} (x : Option X) → x ≡ None → is_none x ≡ tr
 is_none_of x e = rw e refl
 
 -- places, frames and tables
-pub places_of : (c : Program) (s : After) (t : Past) (a : ℕ) (k : Kind) → Sound c s t → Allowed c s t a k → places_accept c (mirror_proc s.plain) s.places a k ≡ true
+pub places_of : (c : Program) (s : After) (t : Past) (a : ℕ) (k : Kind) → Sound c s t → Allowed c s t a k → places_accept c (mirror_owner s.plain) s.places a k ≡ true
 places_of c s t a (Kind.Loaded (Who.Cpu p) at bs) so ok = ok.2
 places_of c s t a (Kind.Loaded (Who.Mirror m) at bs) so ok = ok.2
 places_of c s t a (Kind.Stored (Who.Cpu p) at bs) so ok = ok.2
@@ -135,6 +135,6 @@ places_of c s t a (Kind.Take f) so ok = and_from _ _ (and_from _ _ (is_frame_of 
     stays (PoolId.Device d) h = open_device d h (s.places.removed d) refl
 places_of c s t a (Kind.Drop f) so ok = and_from _ _ (so.frames.locked_held f a ok.mine) (is_none_of (lowest_named s.places f) (lowest_fails (λ p v. is_frame (names (s.places.place p v)) f) (unnamed_test s.places.place f ok.unnamed) s.places.placed))
 places_of c s t a (Kind.Set m v f w from) so ok = let y : (y : Interval) × (s.sequences.interval m ≡ Some y) × Pairing ok.mirror y (s.places.device m) = interval_of s.plain.mirrors s.sequences.interval s.places.device so.mirrors m ok.mirror ok.is in
-    ap (is_for_device f) y.2.device ∙ ok.fits.own_device
+    ap (λ d. owned d (is_for_device f)) y.2.device ∙ ok.fits.own_device
 places_of c s t a (Kind.Removed d) so ok = ok.1
 places_of c s t a k so ok = refl

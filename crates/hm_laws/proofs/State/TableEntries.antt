@@ -59,6 +59,7 @@ match_says s t TableRight.Sole x h m = cc
 
 -- a usable entry: the access goes through, and the page is its process's
 pub record TableSays (s : After) (m v : ℕ) (e : TableEntry) : Type 0 where
+  pub some : is_some (s.plain.mirrors m) ≡ true
   pub there : s.plain.there (mirror_proc s.plain m) ≡ true
   pub rights : is_some (rights_of s.plain (mirror_proc s.plain m) v) ≡ true
   pub reads : table_reads s.places m (mirror_proc s.plain m) v ≡ true
@@ -74,6 +75,7 @@ table_says c s t m v e so i h = by (s.plain.mirrors m) refl
     by : (x : Option MirrorState) → s.plain.mirrors m ≡ x → TableSays s m v e
     by None ex = absurd (some_none (s.places.table m v) e i (so.tables.unattached m v (ap (mirror_passes is_attached_state) ex)))
     by (Some x) ex = record {
+      some = ap is_some ex;
       there = there;
       rights = so.areas.in_area (mirror_proc s.plain m) v there fit.used;
       reads = reads;

@@ -112,7 +112,7 @@ fetched_for s a (Op.Add m at n) old = either (ForHolder s) (has_exclusive s a m 
 fetched_for s a o old = tt
 
 -- the phases that may wait, and those that may wait for an mmap lock
-abbrev may_wait : Phase → Bool
+abbrev pub may_wait : Phase → Bool
 may_wait Phase.Begin = true
 may_wait (Phase.Detaching q) = true
 may_wait (Phase.Piece k) = true
@@ -129,10 +129,10 @@ may_lock (Phase.Fetched old) = true
 may_lock (Phase.Begun k at q) = true
 may_lock top = false
 
-no_test : {X : Type 0} → false ≡ true → X
+pub no_test : {X : Type 0} → false ≡ true → X
 no_test h = absurd (true_false true refl (sym h))
 
-goes_at_once : (c : Program) (s : After) (a : ℕ) (o : Op) (xs : List Migrating) (top : Phase) → may_wait top ≡ false → NoWait (due_phase c s a o xs top)
+pub goes_at_once : (c : Program) (s : After) (a : ℕ) (o : Op) (xs : List Migrating) (top : Phase) → may_wait top ≡ false → NoWait (due_phase c s a o xs top)
 goes_at_once c s a o xs Phase.Begin h = no_test (sym h)
 goes_at_once c s a o xs (Phase.Detaching q) h = no_test (sym h)
 goes_at_once c s a o xs (Phase.Piece k) h = no_test (sym h)
@@ -145,12 +145,12 @@ goes_at_once c s a o xs (Phase.Taken touch g x) h = either NoWait (same_place (s
 goes_at_once c s a o xs top h = tt
 
 -- what the facts of a stack say of locks and guards, wherever they stand in the list
-abbrev is_no_guard : Fact → Bool
+abbrev pub is_no_guard : Fact → Bool
 is_no_guard No_guard = true
 is_no_guard Never = true
 is_no_guard x = false
 
-abbrev is_no_frame : Fact → Bool
+abbrev pub is_no_frame : Fact → Bool
 is_no_frame (Locks_only []) = true
 is_no_frame Never = true
 is_no_frame x = false
@@ -160,7 +160,7 @@ is_no_map_lock No_map_lock = true
 is_no_map_lock Never = true
 is_no_map_lock x = false
 
-one_says : (s : After) (t : Past) (a : ℕ) (test : Fact → Bool) (P : Type 0) → ((x : Fact) → test x ≡ true → Holds s t a x → P) → (l : List Fact) → list_any test l ≡ true → HoldsAll s t a l → P
+pub one_says : (s : After) (t : Past) (a : ℕ) (test : Fact → Bool) (P : Type 0) → ((x : Fact) → test x ≡ true → Holds s t a x → P) → (l : List Fact) → list_any test l ≡ true → HoldsAll s t a l → P
 one_says s t a test P each [] e h = cc
 one_says s t a test P each (x ∷ l) e h = by (one_says s t a test P each l) (test x) refl e
   where
@@ -183,10 +183,10 @@ map_lock_says s t a No_map_lock e h = h
 map_lock_says s t a Never e h = absurd h
 map_lock_says s t a x e h = no_test e
 
-abbrev SaysFree : List Fact → Type 0
+abbrev pub SaysFree : List Fact → Type 0
 SaysFree l = (list_any is_no_guard l ≡ true) × (list_any is_no_frame l ≡ true)
 
-not_busy : (s : After) (t : Past) (a : ℕ) (l : List Fact) → SaysFree l → HoldsAll s t a l → IsBusy s a → ⊥
+pub not_busy : (s : After) (t : Past) (a : ℕ) (l : List Fact) → SaysFree l → HoldsAll s t a l → IsBusy s a → ⊥
 not_busy s t a l e h (inl g) = g (one_says s t a is_no_guard _ (guard_says s t a) l e.0 h)
 not_busy s t a l e h (inr f) = one_says s t a is_no_frame _ (frame_says s t a) l e.1 h f.0 f.1
 
@@ -194,7 +194,7 @@ no_map_lock : (s : After) (t : Past) (a : ℕ) (l : List Fact) → list_any is_n
 no_map_lock s t a l e h m = m (one_says s t a is_no_map_lock _ (map_lock_says s t a) l e h)
 
 -- who may wait is not busy, and who may wait for an mmap lock has none
-waits_free : (o : Op) (xs : List Migrating) (top : Phase) (below : List Phase) → may_wait top ≡ true → SaysFree (facts o xs (top ∷ below))
+pub waits_free : (o : Op) (xs : List Migrating) (top : Phase) (below : List Phase) → may_wait top ≡ true → SaysFree (facts o xs (top ∷ below))
 waits_free o xs Phase.Begin [] h = (refl, refl)
 waits_free o xs Phase.Begin (y ∷ ys) h = (refl, refl)
 waits_free o xs (Phase.Detaching q) [] h = (refl, refl)

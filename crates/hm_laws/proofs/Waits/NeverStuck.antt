@@ -22,7 +22,7 @@ use Rattle.hm_laws.proofs.Waits.BusyGoesOn.{waits_for_holder, busy_goes, locker_
 use Rattle.hm_history.proofs.Updates.{with_case}
 
 -- an actor with an operation has a phase of it
-abbrev HasPhase : Program → ℕ → Going → Type 0
+abbrev pub HasPhase : Program → ℕ → Going → Type 0
 HasPhase c a g = (o : Op) → op_at c a g.index ≡ Some o → g.stack ≡ [] → ⊥
 
 first_some : (x : Option Op) (o : Op) → x ≡ Some o → first_stack x ≡ [] → ⊥
@@ -47,24 +47,24 @@ next_phase c s a g k h = by (op_at c a g.index)
     by None = h
     by (Some o) = top o g.stack
 
-abbrev HavePhases : Program → State → Type 0
+abbrev pub HavePhases : Program → State → Type 0
 HavePhases c u = (a : ℕ) → HasPhase c a (u.going a)
 
 phases_after : (c : Program) (u : State) (h : List Entry) → HavePhases c u → HavePhases c (fold (state_next c) u h)
 phases_after c u [] p = p
 phases_after c u (e ∷ h) p = phases_after c (state_next c u e) h (λ a. with_case (HasPhase c) u.going e.actor (going_next c u.after e.actor (u.going e.actor) e.kind) a (λ here. next_phase c u.after e.actor (u.going e.actor) e.kind (p e.actor)) (λ ne. p a))
 
-phases_of : (c : Program) (h : List Entry) → HavePhases c (state_of c h)
+pub phases_of : (c : Program) (h : List Entry) → HavePhases c (state_of c h)
 phases_of c h = phases_after c (state_start c) h (λ a. from_phase c a 0)
 
 -- an actor under way, and what is due to it
-record UnderWay (c : Program) (u : State) (a : ℕ) (P : Next → Type 0) : Type 0 where
-  next : Next
-  says : P next
-  under_way : is_some (op_at c a (u.going a).index) ≡ true
-  is_due : due_in c u a ≡ progress a next
+pub record UnderWay (c : Program) (u : State) (a : ℕ) (P : Next → Type 0) : Type 0 where
+  pub next : Next
+  pub says : P next
+  pub under_way : is_some (op_at c a (u.going a).index) ≡ true
+  pub is_due : due_in c u a ≡ progress a next
 
-under_way : (c : Program) (u : State) (t : Past) (a : ℕ) (P : Next → Type 0) → HavePhases c u → Standing c u t → (op_at c a (u.going a).index ≡ None → ⊥) →
+pub under_way : (c : Program) (u : State) (t : Past) (a : ℕ) (P : Next → Type 0) → HavePhases c u → Standing c u t → (op_at c a (u.going a).index ≡ None → ⊥) →
     ((o : Op) (xs : List Migrating) (top : Phase) (below : List Phase) → HoldsAll u.after t a (facts o xs (top ∷ below)) → P (due_phase c u.after a o xs top)) → UnderWay c u a P
 under_way c u t a P ph st some each = by (op_at c a (u.going a).index) refl (u.going a).stack refl (st.known a)
   where
@@ -78,7 +78,7 @@ under_way c u t a P ph st some each = by (op_at c a (u.going a).index) refl (u.g
       is_due = ap (λ x. due_top c u.after a x (u.going a).pages (u.going a).stack) e ∙ ap (due_top c u.after a (Some o) (u.going a).pages) i;
     }
 
-idle : (c : Program) (u : State) (t : Past) (a : ℕ) → Standing c u t → op_at c a (u.going a).index ≡ None → HoldsAll u.after t a nothing_held
+pub idle : (c : Program) (u : State) (t : Past) (a : ℕ) → Standing c u t → op_at c a (u.going a).index ≡ None → HoldsAll u.after t a nothing_held
 idle c u t a st e = by (op_at c a (u.going a).index) e (st.known a)
   where
     by : (x : Option Op) → x ≡ None → HoldsAll u.after t a (facts_of x (u.going a).pages (u.going a).stack) → HoldsAll u.after t a nothing_held
