@@ -48,6 +48,7 @@ impl Buffer {
         self.bytes.as_slice()
     }
 
+    #[inline(always)]
     pub fn push(&mut self, byte: u8)
         requires { length self.old < ROOM }
         ensures { self.new ≡ self.old ++ byte ∷ [] }
@@ -58,6 +59,7 @@ impl Buffer {
         }
     }
 
+    #[inline(always)]
     pub fn put(&mut self, bytes: &[u8])
         requires { length self.old + length bytes.now ≤ ROOM }
         ensures { self.new ≡ self.old ++ bytes.now }

@@ -43,16 +43,30 @@ fn digits_at_end(base: u64, number: u64, into: &mut [u8; DIGITS]) -> usize
     0
 }
 
-/// Adds a few bytes and the number.
+/// Adds a few bytes and the number. Most numbers of a report have one digit.
+#[inline(always)]
+#[tactic(auto, using(std::proofs::lemmas::Fmt::decimal_digit, std::proofs::Common::append_assoc))]
 pub fn put_decimal(out: &mut Buffer, lead: &[u8], number: u64)
     requires { length out.old + length lead.now + DIGITS ≤ ROOM }
     ensures text { out.new ≡ out.old ++ (lead.now ++ decimal number) }
     ensures room { length out.new ≤ length out.old + length lead.now + DIGITS }
 {
-    let mut digits = [0; DIGITS];
-    let at = digits_at_end(10, number, &mut digits);
     out.put(lead);
-    out.put(&digits[at..]);
+    if number < 10 {
+        out.push(b'0' + number as u8);
+    } else {
+        put_digits(out, number);
+    }
+}
+
+/// Adds the number's decimal digits.
+fn put_digits(out: &mut Buffer, number: u64)
+    requires { length out.old + DIGITS ≤ ROOM }
+    ensures text { out.new ≡ out.old ++ decimal number }
+    ensures room { length out.new ≤ length out.old + DIGITS }
+{
+    let mut digits = itoa::Buffer::new();
+    out.put(digits.format(number).as_bytes());
 }
 
 /// Adds a space and the address.
