@@ -21,7 +21,7 @@ pub use limits::{
     MOST_ACTORS, MOST_AREAS, MOST_DEVICES, MOST_ENTRIES, MOST_MIRRORS, MOST_PROCESSES,
     MOST_SCRIPT_BYTES, PAGE_BYTES,
 };
-pub use lists::{ActorLists, Bytes, DeviceList, MaskList, Masks, OpList, Schedule, Text};
+pub use lists::{ActorLists, Bytes, DeviceList, ListOf, MaskList, Masks, OpList, Schedule, Text};
 pub use ops::{Op, Rights, ScheduleLine, Script, Version};
 pub use snap::snap_code;
 
