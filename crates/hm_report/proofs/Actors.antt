@@ -8,7 +8,7 @@ use Rattle.hm_history.specs.Words.{numbers}
 use Rattle.hm_history.specs.Going.{ops_of}
 use Rattle.hm_history.specs.declared.Entry.{Entry}
 use Rattle.hm_report.specs.Summary.{summary_line, answer_lines, move_lines, unfinished_count, summary_by}
-use Rattle.hm_report.proofs.Lines.{numbers_append}
+use Rattle.hm_history.proofs.Numbers.{numbers_append}
 
 -- 1 where they differ
 abbrev one_of : ℕ → ℕ → ℕ

@@ -6,6 +6,7 @@ use Rattle.std.proofs.Math.Seq.{drop-cons}
 use Rattle.std.proofs.lemmas.List.{append_assoc, append-nil, take-append-drop, take_more, length-take-le}
 use Rattle.std.proofs.lemmas.Grind.{flat_map-append}
 use Rattle.hm_base.specs.Program.{Program}
+use Rattle.hm_history.proofs.Numbers.{numbers_append}
 use Rattle.hm_history.specs.Words.{numbers}
 use Rattle.hm_history.specs.Going.{ops_of}
 use Rattle.hm_history.specs.declared.Kind.{Kind}
@@ -62,13 +63,6 @@ lines_at es i e lt is =
     ap (entry_lines 0) (sym (take-append-drop i es)) ∙ lines_cut es i le (drop i es) ∙ ap (λ (ys : List Entry). entry_lines 0 (take i es) ++ entry_lines i ys) next
 
 -- the lines of actors, in two parts
-pub numbers_append : (a m n : ℕ) → numbers a (m + n) ≡ numbers a m ++ numbers (a + m) n
-numbers_append a zero n = let z : zero + n ≡ n = omega arith in ap (numbers a) z ∙ ap (λ k. numbers k n) (sym (add-zero a))
-numbers_append a (suc m) n =
-    let s : suc m + n ≡ suc (m + n) = omega arith in
-    let k : (a + 1) + m ≡ a + suc m = omega arith in
-    ap (numbers a) s ∙ ap (λ (z : List ℕ). a ∷ z) (numbers_append (a + 1) m n ∙ ap (λ j. numbers (a + 1) m ++ numbers j n) k)
-
 pub among_more : (c : Program) (ended : ℕ → ℕ) (n : ℕ) → unfinished_among c ended (n + 1) ≡ unfinished_among c ended n ++ unfinished_line n (ended n) (length (ops_of c n))
 among_more c ended n =
     let f : ℕ → List ℕ = λ a. unfinished_line a (ended a) (length (ops_of c a)) in

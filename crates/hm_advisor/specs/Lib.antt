@@ -1,0 +1,5 @@
+pub mod Tally
+pub mod Tallies
+pub mod Accesses
+pub mod Windows
+pub mod Counts
