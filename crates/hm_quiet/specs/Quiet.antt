@@ -56,9 +56,9 @@ abbrev pub selected : Program → List Entry → ℕ → List Migrating
 selected c h a = ((state_of c h).going a).pages
 
 -- a migration that ends so, and before its last entry each page that it selected has moved, or the script skips it, or
--- an entry says that no frame was free for it; a page that has moved is in a frame of the pool that it was to go to; and
--- the last entry tells how many have moved, or that the operation is refused, since its pages lie outside the window or
--- the mirror is not attached
+-- an entry says that no frame was free for it; a page that has moved is in a frame of the pool that it was to go to;
+-- and the last entry tells how many have moved, or that the operation is refused, since its pages lie outside the
+-- window or the mirror is not attached
 pub record EndsMoving (c : Program) (o : Op) (h : List Entry) (a n : ℕ) : Type 0 where
   pub all : EndsWithAll c h a n
   pub front : List Entry

@@ -12,7 +12,7 @@ use Rattle.hm_script.specs.Built.{IsBuilt}
 use Rattle.hm_base.specs.declared.ops.Version.{Version}
 use Rattle.hm_script.specs.Spelling.{line, text, script_lines}
 use Rattle.hm_script.specs.Automaton.{State, state, start, empty, lines, next, finish, after, refused, run, reading}
-use Rattle.hm_script.specs.BadLine.{SharesLines, IsFirstBad}
+use Rattle.hm_script.specs.BadLine.{SharesLinesOf, IsFirstBadOf}
 use Rattle.hm_script.proofs.Taken.{Reached, lines_read, headed}
 use Rattle.hm_script.proofs.TextTaken.{next_adds, empty_built}
 use Rattle.hm_script.proofs.LinesAgain.{lines-text}
@@ -116,10 +116,10 @@ script_text set s h b = let e = script_ends set s h b in lines-text (script_line
 headed_script : (v : Version) → IsScript (headed v)
 headed_script v = record { frames = omega arith; devices = refl; few_devices = omega arith; skip = omega arith; few_actors = omega arith; ops = refl; few_ops = omega arith; schedule = refl; few_lines = omega arith; version = refl }
 
-shares_body : (set : Words) (bytes : List ℕ) (k : ℕ) (s : Program) → IsScript s → IsBuilt set s → map line (script_lines s) ≡ take k (lines bytes) → (x : Program) × SharesLines set bytes k x
+shares_body : (set : Words) (bytes : List ℕ) (k : ℕ) (s : Program) → IsScript s → IsBuilt set s → map line (script_lines s) ≡ take k (lines bytes) → (x : Program) × SharesLinesOf set bytes k x
 shares_body set bytes k s h b e = (s, record { script = h; built = b; shares = ap (take k) (script_text set s h b ∙ e) ∙ take-take k k (lines bytes) (omega arith) })
 
-begins_so : (set : Words) (bytes : List ℕ) (k : ℕ) (p : Part) (s : Program) → Reached p s → IsBuilt set s → map line (lines_read p s) ≡ take k (lines bytes) → k ≤ length (lines bytes) → (x : Program) × SharesLines set bytes k x
+begins_so : (set : Words) (bytes : List ℕ) (k : ℕ) (p : Part) (s : Program) → Reached p s → IsBuilt set s → map line (lines_read p s) ≡ take k (lines bytes) → k ≤ length (lines bytes) → (x : Program) × SharesLinesOf set bytes k x
 begins_so set bytes k Start s r b e le =
     let none : k ≡ 0 = omega (arith, ap length e, length-take k (lines bytes)) in
     (empty, record { script = headed_script empty.version; built = empty_built set; shares = rw none refl })
@@ -138,7 +138,7 @@ unfolding reading
 differ set s r good bad = absurd cc
 
 -- what is refused is the first bad line
-pub first_bad : (set : Words) (bytes : List ℕ) (r : Refused) → reading set bytes ≡ Err r → IsFirstBad set bytes r.line
+pub first_bad : (set : Words) (bytes : List ℕ) (r : Refused) → reading set bytes ≡ Err r → IsFirstBadOf set bytes r.line
 unfolding reading
 first_bad set bytes r e =
     let h = run_refused set 1 start (lines bytes) r e in
@@ -148,5 +148,5 @@ first_bad set bytes r e =
       before = λ k lt. let m = h.reached refl (empty_built set) k (omega arith) in begins_so set bytes k m.state.part m.state.script m.reached m.built m.lines m.few;
     })
   where
-    refuses : (s : Program) → SharesLines set bytes (suc (run_refused set 1 start (lines bytes) r e).after) s → run set 1 start (lines (text s)) ≡ Err r → ⊥
+    refuses : (s : Program) → SharesLinesOf set bytes (suc (run_refused set 1 start (lines bytes) r e).after) s → run set 1 start (lines (text s)) ≡ Err r → ⊥
     refuses s x bad = differ set s r (reading_again set s x.script x.built) bad

@@ -14,7 +14,7 @@ use Rattle.hm_script.specs.Built.{IsBuilt}
 use Rattle.hm_script.specs.Spelling.{text}
 use Rattle.hm_script.specs.Automaton.{State, lines, next, run, finish, refused, start, reading}
 use Rattle.hm_script.specs.Reader.{Reads, OnRefused, error_at}
-use Rattle.hm_script.specs.BadLine.{IsFirstBad}
+use Rattle.hm_script.specs.BadLine.{IsFirstBadOf}
 use Rattle.hm_script.proofs.TextTaken.{reading_takes}
 use Rattle.hm_script.proofs.Again.{reading_again}
 use Rattle.hm_script.proofs.FirstBad.{first_bad}
@@ -54,7 +54,7 @@ is_only set bytes (Ok x) h s fits built e = sym (reading_again set s fits built)
 is_only set bytes (Err errors.NoMemory) h s fits built e = tt
 is_only set bytes (Err (errors.Refused r)) h s fits built e = sym (reading_again set s fits built) ∙ ap (reading set) e ∙ h
 
-pub is_first : (set : Words) (bytes : List ℕ) (r : Result Program ScriptError) → Reads r (reading set bytes) → OnRefused r (λ q. IsFirstBad set bytes q.line)
+pub is_first : (set : Words) (bytes : List ℕ) (r : Result Program ScriptError) → Reads r (reading set bytes) → OnRefused r (λ q. IsFirstBadOf set bytes q.line)
 is_first set bytes (Ok x) h = tt
 is_first set bytes (Err errors.NoMemory) h = tt
 is_first set bytes (Err (errors.Refused r)) h = first_bad set bytes r h

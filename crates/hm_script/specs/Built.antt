@@ -11,6 +11,34 @@ use Rattle.hm_script.specs.declared.keyword.OpWord.{OpWord}
 use Rattle.hm_script.specs.declared.keyword.OpWord.TheVariants as word_of
 use Rattle.hm_script.specs.declared.words.Words.{Words}
 
+-- the whole grammar, of both versions
+abbrev pub every_word : Words
+every_word = record {
+  map = true;
+  unmap = true;
+  protect = true;
+  load = true;
+  store = true;
+  fork = true;
+  exit = true;
+  attach = true;
+  detach = true;
+  device_load = true;
+  device_store = true;
+  to_device = true;
+  to_system = true;
+  snap = true;
+  evict = true;
+  remove = true;
+  exclusive = true;
+  add = true;
+  skip = true;
+  drain = true;
+  version_two = true;
+  several_actors = true;
+  several_turns = true;
+}
+
 -- the word of an operation
 abbrev pub op_word : Op → OpWord
 op_word (Map p s r) = word_of.Map

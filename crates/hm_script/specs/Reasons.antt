@@ -1,6 +1,9 @@
--- The numbers and texts of the reasons.
-use Rattle.std.specs.Prelude.{ℕ, List, codes}
+-- The numbers and texts of the reasons, and what is said of a script that was not read.
+use Rattle.std.specs.Prelude.{ℕ, List, ◌++◌, codes}
+use Rattle.std.specs.Fmt.{decimal}
 use Rattle.hm_script.specs.declared.reason.Reason.{Reason}
+use Rattle.hm_script.specs.declared.reason.Refused.{Refused}
+use Rattle.hm_script.specs.declared.reason.ScriptError.{ScriptError}
 use Rattle.hm_script.specs.declared.reason.Reason.TheVariants.{LineEnd, Header, Word, Shape, Number, Range, Undeclared, Limit}
 
 abbrev pub reason_number : Reason → ℕ
@@ -22,3 +25,12 @@ reason_text Number = codes "bad number"
 reason_text Range = codes "out of range"
 reason_text Undeclared = codes "not declared"
 reason_text Limit = codes "too many"
+
+-- the first bad line and its reason
+abbrev pub refused_text : Refused → List ℕ
+refused_text r = codes "script line " ++ (decimal r.line ++ (codes ": " ++ reason_text r.why))
+
+-- why the bytes were not read
+abbrev pub error_text : ScriptError → List ℕ
+error_text (ScriptError.Refused r) = refused_text r
+error_text ScriptError.NoMemory = codes "out of memory"

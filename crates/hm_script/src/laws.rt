@@ -4,7 +4,7 @@ ghost use Rattle.std.specs.Prelude.{◌≡◌, ◌++◌, ◌∷◌, ℕ, Ok, cod
 ghost use Rattle.hm_script.specs.Generator.{generated};
 ghost use Rattle.hm_base.specs.Program.{Program, IsScript};
 ghost use Rattle.hm_base.specs.declared.ops.Version.TheVariants.{Two};
-ghost use Rattle.hm_script.specs.Built.{IsBuilt};
+ghost use Rattle.hm_script.specs.Built.{IsBuilt, every_word};
 ghost use Rattle.hm_script.specs.Spelling.{text};
 ghost use Rattle.hm_script.specs.Automaton.{reading};
 
@@ -23,7 +23,7 @@ pub fn whole_grammar()
 /// Each trial is a script, and its text is read as that script.
 pub fn is_trial()
     ensures script { (number : ℕ) → IsScript (generated number) }
-    ensures read { (number : ℕ) → reading ALL_WORDS (text (generated number)) ≡ Ok (generated number) }
+    ensures read { (number : ℕ) → reading every_word (text (generated number)) ≡ Ok (generated number) }
 {}
 
 /// The text of the upgraded script differs in its first line alone.

@@ -23,4 +23,4 @@ pub use printing::print;
 pub use reason::{Reason, Refused, ScriptError};
 pub use script::{parse, parse_words};
 pub use version::upgrade;
-pub use words::{ALL_WORDS, BUILT_WORDS, Words};
+pub use words::{ALL_WORDS, Words};

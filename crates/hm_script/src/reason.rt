@@ -4,7 +4,8 @@ ghost use Rattle.std.specs.Prelude.{◌≡◌};
 ghost use Rattle.hm_script.specs.Reasons.{reason_number, reason_text};
 
 use hm_base::NoMemory;
-use thiserror::Error;
+use std::error::Error;
+use std::fmt;
 
 /// What is wrong with a line: the first that holds, in this order.
 #[derive(Clone, Copy, Debug, PartialEq, Eq)]
@@ -68,19 +69,48 @@ pub struct Refused {
     pub why: Reason,
 }
 
+impl fmt::Display for Refused {
+    ghost use Rattle.std.specs.Prelude.{Some};
+    ghost use Rattle.hm_script.specs.Reasons.{refused_text};
+
+    ghost output = { λ r. Some (refused_text r) };
+
+    fn fmt<W: fmt::Write>(&self, f: &mut fmt::Formatter<W>) -> fmt::Result {
+        let line = self.line;
+        let why = self.why.text();
+        write!(f, "script line {line}: {why}")
+    }
+}
+
 /// Why bytes were not read as a script: a bad line, or want of memory.
-#[derive(Debug, Drop, Error)]
+#[derive(Debug, Drop)]
 pub enum ScriptError {
-    #[error("script line {}: {}", .0.line, .0.why.text())]
     Refused(Refused),
-    #[error("no memory")]
     NoMemory,
 }
 
+impl fmt::Display for ScriptError {
+    ghost use Rattle.std.specs.Prelude.{Some};
+    ghost use Rattle.hm_script.specs.Reasons.{error_text};
+
+    ghost output = { λ e. Some (error_text e) };
+
+    fn fmt<W: fmt::Write>(&self, f: &mut fmt::Formatter<W>) -> fmt::Result {
+        match self {
+            ScriptError::Refused(refused) => refused.fmt(f),
+            ScriptError::NoMemory => write!(f, "out of memory"),
+        }
+    }
+}
+
+impl Error for ScriptError {}
+
 /// Why a line could not be read.
-#[derive(Debug, Drop)]
+#[derive(Debug, Drop, thiserror::Error)]
 pub enum LineError {
+    #[error("{}", .0.text())]
     Bad(Reason),
+    #[error("out of memory")]
     NoMemory,
 }
 

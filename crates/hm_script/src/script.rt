@@ -5,14 +5,14 @@ ghost use Rattle.hm_base.specs.Program.{Program, IsScript};
 ghost use Rattle.hm_script.specs.Spelling.{text};
 ghost use Rattle.hm_script.specs.Automaton.{finish, reading};
 ghost use Rattle.hm_script.specs.Reader.{state_of, Reads, OnRefused, error_at};
-ghost use Rattle.hm_script.specs.BadLine.{IsFirstBad};
-ghost use Rattle.hm_script.specs.Built.{IsBuilt};
+ghost use Rattle.hm_script.specs.BadLine.{IsFirstBad, IsFirstBadOf};
+ghost use Rattle.hm_script.specs.Built.{IsBuilt, every_word};
 
 use crate::lines::cut_line;
 use crate::part::Part;
 use crate::reader::Reader;
 use crate::reason::{LineError, Reason, Refused, ScriptError};
-use crate::words::{BUILT_WORDS, Words};
+use crate::words::{ALL_WORDS, Words};
 use hm_base::Script;
 use std::alloc::Global;
 
@@ -70,19 +70,23 @@ pub fn parse_words(alloc: Global, bytes: &[u8], words: &Words) -> Result<Script,
     // A script of the set whose text the bytes are is read, unless memory runs out.
     ensures only { (s : Program) → IsScript s → IsBuilt words.now s → text s ≡ bytes.now → Reads result (Ok s) }
     // What is refused is the first bad line.
-    ensures first { OnRefused result (λ r. IsFirstBad words.now bytes.now r.line) }
+    ensures first { OnRefused result (λ r. IsFirstBadOf words.now bytes.now r.line) }
     // Which reason it has.
     ensures exact { Reads result (reading words.now bytes.now) }
 {
     read(alloc, bytes, words)
 }
 
-/// The script whose text the bytes are, of the words that are run today.
+/// The script whose text the bytes are.
 pub fn parse(alloc: Global, bytes: &[u8]) -> Result<Script, ScriptError>
-    ensures found { IfOk result (λ s. (text s ≡ bytes.now) × IsBuilt BUILT_WORDS s) }
-    ensures only { (s : Program) → IsScript s → IsBuilt BUILT_WORDS s → text s ≡ bytes.now → Reads result (Ok s) }
-    ensures first { OnRefused result (λ r. IsFirstBad BUILT_WORDS bytes.now r.line) }
-    ensures exact { Reads result (reading BUILT_WORDS bytes.now) }
+    // What is read has the bytes as its text.
+    ensures found { IfOk result (λ s. text s ≡ bytes.now) }
+    // A script whose text the bytes are is read, unless memory runs out.
+    ensures only { (s : Program) → IsScript s → text s ≡ bytes.now → Reads result (Ok s) }
+    // What is refused is the first bad line.
+    ensures first { OnRefused result (λ r. IsFirstBad bytes.now r.line) }
+    // Which reason it has.
+    ensures exact { Reads result (reading every_word bytes.now) }
 {
-    parse_words(alloc, bytes, &BUILT_WORDS)
+    parse_words(alloc, bytes, &ALL_WORDS)
 }

@@ -1,6 +1,6 @@
 // The words that a script may use.
 ghost use Rattle.std.specs.Prelude.{◌≡◌};
-ghost use Rattle.hm_script.specs.Built.{has_op};
+ghost use Rattle.hm_script.specs.Built.{every_word, has_op};
 
 use crate::keyword::OpWord;
 
@@ -63,46 +63,12 @@ pub const ALL_WORDS: Words = Words {
     several_turns: true,
 };
 
-/// What is run today.
-pub const BUILT_WORDS: Words = Words {
-    map: true,
-    unmap: true,
-    protect: true,
-    load: true,
-    store: true,
-    fork: true,
-    exit: true,
-    attach: true,
-    detach: true,
-    device_load: true,
-    device_store: true,
-    to_device: true,
-    to_system: true,
-    snap: true,
-    evict: true,
-    remove: true,
-    exclusive: true,
-    add: true,
-    skip: true,
-    drain: true,
-    version_two: true,
-    several_actors: true,
-    several_turns: true,
-};
-
 impl Words {
     /// The whole grammar, of both versions.
     pub fn all() -> Words
-        ensures { result ≡ ALL_WORDS }
+        ensures { result ≡ every_word }
     {
         ALL_WORDS
-    }
-
-    /// What is run today.
-    pub fn built() -> Words
-        ensures { result ≡ BUILT_WORDS }
-    {
-        BUILT_WORDS
     }
 
     /// Whether the operation is there.
