@@ -1,9 +1,11 @@
 -- What the calls of sources and sinks do to the bytes that are told, and to the counts.
-use Rattle.std.specs.Prelude.{◌≡◌, ℕ, ◌+◌, ◌-◌, ◌^◌, ◌≤◌, min, List, [], ◌++◌, take, Option, Some, None}
+use Rattle.std.specs.Prelude.{◌≡◌, ℕ, ◌+◌, ◌-◌, ◌^◌, ◌≤◌, min, Bool, false, List, [], ◌++◌, take, Option, Some, None}
 use Rattle.hm_io.specs.declared.Got.{Got}
 use Rattle.hm_io.specs.declared.Got.TheVariants as got
 use Rattle.hm_io.specs.declared.Put.{Put}
 use Rattle.hm_io.specs.declared.Put.TheVariants as put
+use Rattle.hm_io.specs.declared.Flushed.{Flushed}
+use Rattle.hm_io.specs.declared.Flushed.TheVariants as flushed
 
 -- one more, up to the last value of a u64
 abbrev pub raised : ℕ → ℕ
@@ -22,9 +24,9 @@ GotCount (got.Bytes n) room = IsCount n room
 GotCount got.Ended room = Unit {0}
 GotCount got.Failed room = Unit {0}
 
--- the front of what was left came, and the rest is left
+-- the front of what was left came, and the rest is left; where nothing is told of what was left, nothing is
 abbrev pub Reads : Option (List ℕ) → Option (List ℕ) → Got → List ℕ → Type 0
-Reads None after g into = after ≡ None
+Reads None after g into = Unit {0}
 Reads (Some left) after (got.Bytes n) into = (rest : List ℕ) × (left ≡ take n into ++ rest) × (after ≡ Some rest)
 Reads (Some left) after got.Ended into = (left ≡ []) × (after ≡ Some [])
 Reads (Some left) after got.Failed into = after ≡ Some left
@@ -40,19 +42,25 @@ PutCount (put.Took n) room = IsCount n room
 PutCount put.Failed room = Unit {0}
 PutCount put.NoMemory room = Unit {0}
 
--- these bytes were added to what is held
+-- these bytes were added to what is held; where nothing is told of what is held, nothing is
 abbrev pub Adds : Option (List ℕ) → Option (List ℕ) → List ℕ → Type 0
-Adds None after more = after ≡ None
+Adds None after more = Unit {0}
 Adds (Some held) after more = after ≡ Some (held ++ more)
 
 -- a front of this text was added
 abbrev pub AddsFront : Option (List ℕ) → Option (List ℕ) → List ℕ → Type 0
 AddsFront before after text = (front rest : List ℕ) × (text ≡ front ++ rest) × Adds before after front
 
+-- what is held, where it is told, is as it was
+abbrev pub Stays : Option (List ℕ) → Option (List ℕ) → Type 0
+Stays None after = Unit {0}
+Stays (Some held) after = after ≡ Some held
+
+-- so many bytes of the front were added, or none
 abbrev pub Writes : Option (List ℕ) → Option (List ℕ) → Put → List ℕ → Type 0
 Writes before after (put.Took n) from = Adds before after (take n from)
-Writes before after put.Failed from = after ≡ before
-Writes before after put.NoMemory from = after ≡ before
+Writes before after put.Failed from = Stays before after
+Writes before after put.NoMemory from = Stays before after
 
 abbrev pub WriteCause : ℕ → ℕ → Put → Type 0
 WriteCause before now (put.Took n) = now ≡ before
@@ -63,3 +71,13 @@ abbrev pub WantCause : ℕ → ℕ → Put → Type 0
 WantCause before now (put.Took n) = now ≡ before
 WantCause before now put.Failed = now ≡ before
 WantCause before now put.NoMemory = (before ≤ now) × Rose before now
+
+-- after a flush nothing waits to go on
+abbrev pub IsSentOn : Bool → Flushed → Type 0
+IsSentOn pending flushed.Done = pending ≡ false
+IsSentOn pending flushed.Failed = Unit {0}
+
+-- the count of faults rose at a flush that failed, and stays otherwise
+abbrev pub FlushCause : ℕ → ℕ → Flushed → Type 0
+FlushCause before now flushed.Done = now ≡ before
+FlushCause before now flushed.Failed = (before ≤ now) × Rose before now

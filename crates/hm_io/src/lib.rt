@@ -1,15 +1,15 @@
 // Where scripts come from and where texts go: sources and sinks that count their faults.
 #![tactic(auto)]
 
-ghost use Rattle.std.specs.Prelude.{◌≡◌, ℕ, ◌<◌, List, length, Option};
+ghost use Rattle.std.specs.Prelude.{◌≡◌, ℕ, ◌<◌, Bool, List, length, Option};
 
 mod memory;
 mod plan;
-mod standard;
+mod stream;
 mod sure;
 
 pub use memory::{MemorySink, MemorySource};
-pub use standard::{StdSink, StdSource};
+pub use stream::{StdSink, StdSource, StreamSink, StreamSource};
 pub use sure::{SureSink, SureSource};
 
 /// What a read came to.
@@ -34,11 +34,20 @@ pub enum Put {
     NoMemory,
 }
 
+/// What a flush came to.
+#[derive(Clone, Copy, PartialEq, Eq, Debug)]
+pub enum Flushed {
+    /// All that was taken has gone on to where it was to go.
+    Done,
+    /// It failed, and what is held is as it was.
+    Failed,
+}
+
 /// Bytes that come one piece after another.
 pub trait Source {
     ghost use Rattle.hm_io.specs.Streams.{GotCount, Reads, ReadCause};
 
-    /// The bytes that are left, where they are told: by sources in memory alone.
+    /// The bytes that are left, where they are told: in memory, or by a reader whose own contract tells them.
     ghost left: { Self → Option (List ℕ) };
 
     /// How often a read has failed.
@@ -58,16 +67,19 @@ pub trait Source {
 
 /// Where bytes go, one piece after another.
 pub trait Sink {
-    ghost use Rattle.hm_io.specs.Streams.{PutCount, Writes, WriteCause, WantCause};
+    ghost use Rattle.hm_io.specs.Streams.{PutCount, Writes, WriteCause, WantCause, Stays, IsSentOn, FlushCause};
 
-    /// The bytes that it holds, where they are told: by sinks in memory alone.
+    /// The bytes that it holds, where they are told: in memory, or by a writer whose own contract tells them.
     ghost held: { Self → Option (List ℕ) };
 
-    /// How often a write has failed.
+    /// How often a write or a flush has failed.
     ghost failures: { Self → ℕ };
 
     /// How often it has wanted memory.
     ghost wanted: { Self → ℕ };
+
+    /// Whether bytes that it took may not have gone on yet to where they are to go.
+    ghost pending: { Self → Bool };
 
     /// Adds a front of these bytes to what it holds.
     fn write(&mut self, from: &[u8]) -> Put
@@ -77,7 +89,14 @@ pub trait Sink {
         ensures cause { WriteCause (failures self.old) (failures self.new) result }
         ensures want { WantCause (wanted self.old) (wanted self.new) result };
 
-    /// How often a write has failed, up to 2^64 - 1.
+    /// Sends on all that was taken.
+    fn flush(&mut self) -> Flushed
+        ensures bytes { Stays (held self.old) (held self.new) }
+        ensures done { IsSentOn (pending self.new) result }
+        ensures cause { FlushCause (failures self.old) (failures self.new) result }
+        ensures want { wanted self.new ≡ wanted self.old };
+
+    /// How often a write or a flush has failed, up to 2^64 - 1.
     fn faults(&self) -> u64
         ensures { result ≡ failures self.now };
 

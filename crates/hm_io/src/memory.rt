@@ -1,8 +1,8 @@
 // A source and a sink in memory whose faults are planned.
-ghost use Rattle.std.specs.Prelude.{◌≡◌, ◌<◌, ◌≤◌, length, Some, IfOk};
+ghost use Rattle.std.specs.Prelude.{◌≡◌, ◌<◌, ◌≤◌, length, Some, false, IfOk};
 
 use crate::plan::FaultPlan;
-use crate::{Got, Put, Sink, Source};
+use crate::{Flushed, Got, Put, Sink, Source};
 use hm_base::{Bytes, NoMemory};
 use std::alloc::Global;
 use std::marker::Model;
@@ -134,6 +134,8 @@ impl Sink for MemorySink {
 
     ghost wanted = { λ _. 0 };
 
+    ghost pending = { λ _. false };
+
     fn write(&mut self, from: &[u8]) -> Put
         requires { 0 < length from.now }
         ensures count { PutCount result (length from.now) }
@@ -151,6 +153,10 @@ impl Sink for MemorySink {
             Ok(_) => Put::Took(from.len()),
             Err(_) => unreachable!(),
         }
+    }
+
+    fn flush(&mut self) -> Flushed {
+        Flushed::Done
     }
 
     fn faults(&self) -> u64 {

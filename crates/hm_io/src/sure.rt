@@ -1,7 +1,7 @@
 // A source and a sink in memory that never fail.
-ghost use Rattle.std.specs.Prelude.{◌≡◌, [], Some, IfOk};
+ghost use Rattle.std.specs.Prelude.{◌≡◌, [], Some, false, IfOk};
 
-use crate::{Got, Put, Sink, Source};
+use crate::{Flushed, Got, Put, Sink, Source};
 use hm_base::{Bytes, NoMemory, Text};
 use std::alloc::Global;
 use std::marker::Model;
@@ -97,6 +97,8 @@ impl Sink for SureSink {
 
     ghost wanted = { λ s. s.wants };
 
+    ghost pending = { λ _. false };
+
     fn write(&mut self, from: &[u8]) -> Put {
         match self.text.extend(from) {
             Ok(_) => Put::Took(from.len()),
@@ -105,6 +107,10 @@ impl Sink for SureSink {
                 Put::NoMemory
             }
         }
+    }
+
+    fn flush(&mut self) -> Flushed {
+        Flushed::Done
     }
 
     fn faults(&self) -> u64 {

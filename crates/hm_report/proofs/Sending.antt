@@ -1,17 +1,16 @@
 -- What goes out piece by piece goes out in whole.
 use Rattle.std.proofs.Common.{◌≡◌, ℕ, ◌+◌, List, [], ◌++◌, take, drop, take-add, Option, Some, None, refl, sym, ap, ◌∙◌}
 use Rattle.std.proofs.lemmas.List.{append_assoc, append-nil, take-append-drop}
-use Rattle.hm_io.specs.Streams.{Adds}
+use Rattle.hm_io.specs.Streams.{Adds, Stays}
 use Rattle.hm_report.specs.declared.outlet.Stop.{Stop}
 use Rattle.hm_report.specs.SinkState.{SinkState, Sends, GoesOn, Stops, StopCause}
 
 adds_none : (held : Option (List ℕ)) → Adds held held []
-adds_none None = refl
+adds_none None = tt
 adds_none (Some held) = ap Some (sym (append-nil held))
 
 adds_more : (before mid after : Option (List ℕ)) (xs ys : List ℕ) → Adds before mid xs → Adds mid after ys → Adds before after (xs ++ ys)
-adds_more None mid after xs ys first more =
-    let at : Adds None after ys = rw first at more in at
+adds_more None mid after xs ys first more = tt
 adds_more (Some held) mid after xs ys first more =
     let at : Adds (Some (held ++ xs)) after ys = rw first at more in
     at ∙ ap Some (append_assoc held xs ys)
@@ -81,10 +80,22 @@ goes_stops t u v b c xs ys why goes stops =
     let e : goes.front ++ (c ++ ys) ≡ b ++ (xs ++ ys) = sym (append_assoc goes.front c ys) ∙ ap (λ zs. zs ++ ys) (sym goes.whole) ∙ append_assoc b xs ys in
     rw (← e) all
 
+-- what was added stays so where nothing more is
+adds_then : (before mid after : Option (List ℕ)) (xs : List ℕ) → Adds before mid xs → Stays mid after → Adds before after xs
+adds_then None mid after xs first same = tt
+adds_then (Some held) mid after xs first same =
+    let at : Stays (Some (held ++ xs)) after = rw first at same in at
+
+-- a stop where the sink is to send on what it took
+pub stops_last : (t u v : SinkState) (xs : List ℕ) (why : Stop) → Sends t u xs → Stops u v [] why → Stops t v xs why
+stops_last t u v xs why first stops =
+    let all = stops_after t u v xs [] why first stops in
+    rw (← append-nil xs) all
+
 -- the sink failed, or wanted memory, after these bytes
-pub stops_now : (t u v : SinkState) (bytes : List ℕ) (at : ℕ) (why : Stop) → Sends t u (take at bytes) → v.held ≡ u.held → StopCause u v why → Stops t v bytes why
+pub stops_now : (t u v : SinkState) (bytes : List ℕ) (at : ℕ) (why : Stop) → Sends t u (take at bytes) → Stays u.held v.held → StopCause u v why → Stops t v bytes why
 stops_now t u v bytes at why sends same cause = record {
-  front = (take at bytes, drop at bytes, sym (take-append-drop at bytes), rw same sends.bytes_are);
+  front = (take at bytes, drop at bytes, sym (take-append-drop at bytes), adds_then t.held u.held v.held (take at bytes) sends.bytes_are same);
   cause = stop_cause_after t u v why sends.faults sends.wants cause;
 }
 

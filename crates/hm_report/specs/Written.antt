@@ -1,5 +1,5 @@
 -- What a write of a text does to a sink.
-use Rattle.std.specs.Prelude.{◌≡◌, ℕ, ◌≤◌, List, Option, ◌⊎◌}
+use Rattle.std.specs.Prelude.{◌≡◌, ℕ, ◌≤◌, Bool, false, List, Option, ◌⊎◌}
 use Rattle.hm_io.specs.Streams.{Rose, Adds, AddsFront}
 use Rattle.hm_report.specs.SinkState.{SinkState}
 use Rattle.hm_report.specs.declared.written.Written.{Written}
@@ -9,6 +9,12 @@ abbrev pub Writes : Option (List ℕ) → Option (List ℕ) → List ℕ → Wri
 Writes before after text Written.Done = Adds before after text
 Writes before after text Written.Fault = AddsFront before after text
 Writes before after text Written.NoMemory = AddsFront before after text
+
+-- where all of the text was added, the sink has sent it on
+abbrev pub SentOn : Bool → Written → Type 0
+SentOn pending Written.Done = pending ≡ false
+SentOn pending Written.Fault = Unit {0}
+SentOn pending Written.NoMemory = Unit {0}
 
 -- a fault comes only where the count rose, which stays otherwise
 abbrev pub FaultCause : ℕ → ℕ → Written → Type 0

@@ -1,11 +1,11 @@
 // From a buffer to a sink, in whole pieces.
-ghost use Rattle.std.specs.Prelude.{◌≡◌, ◌+◌, ◌≤◌, ◌<◌, ◌∷◌, ◌++◌, [], length, OnOk, IfErr};
+ghost use Rattle.std.specs.Prelude.{◌≡◌, ◌+◌, ◌≤◌, ◌<◌, ◌∷◌, ◌++◌, [], false, length, OnOk, IfErr};
 ghost use Rattle.hm_script.specs.Spelling.{hex_text};
 ghost use Rattle.hm_report.specs.SinkState.{sink_state, Sends, GoesOn, Stops};
 
 use crate::buffer::{Buffer, PIECE, ROOM};
 use crate::numerals::put_byte;
-use hm_io::{Put, Sink};
+use hm_io::{Flushed, Put, Sink};
 
 /// Why a text did not go out whole.
 #[derive(Clone, Copy, PartialEq, Eq, Debug)]
@@ -35,7 +35,7 @@ pub fn write_all<K: Sink>(sink: &mut K, bytes: &[u8]) -> Result<(), Stop>
 }
 
 /// Writes these bytes in pieces.
-pub fn write_pieces<K: Sink>(sink: &mut K, bytes: &[u8]) -> Result<(), Stop>
+fn write_pieces<K: Sink>(sink: &mut K, bytes: &[u8]) -> Result<(), Stop>
     ensures ok { OnOk result
         (Sends (sink_state K.held K.failures K.wanted sink.old)
         (sink_state K.held K.failures K.wanted sink.new) bytes.now) }
@@ -50,6 +50,36 @@ pub fn write_pieces<K: Sink>(sink: &mut K, bytes: &[u8]) -> Result<(), Stop>
         at = end;
     }
     Ok(())
+}
+
+/// Has the sink send on all that it took.
+fn send_on<K: Sink>(sink: &mut K) -> Result<(), Stop>
+    ensures ok { OnOk result
+        (Sends (sink_state K.held K.failures K.wanted sink.old)
+        (sink_state K.held K.failures K.wanted sink.new) []) }
+    ensures sent { OnOk result (K.pending sink.new ≡ false) }
+    ensures err { IfErr result
+        (Stops (sink_state K.held K.failures K.wanted sink.old)
+        (sink_state K.held K.failures K.wanted sink.new) []) }
+{
+    match sink.flush() {
+        Flushed::Done => Ok(()),
+        Flushed::Failed => Err(Stop::Fault),
+    }
+}
+
+/// Writes these bytes, the last of a text, in pieces, and has the sink send them on.
+pub fn write_last<K: Sink>(sink: &mut K, bytes: &[u8]) -> Result<(), Stop>
+    ensures ok { OnOk result
+        (Sends (sink_state K.held K.failures K.wanted sink.old)
+        (sink_state K.held K.failures K.wanted sink.new) bytes.now) }
+    ensures sent { OnOk result (K.pending sink.new ≡ false) }
+    ensures err { IfErr result
+        (Stops (sink_state K.held K.failures K.wanted sink.old)
+        (sink_state K.held K.failures K.wanted sink.new) bytes.now) }
+{
+    write_pieces(sink, bytes)?;
+    send_on(sink)
 }
 
 /// Writes the piece at the front, where there is one.

@@ -1,19 +1,19 @@
 // The report of a script and a history.
-ghost use Rattle.std.specs.Prelude.{◌≡◌, ◌+◌, ◌≤◌, ◌<◌, ◌++◌, [], length, slice_index, OnOk, IfErr};
+ghost use Rattle.std.specs.Prelude.{◌≡◌, ◌+◌, ◌≤◌, ◌<◌, ◌++◌, [], false, length, slice_index, OnOk, IfErr};
 ghost use Rattle.hm_history.specs.Legal.{Legal};
 ghost use Rattle.hm_report.specs.Counted.{counted};
 ghost use Rattle.hm_script.specs.Spelling.{text as script_text};
 ghost use Rattle.hm_report.specs.Words.{tail_text};
 ghost use Rattle.hm_report.specs.Report.{entry_line, entry_lines, history_line, unfinished_line, unfinished_lines, end_line, report_by, report};
 ghost use Rattle.hm_report.specs.SinkState.{sink_state, Sends, GoesOn, Stops};
-ghost use Rattle.hm_report.specs.Written.{Writes, FaultCause, TextWants, ReportWants};
+ghost use Rattle.hm_report.specs.Written.{Writes, SentOn, FaultCause, TextWants, ReportWants};
 
 use crate::buffer::{Buffer, PIECE, ROOM};
 use crate::ended::{op_count, operations_ended};
 use crate::kinds::put_front;
 use crate::laws::ends_are_counted;
 use crate::numerals::put_decimal;
-use crate::outlet::{Stop, put_hex, put_text, settle, write_pieces};
+use crate::outlet::{Stop, put_hex, put_text, settle, write_last};
 use crate::written::Written;
 use hm_base::{Script, Text};
 use hm_history::{Entry, History, Kind};
@@ -164,12 +164,13 @@ fn write_end<K: Sink>(out: &mut Buffer, sink: &mut K, count: u64) -> Result<(), 
     ensures ok { OnOk result
         (Sends (sink_state K.held K.failures K.wanted sink.old) (sink_state K.held K.failures K.wanted sink.new)
         (out.old ++ end_line count)) }
+    ensures sent { OnOk result (K.pending sink.new ≡ false) }
     ensures err { IfErr result
         (Stops (sink_state K.held K.failures K.wanted sink.old) (sink_state K.held K.failures K.wanted sink.new)
         (out.old ++ end_line count)) }
 {
     put_end(out, count);
-    write_pieces(sink, out.as_slice())
+    write_last(sink, out.as_slice())
 }
 
 /// Writes all lines, by way of an empty buffer.
@@ -185,6 +186,7 @@ fn write_lines<K: Sink>(
     ensures ok { OnOk result
         (Sends (sink_state K.held K.failures K.wanted sink.old) (sink_state K.held K.failures K.wanted sink.new)
         (report_by script.now history.now.entries (counted script.now history.now.entries))) }
+    ensures sent { OnOk result (K.pending sink.new ≡ false) }
     ensures err { IfErr result
         (Stops (sink_state K.held K.failures K.wanted sink.old) (sink_state K.held K.failures K.wanted sink.new)
         (report_by script.now history.now.entries (counted script.now history.now.entries))) }
@@ -207,6 +209,7 @@ pub(crate) fn write_counted<K: Sink>(
 ) -> Written
     ensures text { Writes (K.held sink.old) (K.held sink.new)
         (report_by script.now history.now.entries (counted script.now history.now.entries)) result }
+    ensures sent { SentOn (K.pending sink.new) result }
     ensures faults { FaultCause (K.failures sink.old) (K.failures sink.new) result }
     ensures wants { ReportWants (sink_state K.held K.failures K.wanted sink.old)
         (sink_state K.held K.failures K.wanted sink.new) result }
@@ -224,8 +227,8 @@ pub(crate) fn write_counted<K: Sink>(
     }
 }
 
-/// Writes the report of a legal history in pieces of 4,096 bytes, the last one shorter or whole. What it allocates is
-/// taken before anything is written.
+/// Writes the report of a legal history in pieces of 4,096 bytes, the last one shorter or whole, and flushes the sink.
+/// What it allocates is taken before anything is written.
 pub fn write_report<K: Sink>(
     alloc: Global,
     script: &Script,
@@ -234,6 +237,7 @@ pub fn write_report<K: Sink>(
 ) -> Written
     requires { Legal script.now history.now.entries }
     ensures text { Writes (K.held sink.old) (K.held sink.new) (report script.now history.now.entries) result }
+    ensures sent { SentOn (K.pending sink.new) result }
     ensures faults { FaultCause (K.failures sink.old) (K.failures sink.new) result }
     ensures wants { ReportWants (sink_state K.held K.failures K.wanted sink.old)
         (sink_state K.held K.failures K.wanted sink.new) result }
@@ -242,13 +246,15 @@ pub fn write_report<K: Sink>(
     write_counted(alloc, script, history, sink)
 }
 
-/// Writes the text in pieces of 4,096 bytes, the last one shorter or whole. It takes no memory itself.
+/// Writes the text in pieces of 4,096 bytes, the last one shorter or whole, and flushes the sink. It takes no memory
+/// itself.
 pub fn write_text<K: Sink>(_alloc: Global, text: &Text, sink: &mut K) -> Written
     ensures text { Writes (K.held sink.old) (K.held sink.new) text.now result }
+    ensures sent { SentOn (K.pending sink.new) result }
     ensures faults { FaultCause (K.failures sink.old) (K.failures sink.new) result }
     ensures wants { TextWants (K.wanted sink.old) (K.wanted sink.new) result }
 {
-    match write_pieces(sink, text.as_slice()) {
+    match write_last(sink, text.as_slice()) {
         Ok(_) => Written::Done,
         Err(Stop::Fault) => Written::Fault,
         Err(Stop::NoMemory) => Written::NoMemory,

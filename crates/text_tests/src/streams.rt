@@ -1,5 +1,9 @@
 // What calls of sources and sinks come to, through their traits.
-use hm_io::{Got, MemorySink, MemorySource, Put, Sink, Source, StdSink, SureSink, SureSource};
+use hm_io::{
+    Flushed, Got, MemorySink, MemorySource, Put, Sink, Source, StdSink, StreamSink, StreamSource,
+    SureSink, SureSource,
+};
+use std::io::{self, ErrorKind, Write};
 
 // What the next read into three bytes comes to, and the bytes that are then there.
 fn read<S: Source>(source: &mut S) -> (Got, [u8; 3]) {
@@ -62,5 +66,50 @@ fn sure_streams_never_fail(rt: HostRuntime) {
 fn standard_output_takes_a_line(rt: HostRuntime) {
     let mut sink = StdSink::new(rt.stdout());
     assert_eq!(rt; write(&mut sink, b"\n\n"), Put::Took(2));
+    assert_eq!(rt; sink.flush(), Flushed::Done);
     assert_eq!(rt; (sink.faults(), sink.wants()), (0, 0));
+}
+
+#[test]
+fn a_reader_gives_its_bytes(rt: HostRuntime) {
+    let mut source = StreamSource::new(b"abcd".as_slice());
+    for want in [
+        (Got::Bytes(3), *b"abc"),
+        (Got::Bytes(1), *b"d\0\0"),
+        (Got::Ended, [0; 3]),
+    ] {
+        assert_eq!(rt; read(&mut source), want);
+    }
+    assert_eq!(rt; source.faults(), 0);
+}
+
+/// A writer that takes one byte a call, and whose first flush fails.
+#[derive(Drop)]
+struct Reluctant {
+    flushed: bool,
+}
+
+impl Write for Reluctant {
+    fn write(&mut self, from: &[u8]) -> io::Result<usize> {
+        Ok(from.len().min(1))
+    }
+
+    fn flush(&mut self) -> io::Result<()> {
+        let before = self.flushed;
+        self.flushed = true;
+        if before {
+            Ok(())
+        } else {
+            Err(io::Error::from(ErrorKind::Other))
+        }
+    }
+}
+
+#[test]
+fn a_flush_is_the_writers_own(rt: HostRuntime) {
+    let mut sink = StreamSink::new(Reluctant { flushed: false });
+    assert_eq!(rt; write(&mut sink, b"ab"), Put::Took(1));
+    assert_eq!(rt; sink.flush(), Flushed::Failed);
+    assert_eq!(rt; sink.flush(), Flushed::Done);
+    assert_eq!(rt; (sink.faults(), sink.wants()), (1, 0));
 }
