@@ -6,3 +6,4 @@ pub mod PassKeeps
 pub mod Hands
 pub mod Closing
 pub mod Owns
+mod AfterLooks

@@ -4,3 +4,4 @@ pub mod Sights
 pub mod Ruled
 pub mod Held
 pub mod Seats
+pub mod Looking

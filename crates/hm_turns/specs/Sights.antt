@@ -130,6 +130,15 @@ pub record IsShown (v : Sight) (list : List Entry) : Type 0 where
   pub counted : v.loaded ≤ length list
   pub marked : AreMarks list v.marks
 
+module _ (legal : Program → List Entry → Type 0) (v : Sight) where
+  -- the value was halted before
+  pub record Halts (w : Sight) : Type 0 where
+    pub legal_is : legal v.desk.script w.list
+    pub shown : IsShown v w.list
+    pub halted : is_halted w.told ≡ true
+    pub same : (e : StepError) → v.told ≡ Some e → w.told ≡ Some e
+    pub pass_is : w ≡ record v { list = w.list; told = w.told }
+
 module _ (legal : Program → List Entry → Type 0) (due : Program → List Entry → ℕ → Progress) (actor : ℕ)
     (v : Sight) where
   -- what was answered is due to the actor after a legal history h
@@ -149,16 +158,8 @@ module _ (legal : Program → List Entry → Type 0) (due : Program → List Ent
     pub cause_is : IsItsCause (due v.desk.script w.list actor) w.list e
     pub pass_is : w ≡ record v { list = w.list; stops = v.stops + 1; told = Some e }
 
-  -- the value was halted before
-  pub record Halts (w : Sight) : Type 0 where
-    pub legal_is : legal v.desk.script w.list
-    pub shown : IsShown v w.list
-    pub halted : is_halted w.told ≡ true
-    pub same : (e : StepError) → v.told ≡ Some e → w.told ≡ Some e
-    pub pass_is : w ≡ record v { list = w.list; told = w.told }
-
   abbrev pub TurnsTo : Turn → Sight → Type 0
   TurnsTo Busy w = (v.shares ≢ all_shares) × (w ≡ record v { busy = v.busy + 1 })
   TurnsTo (Answered p) w = (h : List Entry) × Answers p h w
   TurnsTo (Stopped e) w = Stops e w
-  TurnsTo Halted w = Halts w
+  TurnsTo Halted w = Halts legal v w

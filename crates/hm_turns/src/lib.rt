@@ -3,6 +3,7 @@
 
 mod known;
 pub mod laws;
+mod looks;
 mod pass;
 mod plays;
 mod receipt;
@@ -11,6 +12,7 @@ mod stepped;
 mod turn;
 mod turns;
 
+pub use looks::{Look, Looked, Looks};
 pub use pass::Pass;
 pub use receipt::Receipt;
 pub use stepped::Stepped;

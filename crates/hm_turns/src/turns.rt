@@ -32,12 +32,12 @@ const TURN: usize = 1;
 /// The word of the first of 32 marks, one for each process.
 const MARKS: usize = 2;
 
-type Seated<S> = Seat<Option<S>, Known>;
+pub(crate) type Seated<S> = Seat<Option<S>, Known>;
 
 /// One stepped value, whose steps are made one at a time by whoever has the turn. No call waits for another.
 #[derive(Drop)]
 pub struct Turns<S: Stepped> {
-    board: Board<S>,
+    pub(crate) board: Board<S>,
 }
 
 impl<S: Stepped> Model for Turns<S> {
@@ -177,7 +177,7 @@ impl<S: Stepped> Turns<S> {
 }
 
 // The seat of a pass, and back.
-fn seat_of<S>(badge: Badge<Known>) -> Seated<S>
+pub(crate) fn seat_of<S>(badge: Badge<Known>) -> Seated<S>
     requires { AreResting badge.views }
     ensures idle { IsIdle result × OwnsItsOwn result }
     ensures sight { sight_of badge.table_id badge.views ≡ sight result }
@@ -185,7 +185,7 @@ fn seat_of<S>(badge: Badge<Known>) -> Seated<S>
     badge.into_seat()
 }
 
-fn badge_of<S>(seat: Seated<S>) -> Badge<Known>
+pub(crate) fn badge_of<S>(seat: Seated<S>) -> Badge<Known>
     requires { IsIdle seat × OwnsItsOwn seat }
     ensures resting { AreResting result.views }
     ensures sight { sight_of result.table_id result.views ≡ sight seat }
@@ -264,7 +264,7 @@ fn close_at<S: Stepped>(board: Board<S>, seat: Seated<S>) -> (S, u64)
 }
 
 // Takes the turn and the value. None where another seat has it.
-fn take<S: Stepped>(board: &Board<S>, seat: &mut Seated<S>) -> Option<S>
+pub(crate) fn take<S: Stepped>(board: &Board<S>, seat: &mut Seated<S>) -> Option<S>
     requires table { (seat.old.table_id ≡ board.now.shared.table_id) × IsSized seat.old.table_id }
     requires idle { IsIdle seat.old }
     ensures { Takes S.script S.history S.halt seat.old result seat.new }
@@ -276,7 +276,7 @@ fn take<S: Stepped>(board: &Board<S>, seat: &mut Seated<S>) -> Option<S>
 }
 
 // Gives the value and the turn back.
-fn give<S: Stepped>(board: &Board<S>, seat: &mut Seated<S>, stepped: S)
+pub(crate) fn give<S: Stepped>(board: &Board<S>, seat: &mut Seated<S>, stepped: S)
     requires table { (seat.old.table_id ≡ board.now.shared.table_id) × IsSized seat.old.table_id }
     requires givable { IsGivable S.script S.history S.halt seat.old stepped }
     requires list { S.history stepped ≡ seat.old.me.0.list }
