@@ -45,13 +45,7 @@ fn look_at(alloc: Global, entries: &[Entry]) -> Result<Seen, NoMemory>
 }
 
 /// The first page from there on that the CPU or the mirror's device may have accessed, or the end if none below it.
-fn next_page(
-    accesses: &Accesses,
-    mirror: MirrorId,
-    window: &Window,
-    from: u64,
-    end: u64,
-) -> u64
+fn next_page(accesses: &Accesses, mirror: MirrorId, window: &Window, from: u64, end: u64) -> u64
     requires sized { AreSized accesses.now }
     requires within { from ≤ end }
     ensures { IsNextPage accesses.now mirror window.now.proc from end result }

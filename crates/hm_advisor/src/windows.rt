@@ -21,7 +21,10 @@ pub fn step(windows: &mut [Option<Window>; MIRRORS], kind: &Kind)
 {
     match kind {
         Kind::Attached {
-            mirror, proc, span, ..
+            mirror,
+            proc,
+            span,
+            ..
         } => {
             windows[mirror.number() as usize] = Some(Window {
                 proc: *proc,

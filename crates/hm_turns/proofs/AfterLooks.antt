@@ -1,6 +1,5 @@
 -- What a pass has seen after a look.
-use Rattle.std.proofs.Common.{is_some, false, ◌≡◌, ℕ, ◌+◌, List, [], ◌∷◌, length, Option, Some, None, sym, refl, ap, ◌∙◌, subst, add-zero}
-use mathlib.Core.List.{IsPrefix}
+use Rattle.std.proofs.Common.{is_some, false, ◌≡◌, ℕ, List, [], ◌∷◌, Option, Some, None, sym, refl, ap, ◌∙◌, subst, add-zero}
 use Rattle.atomic_table.specs.Seated.{TableId}
 use Rattle.hm_base.specs.Program.{Program}
 use Rattle.hm_history.specs.declared.Entry.{Entry}

@@ -1,5 +1,5 @@
 -- What a look at a process's memory finds, and what it tells the pass.
-use Rattle.std.specs.Prelude.{◌≡◌, ◌≢◌, ℕ, ◌+◌, ◌^◌, ◌≤◌, Bool, true, false, if◌then◌else◌, List, length, Option, Some, None, is_some}
+use Rattle.std.specs.Prelude.{◌≡◌, ◌≢◌, ℕ, ◌+◌, ◌^◌, ◌≤◌, Bool, if◌then◌else◌, List, length, Some, None, is_some}
 use Rattle.std.specs.List.{list_all}
 use Rattle.hm_base.specs.Program.{Program}
 use Rattle.hm_history.specs.After.{after}

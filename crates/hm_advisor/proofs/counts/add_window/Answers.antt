@@ -20,9 +20,9 @@ loop-from-preserved-then-from-end c =
     let at : first + (to - first) ≡ to = omega (arith, inv.above, next.above) in
     let until = pages_until f m p first c.loop-from.from to inv.above next.above (λ v above below. unused f m p v (next.none v above below)) in
     let more : pages_counted f m p first (to + 1 - first) ≡ pages_counted f m p first (c.loop-from.from - first) ++ pages_counted f m p to 1 =
-        ap (pages_counted f m p first) one ∙ pages_append f m p first (to - first) 1
-        ∙ ap (λ k. pages_counted f m p first (to - first) ++ pages_counted f m p k 1) at
-        ∙ ap (λ (xs : List Count). xs ++ pages_counted f m p to 1) until in
+    ap (pages_counted f m p first) one ∙ pages_append f m p first (to - first) 1
+    ∙ ap (λ k. pages_counted f m p first (to - first) ++ pages_counted f m p k 1) at
+    ∙ ap (λ (xs : List Count). xs ++ pages_counted f m p to 1) until in
     record {
       above = omega (arith, inv.above, next.above);
       within = omega (arith, c.if-from-end.true);

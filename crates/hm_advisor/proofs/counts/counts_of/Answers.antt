@@ -21,8 +21,8 @@ loop-number-preserved c =
     let within : n < length ws = omega (arith, c.loop-number-test.true, seen.mirrors) in
     let read : Option Window = get_or ws n c.index-seen-number.result in
     let window : read ≡ windows h n =
-        get_or_default ws n c.index-seen-number.result none within
-        ∙ seen.attached n c.loop-number-test.true ∙ ap (λ es. windows es n) same in
+    get_or_default ws n c.index-seen-number.result none within
+    ∙ seen.attached n c.loop-number-test.true ∙ ap (λ es. windows es n) same in
     c.in_ok-add_mirror.ensures
     ∙ ap (λ k. c.loop-number.counts ++ window_counts (count_for c.in_ok-seen.seen.accesses) k read) c.new-mirror.ensures
     ∙ ap (λ f. c.loop-number.counts ++ window_counts f n read) counted

@@ -1,4 +1,4 @@
-use Rattle.std.proofs.Common.{◌≡◌, Bool, false, true, Option, Some, None, is_some, length, refl, sym, ap, subst, ◌∙◌}
+use Rattle.std.proofs.Common.{length, sym, ap, subst, ◌∙◌}
 use Rattle.hm_turns.specs.Looking.{ReadsAs}
 use Rattle.hm_turns.specs.declared.looks.Looked.{Looked}
 use Rattle.hm_turns.proofs.AfterLooks.{sees, none_where}
