@@ -108,11 +108,11 @@ same_device : (f : Mirror → kept.Table) (o : Option Mirror) → device_in (opt
 same_device f None = refl
 same_device f (Some x) = refl
 
-same_window : (f : Mirror → List (ℕ × MirrorEntry)) (room : ℕ) (o : Option Mirror) → HasWindow o → HasWindow (option_map (λ (x : Mirror). record x { table = kept.changed x.table (f x) room }) o)
+same_window : (f : Mirror → List (ℕ × MirrorEntry)) (room : List ℕ) (o : Option Mirror) → HasWindow o → HasWindow (option_map (λ (x : Mirror). record x { table = kept.changed x.table (f x) room }) o)
 same_window f room None h = tt
 same_window f room (Some x) h = h
 
-table_kept : (s : Plain) (t : Places) (m room : ℕ) (f : Mirror → List (ℕ × MirrorEntry)) (next_table : ℕ → ℕ → Option TableEntry) (xs : List (Option Mirror)) → MirrorsShown s.mirrors t.table t.device xs
+table_kept : (s : Plain) (t : Places) (m : ℕ) (room : List ℕ) (f : Mirror → List (ℕ × MirrorEntry)) (next_table : ℕ → ℕ → Option TableEntry) (xs : List (Option Mirror)) → MirrorsShown s.mirrors t.table t.device xs
     → ((v : ℕ) → m < 32 → shown_in v (option_map (λ (x : Mirror). record x { table = kept.changed x.table (f x) room }) (mirror_at xs m)) ≡ next_table m v) → ((k v : ℕ) → (k ≡ m → ⊥) → next_table k v ≡ t.table k v)
     → MirrorsShown s.mirrors next_table t.device (changed_mirror (λ (x : Mirror). record x { table = kept.changed x.table (f x) room }) xs m)
 table_kept s t m room f next_table xs h here other = changed m (option_map (λ (x : Mirror). record x { table = kept.changed x.table (f x) room }) (mirror_at xs m)) s.mirrors s.mirrors t.table next_table t.device t.device xs h (record {
@@ -134,11 +134,11 @@ through : (b : Bool) (o : Option MirrorEntry) → option_map shown_entry (if b t
 through true o = refl
 through false o = refl
 
-erased_entry : (room v : ℕ) (r : Pages) (o : Option Mirror) → shown_in v (option_map (erased_in room r) o) ≡ (if covers r v then None else shown_in v o)
+erased_entry : (room : List ℕ) (v : ℕ) (r : Pages) (o : Option Mirror) → shown_in v (option_map (erased_in room r) o) ≡ (if covers r v then None else shown_in v o)
 erased_entry room v r None = if_none (covers r v)
 erased_entry room v r (Some x) = ap (option_map shown_entry) (entry_erased x.table r v room) ∙ through (covers r v) (kept.entry_at x.table v)
 
-told_kept : (s : Plain) (t : Places) (room m : ℕ) (r : Pages) (xs : List (Option Mirror)) → MirrorsShown s.mirrors t.table t.device xs → MirrorsShown s.mirrors (erased_table t.table m (covers r)) t.device (changed_mirror (erased_in room r) xs m)
+told_kept : (s : Plain) (t : Places) (room : List ℕ) (m : ℕ) (r : Pages) (xs : List (Option Mirror)) → MirrorsShown s.mirrors t.table t.device xs → MirrorsShown s.mirrors (erased_table t.table m (covers r)) t.device (changed_mirror (erased_in room r) xs m)
 told_kept s t room m r xs h = table_kept s t m room (λ x. kept.without_span x.table r) (erased_table t.table m (covers r)) xs h
     (λ v l. erased_entry room v r (mirror_at xs m) ∙ ap (λ (o : Option TableEntry). if covers r v then None else o) (h.entries m v l) ∙ sym (erased_here t.table m (covers r) v))
     (λ k v ne. erased_else t.table m (covers r) k v ne)
@@ -148,7 +148,7 @@ either : (b : Bool) (e : MirrorEntry) (x : TableEntry) (o : Option MirrorEntry) 
 either true e x o q = ap Some q
 either false e x o q = refl
 
-set_entry : (room page v : ℕ) (e : MirrorEntry) (x : TableEntry) (o : Option Mirror) → is_none (state_in o) ≡ false → shown_entry e ≡ x → shown_in v (option_map (set_in room page e) o) ≡ (if v == page then Some x else shown_in v o)
+set_entry : (room : List ℕ) (page v : ℕ) (e : MirrorEntry) (x : TableEntry) (o : Option Mirror) → is_none (state_in o) ≡ false → shown_entry e ≡ x → shown_in v (option_map (set_in room page e) o) ≡ (if v == page then Some x else shown_in v o)
 set_entry room page v e x None n q = absurd (let b : ⊥ = cc in b)
 set_entry room page v e x (Some y) n q = ap (option_map shown_entry) (entry_set y.table page v room e) ∙ either (v == page) e x (kept.entry_at y.table v) q
 
@@ -156,14 +156,14 @@ there : (test : MirrorState → Bool) (o : Option MirrorState) → mirror_passes
 there test None e = absurd (let b : ⊥ = cc in b)
 there test (Some x) e = refl
 
-set_kept : (s : Plain) (t : Places) (room m page : ℕ) (f : Option Frame) (w : TableRight) (from : ℕ) (xs : List (Option Mirror)) → MirrorsShown s.mirrors t.table t.device xs → mirror_passes (λ x. covers x.window page) (s.mirrors m) ≡ true → is_kept_right f w ≡ true
+set_kept : (s : Plain) (t : Places) (room : List ℕ) (m page : ℕ) (f : Option Frame) (w : TableRight) (from : ℕ) (xs : List (Option Mirror)) → MirrorsShown s.mirrors t.table t.device xs → mirror_passes (λ x. covers x.window page) (s.mirrors m) ≡ true → is_kept_right f w ≡ true
     → MirrorsShown s.mirrors (with_entry t.table m page (record { target = f; right = w; from = from })) t.device (changed_mirror (set_in room page (entry_for f w from)) xs m)
 set_kept s t room m page f w from xs h i k = table_kept s t m room (λ x. kept.with_entry x.table page (entry_for f w from)) (with_entry t.table m page (record { target = f; right = w; from = from })) xs h
     (λ v l. set_entry room page v (entry_for f w from) _ (mirror_at xs m) (ap (λ o. is_none o) (h.infos m l) ∙ there (λ x. covers x.window page) (s.mirrors m) i) (shown_kept f w from k)
     ∙ ap (λ (o : Option TableEntry). if v == page then Some (record { target = f; right = w; from = from }) else o) (h.entries m v l) ∙ sym (set_here t.table m page v _))
     (λ k v ne. set_else t.table m page k v _ ne)
 
-pub mirrors_kept : (s : Plain) (t : Places) (k : Kind) (room : ℕ) (xs : List (Option Mirror)) → MirrorsShown s.mirrors t.table t.device xs → MirrorsFit s.mirrors k
+pub mirrors_kept : (s : Plain) (t : Places) (k : Kind) (room : List ℕ) (xs : List (Option Mirror)) → MirrorsShown s.mirrors t.table t.device xs → MirrorsFit s.mirrors k
     → MirrorsShown (plain_next s k).mirrors (places_next t k).table (places_next t k).device (mirrors_next room k xs)
 mirrors_kept s t (Kind.Attached m d p r q) room xs h f = attached_kept s t m d p r xs h f
 mirrors_kept s t (Kind.Detaching m q) room xs h f = standing_kept s t MirrorStage.Detaching m xs h
@@ -173,10 +173,10 @@ mirrors_kept s t (Kind.Set m v g w from) room xs h f = set_kept s t room m v g w
 mirrors_kept s t k room xs h f = h
 
 -- more room changes nothing that is shown
-room_entry : (room v : ℕ) (o : Option Mirror) → shown_in v (option_map (with_room room) o) ≡ shown_in v o
+room_entry : (room : List ℕ) (v : ℕ) (o : Option Mirror) → shown_in v (option_map (with_room room) o) ≡ shown_in v o
 room_entry room v None = refl
 room_entry room v (Some x) = refl
 
-pub reserved_kept : (s : Plain) (t : Places) (k : Kind) (room : ℕ) (xs : List (Option Mirror)) → MirrorsShown s.mirrors t.table t.device xs → MirrorsShown s.mirrors t.table t.device (reserved room k xs)
+pub reserved_kept : (s : Plain) (t : Places) (k : Kind) (room : List ℕ) (xs : List (Option Mirror)) → MirrorsShown s.mirrors t.table t.device xs → MirrorsShown s.mirrors t.table t.device (reserved room k xs)
 reserved_kept s t (Kind.Set m v f w from) room xs h = table_kept s t m room (λ x. x.table.entries) t.table xs h (λ v l. room_entry room v (mirror_at xs m) ∙ h.entries m v l) (λ k v ne. refl)
 reserved_kept s t k room xs h = h

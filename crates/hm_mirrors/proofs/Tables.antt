@@ -1,5 +1,5 @@
 -- What a table has after a change, as a history has it.
-use Rattle.std.proofs.Common.{◌≡◌, ℕ, Bool, true, false, not, cond, ◌==◌, if◌then◌else◌, Option, Some, None, refl, ap, ◌∙◌, arith}
+use Rattle.std.proofs.Common.{◌≡◌, ℕ, List, Bool, true, false, not, cond, ◌==◌, if◌then◌else◌, Option, Some, None, refl, ap, ◌∙◌, arith}
 use Rattle.std.specs.Cmp.{nat_cmp_total}
 use Rattle.std.specs.Ordering.{nat_cmp, eq_by_cmp}
 use Rattle.std.specs.declared.cmp.Ordering.TheVariants.{Equal}
@@ -24,11 +24,11 @@ equal_pages : (q k : ℕ) → nat_cmp q k ≡ Equal → k ≡ q
 equal_pages q k e = grind (arith, nat_tests)
 
 -- the entry that was set
-pub entry_set : (t : kept.Table) (page v room : ℕ) (e : MirrorEntry) → kept.entry_at (kept.changed t (kept.with_entry t page e) room) v ≡ (if v == page then Some e else kept.entry_at t v)
+pub entry_set : (t : kept.Table) (page v : ℕ) (room : List ℕ) (e : MirrorEntry) → kept.entry_at (kept.changed t (kept.with_entry t page e) room) v ≡ (if v == page then Some e else kept.entry_at t v)
 entry_set t page v room e = sorted.find-put nat_cmp nat_cmp_total v page e t.entries ∙ ap (λ b. cond b (Some e) (kept.entry_at t v)) (same_test v page)
 
 -- the entries that were erased
-pub entry_erased : (t : kept.Table) (r : Pages) (v room : ℕ) → kept.entry_at (kept.changed t (kept.without_span t r) room) v ≡ (if covers r v then None else kept.entry_at t v)
+pub entry_erased : (t : kept.Table) (r : Pages) (v : ℕ) (room : List ℕ) → kept.entry_at (kept.changed t (kept.without_span t r) room) v ≡ (if covers r v then None else kept.entry_at t v)
 entry_erased t r v room = sorted.find-where_key nat_cmp (λ u. not (covers r u)) v (λ u e. ap (λ w. not (covers r w)) (equal_pages v u e)) t.entries ∙ turned (covers r v) (kept.entry_at t v)
   where
     turned : (b : Bool) (o : Option MirrorEntry) → cond (not b) o None ≡ (if b then None else o)

@@ -4,7 +4,7 @@ use Rattle.hm_base.specs.Pages.{Pages, covers, lies_in}
 use Rattle.hm_history.specs.Places.{TableEntry}
 use Rattle.hm_history.specs.declared.Kind.{Kind}
 use Rattle.hm_history.specs.declared.Who.{Who}
-use Rattle.mirror_tables.specs.Entries.{Table, entry_at, with_entry, without_span, changed}
+use Rattle.mirror_tables.specs.Entries.{Table, entry_at, with_entry, without_span, changed, room_at}
 use Rattle.mirror_tables.specs.declared.entry.MirrorEntry.{MirrorEntry}
 use Rattle.hm_mirrors.specs.Entries.{entry_for, shown_entry}
 use Rattle.hm_mirrors.specs.declared.info.MirrorStage.{MirrorStage}
@@ -67,7 +67,7 @@ abbrev pub with_table : Mirror → Table → Mirror
 with_table x t = record x { table = t }
 
 abbrev pub empty_table : Pages → Table
-empty_table r = record { window = r; entries = []; room = 0 }
+empty_table r = record { window = r; entries = []; rooms = [] }
 
 abbrev pub standing_as : MirrorStage → Mirror → Mirror
 standing_as t x = record { info = record x.info { stage = t }; table = empty_table x.info.window }
@@ -80,24 +80,24 @@ attached d p r =
     }
 
 -- the room that a table has after a change is left open
-abbrev pub set_in : ℕ → ℕ → MirrorEntry → Mirror → Mirror
+abbrev pub set_in : List ℕ → ℕ → MirrorEntry → Mirror → Mirror
 set_in room v e x = with_table x (changed x.table (with_entry x.table v e) room)
 
-abbrev pub erased_in : ℕ → Pages → Mirror → Mirror
+abbrev pub erased_in : List ℕ → Pages → Mirror → Mirror
 erased_in room r x = with_table x (changed x.table (without_span x.table r) room)
 
-abbrev pub room_in : Option Mirror → ℕ
-room_in None = 0
-room_in (Some x) = x.table.room
+abbrev pub room_in : Option Mirror → List ℕ
+room_in None = []
+room_in (Some x) = x.table.rooms
 
-abbrev pub room_of : List (Option Mirror) → ℕ → ℕ
+abbrev pub room_of : List (Option Mirror) → ℕ → List ℕ
 room_of xs m = room_in (mirror_at xs m)
 
 abbrev pub changed_mirror : (Mirror → Mirror) → List (Option Mirror) → ℕ → List (Option Mirror)
 changed_mirror f xs m = with_mirror xs m (option_map f (mirror_at xs m))
 
 -- the mirrors after an entry; `room` is that of its mirror's table then
-abbrev pub mirrors_next : ℕ → Kind → List (Option Mirror) → List (Option Mirror)
+abbrev pub mirrors_next : List ℕ → Kind → List (Option Mirror) → List (Option Mirror)
 mirrors_next room (Kind.Attached m d p r q) xs = with_mirror xs m (Some (attached d p r))
 mirrors_next room (Kind.Detaching m q) xs = changed_mirror (standing_as MirrorStage.Detaching) xs m
 mirrors_next room (Kind.Detached m) xs = changed_mirror (standing_as MirrorStage.Gone) xs m
@@ -111,24 +111,24 @@ mirror_of (Kind.Told m r q) = Some m
 mirror_of (Kind.Set m v f w from) = Some m
 mirror_of k = None
 
-abbrev pub room_for : Kind → List (Option Mirror) → ℕ
-room_for k xs = elim (mirror_of k) [ None ↦ 0 | Some m ↦ room_of xs m ]
+abbrev pub room_for : Kind → List (Option Mirror) → List ℕ
+room_for k xs = elim (mirror_of k) [ None ↦ [] | Some m ↦ room_of xs m ]
 
 -- the mirrors with other room in the table of the entry's mirror
-abbrev pub with_room : ℕ → Mirror → Mirror
+abbrev pub with_room : List ℕ → Mirror → Mirror
 with_room room x = with_table x (changed x.table x.table.entries room)
 
-abbrev pub reserved : ℕ → Kind → List (Option Mirror) → List (Option Mirror)
+abbrev pub reserved : List ℕ → Kind → List (Option Mirror) → List (Option Mirror)
 reserved room (Kind.Set m v f w from) xs = changed_mirror (with_room room) xs m
 reserved room k xs = xs
 
--- there is room for the entry
-abbrev pub HasRoom : Option Mirror → Type 0
-HasRoom None = ⊤
-HasRoom (Some x) = 1 ≤ x.table.room
+-- there is room for the entry of a page, if it lies in the window
+abbrev pub HasRoom : ℕ → Option Mirror → Type 0
+HasRoom v None = ⊤
+HasRoom v (Some x) = covers x.table.window v ≡ true → 1 ≤ room_at x.table v
 
 abbrev pub MirrorsRoom : Kind → List (Option Mirror) → Type 0
-MirrorsRoom (Kind.Set m v f w from) xs = HasRoom (mirror_at xs m)
+MirrorsRoom (Kind.Set m v f w from) xs = HasRoom v (mirror_at xs m)
 MirrorsRoom k xs = ⊤
 
 -- what a change asks for: an entry that is set lies in its table's window

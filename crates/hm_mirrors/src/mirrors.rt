@@ -99,7 +99,7 @@ impl Mirrors {
 
     fn reserve_entry(&mut self, mirror: MirrorId, page: Page) -> Result<(), NoMemory>
         ensures same { self.new ≡ changed_mirror (with_room (room_of self.new mirror)) self.old mirror }
-        ensures ok { OnOk result (HasRoom (mirror_at self.new mirror)) }
+        ensures ok { OnOk result (HasRoom page (mirror_at self.new mirror)) }
         ensures err { OnErr result (self.new ≡ self.old) }
     {
         match &mut self.mirrors[mirror.number() as usize] {
@@ -142,7 +142,7 @@ impl Mirrors {
 
     fn set(&mut self, mirror: MirrorId, page: Page, entry: MirrorEntry)
         requires window { mirror < 32 → InTable page (mirror_at self.old mirror) }
-        requires room { HasRoom (mirror_at self.old mirror) }
+        requires room { HasRoom page (mirror_at self.old mirror) }
         ensures { self.new ≡ changed_mirror (set_in (room_of self.new mirror) page entry) self.old mirror }
     {
         if let Some(kept) = &mut self.mirrors[mirror.number() as usize] {

@@ -1,36 +1,34 @@
--- Edits keep the pages rising and in the window.
-use Rattle.std.proofs.Common.{◌≡◌, ◌≢◌, ℕ, ◌+◌, ◌-◌, ◌<◌, ◌≤◌, Bool, true, List, ◌∷◌, ◌++◌, length, take, drop, get_or, set, refl, sym, ap, subst, ◌∙◌, arith, ◌⊎◌, inl, inr}
+-- Edits keep the pages rising.
+use Rattle.std.proofs.Common.{◌≡◌, ◌≢◌, ℕ, ◌+◌, ◌-◌, ◌<◌, ◌≤◌, List, ◌∷◌, ◌++◌, length, take, drop, get_or, set, refl, sym, ap, subst, ◌∙◌, arith, ◌⊎◌, inl, inr}
 use Rattle.std.specs.List.{insert}
 use Rattle.std.proofs.lemmas.Bool.{cases_eq, cases_lt}
 use Rattle.std.proofs.lemmas.List.{length-map, length-take, length-drop, length-append, map-set, map-append, take-map, drop-map, set-get_or, get_or_append_left, get_or-append_right, get_or-take, get_or-drop}
 use Rattle.std.proofs.lemmas.List.Edits.{length-insert, get_or-insert_below, get_or-insert_at, get_or-insert_above}
-use Rattle.hm_base.specs.Pages.{Pages, covers}
-use Rattle.mirror_tables.specs.Entries.{keys, IsTable}
-use Rattle.mirror_tables.specs.Tables.{IsPlace}
+use Rattle.mirror_tables.specs.Blocks.{keys, IsBlock}
+use Rattle.mirror_tables.specs.Places.{IsPlace}
 use Rattle.mirror_tables.specs.declared.entry.MirrorEntry.{MirrorEntry}
 
--- the pages rise, and pass a test
-record Rises (test : ℕ → Bool) (ks : List ℕ) : Type 0 where
+-- the pages rise
+record Rises (ks : List ℕ) : Type 0 where
   rising : (i j : ℕ) → i < j → j < length ks → get_or ks i 0 < get_or ks j 0
-  inside : (i : ℕ) → i < length ks → test (get_or ks i 0) ≡ true
 
-as_rises : (w : Pages) (es : List (ℕ × MirrorEntry)) → IsTable w es → Rises (covers w) (keys es)
-as_rises w es h = record { rising = λ i j l m. h.rising i j l (omega (arith, length-map es (λ e. e.0))); inside = λ i l. h.inside i (omega (arith, length-map es (λ e. e.0))) }
+as_rises : (es : List (ℕ × MirrorEntry)) → IsBlock es → Rises (keys es)
+as_rises es h = record { rising = λ i j l m. h.rising i j l (omega (arith, length-map es (λ e. e.0))) }
 
-as_table : (w : Pages) (es : List (ℕ × MirrorEntry)) → Rises (covers w) (keys es) → IsTable w es
-as_table w es h = record { rising = λ i j l m. h.rising i j l (omega (arith, length-map es (λ e. e.0))); inside = λ i l. h.inside i (omega (arith, length-map es (λ e. e.0))) }
+as_block : (es : List (ℕ × MirrorEntry)) → Rises (keys es) → IsBlock es
+as_block es h = record { rising = λ i j l m. h.rising i j l (omega (arith, length-map es (λ e. e.0))) }
 
 keys_set : (es : List (ℕ × MirrorEntry)) (at page : ℕ) (e : MirrorEntry) → get_or (keys es) at 0 ≡ page → keys (set es at (page, e)) ≡ keys es
 keys_set es at page e p = map-set (λ (x : ℕ × MirrorEntry). x.0) es at (page, e) ∙ (ap (set (keys es) at) (sym p) ∙ set-get_or (keys es) at 0)
 
-pub set_kept : (w : Pages) (es : List (ℕ × MirrorEntry)) (at page : ℕ) (e : MirrorEntry) → IsTable w es → get_or (keys es) at 0 ≡ page → IsTable w (set es at (page, e))
-set_kept w es at page e h p = as_table w _ (subst (Rises (covers w)) (sym (keys_set es at page e p)) (as_rises w es h))
+pub set_kept : (es : List (ℕ × MirrorEntry)) (at page : ℕ) (e : MirrorEntry) → IsBlock es → get_or (keys es) at 0 ≡ page → IsBlock (set es at (page, e))
+set_kept es at page e h p = as_block _ (subst (Rises) (sym (keys_set es at page e p)) (as_rises es h))
 
 keys_insert : (es : List (ℕ × MirrorEntry)) (at page : ℕ) (e : MirrorEntry) → keys (insert es at (page, e)) ≡ insert (keys es) at page
 keys_insert es at page e = map-append (λ (x : ℕ × MirrorEntry). x.0) (take at es) ((page, e) ∷ drop at es) ∙ rw (take-map (λ (x : ℕ × MirrorEntry). x.0) at es, drop-map (λ (x : ℕ × MirrorEntry). x.0) at es) refl
 
-rises_insert : (test : ℕ → Bool) (ks : List ℕ) (at p : ℕ) → Rises test ks → at ≤ length ks → test p ≡ true → ((k : ℕ) → k < at → get_or ks k 0 < p) → ((k : ℕ) → at ≤ k → k < length ks → p < get_or ks k 0) → Rises test (insert ks at p)
-rises_insert test ks at p h l t b f = record { rising = rising; inside = inside }
+rises_insert : (ks : List ℕ) (at p : ℕ) → Rises ks → at ≤ length ks → ((k : ℕ) → k < at → get_or ks k 0 < p) → ((k : ℕ) → at ≤ k → k < length ks → p < get_or ks k 0) → Rises (insert ks at p)
+rises_insert ks at p h l b f = record { rising = rising }
   where
     len : length (insert ks at p) ≡ length ks + 1
     len = length-insert ks at p l
@@ -60,17 +58,9 @@ rises_insert test ks at p h l t b f = record { rising = rising; inside = inside 
         by (inr a) (inr c) (inr d) (inl e) = absurd (omega arith)
         by (inr a) (inr c) (inr d) (inr e) = let g = high j (omega arith) in let k = high i (omega arith) in rw (k, g) (h.rising (i - 1) (j - 1) (omega arith) (omega (arith, len)))
 
-    inside : (i : ℕ) → i < length (insert ks at p) → test (get_or (insert ks at p) i 0) ≡ true
-    inside i m = by (cases_lt i at) (cases_eq i at)
-      where
-        by : (i < at) ⊎ (at ≤ i) → (i ≡ at) ⊎ (i ≢ at) → test (get_or (insert ks at p) i 0) ≡ true
-        by (inl a) d = rw (low i a) (h.inside i (omega arith))
-        by (inr a) (inl d) = rw (d, mid) t
-        by (inr a) (inr d) = let g = high i (omega arith) in rw g (h.inside (i - 1) (omega (arith, len)))
-
-pub insert_kept : (w : Pages) (es : List (ℕ × MirrorEntry)) (at page : ℕ) (e : MirrorEntry) → IsTable w es → IsPlace es page at → (at < length es → get_or (keys es) at 0 ≢ page) → covers w page ≡ true → IsTable w (insert es at (page, e))
-insert_kept w es at page e h p d c = as_table w _ (subst (Rises (covers w)) (sym (keys_insert es at page e))
-    (rises_insert (covers w) (keys es) at page (as_rises w es h) (omega (arith, p.within, length-map es (λ e. e.0))) c p.below above))
+pub insert_kept : (es : List (ℕ × MirrorEntry)) (at page : ℕ) (e : MirrorEntry) → IsBlock es → IsPlace es page at → (at < length es → get_or (keys es) at 0 ≢ page) → IsBlock (insert es at (page, e))
+insert_kept es at page e h p d = as_block _ (subst (Rises) (sym (keys_insert es at page e))
+    (rises_insert (keys es) at page (as_rises es h) (omega (arith, p.within, length-map es (λ e. e.0))) p.below above))
   where
     above : (k : ℕ) → at ≤ k → k < length (keys es) → page < get_or (keys es) k 0
     above k l m = let n : k < length es = omega (arith, length-map es (λ e. e.0)) in by (cases_eq k at)
@@ -86,8 +76,8 @@ insert_kept w es at page e h p d c = as_table w _ (subst (Rises (covers w)) (sym
 keys_cut : (es : List (ℕ × MirrorEntry)) (from upto : ℕ) → keys (take from es ++ drop upto es) ≡ take from (keys es) ++ drop upto (keys es)
 keys_cut es from upto = map-append (λ (x : ℕ × MirrorEntry). x.0) (take from es) (drop upto es) ∙ rw (take-map (λ (x : ℕ × MirrorEntry). x.0) from es, drop-map (λ (x : ℕ × MirrorEntry). x.0) upto es) refl
 
-rises_cut : (test : ℕ → Bool) (ks : List ℕ) (from upto : ℕ) → Rises test ks → from ≤ upto → upto ≤ length ks → Rises test (take from ks ++ drop upto ks)
-rises_cut test ks from upto h l m = record { rising = rising; inside = inside }
+rises_cut : (ks : List ℕ) (from upto : ℕ) → Rises ks → from ≤ upto → upto ≤ length ks → Rises (take from ks ++ drop upto ks)
+rises_cut ks from upto h l m = record { rising = rising }
   where
     len : length (take from ks ++ drop upto ks) + (upto - from) ≡ length ks
     len = omega (arith, length-append (take from ks) (drop upto ks), length-take from ks, length-drop upto ks)
@@ -107,12 +97,5 @@ rises_cut test ks from upto h l m = record { rising = rising; inside = inside }
         by (inr c) (inl d) = absurd (omega arith)
         by (inr c) (inr d) = rw (high i c, high j d) (h.rising (upto + (i - from)) (upto + (j - from)) (omega arith) (omega (arith, len)))
 
-    inside : (i : ℕ) → i < length (take from ks ++ drop upto ks) → test (get_or (take from ks ++ drop upto ks) i 0) ≡ true
-    inside i a = by (cases_lt i from)
-      where
-        by : (i < from) ⊎ (from ≤ i) → test (get_or (take from ks ++ drop upto ks) i 0) ≡ true
-        by (inl c) = rw (low i c) (h.inside i (omega arith))
-        by (inr c) = rw (high i c) (h.inside (upto + (i - from)) (omega (arith, len)))
-
-pub cut_kept : (w : Pages) (es : List (ℕ × MirrorEntry)) (from upto : ℕ) → IsTable w es → from ≤ upto → upto ≤ length es → IsTable w (take from es ++ drop upto es)
-cut_kept w es from upto h l m = as_table w _ (subst (Rises (covers w)) (sym (keys_cut es from upto)) (rises_cut (covers w) (keys es) from upto (as_rises w es h) l (omega (arith, length-map es (λ e. e.0)))))
+pub cut_kept : (es : List (ℕ × MirrorEntry)) (from upto : ℕ) → IsBlock es → from ≤ upto → upto ≤ length es → IsBlock (take from es ++ drop upto es)
+cut_kept es from upto h l m = as_block _ (subst (Rises) (sym (keys_cut es from upto)) (rises_cut (keys es) from upto (as_rises es h) l (omega (arith, length-map es (λ e. e.0)))))

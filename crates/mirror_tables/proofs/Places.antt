@@ -7,8 +7,8 @@ use Rattle.std.proofs.lemmas.Bool.{cases_eq, cases_lt}
 use Rattle.std.proofs.lemmas.Bool.Decides.{nat_tests}
 use Rattle.hm_base.specs.Pages.{Pages, covers}
 use Rattle.std.proofs.lemmas.List.{get_or-map}
-use Rattle.mirror_tables.specs.Entries.{Table, changed, keys}
-use Rattle.mirror_tables.specs.Tables.{IsPlace}
+use Rattle.mirror_tables.specs.Blocks.{Block, changed, keys}
+use Rattle.mirror_tables.specs.Places.{IsPlace}
 use Rattle.mirror_tables.specs.declared.entry.MirrorEntry.{MirrorEntry}
 
 further : {x : ℕ × MirrorEntry} {es : List (ℕ × MirrorEntry)} {page at : ℕ} → IsPlace (x ∷ es) page (suc at) → IsPlace es page at
@@ -153,11 +153,11 @@ when_ok (Ok y) x a b o e = e
 when_ok (Err y) x a b o e = cc
 
 -- the table after a change of its entries
-pub changed_as : (f g : Table) (es : List (ℕ × MirrorEntry)) (room : ℕ) (to : Table → List (ℕ × MirrorEntry)) → f ≡ g → es ≡ to f → record { window = f.window; entries = es; room = room } ≡ changed g (to g) room
-changed_as f g es room to e q = ap (λ (x : List (ℕ × MirrorEntry)). changed f x room) q ∙ ap (λ (t : Table). changed t (to t) room) e
+pub changed_as : (f g : Block) (es : List (ℕ × MirrorEntry)) (room : ℕ) (to : Block → List (ℕ × MirrorEntry)) → f ≡ g → es ≡ to f → record { entries = es; room = room } ≡ changed g (to g) room
+changed_as f g es room to e q = ap (λ (x : List (ℕ × MirrorEntry)). changed f x room) q ∙ ap (λ (t : Block). changed t (to t) room) e
 
-pub unchanged : (f g : Table) (to : Table → List (ℕ × MirrorEntry)) → f ≡ g → f.entries ≡ to f → g ≡ changed g (to g) g.room
-unchanged f g to e q = sym e ∙ (ap (λ (x : List (ℕ × MirrorEntry)). changed f x f.room) q ∙ ap (λ (t : Table). changed t (to t) t.room) e)
+pub unchanged : (f g : Block) (to : Block → List (ℕ × MirrorEntry)) → f ≡ g → f.entries ≡ to f → g ≡ changed g (to g) g.room
+unchanged f g to e q = sym e ∙ (ap (λ (x : List (ℕ × MirrorEntry)). changed f x f.room) q ∙ ap (λ (t : Block). changed t (to t) t.room) e)
 
 pub below_by : (a b n p : ℕ) → a ≡ b → n ≡ b → n < p → a < p
 below_by a b n p e f l = omega arith

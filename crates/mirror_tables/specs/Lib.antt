@@ -1,2 +1,4 @@
+pub mod Blocks
+pub mod Places
 pub mod Entries
-pub mod Tables
+pub mod Directory

@@ -2,6 +2,7 @@
 // dmirror`, lib/test_hmm.c).
 #![tactic(auto)]
 
+mod block;
 mod entry;
 mod table;
 

@@ -1,44 +1,47 @@
-// The entries of the pages that a mirror may use, in rising order of their pages.
-ghost use Rattle.std.specs.Prelude.{◌≡◌, ℕ, ◌+◌, ◌-◌, ◌<◌, ◌≤◌, [], true, length, take, drop, ◌++◌, slice_index, nat_lt, ◌==◌, ◌&&◌, vec_len, vec_capacity, OnOk, OnErr};
+// The entries of the pages that a mirror may use, in blocks of 256 pages that come as they are needed.
+ghost use Rattle.std.specs.Prelude.{◌≡◌, ℕ, ◌+◌, ◌-◌, ◌^◌, ◌<◌, ◌≤◌, [], true, length, replicate, ◌++◌, slice_set, if◌then◌else◌, ◌&&◌, nat_le, nat_lt, OnOk, OnErr, MatchResult};
 ghost use Rattle.hm_base.specs.Pages.{covers};
-ghost use Rattle.mirror_tables.specs.Entries.{IsTable, entry_at, with_entry, without_span, changed, keys};
-ghost use Rattle.mirror_tables.specs.Tables.{IsPlace};
+ghost use Rattle.mirror_tables.specs.Blocks.{empty_block};
+ghost use Rattle.mirror_tables.specs.Entries.{IsTable, entry_at, with_entry, without_span, changed, block_of, room_at};
+ghost use Rattle.mirror_tables.specs.Directory.{IsErased, IsRoomier};
 
+use crate::block::Block;
 use crate::entry::MirrorEntry;
 use hm_base::{NoMemory, Page, Span};
 use std::alloc::Global;
 use std::marker::Model;
 
+/// Pages of a block.
+const BLOCK_PAGES: u64 = 256;
+
 /// The entries of the pages of a window (`pt` of `struct dmirror` in lib/test_hmm.c).
 #[derive(Drop)]
 pub struct MirrorTable {
     window: Span,
-    entries: Vec<(Page, MirrorEntry)>,
+    blocks: Vec<Block>,
+    alloc: Global,
 }
 
 impl Model for MirrorTable {
-    ghost use Rattle.std.specs.Prelude.{◌-◌, vec_len, vec_capacity};
-    ghost use Rattle.mirror_tables.specs.Entries.{Table, IsTable};
+    ghost use Rattle.mirror_tables.specs.Entries.{Table};
+    ghost use Rattle.mirror_tables.specs.Directory.{table_of, IsDirectory};
 
     ghost Value = { Table };
 
-    ghost view = { λ a. record {
-      window = a.window;
-      entries = a.entries.items;
-      room = vec_capacity a.entries - vec_len a.entries;
-    } };
+    ghost view = { λ a. table_of a.window a.blocks.items };
 
-    ghost invariant = { λ a. IsTable a.window a.entries.items };
+    ghost invariant = { λ a. IsDirectory a.window a.blocks.items };
 }
 
 impl MirrorTable {
     /// A table of the window without an entry.
     pub fn new(alloc: Global, window: Span) -> MirrorTable
-        ensures { result ≡ record { window = window; entries = []; room = 0 } }
+        ensures { result ≡ record { window = window; entries = []; rooms = [] } }
     {
         MirrorTable {
             window,
-            entries: Vec::new(alloc),
+            blocks: Vec::new(alloc),
+            alloc,
         }
     }
 
@@ -46,42 +49,44 @@ impl MirrorTable {
     pub fn facts(&self)
         ensures { IsTable self.now.window self.now.entries }
     {
-        let _ = &self.entries;
+        let _ = &self.blocks;
     }
 
-    /// Makes room for the page's entry.
-    pub fn reserve(&mut self, _page: Page) -> Result<(), NoMemory>
-        ensures table { self.new ≡ changed self.old self.old.entries self.new.room }
-        ensures more { self.old.room ≤ self.new.room }
-        ensures ok { OnOk result (1 ≤ self.new.room) }
+    /// Makes room for the entry of a page of the window.
+    pub fn reserve(&mut self, page: Page) -> Result<(), NoMemory>
+        ensures table { self.new ≡ changed self.old self.old.entries self.new.rooms }
+        ensures more { (v : ℕ) → room_at self.old v ≤ room_at self.new v }
+        ensures ok { OnOk result (covers self.old.window page ≡ true → 1 ≤ room_at self.new page) }
         ensures err { OnErr result (self.new ≡ self.old) }
     {
-        self.entries.reserve(1)?;
-        Ok(())
+        if !has_page(self.window, page) {
+            return Ok(());
+        }
+        let at = block_of(self.window, page.number());
+        reserve_in(&mut self.blocks, self.alloc, at)
     }
 
     /// Sets the entry of a page of the window for which there is room.
     pub fn set_reserved(&mut self, page: Page, entry: MirrorEntry)
-        requires room { 1 ≤ self.old.room }
+        requires room { 1 ≤ room_at self.old page }
         requires window { covers self.old.window page ≡ true }
-        ensures table { self.new ≡ changed self.old (with_entry self.old page entry) self.new.room }
-        ensures room { self.old.room ≤ self.new.room + 1 }
+        ensures table { self.new ≡ changed self.old (with_entry self.old page entry) self.new.rooms }
+        ensures room { (v : ℕ) → room_at self.old v ≤ room_at self.new v + 1 }
     {
-        let at = place(&self.entries, page.number());
-        if has_page(&self.entries, at, page.number()) {
-            self.entries[at] = (page, entry);
-        } else {
-            let _ = self.entries.insert(at, (page, entry));
-        }
+        let at = block_of(self.window, page.number());
+        let block = &mut self.blocks[at];
+        block.set_reserved(page, entry);
+        block.facts();
     }
 
     /// The entry of the page, if it has one.
     pub fn get(&self, page: Page) -> Option<MirrorEntry>
         ensures { result ≡ entry_at self.now page }
     {
-        let at = place(&self.entries, page.number());
-        if has_page(&self.entries, at, page.number()) {
-            Some(self.entries[at].1)
+        let at = block_of(self.window, page.number());
+        if at < self.blocks.len() {
+            let block = &self.blocks[at];
+            block.get(page)
         } else {
             None
         }
@@ -89,52 +94,76 @@ impl MirrorTable {
 
     /// Takes away the entries of the span's pages (`dmirror_do_update` of lib/test_hmm.c).
     pub fn erase(&mut self, span: Span)
-        ensures table { self.new ≡ changed self.old (without_span self.old span) self.new.room }
-        ensures room { self.old.room ≤ self.new.room }
+        ensures table { self.new ≡ changed self.old (without_span self.old span) self.new.rooms }
+        ensures room { (v : ℕ) → room_at self.old v ≤ room_at self.new v }
     {
         let first = span.first().number();
-        let from = place(&self.entries, first);
-        let upto = place(&self.entries, first + span.count());
-        if from < upto {
-            cut(&mut self.entries, from, upto);
+        let from = block_of(self.window, first);
+        let upto = block_of(self.window, first + span.count() - 1) + 1;
+        erase_blocks(&mut self.blocks, from, upto, span);
+    }
+}
+
+/// Whether the page lies in the window.
+fn has_page(window: Span, page: Page) -> bool
+    ensures { result ≡ covers window page }
+{
+    let first = window.first().number();
+    first <= page.number() && page.number() < first + window.count()
+}
+
+/// The number of the page's block.
+fn block_of(window: Span, page: u64) -> usize
+    ensures result { result ≡ block_of window page }
+    ensures below { result < 2 ^ 56 }
+{
+    let offset = page.saturating_sub(window.first().number());
+    (offset / BLOCK_PAGES) as usize
+}
+
+/// Makes room for an entry of the block, which comes if it is not there. A failure leaves the blocks as they were.
+fn reserve_in(blocks: &mut Vec<Block>, alloc: Global, at: usize) -> Result<(), NoMemory>
+    requires { at < 2 ^ 56 }
+    ensures { MatchResult result (λ _. IsRoomier at blocks.old.items blocks.new.items)
+        (λ _. blocks.new.items ≡ blocks.old.items) }
+{
+    let count = blocks.len();
+    grow(blocks, alloc, at + 1)?;
+    let block = &mut blocks[at];
+    match block.reserve() {
+        Ok(()) => Ok(()),
+        Err(NoMemory) => {
+            blocks.truncate(count);
+            Err(NoMemory)
         }
     }
 }
 
-/// The place of a page among the entries, found by halving.
-fn place(entries: &[(Page, MirrorEntry)], page: u64) -> usize
-    requires { (i j : ℕ) → i < j → j < length entries.now
-        → slice_index (keys entries.now) i < slice_index (keys entries.now) j }
-    ensures { IsPlace entries.now page result }
+/// At least so many blocks, the new ones without entries.
+fn grow(blocks: &mut Vec<Block>, alloc: Global, count: usize) -> Result<(), NoMemory>
+    ensures { MatchResult result
+        (λ _. blocks.new.items ≡ blocks.old.items ++ replicate (count - length blocks.old.items) empty_block)
+        (λ _. blocks.new.items ≡ blocks.old.items) }
 {
-    let mut low = 0;
-    let mut high = entries.len();
-    while low < high {
-        let middle = low + (high - low) / 2;
-        if entries[middle].0.number() < page {
-            low = middle + 1;
-        } else {
-            high = middle;
+    let more = count.saturating_sub(blocks.len());
+    blocks.reserve(more)?;
+    for _block in 0..more {
+        match blocks.push(Block::new(alloc)) {
+            Ok(_) => (),
+            Err(_) => unreachable!(),
         }
     }
-    low
+    Ok(())
 }
 
-/// Whether the entry at the place is the page's.
-fn has_page(entries: &[(Page, MirrorEntry)], at: usize, page: u64) -> bool
-    ensures { result ≡ (nat_lt at (length entries.now) && (slice_index (keys entries.now) at == page)) }
+/// Takes away the entries of the span's pages from the blocks from one up to another.
+fn erase_blocks(blocks: &mut Vec<Block>, from: usize, upto: usize, span: Span)
+    requires { from ≤ upto }
+    ensures { IsErased span from upto blocks.old.items blocks.new.items }
 {
-    at < entries.len() && entries[at].0.number() == page
-}
-
-/// Takes out the entries from one place up to another.
-fn cut(entries: &mut Vec<(Page, MirrorEntry)>, from: usize, upto: usize)
-    requires order { from ≤ upto }
-    requires inside { upto ≤ length entries.old.items }
-    ensures items { entries.new.items ≡ take from entries.old.items ++ drop upto entries.old.items }
-    ensures capacity { vec_capacity entries.new ≡ vec_capacity entries.old }
-{
-    let rest = entries.len() - upto;
-    entries.copy_within(upto.., from);
-    entries.truncate(from + rest);
+    for at in from..upto.min(blocks.len()) {
+        let block = &mut blocks[at];
+        block.erase(span);
+        block.facts();
+    }
 }

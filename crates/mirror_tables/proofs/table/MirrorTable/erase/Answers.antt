@@ -1,35 +1,19 @@
-use Rattle.std.proofs.Common.{◌≡◌, ◌+◌, take, drop, ◌++◌, ap, sym, ◌∙◌, arith}
-use Rattle.std.proofs.lemmas.List.{take-append-drop}
-use Rattle.mirror_tables.specs.Entries.{without_span}
-use Rattle.mirror_tables.proofs.Places.{place_as, without_cut, same_places, changed_as, unchanged}
-use Rattle.mirror_tables.proofs.Kept.{cut_kept}
+use Rattle.std.proofs.Common.{◌≡◌, ◌+◌, ◌-◌, ap, ◌∙◌, arith}
+use Rattle.mirror_tables.specs.Entries.{block_of}
+use Rattle.mirror_tables.proofs.Changes.{erased_directory, erased_table, erased_rooms}
 use Rattle.mirror_tables.proofs.table.MirrorTable.erase.Goals as goal
 
 pub invariant_of-self : goal.invariant_of-self
-invariant_of-self c =
-    let es = c.self.inside.entries.items in
-    let first : c.number-first.result ≡ c.args.span.first = c.number-first.ensures.same ∙ c.first.ensures.same in
-    let last : c.number-first.result + c.count.result ≡ c.args.span.first + c.args.span.count = omega (arith, first, c.count.ensures.same) in
-    let p = place_as _ es _ c.args.span.first _ c.deref.ensures.value first c.place-from.ensures in
-    let q = place_as _ es _ (c.args.span.first + c.args.span.count) _ c.deref-2.ensures.value last c.place-upto.ensures in
-    rw c.cut.ensures.items (cut_kept c.self.inside.window es c.place-from.result c.place-upto.result c.self.invariant (omega arith) q.within)
+invariant_of-self c = erased_directory c.self.inside.window c.args.span _ _ c.self.inside.blocks.items c.erase_blocks.new.blocks.items c.self.invariant c.erase_blocks.ensures
 
-pub returns-then-from-upto-clause-table : goal.returns-then-from-upto-clause-table
-returns-then-from-upto-clause-table c =
-    let es = c.self.inside.entries.items in
+pub returns-clause-table : goal.returns-clause-table
+returns-clause-table c =
+    let w = c.self.inside.window in
     let first : c.number-first.result ≡ c.args.span.first = c.number-first.ensures.same ∙ c.first.ensures.same in
-    let last : c.number-first.result + c.count.result ≡ c.args.span.first + c.args.span.count = omega (arith, first, c.count.ensures.same) in
-    let p = place_as _ es _ c.args.span.first _ c.deref.ensures.value first c.place-from.ensures in
-    let q = place_as _ es _ (c.args.span.first + c.args.span.count) _ c.deref-2.ensures.value last c.place-upto.ensures in
-    changed_as _ _ _ _ (λ t. without_span t c.args.span) c.self.view_is (c.cut.ensures.items ∙ without_cut es c.args.span c.place-from.result c.place-upto.result p q)
+    let last : c.number-first.result + c.count.result - 1 ≡ c.args.span.first + c.args.span.count - 1 = omega (arith, first, c.count.ensures.same) in
+    let e = c.block_of-from.ensures.result ∙ ap (block_of w) first in
+    let f = ap (λ k. k + 1) (c.block_of-upto.ensures.result ∙ ap (block_of w) last) in
+    erased_table w c.args.span c.block_of-from.result (c.block_of-upto.result + 1) c.self.inside.blocks.items c.erase_blocks.new.blocks.items _ c.self.view_is c.self.invariant c.erase_blocks.ensures e f c.count.ensures.span.some
 
-pub returns-else-from-upto-clause-table : goal.returns-else-from-upto-clause-table
-returns-else-from-upto-clause-table c =
-    let es = c.self.inside.entries.items in
-    let first : c.number-first.result ≡ c.args.span.first = c.number-first.ensures.same ∙ c.first.ensures.same in
-    let last : c.number-first.result + c.count.result ≡ c.args.span.first + c.args.span.count = omega (arith, first, c.count.ensures.same) in
-    let p = place_as _ es _ c.args.span.first _ c.deref.ensures.value first c.place-from.ensures in
-    let q = place_as _ es _ (c.args.span.first + c.args.span.count) _ c.deref-2.ensures.value last c.place-upto.ensures in
-    let same = same_places es c.args.span c.place-from.result c.place-upto.result p q c.if-from-upto.false in
-    unchanged _ _ (λ t. without_span t c.args.span) c.self.view_is
-    (sym (take-append-drop c.place-from.result es) ∙ (ap (λ k. take c.place-from.result es ++ drop k es) same ∙ without_cut es c.args.span c.place-from.result c.place-upto.result p q))
+pub returns-clause-room : goal.returns-clause-room
+returns-clause-room c = erased_rooms c.self.inside.window c.args.span _ _ c.self.inside.blocks.items c.erase_blocks.new.blocks.items _ c.self.view_is c.erase_blocks.ensures

@@ -1,18 +1,19 @@
-use Rattle.std.proofs.Common.{Some, ap, ◌∙◌}
-use Rattle.mirror_tables.specs.Entries.{entry_at}
-use Rattle.mirror_tables.proofs.Places.{place_as, has_as, has_not_as, find_old, find_none, nowhere}
+use Rattle.std.proofs.Common.{ap, ◌∙◌, arith}
+use Rattle.mirror_tables.specs.Entries.{block_of}
+use Rattle.mirror_tables.proofs.Changes.{found, not_found, block_is}
 use Rattle.mirror_tables.proofs.table.MirrorTable.get.Goals as goal
 
-pub returns-then-has_page : goal.returns-then-has_page
-returns-then-has_page c =
-    let es = c.self.inside.entries.items in
-    let p = place_as _ es _ c.args.page _ c.deref.ensures.value c.number.ensures.same c.place-at.ensures in
-    let h = has_as _ es _ _ c.args.page _ c.deref-2.ensures.value c.number-2.ensures.same c.has_page.ensures c.if-has_page.true in
-    ap (λ x. Some x.1) c.index.ensures ∙ (find_old es c.args.page c.place-at.result c.index.result.now p h.0 h.1 ∙ ap (λ t. entry_at t c.args.page) c.self.view_is)
+pub returns-then-at-len : goal.returns-then-at-len
+returns-then-at-len c =
+    let w = c.self.inside.window in
+    let bs = c.self.inside.blocks.items in
+    let e = c.block_of-at.ensures.result ∙ ap (block_of w) c.number.ensures.same in
+    let q = block_is bs c.block_of-at.result c.index-block.result.now (omega (arith, c.if-at-len.true, c.len.ensures)) c.index-block.ensures in
+    found w bs c.args.self.now c.args.page c.block_of-at.result c.index-block.result.now c.get.result c.self.view_is c.self.invariant e q c.get.ensures
 
-pub returns-else-has_page : goal.returns-else-has_page
-returns-else-has_page c =
-    let es = c.self.inside.entries.items in
-    let p = place_as _ es _ c.args.page _ c.deref.ensures.value c.number.ensures.same c.place-at.ensures in
-    let h = has_not_as _ es _ _ c.args.page _ c.deref-2.ensures.value c.number-2.ensures.same c.has_page.ensures c.if-has_page.false in
-    find_none es c.args.page (nowhere es c.args.page c.place-at.result p h c.self.invariant.rising) ∙ ap (λ t. entry_at t c.args.page) c.self.view_is
+pub returns-else-at-len : goal.returns-else-at-len
+returns-else-at-len c =
+    let w = c.self.inside.window in
+    let bs = c.self.inside.blocks.items in
+    let e = c.block_of-at.ensures.result ∙ ap (block_of w) c.number.ensures.same in
+    not_found w bs c.args.self.now c.args.page c.block_of-at.result c.self.view_is c.self.invariant e (omega (arith, c.if-at-len.false, c.len.ensures))

@@ -1,38 +1,42 @@
-use Rattle.std.proofs.Common.{IsOk, ap, sym, ◌∙◌, arith}
+use Rattle.std.proofs.Common.{◌≤◌, ◌+◌, ap, ◌∙◌, arith}
+use Rattle.std.specs.Ordering.{nat_cmp}
+use Rattle.std.specs.FinMap.Entries as sorted
 use Rattle.hm_base.specs.Pages.{covers}
-use Rattle.mirror_tables.specs.Entries.{with_entry}
-use Rattle.mirror_tables.proofs.Places.{place_as, has_as, has_not_as, put_old, put_new, when_ok, changed_as}
-use Rattle.mirror_tables.proofs.Kept.{set_kept, insert_kept}
+use Rattle.mirror_tables.specs.Blocks.{Block}
+use Rattle.mirror_tables.specs.Entries.{block_of}
+use Rattle.mirror_tables.specs.Directory.{block_at}
+use Rattle.mirror_tables.proofs.Changes.{block_is, roomy_at, set_directory, set_table, set_rooms}
 use Rattle.mirror_tables.proofs.table.MirrorTable.set_reserved.Goals as goal
 
 pub invariant_of-self : goal.invariant_of-self
 invariant_of-self c =
-    let es = c.self.inside.entries.items in
-    let p = place_as _ es _ c.args.page _ c.deref.ensures.value c.number.ensures.same c.place-at.ensures in
-    let h = has_as _ es _ _ c.args.page _ c.deref-2.ensures.value c.number-2.ensures.same c.has_page.ensures c.if-has_page.true in
-    set_kept c.self.inside.window es c.place-at.result c.args.page c.args.entry c.self.invariant h.1
+    let w = c.self.inside.window in
+    let bs = c.self.inside.blocks.items in
+    let at = c.block_of-at.result in
+    let e = c.block_of-at.ensures.result ∙ ap (block_of w) c.number.ensures.same in
+    let l = roomy_at w bs _ c.args.page at c.self.view_is e c.requires.room in
+    let q = block_is bs at c.index_mut-block.result.now l c.index_mut-block.ensures.value in
+    let f = ap (λ (x : Block). x.entries) c.set_reserved.ensures.block ∙ ap (λ (x : Block). sorted.put nat_cmp c.args.page c.args.entry x.entries) q in
+    set_directory w bs at c.args.page c.args.entry c.set_reserved.new.self c.self.invariant l (ap (λ t. covers t.window c.args.page) c.self.view_is ∙ c.requires.window) e f c.facts.ensures
 
-pub invariant_of-self-else-has_page : goal.invariant_of-self-else-has_page
-invariant_of-self-else-has_page c =
-    let es = c.self.inside.entries.items in
-    let p = place_as _ es _ c.args.page _ c.deref.ensures.value c.number.ensures.same c.place-at.ensures in
-    let h = has_not_as _ es _ _ c.args.page _ c.deref-2.ensures.value c.number-2.ensures.same c.has_page.ensures c.if-has_page.false in
-    let ok : IsOk c.insert.result = c.insert.ensures.succeeds (omega (arith, c.requires.room, ap (λ t. t.room) c.self.view_is)) in
-    let e = when_ok c.insert.result _ _ _ ok c.insert.ensures.items in
-    rw e (insert_kept c.self.inside.window es c.place-at.result c.args.page c.args.entry c.self.invariant p h (ap (λ t. covers t.window c.args.page) c.self.view_is ∙ c.requires.window))
+pub returns-clause-table : goal.returns-clause-table
+returns-clause-table c =
+    let w = c.self.inside.window in
+    let bs = c.self.inside.blocks.items in
+    let at = c.block_of-at.result in
+    let e = c.block_of-at.ensures.result ∙ ap (block_of w) c.number.ensures.same in
+    let l = roomy_at w bs _ c.args.page at c.self.view_is e c.requires.room in
+    let q = block_is bs at c.index_mut-block.result.now l c.index_mut-block.ensures.value in
+    let f = ap (λ (x : Block). x.entries) c.set_reserved.ensures.block ∙ ap (λ (x : Block). sorted.put nat_cmp c.args.page c.args.entry x.entries) q in
+    set_table w bs _ at c.args.page c.args.entry c.set_reserved.new.self c.self.view_is c.self.invariant l e f
 
-pub returns-then-has_page-clause-table : goal.returns-then-has_page-clause-table
-returns-then-has_page-clause-table c =
-    let es = c.self.inside.entries.items in
-    let p = place_as _ es _ c.args.page _ c.deref.ensures.value c.number.ensures.same c.place-at.ensures in
-    let h = has_as _ es _ _ c.args.page _ c.deref-2.ensures.value c.number-2.ensures.same c.has_page.ensures c.if-has_page.true in
-    changed_as _ _ _ _ (λ t. with_entry t c.args.page c.args.entry) c.self.view_is (sym (put_old es c.args.page c.place-at.result c.args.entry p h.0 h.1))
-
-pub returns-else-has_page-clause-table : goal.returns-else-has_page-clause-table
-returns-else-has_page-clause-table c =
-    let es = c.self.inside.entries.items in
-    let p = place_as _ es _ c.args.page _ c.deref.ensures.value c.number.ensures.same c.place-at.ensures in
-    let h = has_not_as _ es _ _ c.args.page _ c.deref-2.ensures.value c.number-2.ensures.same c.has_page.ensures c.if-has_page.false in
-    let ok : IsOk c.insert.result = c.insert.ensures.succeeds (omega (arith, c.requires.room, ap (λ t. t.room) c.self.view_is)) in
-    let e = when_ok c.insert.result _ _ _ ok c.insert.ensures.items in
-    changed_as _ _ _ _ (λ t. with_entry t c.args.page c.args.entry) c.self.view_is (e ∙ sym (put_new es c.args.page c.place-at.result c.args.entry p h))
+pub returns-clause-room : goal.returns-clause-room
+returns-clause-room c =
+    let w = c.self.inside.window in
+    let bs = c.self.inside.blocks.items in
+    let at = c.block_of-at.result in
+    let e = c.block_of-at.ensures.result ∙ ap (block_of w) c.number.ensures.same in
+    let l = roomy_at w bs _ c.args.page at c.self.view_is e c.requires.room in
+    let q = block_is bs at c.index_mut-block.result.now l c.index_mut-block.ensures.value in
+    let r : (block_at bs at).room ≤ c.set_reserved.new.self.room + 1 = omega (arith, ap (λ (x : Block). x.room) q, c.set_reserved.ensures.room) in
+    set_rooms w bs _ at c.set_reserved.new.self c.self.view_is l r

@@ -1,6 +1,6 @@
 use Rattle.std.proofs.Common.{arith}
 use Rattle.mirror_tables.proofs.Places.{key_at, below_more, from_more, below_by, from_by}
-use Rattle.mirror_tables.proofs.table.place.Goals as goal
+use Rattle.mirror_tables.proofs.block.place.Goals as goal
 
 pub loop-low-preserved-then-number-page : goal.loop-low-preserved-then-number-page
 loop-low-preserved-then-number-page c =

@@ -1,6 +1,6 @@
 use Rattle.std.proofs.Common.{ℕ, ◌-◌, ◌<◌, ◌≤◌, length, get_or}
-use Rattle.mirror_tables.specs.Entries.{keys}
-use Rattle.mirror_tables.proofs.table.place.Given as goal
+use Rattle.mirror_tables.specs.Blocks.{keys}
+use Rattle.mirror_tables.proofs.block.place.Given as goal
 
 abbrev pub invariant-loop-low : goal.invariant-loop-low
 invariant-loop-low l = record {

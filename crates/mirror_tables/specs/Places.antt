@@ -1,6 +1,6 @@
--- Where in a table a page has its place.
+-- Where among the entries a page has its place.
 use Rattle.std.specs.Prelude.{ℕ, ◌<◌, ◌≤◌, List, length, slice_index}
-use Rattle.mirror_tables.specs.Entries.{keys}
+use Rattle.mirror_tables.specs.Blocks.{keys}
 use Rattle.mirror_tables.specs.declared.entry.MirrorEntry.{MirrorEntry}
 
 -- the pages below the place are lower, and those from there on are not
