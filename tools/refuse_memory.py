@@ -1,16 +1,20 @@
 #!/usr/bin/env python3
 """Refuses each request for memory of a replay in turn, in the proved program itself.
 
-    tools/refuse_memory.py SCRIPT ..
+    tools/refuse_memory.py [--long] [--most N] [--words WORD ..] [SCRIPT ..]
 
-For each script: counts the program's requests (malloc, realloc, calloc), then replays it once for each of them with
-that one refused, and once with that one and all later ones refused. Each run must end with status 6 and have written
+For each script: counts the program's requests (malloc, realloc, calloc), then runs it once for each of them with that
+one refused, and once with that one and all later ones refused. Each run must end with status 6 and have written
 nothing, or be the same as the run without refusals. Prints the counts, and ends with 1 at the first run that differs.
+
+    --long     two scripts more, made here: one of more than 1,000,000 bytes, and one of 4,194,304, the most there are
+    --most N   at most so many of the requests, spread evenly, with the first and the last among them
+    --words    these words, and not `replay`
 """
-import os, subprocess, sys, tempfile
+import argparse, os, subprocess, sys, tempfile
 
 TOP = os.path.dirname(os.path.dirname(os.path.abspath(__file__)))
-PROGRAM = os.path.join(TOP, 'crates/hmmrun/out/hmmrun')
+PROGRAM = os.environ.get('HMMRUN', os.path.join(TOP, 'crates/hmmrun/out/hmmrun'))
 
 # Loaded before the C library: refuses request REFUSE_AT, and those behind it where REFUSE_ALL is set; writes how many
 # requests there were to the file COUNT_TO.
@@ -41,44 +45,83 @@ __attribute__((destructor)) static void end(void)
 '''
 
 
-def replay(room, script, at=None, all_later=False):
-    """Status, output and number of requests of one replay, with request `at` refused."""
+LONGEST = 4_194_304
+
+
+def long_script(size):
+    """A script of exactly so many bytes: stores of 256 bytes each, and a few lines that fill it up."""
+    head, tail = 'hmm 1\nframes 8\nactor 0\nmap 0 16 4 rw\n', 'turns 0 1000000\n'
+    store, load = 'store 0 0x10000 {}\n', 'load 0 0x10000 1\n'
+    full, bare = len(store.format('5a' * 256)), len(store.format(''))
+    left = size - len(head) - len(tail)
+    count = left // full - 1
+    lines = [store.format('5a' * 256)] * count
+    left -= count * full
+    while left:
+        if left % 2 != bare % 2:
+            lines.append(load)
+        else:
+            rest = left - bare
+            lines.append(store.format('5a' * (rest // 2 if rest <= 512 else (rest - 100) // 4)))
+        left -= len(lines[-1])
+    script = head + ''.join(lines) + tail
+    assert len(script) == size
+    return script.encode()
+
+
+def chosen(requests, most):
+    """The requests that are refused."""
+    if most is None or requests <= most:
+        return range(1, requests + 1)
+    return sorted({1 + at * (requests - 1) // (most - 1) for at in range(most)})
+
+
+def replay(room, words, script, at=None, all_later=False):
+    """Status, output and number of requests of one run, with request `at` refused."""
     count = os.path.join(room, 'count')
     environment = dict(os.environ, LD_PRELOAD=os.path.join(room, 'refuser.so'), COUNT_TO=count)
     if at is not None:
         environment['REFUSE_AT'] = str(at)
     if all_later:
         environment['REFUSE_ALL'] = '1'
-    done = subprocess.run([PROGRAM, 'replay'], input=script, capture_output=True, env=environment)
+    done = subprocess.run([PROGRAM] + words, input=script, capture_output=True, env=environment)
     with open(count) as file:
         return done.returncode, done.stdout, int(file.read())
 
 
-def sweep(room, name):
+def sweep(room, given, name, script):
     """Whether every refusal is answered as it should be."""
-    with open(name, 'rb') as file:
-        script = file.read()
-    status, report, requests = replay(room, script)
-    empty = 0
-    for at in range(1, requests + 1):
+    status, report, requests = replay(room, given.words, script)
+    refused, empty = chosen(requests, given.most), 0
+    for at in refused:
         for all_later in (False, True):
-            got, written, _ = replay(room, script, at, all_later)
+            got, written, _ = replay(room, given.words, script, at, all_later)
             if (got, written) == (6, b''):
                 empty += 1
             elif (got, written) != (status, report):
                 print(f'{name}: request {at} of {requests} refused: status {got}, {len(written)} bytes written')
                 return False
-    print(f'{name}: status {status}; {requests} requests; of {2 * requests} runs {empty} ended with 6 and nothing written')
+    print(f'{name}: status {status}; {requests} requests, of which {len(refused)} were refused; of {2 * len(refused)} runs '
+          f'{empty} ended with 6 and nothing written')
     return True
 
 
 def main():
+    parse = argparse.ArgumentParser(usage=__doc__)
+    parse.add_argument('scripts', nargs='*')
+    parse.add_argument('--long', action='store_true')
+    parse.add_argument('--most', type=int)
+    parse.add_argument('--words', nargs='+', default=['replay'])
+    given = parse.parse_args()
+    scripts = [(name, open(name, 'rb').read()) for name in given.scripts]
+    if given.long:
+        scripts += [(f'a script of {size} bytes', long_script(size)) for size in (1_200_000, LONGEST)]
     with tempfile.TemporaryDirectory() as room:
         source = os.path.join(room, 'refuser.c')
         with open(source, 'w') as file:
             file.write(REFUSER)
         subprocess.run(['cc', '-shared', '-fPIC', '-O1', '-o', os.path.join(room, 'refuser.so'), source], check=True)
-        return 0 if all([sweep(room, name) for name in sys.argv[1:]]) else 1
+        return 0 if all([sweep(room, given, name, script) for name, script in scripts]) else 1
 
 
 if __name__ == '__main__':
