@@ -2,3 +2,4 @@ pub mod WorldValue
 pub mod Stands
 pub mod Fits
 pub mod Mirrored
+pub mod Bytes

@@ -25,6 +25,10 @@ grown t a k = record t { history = t.history ++ record { actor = a; kind = k } �
 abbrev pub halted_by : WorldValue → StepError → WorldValue
 halted_by t error = record t { halted = Some error }
 
+-- it goes no further, and keeps the first cause that it was told
+abbrev pub halted_first : WorldValue → StepError → WorldValue
+halted_first t error = elim t.halted [ None ↦ halted_by t error | Some first ↦ t ]
+
 -- what the history gives
 unfoldable pub now : WorldValue → State
 now t = state_of t.script t.history

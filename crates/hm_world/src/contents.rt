@@ -7,6 +7,7 @@ ghost use Rattle.hm_history.specs.Plain.{rights_of};
 ghost use Rattle.hm_history.specs.Places.{Places as AnyPlaces, is_exclusive_by};
 ghost use Rattle.hm_history.specs.Contents.{backing, contents_of};
 ghost use Rattle.hm_mirrors.specs.Entries.{frame_of};
+ghost use Rattle.hm_world.specs.Bytes.{byte_shown};
 ghost use Rattle.hm_world.specs.WorldValue.{now};
 ghost use Rattle.hm_world.specs.Mirrored.{MirroredBy};
 
@@ -82,13 +83,14 @@ impl World {
     }
 
     /// The byte that the page shows at an address, from the frame that its place stands for; none where the page has no
-    /// area.
+    /// area, and none from 2^48 on, where no page is.
     pub fn byte(&self, proc: Proc, addr: u64) -> Option<u8>
-        requires { addr < 2 ^ 48 }
-        ensures { result ≡ (if is_some (rights_of (now self.now).after.plain proc (page_of addr))
-            then Some (contents_of (now self.now).after.places (now self.now).after.contents ((now self.now).after.places.place proc (page_of addr)) (addr % PAGE_BYTES))
-            else None) }
+        ensures within { addr < 2 ^ 48 → result ≡ byte_shown (now self.now).after proc addr }
+        ensures beyond { 2 ^ 48 ≤ addr → result ≡ None }
     {
+        if addr >= 1 << 48 {
+            return None;
+        }
         let page = operations::page_of(addr);
         match self.rights(proc, page) {
             Some(_) => Some(self.page_byte(proc, page, addr)),

@@ -6,7 +6,7 @@ ghost use Rattle.hm_base.specs.Program.{IsScript};
 ghost use Rattle.hm_base.specs.declared.limits.TheConstants.{MOST_ENTRIES};
 ghost use Rattle.hm_history.specs.Laws.{DueFrom};
 ghost use Rattle.hm_history.specs.Going.{state_of};
-ghost use Rattle.hm_world.specs.WorldValue.{opening, halted_by, now, MayHalt, HaltsRightly};
+ghost use Rattle.hm_world.specs.WorldValue.{opening, halted_first, now, MayHalt, HaltsRightly};
 
 mod adds;
 mod contents;
@@ -88,12 +88,14 @@ impl World {
         let _ = &self.script;
     }
 
-    /// Makes it go no further.
+    /// Makes it go no further. The first cause is kept.
     pub fn halt(&mut self, error: StepError)
         requires { MayHalt self.old.script self.old.history error }
-        ensures { self.new ≡ halted_by self.old error }
+        ensures { self.new ≡ halted_first self.old error }
     {
-        self.halted = Some(error);
+        if self.halted.is_none() {
+            self.halted = Some(error);
+        }
     }
 
     /// Why it goes no further.
