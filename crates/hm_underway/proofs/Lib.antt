@@ -1,0 +1,8 @@
+pub mod Upgraded
+pub mod Busy
+pub mod FromOp
+pub mod Early
+pub mod Clean
+pub mod Refused
+pub mod Still
+pub mod Invalidating

@@ -1,0 +1,4 @@
+pub mod Refused
+pub mod Busy
+pub mod Invalidating
+pub mod Upgraded
