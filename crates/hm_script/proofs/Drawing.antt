@@ -1,5 +1,5 @@
 -- Draws, and the loops that draw.
-use Rattle.std.proofs.Common.{◌≡◌, ℕ, suc, ◌+◌, ◌-◌, ◌*◌, ◌%◌, ◌^◌, ◌<◌, ◌≤◌, List, [], ◌∷◌, ◌++◌, refl, sym, ap, subst, ◌∙◌, arith, append_assoc, append-nil}
+use Rattle.std.proofs.Common.{◌≡◌, ℕ, suc, ◌+◌, ◌-◌, ◌*◌, ◌/◌, ◌%◌, ◌^◌, ◌<◌, ◌≤◌, List, [], ◌∷◌, ◌++◌, refl, sym, ap, subst, ◌∙◌, arith, append_assoc, append-nil}
 use Rattle.hm_script.specs.Generator.{drawn_on, draw, Drawn, drawn_list}
 
 pub next_state : (x : ℕ) → (x * 6364136223846793005 % 2 ^ 64 + 1442695040888963407) % 2 ^ 64 ≡ drawn_on x
@@ -9,6 +9,10 @@ next_state x = omega arith
 pub draw_below : (x k : ℕ) → 0 < k → draw x k < k
 unfolding draw
 draw_below x k some = omega arith
+
+pub draw_is : (x k : ℕ) → (x * 6364136223846793005 % 2 ^ 64 + 1442695040888963407) % 2 ^ 64 / 2 ^ 33 % k ≡ draw x k
+unfolding draw
+draw_is x k = ap (λ y. y / 2 ^ 33 % k) (next_state x)
 
 module _ {A : Type 0} (one : ℕ → Drawn A) where
   -- i of n were drawn onto a list, and what is drawn on makes up the whole

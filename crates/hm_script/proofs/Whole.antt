@@ -10,7 +10,7 @@ use Rattle.hm_script.specs.declared.words.TheConstants.{ALL_WORDS}
 use Rattle.hm_script.specs.Built.{IsBuilt, uses}
 use Rattle.hm_script.specs.Spelling.{text}
 use Rattle.hm_script.specs.Reader.{Reads, OnRefused}
-use Rattle.hm_script.specs.BadLine.{SharesLinesOf, SharesLines, IsFirstBadOf, IsFirstBad}
+use Rattle.hm_script.specs.BadLine.{SharesLinesOf, IsFirstBadOf, IsFirstBad}
 use Rattle.hm_script.specs.declared.reason.ScriptError.{ScriptError}
 use Rattle.hm_script.specs.declared.reason.ScriptError.TheVariants as errors
 

@@ -25,7 +25,7 @@ struct Access {
 }
 
 impl Draws {
-    #[tactic(auto, using(crate::proofs::Drawing::next_state, crate::proofs::Drawing::draw_below), unfolding(crate::specs::Generator::draw))]
+    #[tactic(auto, using(crate::proofs::Drawing::next_state, crate::proofs::Drawing::draw_below))]
     fn draw(&mut self, below: u64) -> u64
         requires { 0 < below }
         ensures gives { result ≡ draw self.old.state below }
