@@ -37,18 +37,20 @@ fn frame_found(place: &Place) -> Option<Frame>
     }
 }
 
-// The new record where it is of the same page.
-fn renewed(old: &Migrating, new: &Migrating) -> Migrating
-    ensures { result ≡ (if old.now.page == new.now.page then new.now else old.now) }
+// The new record takes the place of one of the same page.
+fn renew(old: &mut Migrating, by: &Migrating)
+    ensures { old.new ≡ (if old.old.page == by.now.page then by.now else old.old) }
 {
-    if old.page == new.page { *new } else { *old }
+    if old.page == by.page {
+        *old = *by;
+    }
 }
 
 fn put(records: &mut [Migrating], migrating: &Migrating)
     ensures { records.new ≡ with_record migrating.now records.old }
 {
     for at in 0..records.len() {
-        records[at] = renewed(&records[at], migrating);
+        renew(&mut records[at], migrating);
     }
 }
 

@@ -106,8 +106,7 @@ impl Task {
         let Some(top) = self.stack.top() else {
             return;
         };
-        let top = *top;
-        self.records.step(&top, seen.page, kind);
+        self.records.step(top, seen.page, kind);
         self.stack.moved(op, kind, seen);
         if is_over(&self.stack) {
             self.index += 1;

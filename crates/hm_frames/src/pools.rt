@@ -50,9 +50,9 @@ impl FramePools {
 
     /// The pools after an entry of the actor: `old` is the place that it is about, before it, and `orphan` the frame
     /// that it leaves unnamed and that nobody had locked.
-    pub fn step(&mut self, actor: Actor, kind: &Kind, old: Place, orphan: Option<Frame>)
-        requires { StepFits kind.now old orphan self.old }
-        ensures { self.new ≡ frames_next actor kind.now old orphan self.old }
+    pub fn step(&mut self, actor: Actor, kind: &Kind, old: &Place, orphan: &Option<Frame>)
+        requires { StepFits kind.now old.now orphan.now self.old }
+        ensures { self.new ≡ frames_next actor kind.now old.now orphan.now self.old }
     {
         match kind {
             Kind::Take(frame) => self.take(*frame, actor),
@@ -62,18 +62,18 @@ impl FramePools {
                 proc: _,
                 page: _,
                 place,
-            } => self.place(old, actor, place, orphan),
+            } => self.place(*old, actor, place, *orphan),
             Kind::Stored {
                 who: _,
                 addr: at,
                 bytes,
-            } => self.store(old, *at, bytes.as_slice()),
+            } => self.store(*old, *at, bytes.as_slice()),
             Kind::Added {
                 mirror: _,
                 addr: at,
                 read: _,
                 written: now,
-            } => self.store(old, *at, &[*now]),
+            } => self.store(*old, *at, &[*now]),
             Kind::Copied { from, to, part } => self.copy(*from, *to, piece_of_part(*part)),
             Kind::Committed { from, to } => self.commit(*from, *to),
             Kind::Withdrawn(dev) => self.withdraw(*dev),

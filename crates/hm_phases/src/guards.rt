@@ -61,7 +61,7 @@ fn is_place_of(kind: &Kind, proc: Proc) -> bool
     }
 }
 
-fn body_next(body: Body, proc: Proc, kind: &Kind) -> Body
+pub fn body_next(body: Body, proc: Proc, kind: &Kind) -> Body
     ensures { result ≡ spec.body_next body proc kind.now }
 {
     match body {
@@ -200,7 +200,7 @@ pub struct Guarding {
     pub body: Body,
 }
 
-fn told_mirror(kind: &Kind) -> Option<MirrorId>
+pub fn told_mirror(kind: &Kind) -> Option<MirrorId>
     ensures { result ≡ spec.told_mirror kind.now }
 {
     match kind {
@@ -213,7 +213,7 @@ fn told_mirror(kind: &Kind) -> Option<MirrorId>
     }
 }
 
-fn is_end(kind: &Kind) -> bool
+pub fn is_end(kind: &Kind) -> bool
     ensures { result ≡ spec.is_end kind.now }
 {
     match kind {

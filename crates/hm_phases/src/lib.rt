@@ -15,6 +15,7 @@ use std::marker::Model;
 mod accesses;
 mod frames;
 mod guards;
+mod in_place;
 mod items;
 mod migrations;
 mod moves;
@@ -77,6 +78,9 @@ impl Stack {
         requires counted { IsTrue (below_takes_count self.old) }
         ensures { self.new ≡ stack_after op.now self.old kind.now seen }
     {
+        if in_place::goes_on(&mut self.items, kind, &seen) {
+            return;
+        }
         self.items = moves::moved(op, self.items, kind, seen);
     }
 }

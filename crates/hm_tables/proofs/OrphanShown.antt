@@ -12,7 +12,7 @@ use Rattle.rev_maps.specs.declared.uses.Use.{Use}
 use Rattle.rev_maps.specs.Uses.{without_use}
 use Rattle.hm_tables.specs.Values.{Tables, place_of, uses_in, mark_by}
 use Rattle.hm_tables.specs.Shown.{TablesShown}
-use Rattle.hm_tables.specs.Reads.{use_count, orphaned, orphan_of}
+use Rattle.hm_tables.specs.Reads.{use_count, orphaned}
 use Rattle.hm_tables.proofs.Marks.{has_is, mark_cons, mark_without, length_without}
 use Rattle.hm_tables.proofs.Lowest.{IsLowest, lowest_is}
 use Rattle.hm_tables.proofs.TablesKept.{listed_next}
@@ -70,13 +70,13 @@ not_some : {X : Type 0} (o : Option X) → not (is_some o) ≡ is_none o
 not_some None = refl
 not_some (Some a) = refl
 
-pub orphan_shown : (c : Program) (l : Locks) (s : Places) (x : Tables) → TablesShown c s.place s.placed x → (p v : ℕ) (y : Place) (is_locked : Bool) → ((f : Frame) → names (s.place p v) ≡ Some f → is_locked ≡ is_some (l.frame f)) →
-    orphan_of x p v y is_locked ≡ orphan l s (Kind.Place p v y)
-orphan_shown c l s x h p v y is_locked locks = ap (λ z. orphaned x (names z) y is_locked) (h.places p v) ∙ by (names (s.place p v)) refl
+pub orphan_shown : (c : Program) (l : Locks) (s : Places) (x : Tables) → TablesShown c s.place s.placed x → (p v : ℕ) (old y : Place) (is_locked : Bool) → old ≡ s.place p v → ((f : Frame) → names old ≡ Some f → is_locked ≡ is_some (l.frame f)) →
+    orphaned x (names old) y is_locked ≡ orphan l s (Kind.Place p v y)
+orphan_shown c l s x h p v old y is_locked e locks = ap (λ z. orphaned x (names z) y is_locked) e ∙ by (names (s.place p v)) refl
   where
     by : (o : Option Frame) → names (s.place p v) ≡ o → orphaned x o y is_locked ≡ left_behind l (places_next s (Kind.Place p v y)) o
     by None e = refl
-    by (Some f) e =
-        ap (λ b. cond (not b && (not (is_frame (names y) f) && (use_count x f == 1))) (Some f) None) (locks f e)
+    by (Some f) q =
+        ap (λ b. cond (not b && (not (is_frame (names y) f) && (use_count x f == 1))) (Some f) None) (locks f (ap names e ∙ q))
         ∙ ap (λ b. cond (b && (not (is_frame (names y) f) && (use_count x f == 1))) (Some f) None) (not_some (l.frame f))
-        ∙ ap (λ b. cond (is_none (l.frame f) && b) (Some f) None) (still_named c s x h p v y f e)
+        ∙ ap (λ b. cond (is_none (l.frame f) && b) (Some f) None) (still_named c s x h p v y f q)

@@ -6,7 +6,7 @@ use Rattle.hm_base.specs.PlaceWords.{names, is_frame, writable}
 use Rattle.hm_history.specs.Places.{is_used}
 use Rattle.radix_tables.specs.Maps.{Map}
 use Rattle.rev_maps.specs.Uses.{first_use}
-use Rattle.hm_tables.specs.Values.{Tables, table_of, uses_in, place_of, place_of_word}
+use Rattle.hm_tables.specs.Values.{Tables, table_of, uses_in, place_of_word}
 use Rattle.hm_tables.specs.declared.places.PageTest.{PageTest}
 use Rattle.hm_tables.specs.declared.places.PageTest.TheVariants.{Used, Writable}
 
@@ -33,6 +33,3 @@ abbrev pub orphaned : Tables → Option Frame → Place → Bool → Option Fram
 orphaned x None y is_locked = None
 orphaned x (Some f) y is_locked =
     if not is_locked && (not (is_frame (names y) f) && (use_count x f == 1)) then Some f else None
-
-abbrev pub orphan_of : Tables → ℕ → ℕ → Place → Bool → Option Frame
-orphan_of x p v y is_locked = orphaned x (names (place_of x p v)) y is_locked

@@ -2,10 +2,11 @@
 ghost use Rattle.std.specs.Prelude.{◌≡◌, ℕ, not, true, is_some, length, replicate, slice_index_or, slice_set, OnOk, IfOk};
 ghost use Rattle.radix_tables.specs.Maps.{is_reserved};
 ghost use Rattle.hm_history.specs.declared.Kind.{Kind as AnyKind};
+ghost use Rattle.hm_base.specs.PlaceWords.{names};
 ghost use Rattle.hm_tables.specs.Values.{no_words, size_in, place_in_table, place_of, table_with};
 ghost use Rattle.hm_tables.specs.Sound.{IsOrdered};
 ghost use Rattle.hm_tables.specs.Steps.{tables_start, tables_next, TablesFit, TablesRoom, TablesRange, SameTables};
-ghost use Rattle.hm_tables.specs.Reads.{page_test, next_in_table, next_page_of, lowest_of, use_count, orphan_of};
+ghost use Rattle.hm_tables.specs.Reads.{page_test, next_in_table, next_page_of, lowest_of, use_count, orphaned};
 
 use crate::places::{PageTest, is_named_by, place_of_word};
 use crate::pools::{change_use, new_pools, pool_index, reserve_use};
@@ -145,11 +146,12 @@ impl PageTables {
         maps.count(frame.number)
     }
 
-    /// The frame that no page names once the page has this place, unless somebody has it locked.
-    pub fn orphan(&self, proc: Proc, page: Page, place: &Place, is_locked: bool) -> Option<Frame>
-        ensures { result ≡ orphan_of self.now proc page place.now is_locked }
+    /// The frame that no page names any more, once a page of the place `old` has another, unless somebody has it
+    /// locked.
+    pub fn orphan(&self, old: &Place, place: &Place, is_locked: bool) -> Option<Frame>
+        ensures { result ≡ orphaned self.now (names old.now) place.now is_locked }
     {
-        let frame = names(&self.place(proc, page))?;
+        let frame = names(old)?;
         if !is_locked && !is_named_by(&frame, place) && self.uses(&frame) == 1 {
             Some(frame)
         } else {

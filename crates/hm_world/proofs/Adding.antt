@@ -50,7 +50,7 @@ tables_ready t x s a k n = fits_shown t.script _ _ x.tables s.shows.tables k (fi
 pub with_history : WorldValue → List Entry → WorldValue
 with_history t h = record { script = t.script; history = h; halted = t.halted }
 
-pub reserved_stands : (c : Program) (g h : List Entry) (z : Option StepError) (x : Parts) → Stands (record { script = c; history = g; halted = z }) x → h ≡ g → (tables : Tables) → SameTables x.tables tables → (room : ℕ) (k : Kind) (ms : List (Option Mirror)) → ms ≡ mirrors.reserved room k x.mirrors → (ts : List TaskValue) → goings ts ≡ goings x.actors →
+pub reserved_stands : (c : Program) (g h : List Entry) (z : Option StepError) (x : Parts) → Stands (record { script = c; history = g; halted = z }) x → h ≡ g → (tables : Tables) → SameTables x.tables tables → (room : List ℕ) (k : Kind) (ms : List (Option Mirror)) → ms ≡ mirrors.reserved room k x.mirrors → (ts : List TaskValue) → goings ts ≡ goings x.actors →
     Stands (record { script = c; history = h; halted = z }) (record { frames = x.frames; tables = tables; spaces = x.spaces; notifiers = x.notifiers; mirrors = ms; actors = ts })
 reserved_stands c g h z x s e tables st room k ms em ts et = subst (λ l. Stands (record { script = c; history = l; halted = z }) (record { frames = x.frames; tables = tables; spaces = x.spaces; notifiers = x.notifiers; mirrors = ms; actors = ts })) (sym e) (record {
   script = s.script;

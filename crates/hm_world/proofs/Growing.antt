@@ -1,5 +1,5 @@
 -- A world with one more entry.
-use Rattle.std.proofs.Common.{◌≡◌, ℕ, ◌<◌, Option, None, [], ◌∷◌, ◌++◌, length, sym, arith, subst, length-append}
+use Rattle.std.proofs.Common.{List, ◌≡◌, ℕ, ◌<◌, Option, None, [], ◌∷◌, ◌++◌, length, sym, arith, subst, length-append}
 use Rattle.hm_base.specs.Program.{Program}
 use Rattle.hm_base.specs.declared.Frame.{Frame}
 use Rattle.hm_base.specs.declared.Place.{Place}
@@ -36,7 +36,7 @@ pub record Steps (c : Program) (a : ℕ) (k : Kind) (seen : Seen) (old : Place) 
   pub spaces_range : HasParent k
   pub notifiers : y.notifiers ≡ notifiers_next k x.notifiers
   pub notifiers_range : InRange k
-  pub room : ℕ
+  pub room : List ℕ
   pub mirrors : y.mirrors ≡ mirrors_next room k x.mirrors
   pub actors : y.actors ≡ actors_next c a k seen x.actors
 

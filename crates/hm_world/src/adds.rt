@@ -25,11 +25,11 @@ impl World {
         self.mirrors.reserve(&kind)?;
         self.actors.reserve(actor, &kind)?;
         let before = self.place_before(&kind);
-        let orphan = self.left_behind(&kind);
-        let seen = self.seen(actor, &kind);
+        let orphan = self.left_behind(&kind, &before);
+        let seen = self.seen(actor, &kind, &before, &orphan);
         self.actors.step(&self.script, actor, &kind, seen);
         self.spaces.step(actor, &kind);
-        self.frames.step(actor, &kind, before, orphan);
+        self.frames.step(actor, &kind, &before, &orphan);
         self.tables.step(&kind);
         self.notifiers.step(&kind);
         self.mirrors.step(&kind);

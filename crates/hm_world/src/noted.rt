@@ -66,15 +66,13 @@ impl World {
         }
     }
 
-    /// The frame that the entry leaves unnamed, and that nobody has locked.
-    pub(crate) fn left_behind(&self, kind: &Kind) -> Option<Frame>
+    /// The frame that the entry leaves unnamed, and that nobody has locked; `old` is the place that it is about.
+    pub(crate) fn left_behind(&self, kind: &Kind, old: &Place) -> Option<Frame>
+        requires { old.now ≡ entry_place (now self.now).after.plain (now self.now).after.places kind.now }
         ensures { result ≡ orphan (now self.now).after.locks (now self.now).after.places kind.now }
     {
         match kind {
-            Kind::Place { proc, page, place } => {
-                let is_locked = self.is_locked(&self.place(*proc, *page));
-                self.tables.orphan(*proc, *page, place, is_locked)
-            }
+            Kind::Place { place, .. } => self.tables.orphan(old, place, self.is_locked(old)),
             _ => None,
         }
     }
@@ -103,17 +101,14 @@ impl World {
         }
     }
 
-    fn step_place(&self, op: &Op, top: &Phase, kind: &Kind) -> Place
-        requires { IsTrue (op_in_range op.now) }
+    fn step_place(&self, op: &Op, top: &Phase, kind: &Kind, old: &Place) -> Place
+        requires range { IsTrue (op_in_range op.now) }
+        requires old { old.now ≡ entry_place (now self.now).after.plain (now self.now).after.places kind.now }
         ensures { result ≡ seen_place (now self.now).after op.now top.now kind.now }
     {
         match kind {
             Kind::Start { proc, span, seq: _ } => self.place(*proc, span.first()),
-            Kind::Place {
-                proc,
-                page,
-                place: _,
-            } => self.place(*proc, *page),
+            Kind::Place { .. } => *old,
             _ => match top {
                 Phase::Decide { touch } => self.place(touch_proc(self, op), touch_page(op, *touch)),
                 _ => Place::Empty,
@@ -133,20 +128,23 @@ impl World {
         }
     }
 
-    /// What the stack of phases notes of the entry.
-    pub(crate) fn seen(&self, actor: Actor, kind: &Kind) -> Seen
+    /// What the stack of phases notes of the entry; `old` is the place that it is about, and `left` the frame that it leaves
+    /// unnamed.
+    pub(crate) fn seen(&self, actor: Actor, kind: &Kind, old: &Place, left: &Option<Frame>) -> Seen
+        requires old { old.now ≡ entry_place (now self.now).after.plain (now self.now).after.places kind.now }
+        requires left { left.now ≡ orphan (now self.now).after.locks (now self.now).after.places kind.now }
         ensures { IsSeen self.now.script (now self.now).after actor ((now self.now).going actor) kind.now result }
     {
         let mut seen = Seen {
             at: self.history.len(),
             overlapped: self.overlaps(kind),
             place: Place::Empty,
-            orphan: self.left_behind(kind),
+            orphan: *left,
             page: None,
         };
         if let Some(op) = self.op(actor) {
             if let Some(top) = self.phase(actor) {
-                seen.place = self.step_place(op, top, kind);
+                seen.place = self.step_place(op, top, kind, old);
                 seen.page = self.page_come_to(actor, op, top);
             }
         }

@@ -3,3 +3,4 @@ pub mod Forks
 pub mod Least
 pub mod Index
 pub mod Next
+pub mod Above

@@ -57,7 +57,7 @@ find_none : (p : ℕ → Bool) (from n : ℕ) → ((k : ℕ) → p k ≡ false) 
 find_none p from zero f = refl
 find_none p from (suc n) f = rw (f from) (find_none p (from + 1) n f)
 
-find_least : (p : ℕ → Bool) (from n m : ℕ) → from ≤ m → m < from + n → p m ≡ true → ((k : ℕ) → k < m → p k ≡ false) → find p (numbers from n) ≡ Some m
+pub find_least : (p : ℕ → Bool) (from n m : ℕ) → from ≤ m → m < from + n → p m ≡ true → ((k : ℕ) → k < m → p k ≡ false) → find p (numbers from n) ≡ Some m
 find_least p from zero m l u h f = absurd (omega arith)
 find_least p from (suc n) m l u h f = elim (cases_lt from m) [
   | inl e ↦ rw (f from e) (find_least p (from + 1) n m (omega arith) (omega arith) h f)
@@ -69,7 +69,7 @@ unfolding LeastOf
 least_is_found p n None f = find_none p 0 n f
 least_is_found p n (Some m) f = find_least p 0 n m (omega arith) (omega (arith, f.below)) f.here f.least
 
-find-filter : (p q : ℕ → Bool) (xs : List ℕ) → find p (filter q xs) ≡ find (λ k. q k && p k) xs
+pub find-filter : (p q : ℕ → Bool) (xs : List ℕ) → find p (filter q xs) ≡ find (λ k. q k && p k) xs
 find-filter p q [] = refl
 find-filter p q (x ∷ xs) =
     let u = find-filter p q xs in

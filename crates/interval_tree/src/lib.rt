@@ -3,7 +3,7 @@
 #![tactic(auto)]
 
 ghost use Rattle.std.specs.Prelude.{◌≡◌, ◌+◌, ◌-◌, ◌≤◌, ◌<◌, None, Some, IsSome, OnOk, length, slice_set, replicate};
-ghost use Rattle.interval_tree.specs.Intervals.{Intervals, span_at, from_of, next_overlapping};
+ghost use Rattle.interval_tree.specs.Intervals.{Intervals, span_at, span_overlaps, next_overlapping};
 
 use hm_base::{MirrorId, NoMemory, Page, Span};
 use node::{Inner, Interval, Tree, key};
@@ -102,17 +102,35 @@ impl IntervalTree {
     pub fn next_overlapping(&self, span: Span, after: Option<MirrorId>) -> Option<MirrorId>
         ensures { result ≡ next_overlapping self.now.spans span after }
     {
-        self.tree.least_overlapping(&span, from_after(after))
+        match after {
+            None => self.tree.least_overlapping(&span, 0),
+            Some(id) => next_above(&self.spans, span, id),
+        }
     }
 }
 
-fn from_after(after: Option<MirrorId>) -> u32
-    ensures { result ≡ from_of after }
+fn overlaps(interval: &Option<Span>, span: Span) -> bool
+    ensures { result ≡ span_overlaps span interval.now }
 {
-    match after {
-        None => 0,
-        Some(id) => id.number() + 1,
+    match interval {
+        Some(interval) => {
+            let (first, of) = (span.first().number(), interval.first().number());
+            of < first + span.count() && first < of + interval.count()
+        }
+        None => false,
     }
+}
+
+// The numbers are tried in turn: after one of them another one mostly follows at once.
+fn next_above(spans: &[Option<Span>; 32], span: Span, after: MirrorId) -> Option<MirrorId>
+    ensures { result ≡ next_overlapping spans.now span (Some after) }
+{
+    for id in after.number() + 1..32 {
+        if overlaps(&spans[id as usize], span) {
+            return Some(MirrorId::new(id));
+        }
+    }
+    None
 }
 
 // At least so many nodes.

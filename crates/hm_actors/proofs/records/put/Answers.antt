@@ -6,5 +6,5 @@ use Rattle.hm_actors.proofs.records.put.Goals as goal
 
 pub loop-at-preserved : goal.loop-at-preserved
 loop-at-preserved c = let f : Migrating → Migrating = λ y. if y.page == c.args.migrating.now.page then c.args.migrating.now else y in
-    ap (λ (x : Migrating). slice_set c.loop-at.records c.loop-at.at x) (c.renewed.ensures ∙ ap f (sym c.index-records-at.is))
+    ap (λ (x : Migrating). slice_set c.loop-at.records c.loop-at.at x) (c.renew.ensures ∙ ap f (sym c.index-records-at.is))
     ∙ map_over_more f c.args.records.now c.loop-at.records c.loop-at.at c.index-records-at.result (omega arith) c.loop-at.invariant c.index-records-at.is

@@ -1,5 +1,4 @@
 use Rattle.std.proofs.Common.{rules}
-use Rattle.hm_world.specs.WorldValue.{now}
 use Rattle.hm_world.proofs.Pages.{no_page}
 use Rattle.hm_world.proofs.World.place_at.Goals as goal
 

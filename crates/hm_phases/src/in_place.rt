@@ -1,0 +1,85 @@
+// Entries that change the top phase and nothing else of the stack: it is changed where it stands.
+ghost use Rattle.std.specs.Prelude.{◌≡◌, ◌∷◌, ℕ, Bool, true, false, List};
+ghost use Rattle.hm_base.specs.Pages.{Pages};
+ghost use Rattle.hm_base.specs.declared.ops.Op.{Op};
+ghost use Rattle.hm_history.specs.Stacks as spec;
+ghost use Rattle.hm_history.specs.declared.phases.Phase.{Phase as AnyPhase};
+ghost use Rattle.hm_phases.specs.Items.{phases_of, catches};
+
+use crate::guards::{body_next, is_end, told_mirror};
+use crate::items::Items;
+use hm_base::{MirrorId, Proc};
+use hm_history::Kind;
+use hm_history::phases::{Body, Phase, Seen};
+
+fn catches(body: &Body) -> bool
+    ensures { result ≡ catches body.now }
+{
+    match body {
+        Body::Catch { .. } => true,
+        _ => false,
+    }
+}
+
+/// Changes the parts of a guard where an entry changes nothing else, and tells whether it does.
+fn guard_goes_on(
+    proc: Proc,
+    told: &mut Option<MirrorId>,
+    body: &mut Body,
+    kind: &Kind,
+    seen: &Seen,
+) -> bool
+    ensures on { result ≡ true → (o : Op) (span : Pages) (met : Bool) (below : List AnyPhase)
+        → spec.after_guard o proc span met told.old body.old below kind.now seen.now
+        ≡ AnyPhase.Guard proc span met told.new body.new ∷ below }
+    ensures told { result ≡ false → told.new ≡ told.old }
+    ensures body { result ≡ false → body.new ≡ body.old }
+{
+    if let Some(mirror) = told_mirror(kind) {
+        *told = Some(mirror);
+        return true;
+    }
+    if is_end(kind) || seen.orphan.is_some() || catches(body) {
+        return false;
+    }
+    *body = body_next(*body, proc, kind);
+    true
+}
+
+/// Changes the top phase where an entry changes nothing else, and tells whether it does.
+fn top_goes_on(top: &mut Phase, kind: &Kind, seen: &Seen) -> bool
+    ensures on { result ≡ true → (o : Op) (below : List AnyPhase)
+        → spec.after_top o top.old below kind.now seen.now ≡ top.new ∷ below }
+    ensures same { result ≡ false → top.new ≡ top.old }
+{
+    match top {
+        Phase::Guard {
+            proc,
+            told,
+            body,
+            ..
+        } => guard_goes_on(*proc, told, body, kind, seen),
+        Phase::Copy { part, .. } => {
+            if *part >= 7 {
+                return false;
+            }
+            *part += 1;
+            true
+        }
+        _ => false,
+    }
+}
+
+/// Changes the top of the stack where an entry changes nothing else, and tells whether it does.
+pub fn goes_on(items: &mut Items, kind: &Kind, seen: &Seen) -> bool
+    ensures on { result ≡ true → (o : Op)
+        → spec.stack_after o (phases_of items.old) kind.now seen.now ≡ phases_of items.new }
+    ensures same { result ≡ false → items.new ≡ items.old }
+{
+    match items {
+        Items::Zero => false,
+        Items::One(top) => top_goes_on(top, kind, seen),
+        Items::Two(top, _) => top_goes_on(top, kind, seen),
+        Items::Three(top, _, _) => top_goes_on(top, kind, seen),
+    }
+}
