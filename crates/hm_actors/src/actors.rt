@@ -57,10 +57,10 @@ impl Actors {
     }
 
     /// The actors after an entry of one of them, with what the state showed just before it.
-    pub fn step(&mut self, script: &Script, actor: Actor, kind: &Kind, seen: Seen)
-        requires fits { ActorsFit script.now actor (going_of self.old actor) kind.now seen }
+    pub fn step(&mut self, script: &Script, actor: Actor, kind: &Kind, seen: &Seen)
+        requires fits { ActorsFit script.now actor (going_of self.old actor) kind.now seen.now }
         requires room { ActorsRoom actor kind.now self.old }
-        ensures { self.new ≡ actors_next script.now actor kind.now seen self.old }
+        ensures { self.new ≡ actors_next script.now actor kind.now seen.now self.old }
     {
         let at = actor.number() as usize;
         if at < self.tasks.len() {

@@ -87,21 +87,21 @@ impl Task {
     }
 
     /// The task after its entry.
-    pub fn step(&mut self, script: &Script, actor: Actor, kind: &Kind, seen: Seen)
-        requires fits { ActorsFit script.now actor self.old.going kind.now seen }
+    pub fn step(&mut self, script: &Script, actor: Actor, kind: &Kind, seen: &Seen)
+        requires fits { ActorsFit script.now actor self.old.going kind.now seen.now }
         requires room { adds_record self.old.going.stack kind.now ≡ true → 1 ≤ self.old.spare }
-        ensures { self.new ≡ task_next script.now actor self.old kind.now seen }
+        ensures { self.new ≡ task_next script.now actor self.old kind.now seen.now }
     {
         if let Some(op) = op_at(script, actor, self.index) {
             self.step_op(script, actor, op, kind, seen);
         }
     }
 
-    fn step_op(&mut self, script: &Script, actor: Actor, op: &Op, kind: &Kind, seen: Seen)
+    fn step_op(&mut self, script: &Script, actor: Actor, op: &Op, kind: &Kind, seen: &Seen)
         requires below { self.old.going.index + 1 < 2 ^ 64 }
-        requires fits { StackFits op.now self.old.going.stack kind.now seen }
+        requires fits { StackFits op.now self.old.going.stack kind.now seen.now }
         requires room { adds_record self.old.going.stack kind.now ≡ true → 1 ≤ self.old.spare }
-        ensures { self.new ≡ task_top script.now actor self.old op.now self.old.going.stack kind.now seen }
+        ensures { self.new ≡ task_top script.now actor self.old op.now self.old.going.stack kind.now seen.now }
     {
         let Some(top) = self.stack.top() else {
             return;

@@ -85,8 +85,8 @@ fn first_byte(bytes: &Bytes) -> u8
     }
 }
 
-pub fn after_piece(op: &Op, piece: u32, touch: Touch, kind: &Kind, seen: Seen) -> Items
-    ensures { phases_of result ≡ spec.after_piece op.now piece touch kind.now seen }
+pub fn after_piece(op: &Op, piece: u32, touch: Touch, kind: &Kind, seen: &Seen) -> Items
+    ensures { phases_of result ≡ spec.after_piece op.now piece touch kind.now seen.now }
 {
     match kind {
         Kind::Loaded { .. } | Kind::Stored { .. } | Kind::Failed { .. } => piece_ends(op, piece),
@@ -116,8 +116,8 @@ fn is_added(kind: &Kind) -> bool
     }
 }
 
-pub fn after_fetched(op: &Op, kind: &Kind, seen: Seen) -> Items
-    ensures { phases_of result ≡ spec.after_fetched op.now kind.now seen }
+pub fn after_fetched(op: &Op, kind: &Kind, seen: &Seen) -> Items
+    ensures { phases_of result ≡ spec.after_fetched op.now kind.now seen.now }
 {
     if is_added(kind) {
         Items::Zero
@@ -179,8 +179,8 @@ fn caught(place: Place) -> Body
     }
 }
 
-pub fn after_decide(op: &Op, touch: Touch, kind: &Kind, seen: Seen) -> Items
-    ensures { phases_of result ≡ spec.after_decide op.now touch kind.now seen }
+pub fn after_decide(op: &Op, touch: Touch, kind: &Kind, seen: &Seen) -> Items
+    ensures { phases_of result ≡ spec.after_decide op.now touch kind.now seen.now }
 {
     match kind {
         Kind::Failed { .. } => piece_ends(op, piece_of(touch)),

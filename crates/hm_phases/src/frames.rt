@@ -81,10 +81,10 @@ pub fn after_emptying(
     at: KeptAt,
     below: Items,
     kind: &Kind,
-    seen: Seen,
+    seen: &Seen,
 ) -> Items
-    requires { length (spec.after_emptying op.now frame.now at (phases_of below) kind.now seen) ≤ 3 }
-    ensures { phases_of result ≡ spec.after_emptying op.now frame.now at (phases_of below) kind.now seen }
+    requires { length (spec.after_emptying op.now frame.now at (phases_of below) kind.now seen.now) ≤ 3 }
+    ensures { phases_of result ≡ spec.after_emptying op.now frame.now at (phases_of below) kind.now seen.now }
 {
     match kind {
         Kind::Start { .. } => opened(
@@ -186,8 +186,8 @@ fn catching(frame: Option<Frame>) -> Body
     }
 }
 
-pub fn after_frames(next: u64, emptied: u64, kind: &Kind, seen: Seen) -> Items
-    ensures { phases_of result ≡ spec.after_frames next emptied kind.now seen }
+pub fn after_frames(next: u64, emptied: u64, kind: &Kind, seen: &Seen) -> Items
+    ensures { phases_of result ≡ spec.after_frames next emptied kind.now seen.now }
 {
     match kind {
         Kind::Start { .. } => {

@@ -10,9 +10,9 @@ use hm_base::{Frame, MirrorId, Op, Place, Proc, Span};
 use hm_history::phases::{Body, Phase, Seen};
 use hm_history::{KeptAt, Kind};
 
-pub fn opened(kind: &Kind, seen: Seen, body: Body, below: Items) -> Items
-    requires { length (spec.with_guard kind.now seen body (phases_of below)) ≤ 3 }
-    ensures { phases_of result ≡ spec.with_guard kind.now seen body (phases_of below) }
+pub fn opened(kind: &Kind, seen: &Seen, body: Body, below: Items) -> Items
+    requires { length (spec.with_guard kind.now seen.now body (phases_of below)) ≤ 3 }
+    ensures { phases_of result ≡ spec.with_guard kind.now seen.now body (phases_of below) }
 {
     match kind {
         Kind::Start { proc, span, seq: _ } => put(
@@ -234,14 +234,14 @@ fn guard_phase(guard: &Guarding, told: Option<MirrorId>, body: Body) -> Phase
     }
 }
 
-fn guard_goes_on(op: &Op, guard: &Guarding, below: Items, kind: &Kind, seen: Seen) -> Items
+fn guard_goes_on(op: &Op, guard: &Guarding, below: Items, kind: &Kind, seen: &Seen) -> Items
     requires { length
         (spec.guard_goes_on op.now guard.now.proc guard.now.span guard.now.overlapped guard.now.told guard.now.body
-        (phases_of below) kind.now seen)
+        (phases_of below) kind.now seen.now)
         ≤ 3 }
     ensures { phases_of result
         ≡ spec.guard_goes_on op.now guard.now.proc guard.now.span guard.now.overlapped guard.now.told guard.now.body
-        (phases_of below) kind.now seen }
+        (phases_of below) kind.now seen.now }
 {
     let next = guard_phase(guard, guard.told, body_next(guard.body, guard.proc, kind));
     dropping(
@@ -250,14 +250,14 @@ fn guard_goes_on(op: &Op, guard: &Guarding, below: Items, kind: &Kind, seen: See
     )
 }
 
-pub fn after_guard(op: &Op, guard: &Guarding, below: Items, kind: &Kind, seen: Seen) -> Items
+pub fn after_guard(op: &Op, guard: &Guarding, below: Items, kind: &Kind, seen: &Seen) -> Items
     requires { length
         (spec.after_guard op.now guard.now.proc guard.now.span guard.now.overlapped guard.now.told guard.now.body
-        (phases_of below) kind.now seen)
+        (phases_of below) kind.now seen.now)
         ≤ 3 }
     ensures { phases_of result
         ≡ spec.after_guard op.now guard.now.proc guard.now.span guard.now.overlapped guard.now.told guard.now.body
-        (phases_of below) kind.now seen }
+        (phases_of below) kind.now seen.now }
 {
     match told_mirror(kind) {
         Some(mirror) => put(guard_phase(guard, Some(mirror), guard.body), below),

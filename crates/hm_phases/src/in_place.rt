@@ -1,5 +1,5 @@
 // Entries that change the top phase and nothing else of the stack: it is changed where it stands.
-ghost use Rattle.std.specs.Prelude.{◌≡◌, ◌∷◌, ℕ, Bool, true, false, List};
+ghost use Rattle.std.specs.Prelude.{◌≡◌, ◌+◌, [], ◌∷◌, ℕ, Bool, true, false, List};
 ghost use Rattle.hm_base.specs.Pages.{Pages};
 ghost use Rattle.hm_base.specs.declared.ops.Op.{Op};
 ghost use Rattle.hm_history.specs.Stacks as spec;
@@ -10,7 +10,7 @@ use crate::guards::{body_next, is_end, told_mirror};
 use crate::items::Items;
 use hm_base::{MirrorId, Proc};
 use hm_history::Kind;
-use hm_history::phases::{Body, Phase, Seen};
+use hm_history::phases::{Body, MoveStep, Phase, Seen};
 
 fn catches(body: &Body) -> bool
     ensures { result ≡ catches body.now }
@@ -70,6 +70,36 @@ fn top_goes_on(top: &mut Phase, kind: &Kind, seen: &Seen) -> bool
     }
 }
 
+/// Changes the phase of a migration that goes on to its next page, and tells whether it does.
+fn move_goes_on(step: &mut MoveStep, next: &mut u64, kind: &Kind, seen: &Seen) -> bool
+    ensures on { result ≡ true
+        → spec.after_migration step.old seen.now.page kind.now seen.now ≡ AnyPhase.Moves step.new next.new ∷ [] }
+    ensures same_step { result ≡ false → step.new ≡ step.old }
+    ensures same_next { result ≡ false → next.new ≡ next.old }
+{
+    let Some(page) = &seen.page else {
+        return false;
+    };
+    match kind {
+        Kind::Committed { .. } => *step = MoveStep::Commit,
+        Kind::Set { .. } => *step = MoveStep::SetOwnTable,
+        _ => return false,
+    }
+    *next = page.page.number() + 1;
+    true
+}
+
+/// Changes the only phase of a stack where an entry leaves one, and tells whether it does.
+fn only_goes_on(top: &mut Phase, kind: &Kind, seen: &Seen) -> bool
+    ensures on { result ≡ true → (o : Op) → spec.after_top o top.old [] kind.now seen.now ≡ top.new ∷ [] }
+    ensures same { result ≡ false → top.new ≡ top.old }
+{
+    match top {
+        Phase::Moves { step, next } => move_goes_on(step, next, kind, seen),
+        _ => top_goes_on(top, kind, seen),
+    }
+}
+
 /// Changes the top of the stack where an entry changes nothing else, and tells whether it does.
 pub fn goes_on(items: &mut Items, kind: &Kind, seen: &Seen) -> bool
     ensures on { result ≡ true → (o : Op)
@@ -78,7 +108,7 @@ pub fn goes_on(items: &mut Items, kind: &Kind, seen: &Seen) -> bool
 {
     match items {
         Items::Zero => false,
-        Items::One(top) => top_goes_on(top, kind, seen),
+        Items::One(top) => only_goes_on(top, kind, seen),
         Items::Two(top, _) => top_goes_on(top, kind, seen),
         Items::Three(top, _, _) => top_goes_on(top, kind, seen),
     }

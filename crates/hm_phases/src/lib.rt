@@ -73,12 +73,12 @@ impl Stack {
 
     /// What the stack is after the actor's entry, given what the world showed just before it; empty where the entry
     /// ends the operation.
-    pub fn moved(&mut self, op: &Op, kind: &Kind, seen: Seen)
-        requires room { length (stack_after op.now self.old kind.now seen) ≤ 3 }
+    pub fn moved(&mut self, op: &Op, kind: &Kind, seen: &Seen)
+        requires room { length (stack_after op.now self.old kind.now seen.now) ≤ 3 }
         requires counted { IsTrue (below_takes_count self.old) }
-        ensures { self.new ≡ stack_after op.now self.old kind.now seen }
+        ensures { self.new ≡ stack_after op.now self.old kind.now seen.now }
     {
-        if in_place::goes_on(&mut self.items, kind, &seen) {
+        if in_place::goes_on(&mut self.items, kind, seen) {
             return;
         }
         self.items = moves::moved(op, self.items, kind, seen);

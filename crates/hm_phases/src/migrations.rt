@@ -74,9 +74,9 @@ fn finishing(page: Migrating, kind: &Kind) -> Items
     }
 }
 
-fn migration_starts(step: MoveStep, page: Migrating, kind: &Kind, seen: Seen) -> Items
+fn migration_starts(step: MoveStep, page: Migrating, kind: &Kind, seen: &Seen) -> Items
     ensures { phases_of result
-        ≡ spec.with_guard kind.now seen (spec.freezing step page.source page.dest)
+        ≡ spec.with_guard kind.now seen.now (spec.freezing step page.source page.dest)
         (spec.next_cursor step page.page ∷ []) }
 {
     let number = page.page.number();
@@ -98,8 +98,8 @@ fn migration_starts(step: MoveStep, page: Migrating, kind: &Kind, seen: Seen) ->
     )
 }
 
-fn after_moves(step: MoveStep, page: Migrating, kind: &Kind, seen: Seen) -> Items
-    ensures { phases_of result ≡ spec.after_moves step page kind.now seen }
+fn after_moves(step: MoveStep, page: Migrating, kind: &Kind, seen: &Seen) -> Items
+    ensures { phases_of result ≡ spec.after_moves step page kind.now seen.now }
 {
     let next = page.page.number() + 1;
     match kind {
@@ -125,8 +125,8 @@ fn after_moves(step: MoveStep, page: Migrating, kind: &Kind, seen: Seen) -> Item
     }
 }
 
-pub fn after_migration(step: MoveStep, page: Option<Migrating>, kind: &Kind, seen: Seen) -> Items
-    ensures { phases_of result ≡ spec.after_migration step page kind.now seen }
+pub fn after_migration(step: MoveStep, page: Option<Migrating>, kind: &Kind, seen: &Seen) -> Items
+    ensures { phases_of result ≡ spec.after_migration step page kind.now seen.now }
 {
     match page {
         None => Items::Zero,

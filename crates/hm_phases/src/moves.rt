@@ -15,10 +15,10 @@ use hm_base::Op;
 use hm_history::Kind;
 use hm_history::phases::{Body, Phase, Seen, Touch};
 
-fn after_top(op: &Op, top: Phase, below: Items, kind: &Kind, seen: Seen) -> Items
-    requires room { length (spec.after_top op.now top (phases_of below) kind.now seen) ≤ 3 }
+fn after_top(op: &Op, top: Phase, below: Items, kind: &Kind, seen: &Seen) -> Items
+    requires room { length (spec.after_top op.now top (phases_of below) kind.now seen.now) ≤ 3 }
     requires counted { IsTrue (first_takes_count (phases_of below)) }
-    ensures { phases_of result ≡ spec.after_top op.now top (phases_of below) kind.now seen }
+    ensures { phases_of result ≡ spec.after_top op.now top (phases_of below) kind.now seen.now }
 {
     match top {
         Phase::Begin => after_begin(op, kind),
@@ -74,10 +74,10 @@ fn after_top(op: &Op, top: Phase, below: Items, kind: &Kind, seen: Seen) -> Item
     }
 }
 
-pub fn moved(op: &Op, stack: Items, kind: &Kind, seen: Seen) -> Items
-    requires room { length (spec.stack_after op.now (phases_of stack) kind.now seen) ≤ 3 }
+pub fn moved(op: &Op, stack: Items, kind: &Kind, seen: &Seen) -> Items
+    requires room { length (spec.stack_after op.now (phases_of stack) kind.now seen.now) ≤ 3 }
     requires counted { IsTrue (below_takes_count (phases_of stack)) }
-    ensures { phases_of result ≡ spec.stack_after op.now (phases_of stack) kind.now seen }
+    ensures { phases_of result ≡ spec.stack_after op.now (phases_of stack) kind.now seen.now }
 {
     match stack {
         Items::Zero => Items::Zero,

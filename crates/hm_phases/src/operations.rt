@@ -69,8 +69,8 @@ fn body_of(op: &Op, span: Span) -> Body
     }
 }
 
-pub fn after_locked(op: &Op, kind: &Kind, seen: Seen) -> Items
-    ensures { phases_of result ≡ spec.after_locked op.now kind.now seen }
+pub fn after_locked(op: &Op, kind: &Kind, seen: &Seen) -> Items
+    ensures { phases_of result ≡ spec.after_locked op.now kind.now seen.now }
 {
     match kind {
         Kind::Named {
@@ -86,8 +86,8 @@ pub fn after_locked(op: &Op, kind: &Kind, seen: Seen) -> Items
     }
 }
 
-pub fn after_ready(op: &Op, kind: &Kind, seen: Seen) -> Items
-    ensures { phases_of result ≡ spec.after_ready op.now kind.now seen }
+pub fn after_ready(op: &Op, kind: &Kind, seen: &Seen) -> Items
+    ensures { phases_of result ≡ spec.after_ready op.now kind.now seen.now }
 {
     match op {
         Op::Fork { .. } => opened(

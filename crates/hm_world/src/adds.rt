@@ -27,7 +27,7 @@ impl World {
         let before = self.place_before(&kind);
         let orphan = self.left_behind(&kind, &before);
         let seen = self.seen(actor, &kind, &before, &orphan);
-        self.actors.step(&self.script, actor, &kind, seen);
+        self.actors.step(&self.script, actor, &kind, &seen);
         self.spaces.step(actor, &kind);
         self.frames.step(actor, &kind, &before, &orphan);
         self.tables.step(&kind);
