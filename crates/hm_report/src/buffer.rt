@@ -36,6 +36,13 @@ impl Buffer {
         })
     }
 
+    /// Removes all bytes.
+    pub fn clear(&mut self)
+        ensures { self.new ≡ [] }
+    {
+        self.bytes.clear();
+    }
+
     pub fn len(&self) -> usize
         ensures { result ≡ length self.now }
     {

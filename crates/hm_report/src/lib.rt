@@ -12,7 +12,11 @@ mod totals;
 mod words;
 mod written;
 
+pub use buffer::Buffer;
+pub use ended::{op_count, operations_ended};
+pub use kinds::put_front;
 pub use laws::ends_are_counted;
-pub use report::{write_report, write_text};
+pub use numerals::{digit, put_decimal};
+pub use report::{put_end, put_unfinished_line, write_report, write_text};
 pub use totals::summary;
 pub use written::Written;

@@ -88,7 +88,7 @@ fn put_entries<K: Sink>(out: &mut Buffer, sink: &mut K, entries: &[Entry]) -> Re
 
 /// Adds the line of an actor with an operation that has not ended.
 #[tactic(auto, using(std::proofs::Common::append_assoc))]
-fn put_unfinished_line(out: &mut Buffer, actor: u64, index: u64, count: u64)
+pub fn put_unfinished_line(out: &mut Buffer, actor: u64, index: u64, count: u64)
     requires { length out.old ≤ 5000 }
     ensures text { out.new ≡ out.old ++ unfinished_line actor index count }
     ensures room { length out.new ≤ length out.old + 200 }
@@ -150,9 +150,10 @@ fn put_lines<K: Sink>(
 
 /// Adds the last line.
 #[tactic(auto, using(std::proofs::Common::append_assoc))]
-fn put_end(out: &mut Buffer, count: u64)
+pub fn put_end(out: &mut Buffer, count: u64)
     requires { length out.old ≤ 5000 }
-    ensures { out.new ≡ out.old ++ end_line count }
+    ensures text { out.new ≡ out.old ++ end_line count }
+    ensures room { length out.new ≤ length out.old + 200 }
 {
     put_decimal(out, b"end ", count);
     out.push(b'\n');

@@ -19,6 +19,7 @@ mod words;
 pub use generator::generate;
 pub use keyword::OpWord;
 pub use laws::{is_trial, one_text, upgraded_text, whole_grammar};
+pub use lines::cut_line;
 pub use printing::print;
 pub use reason::{Reason, Refused, ScriptError};
 pub use script::{parse, parse_words};

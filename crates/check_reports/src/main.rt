@@ -1,0 +1,36 @@
+// Checks every report in the folder that it runs in, and says of each what the verdict is.
+#![tactic(auto)]
+
+use hm_check::{Verdict, check};
+use std::{fs, io};
+
+/// The names of the reports, in order.
+fn reports(rt: &HostRuntime) -> io::Result<Vec<String>> {
+    let mut names = Vec::new(rt.alloc());
+    for entry in fs::read_dir(rt, ".")? {
+        let entry = entry?;
+        if let Some(name) = entry.path().to_string_lossy().strip_suffix(".report") {
+            names.push(String::from_str(rt.alloc(), name)?)?;
+        }
+    }
+    names.sort()?;
+    Ok(names)
+}
+
+/// Says the verdict on one report: how many entries it has, or the first bad line.
+fn tell(rt: &HostRuntime, name: &str) -> io::Result<()> {
+    let path = format!(in rt.alloc(); "{name}.report")?;
+    let bytes = fs::read(rt, path.as_str())?;
+    match check(rt.alloc(), bytes.as_slice()) {
+        Ok(Verdict::Yes(report)) => println!(rt; "{name}: legal {}", report.history.len()),
+        Ok(Verdict::No(line)) => println!(rt; "{name}: bad {line}"),
+        Err(_) => println!(rt; "{name}: out of memory"),
+    }
+}
+
+fn main(rt: HostRuntime) -> io::Result<()> {
+    for name in reports(&rt)?.iter() {
+        tell(&rt, name.as_str())?;
+    }
+    Ok(())
+}

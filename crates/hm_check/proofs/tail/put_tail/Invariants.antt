@@ -1,0 +1,7 @@
+use Rattle.std.proofs.Common.{◌≡◌, ◌*◌, ◌≤◌, length}
+use Rattle.std.specs.Prelude.{slice_index}
+use Rattle.hm_report.specs.Report.{unfinished_among}
+use Rattle.hm_check.proofs.tail.put_tail.Given as goal
+
+abbrev pub invariant-loop-actor : goal.invariant-loop-actor
+invariant-loop-actor l = (l.out ≡ unfinished_among l.script (λ a. slice_index l.ended a) l.actor) × (length l.out ≤ 200 * l.actor)
