@@ -9,7 +9,7 @@ fn reports(rt: &HostRuntime) -> io::Result<Vec<String>> {
     let mut names = Vec::new(rt.alloc());
     for entry in fs::read_dir(rt, ".")? {
         let entry = entry?;
-        if let Some(name) = entry.path().to_string_lossy().strip_suffix(".report") {
+        if let Some(name) = entry.file_name().strip_suffix(".report") {
             names.push(String::from_str(rt.alloc(), name)?)?;
         }
     }

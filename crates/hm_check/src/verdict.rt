@@ -88,7 +88,6 @@ fn judge(alloc: Global, script: Script, first: u64, bytes: &[u8]) -> Result<Verd
 
 /// Whether the bytes are the report of a script and a legal history of at most 2,000,000 entries, and of which. It
 /// reads each line once, and makes what is due to the line's actor, whose text the line has to be.
-
 pub fn check(alloc: Global, bytes: &[u8]) -> Result<Verdict, NoMemory>
     // What is found is legal, and the bytes are its report; a line that is refused is the first bad one.
     ensures judged { IfOk result (Judged bytes.now) }
