@@ -30,7 +30,8 @@ pub record Shows (c : Program) (s : State) (x : Parts) : Type 0 where
   pub tables : TablesShown c s.after.places.place s.after.places.placed x.tables
   pub spaces : SpacesShown s.after.plain.there s.after.plain.named s.after.plain.areas s.after.locks.map x.spaces
   pub notifiers :
-      NotifiersValueShown s.after.length s.after.sequences.seq s.after.sequences.active s.after.sequences.interval x.notifiers
+      NotifiersValueShown s.after.length s.after.sequences.seq s.after.sequences.active s.after.sequences.interval
+      x.notifiers
   pub mirrors : MirrorsShown s.after.plain.mirrors s.after.places.table s.after.places.device x.mirrors
   pub actors : ActorsShown (length c.actors) s.going x.actors
 

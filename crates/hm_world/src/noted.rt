@@ -128,8 +128,8 @@ impl World {
         }
     }
 
-    /// What the stack of phases notes of the entry; `old` is the place that it is about, and `left` the frame that it leaves
-    /// unnamed.
+    /// What the stack of phases notes of the entry; `old` is the place that it is about, and `left` the frame that it
+    /// leaves unnamed.
     pub(crate) fn seen(&self, actor: Actor, kind: &Kind, old: &Place, left: &Option<Frame>) -> Seen
         requires old { old.now ≡ entry_place (now self.now).after.plain (now self.now).after.places kind.now }
         requires left { left.now ≡ orphan (now self.now).after.locks (now self.now).after.places kind.now }

@@ -178,15 +178,15 @@ impl Levels {
     {
         let upper = entry(&self.pgd, ROOT, page >> 27);
         if upper == 0 {
-            return Step::Gap(((page >> 27) + 1) << 27);
+            return Step::Gap(gap_end(&self.pgd, ROOT, page >> 27) << 27);
         }
         let middle = entry(&self.pud, upper, page >> 18);
         if middle == 0 {
-            return Step::Gap(((page >> 18) + 1) << 18);
+            return Step::Gap(gap_end(&self.pud, upper, page >> 18) << 18);
         }
         let table = entry(&self.pmd, middle, page >> 9);
         if table == 0 {
-            return Step::Gap(((page >> 9) + 1) << 9);
+            return Step::Gap(gap_end(&self.pmd, middle, page >> 9) << 9);
         }
         Step::Table(table)
     }
@@ -227,6 +227,24 @@ fn entry(entries: &[u64], table: u64, number: u64) -> u64
         Some(entry) => *entry,
         None => 0,
     }
+}
+
+/// Where the empty entries of a table from this one on end.
+fn gap_end(entries: &[u64], table: u64, number: u64) -> u64
+    requires table { table < 2 ^ 54 }
+    requires number { number < 2 ^ 27 }
+    requires empty { slice_index entries.now (table * 512 + number % 512) ≡ 0 }
+    ensures further { number < result }
+    ensures inside { result ≤ (number / 512 + 1) * 512 }
+    ensures gap { (n : ℕ) → number ≤ n → n < result → slice_index entries.now (table * 512 + n % 512) ≡ 0 }
+{
+    let end = (number / ENTRIES + 1) * ENTRIES;
+    for at in number + 1..end {
+        if entry(entries, table, at) != 0 {
+            return at;
+        }
+    }
+    end
 }
 
 /// Adds an empty table, and gives its number, which is not 0.
