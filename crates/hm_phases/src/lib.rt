@@ -81,6 +81,6 @@ impl Stack {
         if in_place::goes_on(&mut self.items, kind, seen) {
             return;
         }
-        self.items = moves::moved(op, self.items, kind, seen);
+        self.items = moves::moved(op, &self.items, kind, seen);
     }
 }
