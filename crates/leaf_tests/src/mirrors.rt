@@ -45,8 +45,10 @@ fn entry_in(plain: &[(u64, MirrorEntry)], page: u64) -> Option<MirrorEntry> {
     plain.iter().find(|of| of.0 == page).map(|of| of.1)
 }
 
+// The pages that are drawn lie 32 apart, so that they are those of several blocks.
 fn agree(table: &MirrorTable, plain: &[(u64, MirrorEntry)]) -> bool {
-    for page in 0..64u64 {
+    for number in 0..36u64 {
+        let page = 32 * number + 16;
         if table.get(Page::new(page)) != entry_in(plain, page) {
             return false;
         }
@@ -56,17 +58,17 @@ fn agree(table: &MirrorTable, plain: &[(u64, MirrorEntry)]) -> bool {
 
 // A page of the window is set, or the pages of a span are erased.
 fn turn(table: &mut MirrorTable, plain: &mut Vec<(u64, MirrorEntry)>, x: u64) -> Result<(), Fail>
-    requires { table.old.window ≡ record { first = 16; count = 32 } }
+    requires { table.old.window ≡ record { first = 16; count = 1024 } }
     ensures { table.new.window ≡ table.old.window }
 {
     if x >> 33 & 7 == 0 {
-        let first = x >> 36 & 63;
-        let count = 1 + (x >> 42 & 15);
+        let first = x >> 36 & 1023;
+        let count = 1 + (x >> 46 & 511);
         let end = first + count;
         table.erase(span(first, count));
         plain.retain(|of| of.0 < first || end <= of.0);
     } else {
-        let page = 16 + (x >> 36 & 31);
+        let page = 16 + 32 * (x >> 36 & 31);
         set(table, page, drawn_entry(x >> 41))?;
         plain.retain(|of| of.0 != page);
         plain.push((page, drawn_entry(x >> 41)))?;
@@ -76,7 +78,7 @@ fn turn(table: &mut MirrorTable, plain: &mut Vec<(u64, MirrorEntry)>, x: u64) ->
 
 #[test]
 fn the_table_agrees_with_a_list(rt: HostRuntime) -> Result<(), Fail> {
-    let mut table = MirrorTable::new(rt.alloc(), span(16, 32));
+    let mut table = MirrorTable::new(rt.alloc(), span(16, 1024));
     let mut plain = Vec::new(rt.alloc());
     let mut x: u64 = 1;
     for _ in 0..3_000u64 {
