@@ -1,7 +1,6 @@
 // The turn and the workers on a small value: one thread and many, a closed gate, a halt.
 #![tactic(auto)]
 
-pub mod run;
 #[cfg(test)]
 mod tests;
 pub mod toy;

@@ -1,10 +1,10 @@
 // Each test runs the calls of the turn and its workers on the small value.
-use crate::run::run_all;
+
 use crate::toy::{Toy, script_for};
 use hm_base::{Actor, Proc};
 use hm_history::{Entry, Progress, StepError};
 use hm_turns::{Stepped, Turn, Turns};
-use hm_workers::Gate;
+use hm_workers::{Gate, run_all};
 use std::alloc::Global;
 use std::sync::atomic::{AtomicU64, Ordering};
 use std::test::Fail;

@@ -1,11 +1,13 @@
 -- What the workers do with the passes.
-use Rattle.std.specs.Prelude.{◌≡◌, ◌⊎◌, ℕ, suc, ◌<◌, true, List, [], ◌∷◌, length, slice_get, Some}
+use Rattle.std.specs.Prelude.{◌≡◌, ◌⊎◌, ℕ, suc, ◌+◌, ◌-◌, ◌^◌, ◌<◌, ◌≤◌, min, true, List, [], ◌∷◌, length, slice_get, Some}
 use Rattle.hm_base.specs.Program.{Program}
 use Rattle.hm_history.specs.declared.Entry.{Entry}
 use Rattle.hm_history.specs.declared.Progress.{Progress}
-use Rattle.hm_history.specs.declared.Progress.TheVariants.{Idle}
+use Rattle.hm_history.specs.declared.Progress.TheVariants.{Did, Waiting, Idle}
 use Rattle.hm_turns.specs.Stepping.{is_halted}
-use Rattle.hm_turns.specs.Sights.{Desk, Sight, GoesOn}
+use Rattle.hm_turns.specs.Sights.{Desk, Sight, GoesOn, TurnsTo}
+use Rattle.hm_turns.specs.declared.turn.Turn.{Turn}
+use Rattle.hm_turns.specs.declared.turn.Turn.TheVariants.{Busy, Stopped, Halted, Did as Answered}
 use Rattle.hm_workers.specs.declared.workers.Job.{Job}
 use Rattle.hm_workers.specs.declared.workers.Next.{Next}
 use Rattle.hm_workers.specs.declared.workers.Next.TheVariants.{Added, Again, Done}
@@ -18,11 +20,36 @@ IsDone due actor p = (due p.desk.script p.list actor ≡ Idle) ⊎ (is_halted p.
 abbrev pub Works : (Program → List Entry → ℕ → Progress) → ℕ → Sight → Sight → Type 0
 Works due actor old new = GoesOn old new × IsDone due actor new
 
+-- what a turn's answer leads to: an entry was added; or nothing was, and there is more to do; or the actor has no
+-- operation left, or a halt was told
+abbrev pub next_of : Turn → Next
+next_of (Answered (Did e)) = Added
+next_of (Answered (Waiting why)) = Again
+next_of (Answered Idle) = Done
+next_of Busy = Again
+next_of (Stopped e) = Done
+next_of Halted = Done
+
+-- a try of a worker: a turn, and what its answer leads to; or the gate was closed, and nothing was done
+abbrev pub IsTried : (Program → List Entry → Type 0) → (Program → List Entry → ℕ → Progress) → ℕ → Sight → Next
+    → Sight → Type 0
+IsTried legal due actor old next new =
+    ((t : Turn) × TurnsTo legal due actor old t new × (next ≡ next_of t)) ⊎ ((new ≡ old) × (next ≡ Again))
+
+-- the pass goes on, and has so many entries more of its own
+abbrev pub GoesBy : ℕ → Sight → Sight → Type 0
+GoesBy n old new = GoesOn old new × (length new.own ≡ length old.own + n)
+
 -- what one try of a worker leaves
 abbrev pub Tries : (Program → List Entry → ℕ → Progress) → ℕ → Sight → Next → Sight → Type 0
-Tries due actor old Added new = GoesOn old new
-Tries due actor old Again new = GoesOn old new
+Tries due actor old Added new = GoesBy 1 old new
+Tries due actor old Again new = GoesBy 0 old new
 Tries due actor old Done new = Works due actor old new
+
+-- so many entries were added with a pass since it was the first, as far as a u64 counts
+pub record IsAdded (first now : Sight) (n : ℕ) : Type 0 where
+  pub more : length first.own ≤ length now.own
+  pub count : n ≡ min (length now.own - length first.own) (2 ^ 64 - 1)
 
 -- all passes are of this value
 abbrev pub AreOf : Desk → List Sight → Type 0

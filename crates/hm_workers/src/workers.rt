@@ -1,7 +1,8 @@
 // The workers, one for each actor.
 ghost use Rattle.std.specs.Prelude.{◌≡◌, ℕ, ◌<◌, ◌≤◌, length, vec_len, slice_index_or, IfOk};
 ghost use Rattle.hm_turns.specs.Sights.{Sight};
-ghost use Rattle.hm_workers.specs.Working.{Works, Tries, AllWork, AreOf, numbered, IsJobOf, DoesJob};
+ghost use Rattle.hm_workers.specs.Working as spec;
+ghost use Rattle.hm_workers.specs.Working.{Works, Tries, IsTried, IsAdded, AllWork, AreOf, numbered, IsJobOf, DoesJob};
 ghost use Rattle.hm_workers.specs.declared.workers.Job.{Job};
 
 use crate::gate::Gate;
@@ -10,6 +11,7 @@ use hm_base::{Actor, NoMemory};
 use hm_history::Progress;
 use hm_turns::{Pass, Stepped, Turn, Turns};
 use std::alloc::{AllocError, Global};
+use std::snapshot::Snapshot;
 use std::sync::Wait;
 use std::thread;
 use std::thread::Threads;
@@ -25,18 +27,54 @@ enum Next {
     Done,
 }
 
-fn step_once<S: Stepped>(turns: &Turns<S>, pass: &mut Pass, actor: Actor) -> Next
-    requires own { pass.old.desk ≡ turns.now }
-    requires actor { actor < length turns.now.script.actors }
-    ensures { Tries S.due actor pass.old result pass.new }
+// What a turn's answer leads to.
+fn next_of(turn: Turn) -> Next
+    ensures { result ≡ spec.next_of turn }
 {
-    match turns.try_turn(pass, actor) {
+    match turn {
         Turn::Did(Progress::Did(_)) => Next::Added,
         Turn::Did(Progress::Waiting(_)) => Next::Again,
         Turn::Did(Progress::Idle) => Next::Done,
         Turn::Busy => Next::Again,
         Turn::Stopped(_) => Next::Done,
         Turn::Halted => Next::Done,
+    }
+}
+
+// One try, if the gate admits it. The gate is told how many entries were added with the pass since it was the first.
+fn try_once<S: Stepped, G: Gate>(
+    turns: &Turns<S>,
+    first: &Snapshot<Pass>,
+    pass: &mut Pass,
+    worker: (Actor, u64),
+    gate: &G,
+) -> Next
+    requires own { pass.old.desk ≡ turns.now }
+    requires actor { worker.0 < length turns.now.script.actors }
+    requires told { IsAdded first.now.value pass.old worker.1 }
+    ensures tried { IsTried S.legal S.due worker.0 pass.old result pass.new }
+    ensures tries { Tries S.due worker.0 pass.old result pass.new }
+{
+    let (actor, added) = worker;
+    if gate.admits(actor, added) {
+        next_of(turns.try_turn(pass, actor))
+    } else {
+        Next::Again
+    }
+}
+
+/// After so many tries in a row that added nothing a worker lets others go first no longer.
+const MOST_YIELDS: u32 = 64;
+
+// Lets others go first, the longer the oftener nothing was added. Answers for how long to do so the next time.
+fn back_off(yields: u32) -> u32 {
+    for _ in 0..yields {
+        thread::yield_now();
+    }
+    if yields < MOST_YIELDS {
+        yields * 2
+    } else {
+        yields
     }
 }
 
@@ -52,16 +90,17 @@ fn work<R: Wait, S: Stepped, G: Gate>(
     requires actor { actor < length turns.now.script.actors }
     ensures { Works S.due actor pass result }
 {
+    let first = Snapshot::of(&pass);
     let mut added = 0u64;
+    let mut yields = 1u32;
     for _ in rt.forever() {
-        if gate.admits(actor, added) {
-            match step_once(turns, &mut pass, actor) {
-                Next::Added => added = added.saturating_add(1),
-                Next::Again => thread::yield_now(),
-                Next::Done => return pass,
+        match try_once(turns, &first, &mut pass, (actor, added), gate) {
+            Next::Added => {
+                added = added.saturating_add(1);
+                yields = 1;
             }
-        } else {
-            thread::yield_now();
+            Next::Again => yields = back_off(yields),
+            Next::Done => return pass,
         }
     }
     unreachable!()

@@ -4,14 +4,17 @@ ghost use Rattle.hm_turns.specs.Sights.{all_shares};
 ghost use Rattle.hm_turns.specs.Stepping.{is_halted};
 ghost use Rattle.hm_workers.specs.Dealing.{HaveEnded};
 
+use crate::dealing::{deal, gather};
+use crate::gate::Gate;
+use crate::workers::run_actors;
 use hm_base::NoMemory;
 use hm_turns::{Receipt, Stepped, Turns};
-use hm_workers::{Gate, deal, gather, run_actors};
 use std::alloc::Global;
 use std::sync::Wait;
 use std::thread::Threads;
 
-/// Runs each actor in a worker of its own, and closes the turn.
+/// Shares the value, runs each actor in a worker of its own until it has no operation left or the value is halted, and
+/// gives the value back, with the receipt of its history.
 pub fn run_all<R: Threads + Wait + Sync, S: Stepped + Send, G: Gate + Sync>(
     rt: &R,
     alloc: Global,

@@ -2,7 +2,7 @@ use Rattle.std.proofs.Common.{length, ap, sym, ◌∙◌, subst, arith}
 use Rattle.hm_turns.specs.Stepping.{is_halted}
 use Rattle.hm_workers.specs.Dealing.{HaveEnded}
 use Rattle.hm_workers.proofs.Deals.{works_own, works_shares, works_ended, halts_too}
-use Rattle.hm_turns_tests.proofs.run.run_all.Goals as goal
+use Rattle.hm_workers.proofs.run.run_all.Goals as goal
 
 pub gather-requires : goal.gather-requires
 gather-requires g c = record { own = (c.in_ok-passes.ensures.rest ∙ ap (λ s. s.desk) c.in_ok-turns.ensures.1, works_own g.S.Stepped.due c.in_ok-passes.passes c.in_ok-passes-2.passes c.in_ok-passes-2.ensures c.in_ok-turns.turns c.in_ok-passes.ensures.own.0) }
