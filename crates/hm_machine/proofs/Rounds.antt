@@ -4,10 +4,12 @@ use Rattle.std.specs.Prelude.{not, ◌&&◌, fold, slice_get}
 use Rattle.std.specs.List.{list_all}
 use Rattle.std.proofs.lemmas.Bool.Decides.{nat_tests}
 use Rattle.std.proofs.lemmas.List.{drop_all}
+use mathlib.Core.List.{IsPrefix}
+use Rattle.hm_turns.proofs.Sums.{prefix_refl, prefix_trans}
 use Rattle.hm_base.specs.Program.{Program}
 use Rattle.hm_base.specs.declared.ops.ScheduleLine.{ScheduleLine}
 use Rattle.hm_history.specs.Due.{due}
-use Rattle.hm_history.specs.Run.{enough, has_room, added, is_entry, is_idle, turn, turns_on, actors_of, round, all_idle, drained, line_run}
+use Rattle.hm_history.specs.Run.{enough, has_room, added, is_entry, is_idle, turn, turns, turns_on, actors_of, round, all_idle, drained, line_run}
 use Rattle.hm_history.specs.Words.{numbers}
 use Rattle.hm_history.specs.declared.Entry.{Entry}
 use Rattle.hm_history.specs.declared.Progress.{Progress}
@@ -53,41 +55,59 @@ on_next c h a n room = by (is_entry (due c h a)) refl
     by false e = on_quiet c h a (suc n) e ∙ sym (ap (λ g. turns_on c g a n) (quiet_turn c h a e) ∙ on_quiet c h a n e)
 
 -- turns add to a history, and where they add nothing it stays as it is
-record Grows (h g : List Entry) : Type 0 where
-  more : length h ≤ length g
-  same : length g ≡ length h → g ≡ h
+pub record Grows (h g : List Entry) : Type 0 where
+  pub more : length h ≤ length g
+  pub same : length g ≡ length h → g ≡ h
+  pub begins : IsPrefix h g
 
-grows_none : (h : List Entry) → Grows h h
-grows_none h = record { more = omega arith; same = λ e. refl }
+pub grows_none : (h : List Entry) → Grows h h
+grows_none h = record { more = omega arith; same = λ e. refl; begins = prefix_refl h }
 
-grows_both : (h g k : List Entry) → Grows h g → Grows g k → Grows h k
-grows_both h g k x y = record { more = omega arith; same = λ e. all e }
+pub grows_both : (h g k : List Entry) → Grows h g → Grows g k → Grows h k
+grows_both h g k x y = record { more = omega arith; same = λ e. all e; begins = prefix_trans h g k x.begins y.begins }
   where
     all : length k ≡ length h → k ≡ h
     all e = let first : length g ≡ length h = omega (arith, x.more, y.more) in let second : length k ≡ length g = omega arith in y.same second ∙ x.same first
 
 grows_one : (h : List Entry) (e : Entry) → Grows h (h ++ e ∷ [])
-grows_one h e = let one : length (h ++ e ∷ []) ≡ length h + 1 = length-append h (e ∷ []) in record { more = omega arith; same = λ x. absurd (omega arith) }
+grows_one h e = let one : length (h ++ e ∷ []) ≡ length h + 1 = length-append h (e ∷ []) in record { more = omega arith; same = λ x. absurd (omega arith); begins = (e ∷ [], refl) }
 
-grows_either : (b : Bool) (h g : List Entry) → Grows h g → Grows h (elim b [ true ↦ g | false ↦ h ])
+pub grows_either : (b : Bool) (h g : List Entry) → Grows h g → Grows h (elim b [ true ↦ g | false ↦ h ])
 grows_either true h g x = x
 grows_either false h g x = grows_none h
 
-grows_added : (h : List Entry) (p : Progress) → Grows h (added h p)
+pub grows_added : (h : List Entry) (p : Progress) → Grows h (added h p)
 grows_added h (Progress.Did e) = grows_either (has_room h) h (h ++ e ∷ []) (grows_one h e)
 grows_added h (Progress.Waiting why) = grows_none h
 grows_added h Progress.Idle = grows_none h
 
-grows_on : (c : Program) (h : List Entry) (a n : ℕ) → Grows h (turns_on c h a n)
+pub grows_on : (c : Program) (h : List Entry) (a n : ℕ) → Grows h (turns_on c h a n)
 grows_on c h a zero = grows_none h
 grows_on c h a (suc n) =
     grows_either (is_entry (due c h a) && has_room h) h (turns_on c (turn c h a) a n) (grows_both h (turn c h a) (turns_on c (turn c h a) a n) (grows_added h (due c h a)) (grows_on c (turn c h a) a n))
 
-grows_all : (c : Program) (as_ : List ℕ) (h : List Entry) → Grows h (fold (λ g a. turns_on c g a enough) h as_)
+pub grows_all : (c : Program) (as_ : List ℕ) (h : List Entry) → Grows h (fold (λ g a. turns_on c g a enough) h as_)
 grows_all c [] h = grows_none h
 grows_all c (a ∷ as_) h =
     let g = turns_on c h a enough in
     grows_both h g (fold (λ x b. turns_on c x b enough) g as_) (grows_on c h a enough) (grows_all c as_ g)
+
+pub grows_turns : (c : Program) (h : List Entry) (a n : ℕ) → Grows h (turns c h a n)
+grows_turns c h a zero = grows_none h
+grows_turns c h a (suc n) = grows_both h (turn c h a) (turns c (turn c h a) a n) (grows_added h (due c h a)) (grows_turns c (turn c h a) a n)
+
+pub grows_drained : (c : Program) (h : List Entry) (n : ℕ) → Grows h (drained c h n)
+grows_drained c h zero = grows_none h
+grows_drained c h (suc n) =
+    grows_either (not (all_idle c h) && has_room h) h (drained c (round c h) n) (grows_both h (round c h) (drained c (round c h) n) (grows_all c (actors_of c) h) (grows_drained c (round c h) n))
+
+pub grows_line : (c : Program) (h : List Entry) (l : ScheduleLine) → Grows h (line_run c h l)
+grows_line c h (ScheduleLine.Run a n) = grows_turns c h a n
+grows_line c h ScheduleLine.Drain = grows_drained c h enough
+
+pub grows_lines : (c : Program) (ls : List ScheduleLine) (h : List Entry) → Grows h (fold (line_run c) h ls)
+grows_lines c [] h = grows_none h
+grows_lines c (l ∷ ls) h = grows_both h (line_run c h l) (fold (line_run c) (line_run c h l) ls) (grows_line c h l) (grows_lines c ls (line_run c h l))
 
 pub still_round : (c : Program) (h : List Entry) → length (round c h) ≡ length h → round c h ≡ h
 still_round c h e = let x = grows_all c (actors_of c) h in x.same e

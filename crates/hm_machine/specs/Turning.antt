@@ -1,5 +1,6 @@
 -- What a turn makes of a machine, and a schedule's turns in order.
 use Rattle.std.specs.Prelude.{◌≡◌, ℕ, ◌<◌, Bool, true, false, not, ◌&&◌, Option, Some, None, Result, Ok, Err, List, length, ⊤}
+use mathlib.Core.List.{IsPrefix}
 use Rattle.hm_history.specs.Due.{due}
 use Rattle.hm_history.specs.Run.{has_room, added, is_entry}
 use Rattle.hm_history.specs.declared.Entry.{Entry}
@@ -45,9 +46,15 @@ AddsTo t p (Err NoMemory) u = u ≡ halted_by t NoMemory
 abbrev pub Adds : WorldValue → ℕ → Result Bool StepError → WorldValue → Type 0
 Adds t a r u = AddsTo t (due t.script t.history a) r u
 
+-- memory ran out on the way to this history: what the turns before have added is kept
+pub record StoppedShort (t : WorldValue) (h : List Entry) (u : WorldValue) : Type 0 where
+  pub same : u ≡ halted_by (with_history t u.history) NoMemory
+  pub later : IsPrefix t.history u.history
+  pub front : IsPrefix u.history h
+
 -- it came to this history, with no turn beyond a full one, or with one; or memory ran out on the way
 abbrev pub CameTo : WorldValue → List Entry → Bool → Result ⊤ StepError → WorldValue → Type 0
 CameTo t h beyond (Ok x) u = (u ≡ with_history t h) × (beyond ≡ false)
 CameTo t h beyond (Err (Full n)) u =
     (n ≡ 2000000) × (length h ≡ 2000000) × (u ≡ halted_by (with_history t h) (Full n)) × (beyond ≡ true)
-CameTo t h beyond (Err NoMemory) u = (u.script ≡ t.script) × (u.halted ≡ Some NoMemory)
+CameTo t h beyond (Err NoMemory) u = StoppedShort t h u

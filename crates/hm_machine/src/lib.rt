@@ -1,17 +1,20 @@
 // The machine of a script: a world, and the turns of its actors.
 #![tactic(auto)]
 
-ghost use Rattle.std.specs.Prelude.{◌≡◌, ◌<◌, ◌≤◌, length, slice_get, IfOk, None, Some, false};
+mod copies;
+mod stepped;
+
+ghost use Rattle.std.specs.Prelude.{◌≡◌, ◌<◌, ◌≤◌, fold, length, slice_get, IfOk, None, Some, false};
 ghost use Rattle.hm_base.specs.declared.limits.TheConstants.{MOST_ACTORS};
 ghost use Rattle.hm_base.specs.declared.ops.ScheduleLine.{ScheduleLine};
 ghost use Rattle.hm_history.specs.Due.{due};
-ghost use Rattle.hm_history.specs.Run.{run, turns, turns_on, round, drained, enough, has_room, actors_of, line_run};
+ghost use Rattle.hm_history.specs.Run.{turns, turns_on, round, drained, enough, has_room, actors_of, line_run};
 ghost use Rattle.hm_history.specs.declared.Progress.{Progress};
 ghost use Rattle.hm_world.specs.WorldValue.{opening, halted_by, MayHalt};
-ghost use Rattle.hm_history.specs.Overrun.{overruns, overruns_line, overruns_turns, some_overruns};
+ghost use Rattle.hm_history.specs.Overrun.{overruns_line, overruns_lines, overruns_turns, some_overruns};
 ghost use Rattle.hm_machine.specs.Turning.{Turned, TurnsTo, Adds, CameTo};
 
-use hm_base::{Actor, MOST_ENTRIES, NoMemory, ScheduleLine, Script};
+use hm_base::{Actor, MOST_ENTRIES, NoMemory, Schedule, ScheduleLine, Script};
 use hm_history::{Entry, History, Progress, StepError, Why};
 use hm_reads::Reads;
 use hm_world::World;
@@ -32,7 +35,8 @@ pub enum Turn {
 /// A script with its world, which takes one step at each turn. An error halts it for good.
 #[derive(Drop)]
 pub struct Machine {
-    world: World,
+    // In a place of its own, so that a machine that goes from thread to thread is a few words.
+    world: Box<World>,
     alloc: Global,
 }
 
@@ -41,7 +45,17 @@ impl Model for Machine {
 
     ghost Value = { WorldValue };
 
-    ghost view = { λ m. m.world };
+    ghost view = { λ m. m.world.value };
+}
+
+fn line_of(turns: &Schedule, at: u64) -> ScheduleLine
+    requires { at < length turns.now }
+    ensures { slice_get turns.now at ≡ Some result }
+{
+    match turns.get(at) {
+        Some(line) => *line,
+        None => unreachable!(),
+    }
 }
 
 impl Machine {
@@ -49,17 +63,18 @@ impl Machine {
     pub fn new(alloc: Global, script: Script) -> Result<Machine, NoMemory>
         ensures { IfOk result (λ machine. machine ≡ opening script) }
     {
-        Ok(Machine {
-            world: World::new(alloc, script)?,
-            alloc,
-        })
+        let world = World::new(alloc, script)?;
+        match Box::new(alloc, world) {
+            Ok(world) => Ok(Machine { world, alloc }),
+            Err(_) => Err(NoMemory),
+        }
     }
 
     /// The world that the turns go on.
     pub fn world(&self) -> &World
         ensures { result.now ≡ self.now }
     {
-        &self.world
+        &*self.world
     }
 
     /// Gives the script and the history up, and drops the rest. It takes no memory.
@@ -67,7 +82,7 @@ impl Machine {
         ensures script { result.0 ≡ self.script }
         ensures history { result.1.entries ≡ self.history }
     {
-        self.world.into_parts()
+        Box::into_inner(self.world).into_parts()
     }
 
     fn halt(&mut self, error: StepError) -> StepError
@@ -104,7 +119,7 @@ impl Machine {
             return Err(error);
         }
         self.world.facts();
-        match hm_steps::due(&self.world, self.alloc, actor) {
+        match hm_steps::due(&*self.world, self.alloc, actor) {
             Ok(Progress::Did(entry)) => self.add(entry),
             Ok(Progress::Waiting(why)) => Ok(Turn::Waiting(why)),
             Ok(Progress::Idle) => Ok(Turn::Idle),
@@ -126,6 +141,7 @@ impl Machine {
     }
 
     /// So many turns of one actor. After a wait none of them can add an entry, so they are not made.
+    #[tactic(auto, using(crate::proofs::Short::begins))]
     fn turns(&mut self, actor: Actor, count: u32) -> Result<(), StepError>
         requires { self.old.halted ≡ None }
         ensures { CameTo self.old (turns self.old.script self.old.history actor count)
@@ -160,6 +176,7 @@ impl Machine {
     }
 
     /// Turns of one actor until it waits or is idle, or the history is full, which is no error here.
+    #[tactic(auto, using(crate::proofs::Short::begins))]
     fn turns_on(&mut self, actor: Actor) -> Result<(), StepError>
         requires { self.old.halted ≡ None }
         ensures { CameTo self.old (turns_on self.old.script self.old.history actor enough) false result self.new }
@@ -173,6 +190,7 @@ impl Machine {
     }
 
     /// A round: each actor in order takes turns until it waits or is idle, or the history is full.
+    #[tactic(auto, using(crate::proofs::Short::begins))]
     fn round(&mut self) -> Result<(), StepError>
         requires { self.old.halted ≡ None }
         ensures { CameTo self.old (round self.old.script self.old.history) false result self.new }
@@ -185,6 +203,7 @@ impl Machine {
 
     /// Rounds until all actors are idle or the history is full. Where either holds a round adds nothing, and after a
     /// round that adds nothing none does, so the first such round is the last, and nothing else is asked.
+    #[tactic(auto, using(crate::proofs::Short::begins))]
     fn rounds(&mut self) -> Result<(), StepError>
         requires { self.old.halted ≡ None }
         ensures { CameTo self.old (drained self.old.script self.old.history enough) false result self.new }
@@ -212,8 +231,9 @@ impl Machine {
         Ok(())
     }
 
-    /// Rounds until nothing is left to do. An error where that filled the history and some actor has an entry due.
-    fn drain(&mut self) -> Result<(), StepError>
+    /// Rounds until nothing is left to do. An error where that filled the history and some actor has an entry due. Where
+    /// memory runs out, what was added before is kept.
+    pub fn drain(&mut self) -> Result<(), StepError>
         requires { self.old.halted ≡ None }
         ensures { CameTo self.old (line_run self.old.script self.old.history ScheduleLine.Drain)
             (overruns_line self.old.script self.old.history ScheduleLine.Drain) result self.new }
@@ -235,10 +255,7 @@ impl Machine {
         requires { at < length self.now.script.schedule }
         ensures { slice_get self.now.script.schedule at ≡ Some result }
     {
-        match self.world.script().schedule.get(at) {
-            Some(line) => *line,
-            None => unreachable!(),
-        }
+        line_of(&self.world.script().schedule, at)
     }
 
     fn run_line(&mut self, line: ScheduleLine) -> Result<(), StepError>
@@ -252,10 +269,27 @@ impl Machine {
         }
     }
 
-    /// The lines of the script's schedule, in order.
-    pub fn replay(&mut self) -> Result<(), StepError>
-        requires { self.old ≡ opening self.old.script }
-        ensures { CameTo self.old (run self.old.script) (overruns self.old.script) result self.new }
+    /// The turns of a schedule, line by line. An error where one of them finds an entry due and the history full. Where
+    /// memory runs out, what was added before is kept, and is a front of what the schedule comes to.
+    #[tactic(auto, using(crate::proofs::Short::begins))]
+    pub fn replay(&mut self, turns: &Schedule) -> Result<(), StepError>
+        requires { self.old.halted ≡ None }
+        ensures { CameTo self.old (fold (line_run self.old.script) self.old.history turns.now)
+            (overruns_lines self.old.script self.old.history turns.now) result self.new }
+    {
+        for at in 0..turns.len() {
+            let line = line_of(turns, at);
+            self.run_line(line)?;
+        }
+        Ok(())
+    }
+
+    /// The turns of the script's own schedule, as `replay` makes them.
+    #[tactic(auto, using(crate::proofs::Short::begins))]
+    pub fn run(&mut self) -> Result<(), StepError>
+        requires { self.old.halted ≡ None }
+        ensures { CameTo self.old (fold (line_run self.old.script) self.old.history self.old.script.schedule)
+            (overruns_lines self.old.script self.old.history self.old.script.schedule) result self.new }
     {
         for at in 0..self.lines() {
             let line = self.line(at);

@@ -1,7 +1,10 @@
-use Rattle.hm_history.specs.Run.{run}
-use Rattle.hm_history.specs.Overrun.{overruns}
+use Rattle.std.specs.Prelude.{fold}
+use Rattle.hm_history.specs.Overrun.{overruns_lines}
+use Rattle.hm_history.specs.Run.{line_run}
 use Rattle.hm_machine.proofs.Lines.{Left}
 use Rattle.hm_machine.proofs.Machine.replay.Given as goal
 
 abbrev pub invariant-loop-at : goal.invariant-loop-at
-invariant-loop-at l = Left l.fn.self l.self l.at (run l.fn.self.script) (overruns l.fn.self.script)
+invariant-loop-at l =
+    let s = l.fn.self in
+    Left l.turns s l.self l.at (fold (line_run s.script) s.history l.turns) (overruns_lines s.script s.history l.turns)

@@ -1,6 +1,13 @@
 use Rattle.std.proofs.Common.{◌<◌, ◌≤◌, length, refl, arith}
-use Rattle.hm_machine.proofs.Draining.{round_goes, round_ends}
+use Rattle.std.proofs.lemmas.Result.{err_from_is_err_and}
+use Rattle.hm_machine.proofs.Draining.{round_fails, round_goes, round_ends}
 use Rattle.hm_machine.proofs.Machine.round.Goals as goal
+
+pub returns-in_err-turns_on : goal.returns-in_err-turns_on
+returns-in_err-turns_on c =
+    let p = err_from_is_err_and c.from_residual.result c.from_residual.ensures.1 in
+    let few : c.loop-number.number < length c.args.self.now.script.actors = omega arith in
+    rw (p.1, p.2) (round_fails c.args.self.now c.loop-number.self c.turns_on.new.self c.new.result c.loop-number.number c.in_err-turns_on.field-0.0 _ c.loop-number.invariant few c.new.ensures c.in_err-turns_on.ensures)
 
 pub loop-number-preserved : goal.loop-number-preserved
 loop-number-preserved c =

@@ -1,0 +1,10 @@
+use Rattle.std.specs.Prelude.{fold}
+use Rattle.hm_history.specs.Overrun.{overruns_lines}
+use Rattle.hm_history.specs.Run.{line_run}
+use Rattle.hm_machine.proofs.Lines.{Left}
+use Rattle.hm_machine.proofs.Machine.run.Given as goal
+
+abbrev pub invariant-loop-at : goal.invariant-loop-at
+invariant-loop-at l =
+    let s = l.fn.self in
+    Left s.script.schedule s l.self l.at (fold (line_run s.script) s.history s.script.schedule) (overruns_lines s.script s.history s.script.schedule)
