@@ -21,7 +21,7 @@ use Rattle.hm_top.specs.Drained.{IsDone, IsDrained}
 use Rattle.hm_top.proofs.Rounds.{Ends, below, drains_end}
 
 -- no actor has an entry due
-abbrev NoneDue : Program → List Entry → Type 0
+abbrev pub NoneDue : Program → List Entry → Type 0
 NoneDue c h = (a : ℕ) → a < length c.actors → is_entry (due c h a) ≡ false
 
 idle_quiet : (p : Progress) → is_idle p ≡ true → is_entry p ≡ false
@@ -61,7 +61,7 @@ none_due c h (inl idle) within = λ a few. none_by_idle c h 0 (length c.actors) 
 none_due c h (inr full) within = λ a few. none_by_full c h 0 (length c.actors) a full within (omega arith) (omega arith)
 
 -- then none has an operation left, since some actor would go on
-all_done : NeverStuck → (c : Program) → IsScript c → (h : List Entry) → DueFrom c [] h → NoneDue c h → (a : ℕ) → IsDone c h a
+pub all_done : NeverStuck → (c : Program) → IsScript c → (h : List Entry) → DueFrom c [] h → NoneDue c h → (a : ℕ) → IsDone c h a
 all_done never_stuck c script h d none a = by (op_at c a ((state_of c h).going a).index) refl
   where
     by : (x : Option Op) → op_at c a ((state_of c h).going a).index ≡ x → IsDone c h a
@@ -83,5 +83,5 @@ lines_end never_stuck c script (ScheduleLine.Run b n ∷ ls) h d fits has within
     let later = (and_parts _ _ (and_parts _ _ fits).1).1 in
     lines_end never_stuck c script ls (line_run c h l) (line_due c h l d) later has (or_parts (overruns_line c h l) (overruns_lines c (line_run c h l) ls) within).1
 
-pub run_drained : NeverStuck → (c : Program) → IsScript c → overruns c ≡ false → (h : List Entry) → h ≡ run c → IsDrained (Some c) h
+pub run_drained : NeverStuck → (c : Program) → IsScript c → overruns c ≡ false → (h : List Entry) → h ≡ run c → IsDrained c h
 run_drained never_stuck c script within h e = λ has. subst (λ g. (a : ℕ) → IsDone c g a) (sym e) (lines_end never_stuck c script c.schedule [] tt script.schedule has within)

@@ -1,4 +1,10 @@
-mod Rounds
-mod Drains
-mod Ending
-mod Complete
+pub mod Rounds
+pub mod Drains
+pub mod Room
+pub mod Trial
+pub mod Calls
+pub mod Sending
+pub mod Replaying
+pub mod Making
+pub mod Upgrading
+pub mod Used

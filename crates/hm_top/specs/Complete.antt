@@ -1,24 +1,44 @@
--- Scripts that are sure to be replayed to their end.
-use Rattle.std.specs.Prelude.{◌≡◌, ℕ, ◌≤◌, List, length, Option, Some, None}
+-- Calls that are sure to come to their end.
+use Rattle.std.specs.Prelude.{◌≡◌, ◌⊎◌, ℕ, ◌+◌, ◌≤◌, false, List, [], ◌∷◌, length}
 use Rattle.hm_base.specs.declared.limits.TheConstants.{MOST_SCRIPT_BYTES}
-use Rattle.hm_base.specs.Program.{Program, IsScript}
+use Rattle.hm_base.specs.Program.{Program}
+use Rattle.hm_base.specs.declared.ops.ScheduleLine.{ScheduleLine}
+use Rattle.hm_history.specs.Overrun.{overruns}
+use Rattle.hm_io.specs.Streams.{Rose}
 use Rattle.hm_quiet.specs.Quiet.{IsDrainAlone}
-use Rattle.hm_script.specs.Spelling.{text}
+use Rattle.hm_script.specs.Built.{has_drain}
+use Rattle.hm_top.specs.Reading.{IsTextOf}
+use Rattle.hm_top.specs.Traffic.{Traffic}
 use Rattle.hm_top.specs.declared.status.Status.{Status}
 
--- the script is none whose schedule is `drain` alone and whose bounds leave room
-abbrev pub IsNoDrainAlone : Option Program → Type 0
-IsNoDrainAlone None = Unit {0}
-IsNoDrainAlone (Some s) = ¬ IsDrainAlone s
+-- the turns of a schedule, those of a `drain` left out
+abbrev pub turn_count : List ScheduleLine → ℕ
+turn_count [] = 0
+turn_count (ScheduleLine.Run a n ∷ ls) = n + turn_count ls
+turn_count (ScheduleLine.Drain ∷ ls) = turn_count ls
 
--- the report was written, or memory ran out
+-- the schedule has no `drain`, and no more turns than a history has entries
+pub record HasFewTurns (s : Program) : Type 0 where
+  pub no_drain : has_drain s.schedule ≡ false
+  pub few : turn_count s.schedule ≤ 2000000
+
+-- no turn finds the history full and an entry due: by itself, or since the schedule is `drain` alone and the bounds of
+-- its operations leave room, or since the schedule has so few turns
+abbrev pub HasRoom : Program → Type 0
+HasRoom s = (overruns s ≡ false) ⊎ (IsDrainAlone s ⊎ HasFewTurns s)
+
+-- all was done, or memory ran out
 abbrev pub IsComplete : Status → Type 0
 IsComplete Status.Done = Unit {0}
 IsComplete Status.NoMemory = Unit {0}
 IsComplete _ = ⊥
 
--- if these bytes, which are not too many, are the text of such a script, then its report was written, or memory ran out
-abbrev pub CompletesOn : Status → List ℕ → Type 0
-CompletesOn status bytes =
-    (s : Program) → IsScript s → IsDrainAlone s → bytes ≡ text s → length bytes ≤ MOST_SCRIPT_BYTES
-    → IsComplete status
+-- neither stream counted a fault
+pub record NoFault (io : Traffic) : Type 0 where
+  pub reads : ¬ Rose io.source.faults io.source_after.faults
+  pub writes : ¬ Rose io.sink.faults io.sink_after.faults
+
+-- the bytes are the text of this script, and no more than a script has
+pub record IsGiven (s : Program) (bytes : List ℕ) : Type 0 where
+  pub text_is : IsTextOf s bytes
+  pub short : length bytes ≤ MOST_SCRIPT_BYTES

@@ -1,5 +1,5 @@
 -- What a `drain` leaves: no actor has an operation left.
-use Rattle.std.specs.Prelude.{◌≡◌, ℕ, true, Option, Some, None, List}
+use Rattle.std.specs.Prelude.{◌≡◌, ℕ, true, None, List}
 use Rattle.hm_base.specs.Program.{Program}
 use Rattle.hm_history.specs.Due.{due}
 use Rattle.hm_history.specs.Going.{op_at, state_of}
@@ -12,6 +12,5 @@ abbrev pub IsDone : Program → List Entry → ℕ → Type 0
 IsDone c h a = (op_at c a ((state_of c h).going a).index ≡ None) × (due c h a ≡ Progress.Idle)
 
 -- where the schedule has a `drain`, which is its last line, every actor is done after the history
-abbrev pub IsDrained : Option Program → List Entry → Type 0
-IsDrained None h = ⊥
-IsDrained (Some s) h = has_drain s.schedule ≡ true → (a : ℕ) → IsDone s h a
+abbrev pub IsDrained : Program → List Entry → Type 0
+IsDrained s h = has_drain s.schedule ≡ true → (a : ℕ) → IsDone s h a

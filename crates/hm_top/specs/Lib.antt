@@ -1,6 +1,15 @@
+pub mod Commands
 pub mod Streams
-pub mod Replay
+pub mod Traffic
+pub mod Reading
+pub mod Writing
 pub mod Drained
+pub mod Running
+pub mod Ran
 pub mod Complete
-pub mod Ends
+pub mod Replays
+pub mod Generates
+pub mod Upgrades
+pub mod Usage
+pub mod Does
 pub mod Messages

@@ -6,12 +6,12 @@ use Rattle.hm_top.specs.declared.input.Input.TheVariants as input
 
 -- these bytes came from what was left, and the rest is left now
 abbrev pub Came : Option (List ℕ) → Option (List ℕ) → List ℕ → Type 0
-Came None after bytes = after ≡ None
+Came None after bytes = Unit {0}
 Came (Some left) after bytes = (rest : List ℕ) × (left ≡ bytes ++ rest) × (after ≡ Some rest)
 
 -- all that was left came, and it is these bytes
 abbrev pub CameWhole : Option (List ℕ) → Option (List ℕ) → List ℕ → Type 0
-CameWhole None after bytes = after ≡ None
+CameWhole None after bytes = Unit {0}
 CameWhole (Some left) after bytes = (left ≡ bytes) × (after ≡ Some [])
 
 -- more was left than this

@@ -1,10 +1,15 @@
 // Reading a source to its end.
-ghost use Rattle.std.specs.Prelude.{◌≡◌};
+ghost use Rattle.std.specs.Prelude.{◌≡◌, IfOk, IfErr, OnOk};
+ghost use Rattle.hm_base.specs.Program.{IsScript};
 ghost use Rattle.hm_base.specs.declared.limits.TheConstants.{MOST_SCRIPT_BYTES};
+ghost use Rattle.hm_top.specs.Reading.{HasNotRead, IsTextOf, ReadAs, ReadFaulted};
 ghost use Rattle.hm_top.specs.Streams.{ReadsText, ReadFaults};
+ghost use Rattle.hm_top.specs.Traffic.{source_state};
 
-use hm_base::{MOST_SCRIPT_BYTES, Text};
+use crate::status::Status;
+use hm_base::{MOST_SCRIPT_BYTES, Script, Text};
 use hm_io::{Got, Source};
+use hm_script::{ScriptError, parse};
 use std::alloc::Global;
 
 /// What was read.
@@ -40,4 +45,31 @@ pub fn read_all<S: Source>(alloc: Global, source: &mut S) -> Input
         }
     }
     unreachable!()
+}
+
+/// The script whose text the source has, or how a call ends that finds none.
+pub fn read_script<S: Source>(alloc: Global, source: &mut S) -> Result<Script, Status>
+    ensures script { IfOk result IsScript }
+    ensures text { IfOk result
+        (λ s. ReadAs (IsTextOf s) (source_state S.left S.failures source.old)
+        (source_state S.left S.failures source.new)) }
+    ensures none { IfErr result
+        (HasNotRead (source_state S.left S.failures source.old) (source_state S.left S.failures source.new)) }
+    ensures faults { OnOk result (S.failures source.new ≡ S.failures source.old) }
+    ensures fault { IfErr result (ReadFaulted (S.failures source.old) (S.failures source.new)) }
+{
+    let text = match read_all(alloc, source) {
+        Input::Whole(text) => text,
+        Input::Fault => return Err(Status::ReadFault),
+        Input::TooLong => return Err(Status::TooLong),
+        Input::NoMemory => return Err(Status::NoMemory),
+    };
+    match parse(alloc, text.as_slice()) {
+        Ok(script) => {
+            script.facts();
+            Ok(script)
+        }
+        Err(ScriptError::Refused(refused)) => Err(Status::Refused(refused)),
+        Err(ScriptError::NoMemory) => Err(Status::NoMemory),
+    }
 }

@@ -1,11 +1,22 @@
-// The top call: a script is read, run and reported.
+// The top call: what the words after the program's name ask for.
 #![tactic(auto)]
 
+mod command;
+mod ended;
+mod ending;
+mod generate;
 mod input;
 mod messages;
+mod output;
+mod replay;
+mod schedule;
 mod status;
 mod top;
+mod upgrade;
 
+pub use command::Command;
+pub use ended::Ended;
+pub use ending::finish;
 pub use messages::message;
 pub use status::Status;
-pub use top::{Ended, run};
+pub use top::run;

@@ -5,7 +5,14 @@ use std::alloc::Global;
 use std::process::Abort;
 use std::test::Fail;
 
-const SCRIPT: &[u8] = b"hmm 1\nframes 4\nactor 0\nmap 0 16 1 rw\nstore 0 0x10000 41\nturns 0 20\n";
+/// Of 84 bytes; its report has fewer than 4,096.
+const SCRIPT: &[u8] =
+    b"hmm 1\nframes 4\nactor 0\nmap 0 16 1 rw\nstore 0 0x10000 41\nload 0 0x10000 2\nturns 0 20\n";
+
+/// Its report has 29 bytes.
+const EMPTY: &[u8] = b"hmm 1\nframes 0\n";
+
+const USAGE: &str = "usage: hmmrun replay | generate N | trial N | upgrade";
 
 fn ends<S: Source, K: Sink>(
     rt: &impl Abort,
@@ -28,11 +35,20 @@ fn ends<S: Source, K: Sink>(
 
 #[test]
 fn words_that_it_has_not(rt: HostRuntime) -> Result<(), Fail> {
-    for words in ["replay now", "again", ""] {
+    for words in [
+        "replay now",
+        "again",
+        "",
+        "threads",
+        "generate",
+        "generate 07",
+        "trial 18446744073709551616",
+        "upgrade 2",
+    ] {
         let mut source = SureSource::new(rt.alloc(), SCRIPT)?;
         let mut sink = SureSink::new(rt.alloc());
-        let wanted = (2, "usage: hmmrun replay");
-        ends(&rt, rt.alloc(), words, (&mut source, &mut sink), wanted)?;
+        let streams = (&mut source, &mut sink);
+        ends(&rt, rt.alloc(), words, streams, (2, USAGE))?;
         assert_eq!(rt; sink.held().len(), 0);
     }
     Ok(())
@@ -40,11 +56,19 @@ fn words_that_it_has_not(rt: HostRuntime) -> Result<(), Fail> {
 
 #[test]
 fn a_read_that_fails(rt: HostRuntime) -> Result<(), Fail> {
-    let mut source = MemorySource::new(rt.alloc(), SCRIPT, 16, &[2])?;
-    let mut sink = SureSink::new(rt.alloc());
-    let wanted = (4, "read fault");
-    ends(&rt, rt.alloc(), "replay", (&mut source, &mut sink), wanted)?;
-    assert_eq!(rt; sink.held().len(), 0);
+    for words in ["replay", "upgrade"] {
+        for call in 1..8 {
+            let mut source = MemorySource::new(rt.alloc(), SCRIPT, 16, &[call])?;
+            let mut sink = SureSink::new(rt.alloc());
+            let streams = (&mut source, &mut sink);
+            ends(&rt, rt.alloc(), words, streams, (4, "read fault"))?;
+            assert_eq!(rt; sink.held().len(), 0);
+        }
+        let mut source = MemorySource::new(rt.alloc(), SCRIPT, 16, &[8])?;
+        let mut sink = SureSink::new(rt.alloc());
+        let streams = (&mut source, &mut sink);
+        ends(&rt, rt.alloc(), words, streams, (0, ""))?;
+    }
     Ok(())
 }
 
@@ -52,9 +76,57 @@ fn a_read_that_fails(rt: HostRuntime) -> Result<(), Fail> {
 fn a_write_that_fails(rt: HostRuntime) -> Result<(), Fail> {
     let mut source = SureSource::new(rt.alloc(), SCRIPT)?;
     let mut sink = MemorySink::new(rt.alloc(), 65536, &[1])?;
-    let wanted = (5, "write fault");
-    ends(&rt, rt.alloc(), "replay", (&mut source, &mut sink), wanted)?;
+    let streams = (&mut source, &mut sink);
+    ends(&rt, rt.alloc(), "replay", streams, (5, "write fault"))?;
     assert_eq!(rt; sink.held().len(), 0);
+    let mut source = SureSource::new(rt.alloc(), SCRIPT)?;
+    let mut sink = MemorySink::new(rt.alloc(), 65536, &[2])?;
+    let streams = (&mut source, &mut sink);
+    ends(&rt, rt.alloc(), "replay", streams, (0, ""))
+}
+
+#[test]
+fn a_sink_without_room(rt: HostRuntime) -> Result<(), Fail> {
+    for (room, code, text) in [(28, 5, "write fault"), (29, 0, "")] {
+        let mut source = SureSource::new(rt.alloc(), EMPTY)?;
+        let mut sink = MemorySink::new(rt.alloc(), room, &[])?;
+        let streams = (&mut source, &mut sink);
+        ends(&rt, rt.alloc(), "replay", streams, (code, text))?;
+        assert_eq!(rt; sink.held().len(), if code == 0 { 29 } else { 0 });
+    }
+    Ok(())
+}
+
+#[test]
+fn a_text_in_pieces(rt: HostRuntime) -> Result<(), Fail> {
+    for call in [1u64, 3, 8] {
+        let mut source = SureSource::new(rt.alloc(), SCRIPT)?;
+        let mut sink = MemorySink::new(rt.alloc(), 1_048_576, &[call])?;
+        let streams = (&mut source, &mut sink);
+        ends(&rt, rt.alloc(), "generate 7", streams, (5, "write fault"))?;
+        assert_eq!(rt; sink.held().len() as u64, 4096 * (call - 1));
+    }
+    Ok(())
+}
+
+#[test]
+fn a_trial(rt: HostRuntime) -> Result<(), Fail> {
+    let mut source = SureSource::new(rt.alloc(), SCRIPT)?;
+    let mut sink = SureSink::new(rt.alloc());
+    let streams = (&mut source, &mut sink);
+    ends(&rt, rt.alloc(), "trial 7", streams, (0, ""))?;
+    assert!(rt; sink.held().starts_with(b"trial 7\nentries "));
+    Ok(())
+}
+
+#[test]
+fn a_script_in_version_two(rt: HostRuntime) -> Result<(), Fail> {
+    let mut source = SureSource::new(rt.alloc(), SCRIPT)?;
+    let mut sink = SureSink::new(rt.alloc());
+    let streams = (&mut source, &mut sink);
+    ends(&rt, rt.alloc(), "upgrade", streams, (0, ""))?;
+    assert_eq!(rt; sink.held().len(), SCRIPT.len());
+    assert!(rt; sink.held().starts_with(b"hmm 2\nframes 4\nactor 0\n"));
     Ok(())
 }
 
@@ -69,13 +141,8 @@ fn a_byte_too_many(rt: HostRuntime) -> Result<(), Fail> {
         bytes.resize(count, b'h')?;
         let mut source = SureSource::new(rt.alloc(), bytes.as_slice())?;
         let mut sink = SureSink::new(rt.alloc());
-        ends(
-            &rt,
-            rt.alloc(),
-            "replay",
-            (&mut source, &mut sink),
-            (code, text),
-        )?;
+        let streams = (&mut source, &mut sink);
+        ends(&rt, rt.alloc(), "replay", streams, (code, text))?;
         assert_eq!(rt; sink.held().len(), 0);
     }
     Ok(())

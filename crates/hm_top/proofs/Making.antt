@@ -1,0 +1,99 @@
+-- What the calls with `generate N` and `trial N` come to.
+use Rattle.std.proofs.Common.{◌≡◌, ℕ, inl, inr, Bool, true, false, Some, None, Option, List, [], refl, sym, ◌∙◌, ap, subst}
+use Rattle.hm_base.specs.Program.{Program}
+use Rattle.hm_history.specs.Overrun.{overruns}
+use Rattle.hm_history.specs.Run.{run}
+use Rattle.hm_history.specs.declared.Entry.{Entry}
+use Rattle.hm_io.specs.Streams.{Adds, AddsFront}
+use Rattle.hm_report.specs.SinkState.{SinkState}
+use Rattle.hm_report.specs.Summary.{summary}
+use Rattle.hm_script.specs.Generator.{generated}
+use Rattle.hm_script.specs.Spelling.{text}
+use Rattle.hm_top.specs.Generates.{Generates, HasMade, IsAlone, IsTried, Tries}
+use Rattle.hm_top.specs.Ran.{HasNothing, IsRan}
+use Rattle.hm_top.specs.Running.{Answered, AnsweredNone, RanFull, RanWhole}
+use Rattle.hm_top.specs.Traffic.{SourceState, Traffic, traffic_of}
+use Rattle.hm_top.specs.Writing.{HasWritten, WantedIn, WriteFaulted}
+use Rattle.hm_top.specs.declared.ended.Ended.{Ended}
+use Rattle.hm_top.specs.declared.schedule.Ran.{Ran}
+use Rattle.hm_top.specs.declared.status.Status.{Status}
+use Rattle.hm_top.proofs.Trial.{trial_fits}
+
+-- memory ran out before anything was written
+made_none : (Is : Program → List Entry → Type 0) (script : Option Program) (h : List Entry) (status : Status) → status ≡ Status.NoMemory → AnsweredNone script h → HasMade Is script h status
+made_none Is script h status e none = subst (HasMade Is script h) (sym e) none
+
+none_written : (text : List ℕ) (Goes : List ℕ → Type 0) (k k' : SinkState) (status : Status) → status ≡ Status.NoMemory → k' ≡ k → HasWritten text Goes k k' status
+none_written text Goes k k' status e same = subst (HasWritten text Goes k k') (sym e) (inl (ap (λ x. x.held) same))
+
+none_failed : (n n' : ℕ) (status : Status) → status ≡ Status.NoMemory → n' ≡ n → WriteFaulted n n' status
+none_failed n n' status e same = subst (WriteFaulted n n') (sym e) same
+
+pub no_text : (n : ℕ) (io : Traffic) (e : Ended) → io.source_after ≡ io.source → io.sink_after ≡ io.sink → e.status ≡ Status.NoMemory → HasNothing e → Generates n io e
+no_text n io e unread same none answer = record {
+  unread = unread;
+  made = made_none (IsAlone (generated n)) e.script e.history.entries e.status none answer.none;
+  written = none_written (text (generated n)) (λ t. t ≡ text (generated n)) io.sink io.sink_after e.status none same;
+  write_faults = none_failed io.sink.faults io.sink_after.faults e.status none (ap (λ k. k.faults) same);
+  receipt = answer.receipt_is;
+}
+
+pub no_trial : (n : ℕ) (io : Traffic) (e : Ended) → io.source_after ≡ io.source → io.sink_after ≡ io.sink → e.status ≡ Status.NoMemory → HasNothing e → Tries n io e
+no_trial n io e unread same none answer = record {
+  unread = unread;
+  ran = made_none (IsTried (generated n)) e.script e.history.entries e.status none answer.none;
+  written = none_written (summary n (generated n) (run (generated n))) (λ t. t ≡ summary n (generated n) (run (generated n))) io.sink io.sink_after e.status none same;
+  write_faults = none_failed io.sink.faults io.sink_after.faults e.status none (ap (λ k. k.faults) same);
+  receipt = answer.receipt_is;
+}
+
+-- the script's text was written
+pub texts : (n : ℕ) (io : Traffic) (e : Ended) (s : Program) → s ≡ generated n → io.source_after ≡ io.source → HasMade (IsAlone s) e.script e.history.entries e.status
+    → HasWritten (text s) (λ t. t ≡ text s) io.sink io.sink_after e.status → WriteFaulted io.sink.faults io.sink_after.faults e.status → e.receipt ≡ None → Generates n io e
+texts n io e s is unread made written faults receipt = record {
+  unread = unread;
+  made = subst (λ x. HasMade (IsAlone x) e.script e.history.entries e.status) is made;
+  written = subst (λ x. HasWritten (text x) (λ t. t ≡ text x) io.sink io.sink_after e.status) is written;
+  write_faults = faults;
+  receipt = receipt;
+}
+
+-- a trial's history is never full
+never_full : (s : Program) (h : List Entry) (n : ℕ) (full : Bool) → s ≡ generated n → (full ≡ false → RanWhole s h) → (full ≡ true → RanFull s h) → RanWhole s h
+never_full s h n false is whole over = whole refl
+never_full s h n true is whole over = let never : true ≡ false = sym (over refl).beyond ∙ ap overruns is ∙ trial_fits n in cc
+
+answered : (r : Ran) (t : Program) (script : Option Program) (h : List Entry) → r.script ≡ t → RanWhole r.script r.history.entries → Answered (IsRan r) script h → Answered (IsTried t) script h
+answered r t None h is ran a = a
+answered r t (Some s) h is ran a = (a.0 ∙ is, subst (λ x. RanWhole x h) (sym a.0) (subst (RanWhole r.script) (sym a.1) ran))
+
+tried : (r : Ran) (t : Program) (script : Option Program) (h : List Entry) (status : Status) → r.script ≡ t → RanWhole r.script r.history.entries → HasMade (IsRan r) script h status → HasMade (IsTried t) script h status
+tried r t script h Status.Done is ran made = answered r t script h is ran made
+tried r t script h Status.WriteFault is ran made = answered r t script h is ran made
+tried r t script h Status.NoMemory is ran made = made
+tried r t script h Status.Usage is ran made = made
+tried r t script h (Status.Refused x) is ran made = made
+tried r t script h Status.ReadFault is ran made = made
+tried r t script h Status.HistoryFull is ran made = made
+tried r t script h Status.TooLong is ran made = made
+
+-- the summary was written
+pub summaries : (n : ℕ) (io : Traffic) (e : Ended) (r : Ran) → r.script ≡ generated n → io.source_after ≡ io.source → (r.full ≡ false → RanWhole r.script r.history.entries) → (r.full ≡ true → RanFull r.script r.history.entries)
+    → HasMade (IsRan r) e.script e.history.entries e.status → HasWritten (summary n r.script r.history.entries) (λ t. t ≡ summary n r.script r.history.entries) io.sink io.sink_after e.status
+    → WriteFaulted io.sink.faults io.sink_after.faults e.status → e.receipt ≡ None → Tries n io e
+summaries n io e r is unread whole over made written faults receipt =
+    let ran = never_full r.script r.history.entries n r.full is whole over in
+    let same : summary n r.script r.history.entries ≡ summary n (generated n) (run (generated n)) = ap (summary n r.script) (ran.ran.run_is) ∙ ap (λ s. summary n s (run s)) is in record {
+      unread = unread;
+      ran = tried r (generated n) e.script e.history.entries e.status is ran made;
+      written = subst (λ x. HasWritten x (λ t. t ≡ x) io.sink io.sink_after e.status) same written;
+      write_faults = faults;
+      receipt = receipt;
+    }
+
+-- so of the script that was drawn
+pub summaries_for : (n : ℕ) (io : Traffic) (e : Ended) (r : Ran) (s : Program) → r.script ≡ s → s ≡ generated n → io.source_after ≡ io.source → (r.full ≡ false → RanWhole s r.history.entries) → (r.full ≡ true → RanFull s r.history.entries)
+    → HasMade (IsRan r) e.script e.history.entries e.status → HasWritten (summary n r.script r.history.entries) (λ t. t ≡ summary n r.script r.history.entries) io.sink io.sink_after e.status
+    → WriteFaulted io.sink.faults io.sink_after.faults e.status → e.receipt ≡ None → Tries n io e
+summaries_for n io e r s is drawn unread whole over made written faults none =
+    summaries n io e r (is ∙ drawn) unread (λ f. subst (λ x. RanWhole x r.history.entries) (sym is) (whole f)) (λ f. subst (λ x. RanFull x r.history.entries) (sym is) (over f)) made written faults none

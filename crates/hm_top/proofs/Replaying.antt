@@ -1,0 +1,145 @@
+-- What a call with the word `replay` comes to.
+use Rattle.std.proofs.Common.{◌≡◌, ℕ, inl, inr, Bool, true, false, Some, None, Option, List, [], refl, sym, ◌∙◌, ap, subst}
+use Rattle.std.specs.Prelude.{IfSome}
+use Rattle.hm_base.specs.Program.{Program, IsScript}
+use Rattle.hm_history.specs.Overrun.{overruns}
+use Rattle.hm_history.specs.declared.Entry.{Entry}
+use Rattle.hm_io.specs.Streams.{Adds, AddsFront}
+use Rattle.hm_quiet.specs.Quiet.{DrainAloneHasRoom}
+use Rattle.hm_report.specs.Report.{report}
+use Rattle.hm_report.specs.SinkState.{SinkState}
+use Rattle.hm_script.specs.Spelling.{text}
+use Rattle.hm_top.specs.Complete.{HasRoom, IsComplete, IsGiven, NoFault}
+use Rattle.hm_top.specs.Ran.{HasAll, HasNothing, Shows, ShowsAt}
+use Rattle.hm_top.specs.Reading.{HasNotRead, HasRead, IsTextOf, ReadAs, ReadFaulted}
+use Rattle.hm_top.specs.Replays.{IsItsText, IsReportOf, Replays}
+use Rattle.hm_top.specs.Running.{Answered, AnsweredNone, HasRun, RanFull, RanSo, RanWhole, report_for}
+use Rattle.hm_top.specs.Traffic.{SourceState, Traffic}
+use Rattle.hm_top.specs.Writing.{HasWritten, WantedIn, WriteFaulted}
+use Rattle.hm_top.specs.declared.ended.Ended.{Ended}
+use Rattle.hm_top.specs.declared.schedule.Ran.{Ran}
+use Rattle.hm_top.specs.declared.status.Status.{Status}
+use Rattle.hm_top.proofs.Calls.{given, none_failed, none_run, none_written, not_read, short_of_memory}
+use Rattle.hm_top.proofs.Room.{room_fits}
+
+-- it had nothing to show
+pub stopped : (io : Traffic) (e : Ended) → HasNotRead io.source io.source_after e.status → ReadFaulted io.source.faults io.source_after.faults e.status → HasNothing e → io.sink_after ≡ io.sink → Replays io e
+stopped io e n faults none same = record {
+  read = not_read (IsItsText e.script) io.source io.source_after e.status n;
+  read_faults = faults;
+  ran = none_run io.source io.source_after e.script e.history.entries e.status n none.none;
+  written = none_written io.source io.source_after (report_for e.script e.history.entries) (IsReportOf io.source) io.sink io.sink_after e.status n same;
+  write_faults = none_failed io.source io.source_after io.sink.faults io.sink_after.faults e.status n (ap (λ k. k.faults) same);
+  receipt = none.receipt_is;
+  complete = λ no_fault. given io.source.left (λ bytes at s is_given room. short_of_memory io e.status bytes s at n faults no_fault is_given);
+}
+
+pub read_shown : (r : Ran) (e : Ended) (b a : SourceState) (status : Status) → ShowsAt r e status → ReadAs (IsTextOf r.script) b a → HasRead (IsItsText e.script) b a status
+read_shown r e b a Status.Done shows read = subst (λ x. ReadAs (IsItsText x) b a) (sym shows.1.script_is) read
+read_shown r e b a Status.HistoryFull shows read = subst (λ x. ReadAs (IsItsText x) b a) (sym shows.1.script_is) read
+read_shown r e b a Status.WriteFault shows read = subst (λ x. ReadAs (IsItsText x) b a) (sym shows.script_is) read
+read_shown r e b a Status.NoMemory shows read = tt
+read_shown r e b a Status.Usage shows read = absurd shows
+read_shown r e b a (Status.Refused x) shows read = absurd shows
+read_shown r e b a Status.TooLong shows read = absurd shows
+read_shown r e b a Status.ReadFault shows read = tt
+
+pub faults_shown : (r : Ran) (e : Ended) (n n' : ℕ) (status : Status) → ShowsAt r e status → n' ≡ n → ReadFaulted n n' status
+faults_shown r e n n' Status.ReadFault shows same = absurd shows
+faults_shown r e n n' Status.Done shows same = same
+faults_shown r e n n' Status.HistoryFull shows same = same
+faults_shown r e n n' Status.WriteFault shows same = same
+faults_shown r e n n' Status.NoMemory shows same = same
+faults_shown r e n n' Status.Usage shows same = same
+faults_shown r e n n' (Status.Refused x) shows same = same
+faults_shown r e n n' Status.TooLong shows same = same
+
+pub answered : (Is : Program → List Entry → Type 0) (r : Ran) (e : Ended) → HasAll r e → Is r.script r.history.entries → Answered Is e.script e.history.entries
+answered Is r e all is = subst (λ x. Answered Is x e.history.entries) (sym all.script_is) (subst (Is r.script) (sym all.history_is) is)
+
+-- a run is one of the two
+pub ran_so : (s : Program) (h : List Entry) (full : Bool) → (full ≡ false → RanWhole s h) → (full ≡ true → RanFull s h) → RanSo s h
+ran_so s h false whole over = inl (whole refl)
+ran_so s h true whole over = inr (over refl)
+
+run_shown : (r : Ran) (e : Ended) (status : Status) → ShowsAt r e status → (r.full ≡ false → RanWhole r.script r.history.entries) → (r.full ≡ true → RanFull r.script r.history.entries) → HasRun e.script e.history.entries status
+run_shown r e Status.Done shows whole over = answered RanWhole r e shows.1 (whole shows.0)
+run_shown r e Status.HistoryFull shows whole over = answered RanFull r e shows.1 (over shows.0)
+run_shown r e Status.WriteFault shows whole over = answered RanSo r e shows (ran_so r.script r.history.entries r.full whole over)
+run_shown r e Status.NoMemory shows whole over = shows.none
+run_shown r e Status.Usage shows whole over = absurd shows
+run_shown r e (Status.Refused x) shows whole over = absurd shows
+run_shown r e Status.TooLong shows whole over = absurd shows
+run_shown r e Status.ReadFault shows whole over = absurd shows
+
+same_report : (r : Ran) (e : Ended) → HasAll r e → report r.script r.history.entries ≡ report_for e.script e.history.entries
+same_report r e all = ap (report r.script) (sym all.history_is) ∙ ap (λ x. report_for x e.history.entries) (sym all.script_is)
+
+pub report_shown : (Goes : List ℕ → Type 0) (r : Ran) (e : Ended) (k k' : SinkState) (status : Status) → ShowsAt r e status → Goes (report r.script r.history.entries)
+    → HasWritten (report r.script r.history.entries) (λ t. t ≡ report r.script r.history.entries) k k' status → HasWritten (report_for e.script e.history.entries) Goes k k' status
+report_shown Goes r e k k' Status.Done shows goes w = subst (Adds k.held k'.held) (same_report r e shows.1) w
+report_shown Goes r e k k' Status.HistoryFull shows goes w = subst (Adds k.held k'.held) (same_report r e shows.1) w
+report_shown Goes r e k k' Status.WriteFault shows goes w = subst (AddsFront k.held k'.held) (same_report r e shows) w
+report_shown Goes r e k k' Status.NoMemory shows goes (inl same) = inl same
+report_shown Goes r e k k' Status.NoMemory shows goes (inr w) = inr (record { text = w.text; goes = subst Goes (sym w.goes) goes; front = w.front; wants = w.wants })
+report_shown Goes r e k k' Status.Usage shows goes w = absurd shows
+report_shown Goes r e k k' (Status.Refused x) shows goes w = absurd shows
+report_shown Goes r e k k' Status.TooLong shows goes w = absurd shows
+report_shown Goes r e k k' Status.ReadFault shows goes w = absurd shows
+
+abbrev pub OneText : Type 0
+OneText = (s t : Program) → IsScript s → IsScript t → text s ≡ text t → s ≡ t
+
+pub its_text : (Are : List ℕ → Type 0) (left : Option (List ℕ)) (bytes : List ℕ) → left ≡ Some bytes → IfSome left Are → Are bytes
+its_text Are None bytes e x = cc
+its_text Are (Some y) bytes e x = let same : y ≡ bytes = cc in subst Are same x
+
+ends : (io : Traffic) (r : Ran) (e : Ended) (status : Status) (s : Program) → ShowsAt r e status → WriteFaulted io.sink.faults io.sink_after.faults status → NoFault io → s ≡ r.script → overruns s ≡ false → (r.full ≡ true → RanFull r.script r.history.entries) → IsComplete status
+ends io r e Status.Done s shows w none same room over = tt
+ends io r e Status.NoMemory s shows w none same room over = tt
+ends io r e Status.WriteFault s shows w none same room over = none.writes w
+ends io r e Status.HistoryFull s shows w none same room over = let b = (over shows.0).beyond in let never : true ≡ false = sym b ∙ sym (ap overruns same) ∙ room in cc
+ends io r e Status.Usage s shows w none same room over = shows
+ends io r e (Status.Refused x) s shows w none same room over = shows
+ends io r e Status.TooLong s shows w none same room over = shows
+ends io r e Status.ReadFault s shows w none same room over = shows
+
+receipt_shown : (r : Ran) (e : Ended) (status : Status) → ShowsAt r e status → r.receipt ≡ None → e.receipt ≡ None
+receipt_shown r e Status.Done shows none = shows.1.receipt_is ∙ none
+receipt_shown r e Status.HistoryFull shows none = shows.1.receipt_is ∙ none
+receipt_shown r e Status.WriteFault shows none = shows.receipt_is ∙ none
+receipt_shown r e Status.NoMemory shows none = shows.receipt_is
+receipt_shown r e Status.Usage shows none = absurd shows
+receipt_shown r e (Status.Refused x) shows none = absurd shows
+receipt_shown r e Status.TooLong shows none = absurd shows
+receipt_shown r e Status.ReadFault shows none = absurd shows
+
+-- it has shown a run
+pub shown : OneText → DrainAloneHasRoom → (io : Traffic) (r : Ran) (e : Ended) → ReadAs (IsTextOf r.script) io.source io.source_after → io.source_after.faults ≡ io.source.faults
+    → (r.full ≡ false → RanWhole r.script r.history.entries) → (r.full ≡ true → RanFull r.script r.history.entries) → Shows r e
+    → HasWritten (report r.script r.history.entries) (λ t. t ≡ report r.script r.history.entries) io.sink io.sink_after e.status → WriteFaulted io.sink.faults io.sink_after.faults e.status → r.receipt ≡ None → Replays io e
+shown one alone io r e read same whole over shows w faults no_receipt = record {
+  read = read_shown r e io.source io.source_after e.status shows read;
+  read_faults = faults_shown r e io.source.faults io.source_after.faults e.status shows same;
+  ran = run_shown r e e.status shows whole over;
+  written = report_shown (IsReportOf io.source) r e io.sink io.sink_after e.status shows (record {
+    script = r.script;
+    history = r.history.entries;
+    read = read.bytes_are;
+    ran = ran_so r.script r.history.entries r.full whole over;
+    text_is = refl;
+  }) w;
+  write_faults = faults;
+  receipt = receipt_shown r e e.status shows no_receipt;
+  complete = λ none. given io.source.left (λ bytes at s is_given room.
+      let mine = its_text (IsTextOf r.script) io.source.left bytes at read.bytes_are in
+      let same_script = one s r.script is_given.text_is.in_range mine.in_range (sym is_given.text_is.spells ∙ mine.spells) in
+      ends io r e e.status s shows faults none same_script (room_fits alone s is_given.text_is.in_range room) over);
+}
+
+-- so of the script that was read
+pub shown_for : OneText → DrainAloneHasRoom → (io : Traffic) (r : Ran) (e : Ended) (s : Program) → r.script ≡ s → ReadAs (IsTextOf s) io.source io.source_after → io.source_after.faults ≡ io.source.faults
+    → (r.full ≡ false → RanWhole s r.history.entries) → (r.full ≡ true → RanFull s r.history.entries) → Shows r e
+    → HasWritten (report r.script r.history.entries) (λ t. t ≡ report r.script r.history.entries) io.sink io.sink_after e.status → WriteFaulted io.sink.faults io.sink_after.faults e.status → r.receipt ≡ None → Replays io e
+shown_for one alone io r e s is read same whole over shows w faults none =
+    shown one alone io r e (subst (λ x. ReadAs (IsTextOf x) io.source io.source_after) (sym is) read) same (λ f. subst (λ x. RanWhole x r.history.entries) (sym is) (whole f)) (λ f. subst (λ x. RanFull x r.history.entries) (sym is) (over f)) shows w faults none

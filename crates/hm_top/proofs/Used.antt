@@ -1,0 +1,24 @@
+-- A call with one of the words never ends with `Usage`.
+use Rattle.std.proofs.Common.{◌≡◌, Some, None, Option, sym, ◌∙◌, subst}
+use Rattle.hm_top.specs.Does.{Does}
+use Rattle.hm_top.specs.Generates.{HasMade, IsAlone, IsTried}
+use Rattle.hm_top.specs.Reading.{HasRead}
+use Rattle.hm_top.specs.Replays.{IsItsText}
+use Rattle.hm_top.specs.Traffic.{Traffic}
+use Rattle.hm_top.specs.Upgrades.{IsItsUpgrade}
+use Rattle.hm_script.specs.Generator.{generated}
+use Rattle.hm_top.specs.declared.command.Command.{Command}
+use Rattle.hm_top.specs.declared.ended.Ended.{Ended}
+use Rattle.hm_top.specs.declared.status.Status.{Status}
+
+pub is_used : (io : Traffic) (e : Ended) (c : Command) → Does (Some c) io e → e.status ≡ Status.Usage → ⊥
+is_used io e Command.Replay does usage = subst (HasRead (IsItsText e.script) io.source io.source_after) usage does.read
+is_used io e (Command.Generate n) does usage = subst (HasMade (IsAlone (generated n)) e.script e.history.entries) usage does.made
+is_used io e (Command.Trial n) does usage = subst (HasMade (IsTried (generated n)) e.script e.history.entries) usage does.ran
+is_used io e Command.Upgrade does usage = subst (HasRead (IsItsUpgrade e.script) io.source io.source_after) usage does.read
+
+pub does_so : (io : Traffic) (e : Ended) (x : Option Command) (c : Command) → x ≡ Some c → Does (Some c) io e → Does x io e
+does_so io e x c is does = subst (λ y. Does y io e) (sym is) does
+
+pub used_so : (io : Traffic) (e : Ended) (x : Option Command) (c : Command) → x ≡ Some c → Does (Some c) io e → (e.status ≡ Status.Usage → x ≡ None) × (x ≡ None → e.status ≡ Status.Usage)
+used_so io e x c is does = (λ usage. absurd (is_used io e c does usage), λ none. let never : Some c ≡ None = sym is ∙ none in cc)

@@ -1,0 +1,17 @@
+-- What a call does, by what its words ask for.
+use Rattle.std.specs.Prelude.{◌≡◌, ◌↔◌, Option, Some, None, List, ℕ}
+use Rattle.hm_top.specs.Generates.{Generates, Tries}
+use Rattle.hm_top.specs.Replays.{Replays}
+use Rattle.hm_top.specs.Traffic.{Traffic}
+use Rattle.hm_top.specs.Upgrades.{Upgrades}
+use Rattle.hm_top.specs.Usage.{Refuses}
+use Rattle.hm_top.specs.declared.command.Command.{Command}
+use Rattle.hm_top.specs.declared.ended.Ended.{Ended}
+
+-- a line for each word; nothing where the words are none of the forms
+abbrev pub Does : Option Command → Traffic → Ended → Type 0
+Does None io ended = Refuses io ended
+Does (Some Command.Replay) io ended = Replays io ended
+Does (Some (Command.Generate n)) io ended = Generates n io ended
+Does (Some (Command.Trial n)) io ended = Tries n io ended
+Does (Some Command.Upgrade) io ended = Upgrades io ended

@@ -1,0 +1,26 @@
+-- What a call has written to its sink, by how it ended.
+use Rattle.std.specs.Prelude.{◌≡◌, ℕ, ◌⊎◌, List}
+use Rattle.hm_io.specs.Streams.{Rose, Adds, AddsFront}
+use Rattle.hm_report.specs.SinkState.{SinkState}
+use Rattle.hm_top.specs.declared.status.Status.{Status}
+
+-- the sink itself wanted memory while such a text went out, and a front of the text is there
+pub record WantedIn (Goes : List ℕ → Type 0) (before after : SinkState) : Type 0 where
+  pub text : List ℕ
+  pub goes : Goes text
+  pub front : AddsFront before.held after.held text
+  pub wants : Rose before.wants after.wants
+
+-- what was written of the text: all of it, a front of it, or nothing; where memory ran out nothing, or a front of such
+-- a text, and that only where the sink itself wanted memory
+abbrev pub HasWritten : List ℕ → (List ℕ → Type 0) → SinkState → SinkState → Status → Type 0
+HasWritten text Goes before after Status.Done = Adds before.held after.held text
+HasWritten text Goes before after Status.HistoryFull = Adds before.held after.held text
+HasWritten text Goes before after Status.WriteFault = AddsFront before.held after.held text
+HasWritten text Goes before after Status.NoMemory = (after.held ≡ before.held) ⊎ WantedIn Goes before after
+HasWritten text Goes before after _ = after.held ≡ before.held
+
+-- the sink's count of faults rose at `WriteFault`, and is as it was at every other status
+abbrev pub WriteFaulted : ℕ → ℕ → Status → Type 0
+WriteFaulted before after Status.WriteFault = Rose before after
+WriteFaulted before after _ = after ≡ before

@@ -1,0 +1,37 @@
+// How a call ended, and what it ran.
+ghost use Rattle.std.specs.Prelude.{◌≡◌, None, []};
+
+use crate::status::Status;
+use hm_base::Script;
+use hm_history::History;
+use hm_turns::Receipt;
+use std::alloc::Global;
+
+/// How a call ended, and what it ran.
+#[derive(Drop)]
+pub struct Ended {
+    pub status: Status,
+    /// The script that was run or whose text went out.
+    pub script: Option<Script>,
+    /// Its history, where it was run.
+    pub history: History,
+    /// Where threads made it: that it is the history of the one machine that they shared.
+    pub receipt: Option<Receipt>,
+}
+
+impl Ended {
+    /// Ends a call that has nothing to show.
+    pub(crate) fn stopped(alloc: Global, status: Status) -> Ended
+        ensures status { result.status ≡ status }
+        ensures script { result.script ≡ None }
+        ensures history { result.history.entries ≡ [] }
+        ensures receipt { result.receipt ≡ None }
+    {
+        Ended {
+            status,
+            script: None,
+            history: History::new(alloc),
+            receipt: None,
+        }
+    }
+}

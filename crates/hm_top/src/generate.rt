@@ -1,0 +1,36 @@
+// The words `generate N` and `trial N`, which read nothing.
+ghost use Rattle.hm_report.specs.SinkState.{SinkState, sink_state};
+ghost use Rattle.hm_top.specs.Generates.{Generates, Tries};
+ghost use Rattle.hm_top.specs.Traffic.{SourceState, traffic_of};
+
+use crate::ended::Ended;
+use crate::output::{write_script, write_summary};
+use crate::schedule::run_script;
+use crate::status::Status;
+use hm_io::Sink;
+use std::alloc::Global;
+
+/// Writes the text of the trial of this number.
+pub fn generate<K: Sink>(alloc: Global, number: u64, sink: &mut K) -> Ended
+    ensures { (source : SourceState) → Generates number
+        (traffic_of source (sink_state K.held K.failures K.wanted) sink.old sink.new) result }
+{
+    match hm_script::generate(alloc, number) {
+        Ok(script) => write_script(alloc, script, sink),
+        Err(_) => Ended::stopped(alloc, Status::NoMemory),
+    }
+}
+
+/// Runs the trial of this number, and writes the summary.
+pub fn trial<K: Sink>(alloc: Global, number: u64, sink: &mut K) -> Ended
+    ensures { (source : SourceState) → Tries number
+        (traffic_of source (sink_state K.held K.failures K.wanted) sink.old sink.new) result }
+{
+    let Ok(script) = hm_script::generate(alloc, number) else {
+        return Ended::stopped(alloc, Status::NoMemory);
+    };
+    match run_script(alloc, script) {
+        Ok(ran) => write_summary(alloc, number, ran, sink),
+        Err(_) => Ended::stopped(alloc, Status::NoMemory),
+    }
+}

@@ -1,0 +1,109 @@
+// Writing what a call has made.
+ghost use Rattle.std.specs.Prelude.{◌≡◌, None};
+ghost use Rattle.hm_history.specs.Legal.{Legal};
+ghost use Rattle.hm_report.specs.Report.{report};
+ghost use Rattle.hm_report.specs.SinkState.{sink_state};
+ghost use Rattle.hm_report.specs.Summary.{summary};
+ghost use Rattle.hm_script.specs.Spelling.{text};
+ghost use Rattle.hm_top.specs.Generates.{HasMade, IsAlone};
+ghost use Rattle.hm_top.specs.Ran.{IsRan, Shows};
+ghost use Rattle.hm_top.specs.Writing.{HasWritten, WriteFaulted};
+
+use crate::ended::Ended;
+use crate::schedule::Ran;
+use crate::status::Status;
+use hm_base::Script;
+use hm_history::History;
+use hm_io::Sink;
+use hm_report::{Written, summary, write_report, write_text};
+use hm_script::print;
+use std::alloc::Global;
+
+/// Writes the report of what ran, and ends the call.
+pub fn report_run<K: Sink>(alloc: Global, ran: Ran, sink: &mut K) -> Ended
+    requires { Legal ran.script ran.history.entries }
+    ensures shows { Shows ran result }
+    ensures written { HasWritten (report ran.script ran.history.entries)
+        (λ t. t ≡ report ran.script ran.history.entries) (sink_state K.held K.failures K.wanted sink.old)
+        (sink_state K.held K.failures K.wanted sink.new) result.status }
+    ensures write_faults { WriteFaulted (K.failures sink.old) (K.failures sink.new) result.status }
+{
+    let Ran {
+        script,
+        history,
+        full,
+        receipt,
+    } = ran;
+    let status = match write_report(alloc, &script, &history, sink) {
+        Written::Done => if full {
+            Status::HistoryFull
+        } else {
+            Status::Done
+        },
+        Written::Fault => Status::WriteFault,
+        Written::NoMemory => return Ended::stopped(alloc, Status::NoMemory),
+    };
+    Ended {
+        status,
+        script: Some(script),
+        history,
+        receipt,
+    }
+}
+
+/// Writes the script's text, and ends the call.
+pub fn write_script<K: Sink>(alloc: Global, script: Script, sink: &mut K) -> Ended
+    ensures made { HasMade (IsAlone script) result.script result.history.entries result.status }
+    ensures written { HasWritten (text script) (λ t. t ≡ text script)
+        (sink_state K.held K.failures K.wanted sink.old) (sink_state K.held K.failures K.wanted sink.new)
+        result.status }
+    ensures receipt { result.receipt ≡ None }
+    ensures write_faults { WriteFaulted (K.failures sink.old) (K.failures sink.new) result.status }
+{
+    let Ok(text) = print(alloc, &script) else {
+        return Ended::stopped(alloc, Status::NoMemory);
+    };
+    let status = match write_text(alloc, &text, sink) {
+        Written::Done => Status::Done,
+        Written::Fault => Status::WriteFault,
+        Written::NoMemory => return Ended::stopped(alloc, Status::NoMemory),
+    };
+    Ended {
+        status,
+        script: Some(script),
+        history: History::new(alloc),
+        receipt: None,
+    }
+}
+
+/// Writes the summary of a trial's run, and ends the call.
+pub fn write_summary<K: Sink>(alloc: Global, number: u64, ran: Ran, sink: &mut K) -> Ended
+    requires { Legal ran.script ran.history.entries }
+    ensures made { HasMade (IsRan ran) result.script result.history.entries result.status }
+    ensures written { HasWritten (summary number ran.script ran.history.entries)
+        (λ t. t ≡ summary number ran.script ran.history.entries) (sink_state K.held K.failures K.wanted sink.old)
+        (sink_state K.held K.failures K.wanted sink.new) result.status }
+    ensures receipt { result.receipt ≡ None }
+    ensures write_faults { WriteFaulted (K.failures sink.old) (K.failures sink.new) result.status }
+{
+    let Ran {
+        script,
+        history,
+        full: _,
+        receipt: _,
+    } = ran;
+    let Ok(text) = summary(alloc, number, &script, &history) else {
+        return Ended::stopped(alloc, Status::NoMemory);
+    };
+    let status = match write_text(alloc, &text, sink) {
+        Written::Done => Status::Done,
+        Written::Fault => Status::WriteFault,
+        Written::NoMemory => return Ended::stopped(alloc, Status::NoMemory),
+    };
+    Ended {
+        status,
+        script: Some(script),
+        history,
+        receipt: None,
+    }
+}

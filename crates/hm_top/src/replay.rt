@@ -1,0 +1,31 @@
+// The word `replay`.
+ghost use Rattle.hm_report.specs.SinkState.{sink_state};
+ghost use Rattle.hm_top.specs.Replays.{Replays};
+ghost use Rattle.hm_top.specs.Traffic.{source_state, traffic};
+
+use crate::ended::Ended;
+use crate::input::read_script;
+use crate::output::report_run;
+use crate::schedule::run_script;
+use crate::status::Status;
+use hm_io::{Sink, Source};
+use hm_script::one_text;
+use std::alloc::Global;
+
+/// Reads a script, makes its schedule's turns and writes the report.
+pub fn replay<S: Source, K: Sink>(alloc: Global, source: &mut S, sink: &mut K) -> Ended
+    ensures { Replays
+        (traffic (source_state S.left S.failures) (sink_state K.held K.failures K.wanted) source.old source.new sink.old
+        sink.new) result }
+{
+    one_text();
+    hm_quiet::drain_alone_has_room();
+    let script = match read_script(alloc, source) {
+        Ok(script) => script,
+        Err(status) => return Ended::stopped(alloc, status),
+    };
+    match run_script(alloc, script) {
+        Ok(ran) => report_run(alloc, ran, sink),
+        Err(_) => Ended::stopped(alloc, Status::NoMemory),
+    }
+}
