@@ -1,14 +1,14 @@
 -- How calls end that have nothing to show, and what of it does not depend on the word.
-use Rattle.std.proofs.Common.{◌≡◌, ℕ, ◌<◌, ◌≤◌, inl, Some, None, Option, List, [], length, refl, sym, ◌∙◌, ap, subst, arith}
+use Rattle.std.proofs.Common.{◌≡◌, ℕ, ◌<◌, ◌≤◌, inl, Some, None, Option, List, length, refl, sym, ◌∙◌, ap, subst, arith}
 use Rattle.std.specs.Prelude.{IfSome}
-use Rattle.hm_base.specs.Program.{Program, IsScript}
+use Rattle.hm_base.specs.Program.{Program}
 use Rattle.hm_history.specs.declared.Entry.{Entry}
 use Rattle.hm_report.specs.SinkState.{SinkState}
 use Rattle.hm_top.specs.Complete.{IsComplete, IsGiven, NoFault}
 use Rattle.hm_top.specs.Reading.{HasNotRead, HasRead, ReadFaulted}
 use Rattle.hm_top.specs.Running.{AnsweredNone, HasRun}
 use Rattle.hm_top.specs.Traffic.{SourceState, Traffic}
-use Rattle.hm_top.specs.Writing.{HasWritten, WantedIn, WriteFaulted}
+use Rattle.hm_top.specs.Writing.{HasWritten, WriteFaulted}
 use Rattle.hm_top.specs.declared.status.Status.{Status}
 
 pub not_read : (Are : List ℕ → Type 0) (b a : SourceState) (status : Status) → HasNotRead b a status → HasRead Are b a status

@@ -2,9 +2,14 @@ pub mod Rounds
 pub mod Drains
 pub mod Room
 pub mod Trial
+pub mod Idle
 pub mod Calls
 pub mod Sending
 pub mod Replaying
+pub mod Threading
 pub mod Making
 pub mod Upgrading
 pub mod Used
+mod SentParts
+mod SentTree
+pub mod Sent

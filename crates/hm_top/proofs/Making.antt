@@ -1,10 +1,9 @@
 -- What the calls with `generate N` and `trial N` come to.
-use Rattle.std.proofs.Common.{◌≡◌, ℕ, inl, inr, Bool, true, false, Some, None, Option, List, [], refl, sym, ◌∙◌, ap, subst}
+use Rattle.std.proofs.Common.{◌≡◌, ℕ, inl, Bool, true, false, Some, None, Option, List, refl, sym, ◌∙◌, ap, subst}
 use Rattle.hm_base.specs.Program.{Program}
 use Rattle.hm_history.specs.Overrun.{overruns}
 use Rattle.hm_history.specs.Run.{run}
 use Rattle.hm_history.specs.declared.Entry.{Entry}
-use Rattle.hm_io.specs.Streams.{Adds, AddsFront}
 use Rattle.hm_report.specs.SinkState.{SinkState}
 use Rattle.hm_report.specs.Summary.{summary}
 use Rattle.hm_script.specs.Generator.{generated}
@@ -12,8 +11,8 @@ use Rattle.hm_script.specs.Spelling.{text}
 use Rattle.hm_top.specs.Generates.{Generates, HasMade, IsAlone, IsTried, Tries}
 use Rattle.hm_top.specs.Ran.{HasNothing, IsRan}
 use Rattle.hm_top.specs.Running.{Answered, AnsweredNone, RanFull, RanWhole}
-use Rattle.hm_top.specs.Traffic.{SourceState, Traffic, traffic_of}
-use Rattle.hm_top.specs.Writing.{HasWritten, WantedIn, WriteFaulted}
+use Rattle.hm_top.specs.Traffic.{Traffic}
+use Rattle.hm_top.specs.Writing.{HasWritten, WriteFaulted}
 use Rattle.hm_top.specs.declared.ended.Ended.{Ended}
 use Rattle.hm_top.specs.declared.schedule.Ran.{Ran}
 use Rattle.hm_top.specs.declared.status.Status.{Status}

@@ -1,5 +1,5 @@
 -- What a call with the word `replay` comes to.
-use Rattle.std.proofs.Common.{◌≡◌, ℕ, inl, inr, Bool, true, false, Some, None, Option, List, [], refl, sym, ◌∙◌, ap, subst}
+use Rattle.std.proofs.Common.{◌≡◌, ℕ, inl, inr, Bool, true, false, Some, None, Option, List, refl, sym, ◌∙◌, ap, subst}
 use Rattle.std.specs.Prelude.{IfSome}
 use Rattle.hm_base.specs.Program.{Program, IsScript}
 use Rattle.hm_history.specs.Overrun.{overruns}
@@ -9,13 +9,13 @@ use Rattle.hm_quiet.specs.Quiet.{DrainAloneHasRoom}
 use Rattle.hm_report.specs.Report.{report}
 use Rattle.hm_report.specs.SinkState.{SinkState}
 use Rattle.hm_script.specs.Spelling.{text}
-use Rattle.hm_top.specs.Complete.{HasRoom, IsComplete, IsGiven, NoFault}
+use Rattle.hm_top.specs.Complete.{IsComplete, NoFault}
 use Rattle.hm_top.specs.Ran.{HasAll, HasNothing, Shows, ShowsAt}
 use Rattle.hm_top.specs.Reading.{HasNotRead, HasRead, IsTextOf, ReadAs, ReadFaulted}
 use Rattle.hm_top.specs.Replays.{IsItsText, IsReportOf, Replays}
-use Rattle.hm_top.specs.Running.{Answered, AnsweredNone, HasRun, RanFull, RanSo, RanWhole, report_for}
+use Rattle.hm_top.specs.Running.{Answered, HasRun, RanFull, RanSo, RanWhole, report_for}
 use Rattle.hm_top.specs.Traffic.{SourceState, Traffic}
-use Rattle.hm_top.specs.Writing.{HasWritten, WantedIn, WriteFaulted}
+use Rattle.hm_top.specs.Writing.{HasWritten, WriteFaulted}
 use Rattle.hm_top.specs.declared.ended.Ended.{Ended}
 use Rattle.hm_top.specs.declared.schedule.Ran.{Ran}
 use Rattle.hm_top.specs.declared.status.Status.{Status}

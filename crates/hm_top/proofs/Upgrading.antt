@@ -1,19 +1,19 @@
 -- What a call with the word `upgrade` comes to.
-use Rattle.std.proofs.Common.{◌≡◌, ℕ, inl, inr, Some, None, Option, List, [], refl, sym, ◌∙◌, ap, subst}
+use Rattle.std.proofs.Common.{◌≡◌, ℕ, inl, inr, Some, None, Option, List, [], refl, sym, ap, subst}
 use Rattle.std.specs.Prelude.{IfSome}
 use Rattle.hm_base.specs.Program.{Program}
 use Rattle.hm_history.specs.declared.Entry.{Entry}
 use Rattle.hm_io.specs.Streams.{Adds, AddsFront}
 use Rattle.hm_report.specs.SinkState.{SinkState}
 use Rattle.hm_script.specs.Spelling.{text}
-use Rattle.hm_top.specs.Complete.{IsComplete, IsGiven, NoFault}
+use Rattle.hm_top.specs.Complete.{IsComplete, NoFault}
 use Rattle.hm_top.specs.Generates.{HasMade, IsAlone}
 use Rattle.hm_top.specs.Reading.{HasNotRead, HasRead, IsTextOf, ReadAs, ReadFaulted}
 use Rattle.hm_top.specs.Ran.{HasNothing}
-use Rattle.hm_top.specs.Running.{Answered, AnsweredNone}
+use Rattle.hm_top.specs.Running.{Answered}
 use Rattle.hm_top.specs.Traffic.{SourceState, Traffic}
 use Rattle.hm_top.specs.Upgrades.{HasUpgraded, IsItsUpgrade, IsUpgradedText, IsUpgradeOf, Upgrades, text_for, upgraded}
-use Rattle.hm_top.specs.Writing.{HasWritten, WantedIn, WriteFaulted}
+use Rattle.hm_top.specs.Writing.{HasWritten, WriteFaulted}
 use Rattle.hm_top.specs.declared.ended.Ended.{Ended}
 use Rattle.hm_top.specs.declared.status.Status.{Status}
 use Rattle.hm_top.proofs.Calls.{given, none_failed, none_written, not_read, short_of_memory}

@@ -13,6 +13,7 @@ use Rattle.hm_top.specs.declared.status.Status.{Status}
 
 pub is_used : (io : Traffic) (e : Ended) (c : Command) → Does (Some c) io e → e.status ≡ Status.Usage → ⊥
 is_used io e Command.Replay does usage = subst (HasRead (IsItsText e.script) io.source io.source_after) usage does.read
+is_used io e Command.Threads does usage = subst (HasRead (IsItsText e.script) io.source io.source_after) usage does.read
 is_used io e (Command.Generate n) does usage = subst (HasMade (IsAlone (generated n)) e.script e.history.entries) usage does.made
 is_used io e (Command.Trial n) does usage = subst (HasMade (IsTried (generated n)) e.script e.history.entries) usage does.ran
 is_used io e Command.Upgrade does usage = subst (HasRead (IsItsUpgrade e.script) io.source io.source_after) usage does.read

@@ -1,7 +1,8 @@
 -- What a call does, by what its words ask for.
-use Rattle.std.specs.Prelude.{◌≡◌, ◌↔◌, Option, Some, None, List, ℕ}
+use Rattle.std.specs.Prelude.{Option, Some, None}
 use Rattle.hm_top.specs.Generates.{Generates, Tries}
 use Rattle.hm_top.specs.Replays.{Replays}
+use Rattle.hm_top.specs.RunsThreads.{RunsThreads}
 use Rattle.hm_top.specs.Traffic.{Traffic}
 use Rattle.hm_top.specs.Upgrades.{Upgrades}
 use Rattle.hm_top.specs.Usage.{Refuses}
@@ -12,6 +13,7 @@ use Rattle.hm_top.specs.declared.ended.Ended.{Ended}
 abbrev pub Does : Option Command → Traffic → Ended → Type 0
 Does None io ended = Refuses io ended
 Does (Some Command.Replay) io ended = Replays io ended
+Does (Some Command.Threads) io ended = RunsThreads io ended
 Does (Some (Command.Generate n)) io ended = Generates n io ended
 Does (Some (Command.Trial n)) io ended = Tries n io ended
 Does (Some Command.Upgrade) io ended = Upgrades io ended

@@ -25,7 +25,7 @@ refusal_text r = codes "script line " ++ (decimal r.line ++ (codes ": " ++ reaso
 -- the message, which is empty where all was done
 abbrev pub message_text : Status → List ℕ
 message_text Status.Done = []
-message_text Status.Usage = codes "usage: hmmrun replay | generate N | trial N | upgrade"
+message_text Status.Usage = codes "usage: hmmrun replay | threads | generate N | trial N | upgrade"
 message_text (Status.Refused refused) = refusal_text refused
 message_text Status.ReadFault = codes "read fault"
 message_text Status.WriteFault = codes "write fault"

@@ -1,5 +1,5 @@
 -- What a machine's replay comes to, and how a call ends that shows a run.
-use Rattle.std.specs.Prelude.{◌≡◌, Bool, true, false, List, [], Option, Some, None}
+use Rattle.std.specs.Prelude.{◌≡◌, Bool, true, false, List, Some, None}
 use Rattle.hm_base.specs.Program.{Program}
 use Rattle.hm_history.specs.Overrun.{overruns}
 use Rattle.hm_history.specs.Run.{run}

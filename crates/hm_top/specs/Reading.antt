@@ -1,5 +1,5 @@
 -- What a call has read of its source, by how it ended.
-use Rattle.std.specs.Prelude.{◌≡◌, ℕ, ◌≤◌, List, [], length, Option, Some, None, IfSome, Err}
+use Rattle.std.specs.Prelude.{◌≡◌, ℕ, ◌≤◌, List, [], length, Some, IfSome, Err}
 use Rattle.hm_base.specs.declared.limits.TheConstants.{MOST_SCRIPT_BYTES}
 use Rattle.hm_base.specs.Program.{Program, IsScript}
 use Rattle.hm_io.specs.Streams.{Rose}

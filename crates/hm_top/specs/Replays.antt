@@ -9,7 +9,6 @@ use Rattle.hm_top.specs.Running.{HasRun, RanSo, report_for}
 use Rattle.hm_top.specs.Traffic.{SourceState, Traffic}
 use Rattle.hm_top.specs.Writing.{HasWritten, WriteFaulted}
 use Rattle.hm_top.specs.declared.ended.Ended.{Ended}
-use Rattle.hm_top.specs.declared.status.Status.{Status}
 
 -- the bytes are the text of the script in the answer
 abbrev pub IsItsText : Option Program → List ℕ → Type 0

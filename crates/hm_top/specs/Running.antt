@@ -1,7 +1,6 @@
 -- What a call has run, by how it ended.
 use Rattle.std.specs.Prelude.{◌≡◌, ◌⊎◌, ℕ, true, false, List, [], length, Option, Some, None}
 use Rattle.hm_base.specs.Program.{Program}
-use Rattle.hm_history.specs.HistoryValue.{HistoryValue}
 use Rattle.hm_history.specs.Legal.{Legal}
 use Rattle.hm_history.specs.Overrun.{overruns}
 use Rattle.hm_history.specs.Run.{run}

@@ -1,6 +1,6 @@
 -- The streams of a call, before and after it.
 use Rattle.std.specs.Prelude.{ℕ, List, Option}
-use Rattle.hm_report.specs.SinkState.{SinkState, sink_state}
+use Rattle.hm_report.specs.SinkState.{SinkState}
 
 -- what a source tells: the bytes that are left in it, and its count of faults
 pub record SourceState : Type 0 where

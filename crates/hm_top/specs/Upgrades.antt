@@ -2,7 +2,6 @@
 use Rattle.std.specs.Prelude.{◌≡◌, ℕ, List, [], Option, Some, None, IfSome}
 use Rattle.hm_base.specs.Program.{Program}
 use Rattle.hm_base.specs.declared.ops.Version.TheVariants.{Two}
-use Rattle.hm_history.specs.HistoryValue.{HistoryValue}
 use Rattle.hm_script.specs.Spelling.{text}
 use Rattle.hm_top.specs.Complete.{IsComplete, IsGiven, NoFault}
 use Rattle.hm_top.specs.Reading.{HasRead, IsTextOf, ReadFaulted}

@@ -9,6 +9,8 @@ use hm_script::number;
 pub enum Command {
     /// Runs a script by its schedule, and writes the report.
     Replay,
+    /// Runs each actor of a script from a thread of its own, and writes the report.
+    Threads,
     /// Writes the text of a generated script.
     Generate(u64),
     /// Runs a generated script, and writes the summary.
@@ -22,6 +24,9 @@ fn plain_command(word: &str) -> Option<Command>
 {
     if word == "replay" {
         return Some(Command::Replay);
+    }
+    if word == "threads" {
+        return Some(Command::Threads);
     }
     if word == "upgrade" {
         return Some(Command::Upgrade);

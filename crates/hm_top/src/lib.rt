@@ -11,6 +11,7 @@ mod output;
 mod replay;
 mod schedule;
 mod status;
+mod threads;
 mod top;
 mod upgrade;
 
@@ -19,4 +20,4 @@ pub use ended::Ended;
 pub use ending::finish;
 pub use messages::message;
 pub use status::Status;
-pub use top::run;
+pub use top::{run, run_alone};

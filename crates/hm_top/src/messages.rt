@@ -23,7 +23,7 @@ pub fn message(alloc: Global, status: &Status) -> Result<Text, NoMemory>
 {
     let text = match status {
         Status::Done => "",
-        Status::Usage => "usage: hmmrun replay | generate N | trial N | upgrade",
+        Status::Usage => "usage: hmmrun replay | threads | generate N | trial N | upgrade",
         Status::Refused(refused) => return refusal(alloc, refused),
         Status::ReadFault => "read fault",
         Status::WriteFault => "write fault",

@@ -1,9 +1,10 @@
 // `run`: does what the words after the program's name ask for.
-ghost use Rattle.std.specs.Prelude.{◌≡◌, ◌↔◌, None, map, string_bytes};
+ghost use Rattle.std.specs.Prelude.{◌≡◌, ◌≢◌, ◌↔◌, None, Some, map, string_bytes};
 ghost use Rattle.hm_report.specs.SinkState.{sink_state};
 ghost use Rattle.hm_top.specs.Commands.{command_of};
 ghost use Rattle.hm_top.specs.Does.{Does};
 ghost use Rattle.hm_top.specs.Traffic.{source_state, traffic};
+ghost use Rattle.hm_top.specs.declared.command.Command.{Command};
 ghost use Rattle.hm_top.specs.declared.status.Status.{Status};
 
 use crate::command::Command;
@@ -11,16 +12,47 @@ use crate::ended::Ended;
 use crate::generate::{generate, trial};
 use crate::replay::replay;
 use crate::status::Status;
+use crate::threads::threads;
 use crate::upgrade::upgrade;
 use hm_io::{Sink, Source};
+use hm_workers::Gate;
 use std::alloc::Global;
+use std::sync::Wait;
+use std::thread::Threads;
 
-/// Does what the words after the program's name ask for: reads from the source, runs, and writes to the sink.
-pub fn run<S: Source, K: Sink>(
+/// Does what the words after the program's name ask for, where that is not `threads`: reads from the source, runs, and
+/// writes to the sink. It waits for nobody.
+pub fn run_alone<S: Source, K: Sink>(
     alloc: Global,
     words: Vec<String>,
     source: &mut S,
     sink: &mut K,
+) -> Ended
+    requires { command_of (map string_bytes words.items) ≢ Some Command.Threads }
+    ensures usage { (result.status ≡ Status.Usage) ↔ (command_of (map string_bytes words.items) ≡ None) }
+    ensures does { Does (command_of (map string_bytes words.items))
+        (traffic (source_state S.left S.failures) (sink_state K.held K.failures K.wanted) source.old source.new sink.old
+        sink.new) result }
+{
+    match Command::of(words.as_slice()) {
+        Some(Command::Replay) => replay(alloc, source, sink),
+        Some(Command::Threads) => unreachable!(),
+        Some(Command::Generate(number)) => generate(alloc, number, sink),
+        Some(Command::Trial(number)) => trial(alloc, number, sink),
+        Some(Command::Upgrade) => upgrade(alloc, source, sink),
+        None => Ended::stopped(alloc, Status::Usage),
+    }
+}
+
+/// Does what the words after the program's name ask for: reads from the source, runs, and writes to the sink. With
+/// `threads` each actor goes from a thread of its own, when the gate admits it. Other words wait for nobody.
+pub fn run<R: Threads + Wait + Sync, S: Source, K: Sink, G: Gate + Sync>(
+    rt: &R,
+    alloc: Global,
+    words: Vec<String>,
+    source: &mut S,
+    sink: &mut K,
+    gate: &G,
 ) -> Ended
     // `Usage` comes exactly where the words are none of the forms.
     ensures usage { (result.status ≡ Status.Usage) ↔ (command_of (map string_bytes words.items) ≡ None) }
@@ -30,10 +62,7 @@ pub fn run<S: Source, K: Sink>(
         sink.new) result }
 {
     match Command::of(words.as_slice()) {
-        Some(Command::Replay) => replay(alloc, source, sink),
-        Some(Command::Generate(number)) => generate(alloc, number, sink),
-        Some(Command::Trial(number)) => trial(alloc, number, sink),
-        Some(Command::Upgrade) => upgrade(alloc, source, sink),
-        None => Ended::stopped(alloc, Status::Usage),
+        Some(Command::Threads) => threads(rt, alloc, source, sink, gate),
+        _ => run_alone(alloc, words, source, sink),
     }
 }

@@ -1,11 +1,21 @@
 // The program: its words, the real streams, and one call.
 #![tactic(auto)]
 
-use hm_base::NoMemory;
+use hm_base::{Actor, NoMemory};
 use hm_io::{StreamSink, StreamSource};
 use hm_top::{Status, finish, run};
+use hm_workers::Gate;
 use std::env;
 use std::process::ExitCode;
+
+/// Lets each actor go on whenever its worker asks.
+struct Open;
+
+impl Gate for Open {
+    fn admits(&self, _actor: Actor, _added: u64) -> bool {
+        true
+    }
+}
 
 /// The words after the program's name.
 fn words(rt: &HostRuntime) -> Result<Vec<String>, NoMemory> {
@@ -19,16 +29,13 @@ fn words(rt: &HostRuntime) -> Result<Vec<String>, NoMemory> {
     Ok(words)
 }
 
-/// Does what the words ask for, with the real streams.
-fn run_words(rt: &HostRuntime, words: Vec<String>) -> Status {
-    let mut source = StreamSource::new(rt.stdin());
-    let mut sink = StreamSink::new(rt.stdout());
-    run(rt.alloc(), words, &mut source, &mut sink).status
-}
-
 fn main(rt: HostRuntime) -> ExitCode {
     let status = match words(&rt) {
-        Ok(words) => run_words(&rt, words),
+        Ok(words) => {
+            let mut source = StreamSource::new(rt.stdin());
+            let mut sink = StreamSink::new(rt.stdout());
+            run(&rt, rt.alloc(), words, &mut source, &mut sink, &Open).status
+        }
         Err(NoMemory) => Status::NoMemory,
     };
     let mut errors = StreamSink::new(rt.stderr());

@@ -1,7 +1,7 @@
 // What a script comes to, by a replay and by the files beside it.
 use hm_base::NoMemory;
 use hm_io::{MemorySink, MemorySource};
-use hm_top::{Status, message, run};
+use hm_top::{Status, message, run_alone};
 use std::alloc::Global;
 use std::{fs, io};
 
@@ -47,7 +47,7 @@ pub fn replayed(alloc: Global, script: &[u8]) -> io::Result<Outcome> {
     let mut source = MemorySource::new(alloc, script, PIECE, &[]).map_err(no_memory)?;
     let mut sink = MemorySink::new(alloc, ROOM, &[]).map_err(no_memory)?;
     let words = vec![in alloc; String::from_str(alloc, "replay")?]?;
-    let ended = run(alloc, words, &mut source, &mut sink);
+    let ended = run_alone(alloc, words, &mut source, &mut sink);
     let message = message(alloc, &ended.status).map_err(no_memory)?;
     Ok(Outcome {
         code: ended.status.code(),

@@ -1,4 +1,4 @@
-use Rattle.std.proofs.Common.{◌≡◌, ◌∙◌, true, false, ap, subst, sym}
+use Rattle.std.proofs.Common.{◌≡◌, ◌∙◌, false, ap, subst, sym}
 use Rattle.hm_history.specs.Legal.{Legal}
 use Rattle.hm_history.specs.Run.{run}
 use Rattle.hm_history.specs.Overrun.{overruns}

@@ -4,7 +4,7 @@ use Rattle.hm_report.specs.SinkState.{sink_state}
 use Rattle.hm_top.specs.Commands.{command_of}
 use Rattle.hm_top.specs.Traffic.{source_state, traffic_of}
 use Rattle.hm_top.proofs.Used.{does_so, used_so}
-use Rattle.hm_top.proofs.top.run.Goals as goal
+use Rattle.hm_top.proofs.top.run_alone.Goals as goal
 
 pub returns-in-Some-Generate-clause-usage : goal.returns-in-Some-Generate-clause-usage
 returns-in-Some-Generate-clause-usage g c =

@@ -1,0 +1,124 @@
+-- What a call with the word `threads` comes to.
+use Rattle.std.proofs.Common.{◌≡◌, inl, inr, Bool, true, false, Some, List, refl, sym, ◌∙◌, ap, subst}
+use Rattle.hm_base.specs.Program.{Program}
+use Rattle.hm_history.specs.declared.Entry.{Entry}
+use Rattle.hm_report.specs.Report.{report}
+use Rattle.hm_top.specs.Complete.{IsComplete, NoFault}
+use Rattle.hm_top.specs.Ran.{HasAll, HasNothing, Shows, ShowsAt}
+use Rattle.hm_top.specs.Reading.{HasNotRead, IsTextOf, ReadAs, ReadFaulted}
+use Rattle.hm_top.specs.Replays.{IsItsText}
+use Rattle.hm_top.specs.Running.{report_for}
+use Rattle.hm_top.specs.RunsThreads.{AllEnded, CameToEnd, HasReceipt, HasRunThreads, IsCompleteOrFull, IsThreadsReport, RunsThreads, StoppedFull}
+use Rattle.hm_top.specs.Traffic.{SourceState, Traffic}
+use Rattle.hm_top.specs.Writing.{HasWritten, WriteFaulted}
+use Rattle.hm_top.specs.declared.ended.Ended.{Ended}
+use Rattle.hm_top.specs.declared.schedule.Ran.{Ran}
+use Rattle.hm_top.specs.declared.status.Status.{Status}
+use Rattle.hm_top.proofs.Calls.{given, none_failed, none_written, not_read, short_of_memory}
+use Rattle.hm_top.proofs.Replaying.{answered, faults_shown, read_shown, report_shown}
+
+none_run : (b a : SourceState) (e : Ended) (status : Status) → HasNotRead b a status → HasNothing e → HasRunThreads e.script e.history.entries status
+none_run b a e Status.Done n none = absurd n
+none_run b a e Status.HistoryFull n none = absurd n
+none_run b a e Status.WriteFault n none = absurd n
+none_run b a e Status.Usage n none = none.none
+none_run b a e (Status.Refused r) n none = none.none
+none_run b a e Status.TooLong n none = none.none
+none_run b a e Status.ReadFault n none = none.none
+none_run b a e Status.NoMemory n none = none.none
+
+none_received : (b a : SourceState) (e : Ended) (status : Status) → HasNotRead b a status → HasNothing e → HasReceipt e.receipt e.history.entries status
+none_received b a e Status.Done n none = absurd n
+none_received b a e Status.HistoryFull n none = absurd n
+none_received b a e Status.WriteFault n none = absurd n
+none_received b a e Status.Usage n none = none.receipt_is
+none_received b a e (Status.Refused r) n none = none.receipt_is
+none_received b a e Status.TooLong n none = none.receipt_is
+none_received b a e Status.ReadFault n none = none.receipt_is
+none_received b a e Status.NoMemory n none = none.receipt_is
+
+or_full : (status : Status) → IsComplete status → IsCompleteOrFull status
+or_full Status.Done e = tt
+or_full Status.NoMemory e = tt
+or_full Status.HistoryFull e = tt
+or_full Status.WriteFault e = e
+or_full Status.Usage e = e
+or_full (Status.Refused r) e = e
+or_full Status.TooLong e = e
+or_full Status.ReadFault e = e
+
+-- it had nothing to show
+pub stopped : (io : Traffic) (e : Ended) → HasNotRead io.source io.source_after e.status → ReadFaulted io.source.faults io.source_after.faults e.status → HasNothing e → io.sink_after ≡ io.sink → RunsThreads io e
+stopped io e n faults none same = record {
+  read = not_read (IsItsText e.script) io.source io.source_after e.status n;
+  read_faults = faults;
+  ran = none_run io.source io.source_after e e.status n none;
+  receipt = none_received io.source io.source_after e e.status n none;
+  written = none_written io.source io.source_after (report_for e.script e.history.entries) (IsThreadsReport io.source) io.sink io.sink_after e.status n same;
+  write_faults = none_failed io.source io.source_after io.sink.faults io.sink_after.faults e.status n (ap (λ k. k.faults) same);
+  complete = λ no_fault. given io.source.left (λ bytes at s is_given. or_full e.status (short_of_memory io e.status bytes s at n faults no_fault is_given));
+}
+
+came : (s : Program) (h : List Entry) (full : Bool) → (full ≡ false → AllEnded s h) → (full ≡ true → StoppedFull s h) → CameToEnd s h
+came s h false whole over = inl (whole refl)
+came s h true whole over = inr (over refl)
+
+run_shown : (r : Ran) (e : Ended) (status : Status) → ShowsAt r e status → (r.full ≡ false → AllEnded r.script r.history.entries) → (r.full ≡ true → StoppedFull r.script r.history.entries) → HasRunThreads e.script e.history.entries status
+run_shown r e Status.Done shows whole over = answered AllEnded r e shows.1 (whole shows.0)
+run_shown r e Status.HistoryFull shows whole over = answered StoppedFull r e shows.1 (over shows.0)
+run_shown r e Status.WriteFault shows whole over = answered CameToEnd r e shows (came r.script r.history.entries r.full whole over)
+run_shown r e Status.NoMemory shows whole over = shows.none
+run_shown r e Status.Usage shows whole over = absurd shows
+run_shown r e (Status.Refused x) shows whole over = absurd shows
+run_shown r e Status.TooLong shows whole over = absurd shows
+run_shown r e Status.ReadFault shows whole over = absurd shows
+
+receipt_of : (r : Ran) (e : Ended) → HasAll r e → r.receipt ≡ Some r.history.entries → e.receipt ≡ Some e.history.entries
+receipt_of r e all some = all.receipt_is ∙ some ∙ ap Some (sym all.history_is)
+
+receipt_shown : (r : Ran) (e : Ended) (status : Status) → ShowsAt r e status → r.receipt ≡ Some r.history.entries → HasReceipt e.receipt e.history.entries status
+receipt_shown r e Status.Done shows some = receipt_of r e shows.1 some
+receipt_shown r e Status.HistoryFull shows some = receipt_of r e shows.1 some
+receipt_shown r e Status.WriteFault shows some = receipt_of r e shows some
+receipt_shown r e Status.NoMemory shows some = shows.receipt_is
+receipt_shown r e Status.Usage shows some = absurd shows
+receipt_shown r e (Status.Refused x) shows some = absurd shows
+receipt_shown r e Status.TooLong shows some = absurd shows
+receipt_shown r e Status.ReadFault shows some = absurd shows
+
+ends : (io : Traffic) (r : Ran) (e : Ended) (status : Status) → ShowsAt r e status → WriteFaulted io.sink.faults io.sink_after.faults status → NoFault io → IsCompleteOrFull status
+ends io r e Status.Done shows w none = tt
+ends io r e Status.NoMemory shows w none = tt
+ends io r e Status.HistoryFull shows w none = tt
+ends io r e Status.WriteFault shows w none = none.writes w
+ends io r e Status.Usage shows w none = shows
+ends io r e (Status.Refused x) shows w none = shows
+ends io r e Status.TooLong shows w none = shows
+ends io r e Status.ReadFault shows w none = shows
+
+-- it has shown what its threads did
+pub shown : (io : Traffic) (r : Ran) (e : Ended) → ReadAs (IsTextOf r.script) io.source io.source_after → io.source_after.faults ≡ io.source.faults
+    → (r.full ≡ false → AllEnded r.script r.history.entries) → (r.full ≡ true → StoppedFull r.script r.history.entries) → r.receipt ≡ Some r.history.entries → Shows r e
+    → HasWritten (report r.script r.history.entries) (λ t. t ≡ report r.script r.history.entries) io.sink io.sink_after e.status → WriteFaulted io.sink.faults io.sink_after.faults e.status → RunsThreads io e
+shown io r e read same whole over some shows w faults = record {
+  read = read_shown r e io.source io.source_after e.status shows read;
+  read_faults = faults_shown r e io.source.faults io.source_after.faults e.status shows same;
+  ran = run_shown r e e.status shows whole over;
+  receipt = receipt_shown r e e.status shows some;
+  written = report_shown (IsThreadsReport io.source) r e io.sink io.sink_after e.status shows (record {
+    script = r.script;
+    history = r.history.entries;
+    read = read.bytes_are;
+    ran = came r.script r.history.entries r.full whole over;
+    text_is = refl;
+  }) w;
+  write_faults = faults;
+  complete = λ none. given io.source.left (λ bytes at s is_given. ends io r e e.status shows faults none);
+}
+
+-- so of the script that was read
+pub shown_for : (io : Traffic) (r : Ran) (e : Ended) (s : Program) → r.script ≡ s → ReadAs (IsTextOf s) io.source io.source_after → io.source_after.faults ≡ io.source.faults
+    → (r.full ≡ false → AllEnded s r.history.entries) → (r.full ≡ true → StoppedFull s r.history.entries) → r.receipt ≡ Some r.history.entries → Shows r e
+    → HasWritten (report r.script r.history.entries) (λ t. t ≡ report r.script r.history.entries) io.sink io.sink_after e.status → WriteFaulted io.sink.faults io.sink_after.faults e.status → RunsThreads io e
+shown_for io r e s is read same whole over some shows w faults =
+    shown io r e (subst (λ x. ReadAs (IsTextOf x) io.source io.source_after) (sym is) read) same (λ f. subst (λ x. AllEnded x r.history.entries) (sym is) (whole f)) (λ f. subst (λ x. StoppedFull x r.history.entries) (sym is) (over f)) some shows w faults

@@ -1,0 +1,77 @@
+// The word `threads`.
+ghost use Rattle.std.specs.Prelude.{◌≡◌, IfOk, Some, true, false};
+ghost use Rattle.hm_base.specs.Program.{IsScript};
+ghost use Rattle.hm_history.specs.Legal.{Legal};
+ghost use Rattle.hm_report.specs.SinkState.{sink_state};
+ghost use Rattle.hm_top.specs.RunsThreads.{AllEnded, RunsThreads, StoppedFull};
+ghost use Rattle.hm_top.specs.Traffic.{source_state, traffic};
+
+use crate::ended::Ended;
+use crate::input::read_script;
+use crate::output::report_run;
+use crate::schedule::Ran;
+use crate::status::Status;
+use hm_base::{NoMemory, Script};
+use hm_history::StepError;
+use hm_io::{Sink, Source};
+use hm_machine::Machine;
+use hm_script::one_text;
+use hm_workers::{Gate, run_all};
+use std::alloc::Global;
+use std::sync::Wait;
+use std::thread::Threads;
+
+/// Runs each actor of the script from a thread of its own, until its operations have ended or the history is full.
+fn run_threads<R: Threads + Wait + Sync, G: Gate + Sync>(
+    rt: &R,
+    alloc: Global,
+    script: Script,
+    gate: &G,
+) -> Result<Ran, NoMemory>
+    ensures script { IfOk result (λ r. r.script ≡ script) }
+    ensures legal { IfOk result (λ r. Legal r.script r.history.entries) }
+    ensures ended { IfOk result (λ r. r.full ≡ false → AllEnded script r.history.entries) }
+    ensures full { IfOk result (λ r. r.full ≡ true → StoppedFull script r.history.entries) }
+    ensures receipt { IfOk result (λ r. r.receipt ≡ Some r.history.entries) }
+{
+    script.facts();
+    hm_laws::never_stuck();
+    let actors = script.actors.len() as u32;
+    let machine = Machine::new(alloc, script)?;
+    let (machine, receipt) = run_all(rt, alloc, machine, actors, gate)?;
+    machine.stands();
+    let full = match machine.world().halted() {
+        None => false,
+        Some(StepError::Full(_)) => true,
+        Some(StepError::NoMemory) => return Err(NoMemory),
+    };
+    let (script, history) = machine.into_parts();
+    Ok(Ran {
+        script,
+        history,
+        full,
+        receipt: Some(receipt),
+    })
+}
+
+/// Reads a script, runs each actor from a thread of its own to its end, and writes the report.
+pub fn threads<R: Threads + Wait + Sync, S: Source, K: Sink, G: Gate + Sync>(
+    rt: &R,
+    alloc: Global,
+    source: &mut S,
+    sink: &mut K,
+    gate: &G,
+) -> Ended
+    ensures { RunsThreads
+        (traffic (source_state S.left S.failures) (sink_state K.held K.failures K.wanted) source.old source.new sink.old
+        sink.new) result }
+{
+    let script = match read_script(alloc, source) {
+        Ok(script) => script,
+        Err(status) => return Ended::stopped(alloc, status),
+    };
+    match run_threads(rt, alloc, script, gate) {
+        Ok(ran) => report_run(alloc, ran, sink),
+        Err(_) => Ended::stopped(alloc, Status::NoMemory),
+    }
+}
