@@ -21,7 +21,8 @@ ALPHABET = b'abcdefghijklmnopqrstuvwxyz0123456789 \n\tAXx\x00\xff-+'
 def ask(command, words, text):
     done = subprocess.run(command + words, input=text, capture_output=True)
     said = done.stderr.decode(errors='replace').split(': ', 1)[-1]
-    return done.returncode, done.stdout, said
+    # which commands there are may differ
+    return done.returncode, done.stdout, 'usage' if done.returncode == 2 else said
 
 
 def same(given, words, text):
