@@ -61,4 +61,5 @@ IsCounted before after y =
 -- the access of the entry was counted, and no other
 abbrev pub IsNoted : Accesses → Accesses → Kind → Type 0
 IsNoted before after k =
-    (x : Who) (v : ℕ) → count_for after x v ≡ (if is_access x v k then count_for before x v + 1 else count_for before x v)
+    (x : Who) (v : ℕ) → count_for after x v
+    ≡ (if is_access x v k then count_for before x v + 1 else count_for before x v)
