@@ -228,8 +228,8 @@ pub(crate) fn write_counted<K: Sink>(
     }
 }
 
-/// Writes the report of a legal history in pieces of 4,096 bytes, the last one shorter or whole, and flushes the sink.
-/// What it allocates is taken before anything is written.
+/// Writes the report of a legal history, piece by piece, and flushes the sink. What it allocates is taken before
+/// anything is written.
 pub fn write_report<K: Sink>(
     alloc: Global,
     script: &Script,
@@ -247,8 +247,7 @@ pub fn write_report<K: Sink>(
     write_counted(alloc, script, history, sink)
 }
 
-/// Writes the text in pieces of 4,096 bytes, the last one shorter or whole, and flushes the sink. It takes no memory
-/// itself.
+/// Writes the text, piece by piece, and flushes the sink. It takes no memory itself.
 pub fn write_text<K: Sink>(_alloc: Global, text: &Text, sink: &mut K) -> Written
     ensures text { Writes (K.held sink.old) (K.held sink.new) text.now result }
     ensures sent { SentOn (K.pending sink.new) result }
