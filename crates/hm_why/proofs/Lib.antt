@@ -1,0 +1,3 @@
+mod LoadsDue
+mod Values
+mod Loads
