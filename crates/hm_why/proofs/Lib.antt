@@ -1,3 +1,6 @@
+mod LastChange
 mod LoadsDue
 mod Values
 mod Loads
+mod Following
+mod Listing

@@ -1,6 +1,10 @@
 // Where each byte of a load came from: the entry of a history that gave it its value.
 #![tactic(auto)]
 
+mod changes;
 mod laws;
+mod one_load;
+mod writers;
 
 pub use laws::{loads_have_sources, loads_lie_in_a_page};
+pub use one_load::{Sources, sources};
