@@ -1,15 +1,15 @@
 -- What is kept goes on following a history.
-use Rattle.std.proofs.Common.{◌≡◌, ℕ, zero, suc, ◌+◌, ◌<◌, ◌≤◌, ◌^◌, ◌==◌, Bool, true, false, if◌then◌else◌, Option, Some, None, List, [], ◌∷◌, length, slice_get, take, unwrap_or, refl, sym, ap, ◌∙◌, subst, arith}
+use Rattle.std.proofs.Common.{◌≡◌, ℕ, suc, ◌<◌, ◌^◌, ◌==◌, Bool, true, false, if◌then◌else◌, Option, Some, None, List, slice_get, take, unwrap_or, refl, sym, ap, ◌∙◌, arith}
 use Rattle.std.specs.Prelude.{option_map}
 use Rattle.std.proofs.Math.Path.{fun_ext}
 use Rattle.std.proofs.lemmas.Bool.Decides.{nat_tests}
 use Rattle.hm_history.specs.Words.{with_at}
-use Rattle.hm_history.specs.Plain.{Plain, MirrorState, Attachment, Attached, Detaching, Gone, plain_start, plain_next, mirror_owner, mirror_proc, proc_of, with_attachment}
+use Rattle.hm_history.specs.Plain.{Plain, MirrorState, Attachment, Attached, Detaching, Gone, plain_next, mirror_owner, mirror_proc, with_attachment}
 use Rattle.hm_history.specs.After.{after}
 use Rattle.hm_history.specs.declared.Who.{Who}
 use Rattle.hm_history.specs.declared.Kind.{Kind}
 use Rattle.hm_history.specs.declared.Entry.{Entry}
-use Rattle.hm_why.specs.Sources.{Effect, Gives, Copies, Leaves, process_of, effect, effect_at, kind_at, owners_at, source_by, source_of}
+use Rattle.hm_why.specs.Sources.{Effect, Gives, Copies, Leaves, effect, owners_at, source_by, source_of}
 use Rattle.hm_why.specs.Laws.{process_at}
 use Rattle.hm_why.specs.Writers.{owner_in, source_in, process_in, owners_next, IsSized, IsFresh, IsNoted}
 use Rattle.hm_why.specs.Follows.{Follows}

@@ -4,3 +4,4 @@ mod Values
 mod Loads
 mod Following
 mod Listing
+mod Texts

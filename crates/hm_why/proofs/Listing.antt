@@ -1,5 +1,5 @@
 -- The sources of a load, listed.
-use Rattle.std.proofs.Common.{◌≡◌, ℕ, zero, suc, ◌+◌, ◌-◌, ◌<◌, ◌≤◌, ◌^◌, true, Option, Some, None, IsSome, List, [], ◌∷◌, ◌++◌, length, map, get_or, slice_get, slice_index, refl, sym, ap, ◌∙◌, subst, arith}
+use Rattle.std.proofs.Common.{◌≡◌, ℕ, zero, suc, ◌+◌, ◌-◌, ◌<◌, ◌≤◌, ◌^◌, true, Option, Some, None, IsSome, List, [], ◌∷◌, ◌++◌, length, map, get_or, slice_index, refl, sym, ap, ◌∙◌, subst, arith}
 use Rattle.std.specs.Prelude.{option_map, ⊤}
 use Rattle.std.proofs.lemmas.List.{map-append}
 use Rattle.std.proofs.lemmas.Option.{slice_get-get_or, same_Some}
@@ -12,7 +12,7 @@ use Rattle.hm_why.specs.Sources.{kind_at, source_of, GaveBy, ComesFrom}
 use Rattle.hm_why.specs.Laws.{IsLegal, IsLoad, process_at, LoadsHaveSources, LoadsLieInAPage}
 use Rattle.hm_why.specs.Writers.{source_in, process_in}
 use Rattle.hm_why.specs.Follows.{Follows}
-use Rattle.hm_why.specs.Loads.{is_load, IsLoadAt, sources_by, load_sources, GaveEach, GaveTheLoad, AreSources, AllFound}
+use Rattle.hm_why.specs.Loads.{is_load, IsLoadAt, sources_by, GaveEach, AreSources, AllFound}
 use Rattle.hm_why.specs.declared.writers.Writers.{Writers}
 use Rattle.hm_why.proofs.Following.{process_is}
 

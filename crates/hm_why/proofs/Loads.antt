@@ -1,28 +1,25 @@
 -- The laws of loads, from the rules of legal histories.
-use Rattle.std.proofs.Common.{◌≡◌, ℕ, zero, suc, ◌+◌, ◌-◌, ◌*◌, ◌/◌, ◌%◌, ◌^◌, ◌<◌, ◌≤◌, Bool, true, false, ◌==◌, ◌&&◌, not, is_some, is_none, Option, Some, None, List, [], ◌∷◌, ◌++◌, length, slice_index, slice_get, take, refl, sym, ap, ◌∙◌, subst, arith, append_assoc, append-nil, IsTrue}
-use Rattle.std.specs.Prelude.{⊤, option_map}
+use Rattle.std.proofs.Common.{◌≡◌, ℕ, zero, suc, ◌+◌, ◌^◌, ◌<◌, ◌≤◌, Bool, true, false, ◌&&◌, is_some, is_none, Option, Some, None, List, [], ◌∷◌, ◌++◌, length, slice_index, slice_get, take, refl, sym, ap, ◌∙◌, subst, arith, append_assoc, append-nil}
+use Rattle.std.specs.Prelude.{option_map}
 use Rattle.std.proofs.lemmas.Bool.Decides.{nat_tests}
 use Rattle.std.proofs.lemmas.Option.{slice_get_within}
-use Rattle.hm_base.specs.Program.{Program, IsScript}
+use Rattle.hm_base.specs.Program.{Program}
 use Rattle.hm_history.specs.Words.{page_of, same_bytes, bytes_from}
 use Rattle.hm_history.specs.Plain.{Plain, plain_accepts, rights_of, proc_of, plain_bytes, cause_at}
 use Rattle.hm_history.specs.After.{After, after}
 use Rattle.hm_history.specs.Going.{state_of, going_next}
-use Rattle.hm_history.specs.Due.{due, due_phase}
 use Rattle.hm_history.specs.Laws.{DueFrom}
-use Rattle.hm_history.specs.Legal.{MayFollow, Legal, LegalFrom}
+use Rattle.hm_history.specs.Legal.{MayFollow, LegalFrom}
 use Rattle.hm_history.specs.declared.Who.{Who}
 use Rattle.hm_history.specs.declared.Kind.{Kind}
 use Rattle.hm_history.specs.declared.Entry.{Entry}
-use Rattle.hm_history.specs.declared.Progress.{Progress}
 use Rattle.hm_history.specs.declared.phases.Next.{Next}
-use Rattle.hm_history.specs.declared.phases.Next.TheVariants.{Do, Wait}
+use Rattle.hm_history.specs.declared.phases.Next.TheVariants.{Do}
 use Rattle.hm_laws.specs.Allowed.{InPage}
 use Rattle.hm_laws.specs.Past.{Past, past_start}
 use Rattle.hm_laws.specs.Stands.{Standing}
-use Rattle.hm_laws.specs.Sound.{Sound}
 use Rattle.hm_laws.proofs.Histories.Sound.{Turn, small, turn_of, at_start, after_is, standing_after}
-use Rattle.hm_why.specs.Sources.{kind_at, GaveBy, ComesFrom}
+use Rattle.hm_why.specs.Sources.{ComesFrom}
 use Rattle.hm_why.specs.Laws.{IsLegal, IsLoad, process_at, LoadsHaveSources, LoadsLieInAPage}
 use Rattle.hm_why.proofs.LoadsDue.{Reads, Next_reads, reads_due}
 use Rattle.hm_why.proofs.Values.{Answers, has_source}

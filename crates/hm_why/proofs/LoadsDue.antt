@@ -1,5 +1,5 @@
 -- A load that is due to an actor reads bytes of one page.
-use Rattle.std.proofs.Common.{◌≡◌, ◌⊎◌, inl, inr, ℕ, zero, suc, ◌+◌, ◌≤◌, Bool, true, false, ◌==◌, ◌&&◌, ◌||◌, not, nat_lt, if◌then◌else◌, is_some, is_none, Option, Some, None, List, length, refl, sym, subst, arith}
+use Rattle.std.proofs.Common.{◌≡◌, ℕ, ◌+◌, ◌≤◌, Bool, true, false, ◌==◌, ◌&&◌, ◌||◌, not, nat_lt, if◌then◌else◌, is_some, is_none, Option, Some, None, List, length, sym, subst, arith}
 use Rattle.std.specs.Prelude.{⊤}
 use Rattle.std.proofs.lemmas.Bool.Decides.{nat_tests}
 use Rattle.hm_base.specs.Pages.{Pages, one_page}
@@ -11,7 +11,7 @@ use Rattle.hm_base.specs.declared.Place.{Place}
 use Rattle.hm_base.specs.declared.ops.Op.{Op}
 use Rattle.hm_history.specs.declared.phases.MoveStep.{MoveStep}
 use Rattle.hm_history.specs.Words.{page_of, sys_frame, dev_frame, is_frame, names, names_directly, same_place, writable}
-use Rattle.hm_history.specs.Plain.{rights_of, is_read_only, is_attached, in_window, mirror_proc, mirror_dev, area_refusal, meets, plain_bytes, proc_of}
+use Rattle.hm_history.specs.Plain.{rights_of, is_read_only, is_attached, in_window, mirror_proc, mirror_dev, area_refusal, meets, proc_of}
 use Rattle.hm_history.specs.Places.{lowest_free, lowest_named, lowest_direct, lowest_moving, held_from, next_page, is_used}
 use Rattle.hm_history.specs.Sequences.{is_odd, insert_deferred, in_tree}
 use Rattle.hm_history.specs.Locks.{writer, lowest_other, other_locker}

@@ -1,20 +1,20 @@
 -- What an entry leaves of a byte, and so what the source of a byte gave it.
-use Rattle.std.proofs.Common.{◌≡◌, ℕ, zero, suc, ◌+◌, ◌-◌, ◌<◌, ◌≤◌, ◌⊎◌, inl, inr, Bool, true, false, ◌==◌, ◌&&◌, nat_lt, nat_le, if◌then◌else◌, is_some, Option, Some, None, List, [], ◌∷◌, length, slice_index, slice_get, take, get_or, fold, refl, sym, ap, ◌∙◌, subst, arith}
+use Rattle.std.proofs.Common.{◌≡◌, ℕ, zero, suc, ◌+◌, ◌-◌, ◌<◌, ◌≤◌, Bool, true, false, ◌==◌, ◌&&◌, if◌then◌else◌, is_some, Option, Some, None, List, [], ◌∷◌, length, slice_index, slice_get, take, get_or, refl, sym, ap, ◌∙◌, subst, arith}
 use Rattle.std.specs.Prelude.{option_map}
 use Rattle.std.proofs.lemmas.Bool.Decides.{nat_tests}
 use Rattle.std.proofs.lemmas.List.Sums.{fold_more}
 use Rattle.std.proofs.lemmas.Option.{get_or_from_slice_get, slice_get_within, slice_get-get_or}
-use Rattle.hm_base.specs.Pages.{Pages, covers}
+use Rattle.hm_base.specs.Pages.{covers}
 use Rattle.hm_base.specs.Areas.{without, with_rights, with_area, rights_at}
 use Rattle.hm_history.specs.Words.{page_of, with_at}
-use Rattle.hm_history.specs.Plain.{Plain, plain_start, plain_next, plain_accepts, rights_of, mirror_owner, owner, owned, with_zeros, with_bytes, written_for}
+use Rattle.hm_history.specs.Plain.{Plain, plain_start, plain_next, plain_accepts, rights_of, mirror_owner, owned, with_zeros, with_bytes, written_for}
 use Rattle.hm_history.specs.After.{after, after_entry, after_nothing}
 use Rattle.hm_history.specs.declared.Who.{Who}
 use Rattle.hm_history.specs.declared.Kind.{Kind}
 use Rattle.hm_history.specs.declared.Entry.{Entry}
 use Rattle.hm_laws.proofs.Kept.AreaCuts.{rights_without, rights_with, rights_added, no_meet}
 use Rattle.hm_laws.proofs.Kept.Pools.{areas_at}
-use Rattle.hm_why.specs.Sources.{Effect, Gives, Copies, Leaves, is_among, gives_if, copies_if, effect, effect_at, kind_at, source_by, source_of, Gave, GaveBy, ComesFrom}
+use Rattle.hm_why.specs.Sources.{Effect, Gives, Copies, Leaves, is_among, gives_if, copies_if, effect, kind_at, source_by, source_of, Gave, GaveBy, ComesFrom}
 
 -- the byte of a page with an area, after an entry with this effect
 abbrev pub Leaves_so : Plain → Kind → ℕ → ℕ → Effect → Type 0

@@ -4,7 +4,9 @@
 mod changes;
 mod laws;
 mod one_load;
+mod text;
 mod writers;
 
 pub use laws::{loads_have_sources, loads_lie_in_a_page};
 pub use one_load::{Sources, sources};
+pub use text::{why_text, write_why};

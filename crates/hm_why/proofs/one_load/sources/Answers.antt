@@ -1,6 +1,6 @@
-use Rattle.std.proofs.Common.{◌≡◌, sym, ap, ◌∙◌, subst}
+use Rattle.std.proofs.Common.{sym, ap, ◌∙◌, subst}
 use Rattle.std.proofs.lemmas.Result.{IfOk-weaker}
-use Rattle.std.specs.Prelude.{map, Some}
+use Rattle.std.specs.Prelude.{map}
 use Rattle.hm_history.specs.Words.{numbers}
 use Rattle.hm_why.specs.Loads.{IsLoadAt, AllFound, AreSources}
 use Rattle.hm_why.specs.Writers.{source_in}

@@ -1,4 +1,3 @@
-use Rattle.std.proofs.Common.{sym, arith}
 use Rattle.hm_why.specs.Writers.{source_in}
 use Rattle.hm_why.proofs.Listing.{one_source}
 use Rattle.hm_why.proofs.one_load.sources_from.Goals as goal

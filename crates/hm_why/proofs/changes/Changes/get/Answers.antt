@@ -1,4 +1,4 @@
-use Rattle.std.proofs.Common.{sym, ◌∙◌}
+use Rattle.std.proofs.Common.{sym}
 use Rattle.hm_why.specs.Changes.{change_at}
 use Rattle.hm_why.proofs.LastChange.{none_is, last_is}
 use Rattle.hm_why.proofs.changes.Changes.get.Goals as goal

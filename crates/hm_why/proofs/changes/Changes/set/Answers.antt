@@ -1,8 +1,7 @@
-use Rattle.std.proofs.Common.{◌≡◌, ℕ, ◌<◌, ◌≤◌, ◌==◌, if◌then◌else◌, Option, Some, None, refl, sym, ap, ◌∙◌, arith}
-use Rattle.std.specs.Prelude.{OnOk}
+use Rattle.std.proofs.Common.{◌≡◌, ℕ, ◌<◌, ◌==◌, if◌then◌else◌, Option, Some, arith}
 use Rattle.std.proofs.lemmas.Bool.Decides.{nat_tests}
 use Rattle.std.proofs.lemmas.Result.{on_ok_weaker}
-use Rattle.hm_why.specs.Changes.{change_at, last_change, entry_for, IsCleared, IsSet}
+use Rattle.hm_why.specs.Changes.{change_at, entry_for, IsCleared}
 use Rattle.hm_why.specs.declared.changes.Changes.{Changes}
 use Rattle.hm_why.proofs.LastChange.{IsReplaced, replaced}
 use Rattle.hm_why.proofs.changes.Changes.set.Goals as goal

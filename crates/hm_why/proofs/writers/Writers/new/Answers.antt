@@ -1,4 +1,4 @@
-use Rattle.std.proofs.Common.{◌≡◌, ℕ, zero, suc, None, List, slice_index_or, refl}
+use Rattle.std.proofs.Common.{◌≡◌, ℕ, zero, suc, None, slice_index_or, refl}
 use Rattle.std.specs.Prelude.{Option, replicate}
 use Rattle.hm_why.proofs.writers.Writers.new.Goals as goal
 

@@ -1,4 +1,4 @@
-use Rattle.std.proofs.Common.{◌≡◌, ℕ, ◌+◌, ◌-◌, ◌<◌, ◌≤◌, ◌^◌, ◌==◌, ◌&&◌, min, Option, Some, None, if◌then◌else◌, List, length, slice_set, refl, sym, ap, ◌∙◌, subst, arith}
+use Rattle.std.proofs.Common.{◌≡◌, ℕ, ◌+◌, ◌-◌, ◌<◌, ◌^◌, ◌==◌, ◌&&◌, min, Option, Some, if◌then◌else◌, List, length, slice_set, refl, sym, ap, ◌∙◌, subst, arith}
 use Rattle.std.specs.Prelude.{slice_get}
 use Rattle.std.proofs.lemmas.Bool.Decides.{nat_tests}
 use Rattle.std.proofs.lemmas.Grind.{common_steps, elements}
@@ -6,7 +6,7 @@ use Rattle.std.proofs.lemmas.Option.{gets, slice_get_read}
 use Rattle.std.proofs.lemmas.Result.{on_ok_weaker}
 use Rattle.hm_history.specs.Plain.{owned}
 use Rattle.hm_why.specs.Sources.{is_among}
-use Rattle.hm_why.specs.Changes.{entry_for, IsSet}
+use Rattle.hm_why.specs.Changes.{IsSet}
 use Rattle.hm_why.specs.Writers.{entry_among}
 use Rattle.hm_why.specs.declared.changes.Changes.{Changes}
 use Rattle.hm_why.proofs.writers.Writers.write.Goals as goal
