@@ -38,7 +38,8 @@ fn sources_from(
     requires sized { IsSized writers.now }
     requires low { addr + len ≤ 2 ^ 48 }
     requires found { AllFound (source_in writers.now proc) addr len }
-    ensures { IfOk result (λ found. map (λ (j : ℕ). Some j) found ≡ map (source_in writers.now proc) (numbers addr len)) }
+    ensures { IfOk result (λ found.
+        map (λ (j : ℕ). Some j) found ≡ map (source_in writers.now proc) (numbers addr len)) }
 {
     let mut found = Sources::new(alloc);
     for byte in addr..addr + len {
