@@ -2,3 +2,6 @@ pub mod Sets
 pub mod Writes
 pub mod Counts
 pub mod SeqSteps
+pub mod Written
+pub mod PlainParts
+pub mod AreaEnds

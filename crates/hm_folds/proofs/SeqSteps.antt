@@ -47,7 +47,7 @@ start_kept x i j p a q r met ei ej lp la m h =
     (shown guard_of x.guards a (Some g) None la ∙ ap (with_at s.guard a) seen))
 
 -- before the first entry
-all_alike : {X : Type 0} (x : X) (n k : ℕ) → slice_index_or (replicate n x) k x ≡ x
+pub all_alike : {X : Type 0} (x : X) (n k : ℕ) → slice_index_or (replicate n x) k x ≡ x
 all_alike x n k = elim (cases_lt k n) [
   | inl l ↦ get_or-replicate n k x x l
   | inr l ↦ get_or-eq_default (replicate n x) x (omega (arith, length-replicate n x, l))

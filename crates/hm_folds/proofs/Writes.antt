@@ -20,3 +20,7 @@ shown g xs p x d l = fun_ext (λ k. shown_set g xs p x d k l)
 -- a read through an index
 pub read_at : {X Y : Type 0} (g : Option X → Y) (xs : List (Option X)) (i m : ℕ) (d : Option X) → i ≡ m → i < length xs → g (get_or xs i d) ≡ g (slice_index_or xs m None)
 read_at g xs i m d e l = let none : Option _ = None in ap g (get_or_default xs i d none l) ∙ ap (λ k. g (slice_index_or xs k None)) e
+
+-- a write through an index
+pub written_at : {X Y : Type 0} (g : X → Y) (xs : List X) (i p : ℕ) (x d : X) (y : Y) → i ≡ p → p < length xs → g x ≡ y → (λ k. g (slice_index_or (slice_set xs i x) k d)) ≡ with_at (λ j. g (slice_index_or xs j d)) p y
+written_at g xs i p x d y e l h = rw e (shown g xs p x d l ∙ ap (with_at (λ j. g (slice_index_or xs j d)) p) h)

@@ -2,8 +2,14 @@
 // refuses an entry after which there is no next state.
 #![tactic(auto)]
 
+mod been;
 mod guards;
 mod intervals;
+pub mod memory;
+mod plain;
 mod sequences;
+pub mod stored;
+pub mod windows;
 
+pub use plain::PlainState;
 pub use sequences::SeqState;

@@ -86,7 +86,9 @@ impl SeqState {
     /// The state after one entry more. It never answers NoMemory, and an entry that is not legal changes nothing.
     pub fn apply(&mut self, entry: &Entry) -> Result<(), FoldError>
         ensures legal { result
-            ≡ (if sequences_accept (sequences_of self.old) entry.now.actor entry.now.kind then Ok tt else Err FoldError.NotLegal) }
+            ≡
+            (if sequences_accept (sequences_of self.old) entry.now.actor entry.now.kind then Ok tt
+            else Err FoldError.NotLegal) }
         ensures ok { IfOk result
             (λ x. sequences_of self.new ≡ sequences_next (sequences_of self.old) entry.now.actor entry.now.kind) }
         ensures err { OnErr result (self.new ≡ self.old) }
