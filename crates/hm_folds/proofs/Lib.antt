@@ -5,3 +5,4 @@ pub mod SeqSteps
 pub mod Written
 pub mod PlainParts
 pub mod AreaEnds
+pub mod Tables

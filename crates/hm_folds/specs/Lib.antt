@@ -6,3 +6,5 @@ pub mod Windows
 pub mod Ranges
 pub mod Been
 pub mod Plain
+pub mod TableMap
+pub mod MirrorTables

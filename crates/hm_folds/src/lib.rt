@@ -5,11 +5,13 @@
 mod been;
 mod guards;
 mod intervals;
-pub mod memory;
+mod memory;
+pub mod mirror_tables;
 mod plain;
 mod sequences;
-pub mod stored;
-pub mod windows;
+mod stored;
+pub mod table_map;
+mod windows;
 
 pub use plain::PlainState;
 pub use sequences::SeqState;

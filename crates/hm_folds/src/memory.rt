@@ -40,7 +40,8 @@ impl Memory {
         requires { addr < 2 ^ 48 }
         ensures ok { OnOk result
             (bytes_of self.new.processes.items
-            ≡ with_at (bytes_of self.old.processes.items) proc (with_bytes (bytes_of self.old.processes.items proc) addr bytes.now)) }
+            ≡ with_at (bytes_of self.old.processes.items) proc
+            (with_bytes (bytes_of self.old.processes.items proc) addr bytes.now)) }
         ensures err { OnErr result (bytes_of self.new.processes.items ≡ bytes_of self.old.processes.items) }
     {
         let of_process = &mut self.processes[proc.number() as usize];
@@ -50,7 +51,8 @@ impl Memory {
     /// The bytes of a span are zeros.
     pub fn clear(&mut self, proc: Proc, span: Span)
         ensures { bytes_of self.new.processes.items
-            ≡ with_at (bytes_of self.old.processes.items) proc (with_zeros (bytes_of self.old.processes.items proc) span) }
+            ≡ with_at (bytes_of self.old.processes.items) proc
+            (with_zeros (bytes_of self.old.processes.items proc) span) }
     {
         let from = span.first().number() * 4096;
         let of_process = &mut self.processes[proc.number() as usize];
@@ -60,7 +62,8 @@ impl Memory {
     /// The child has the bytes of its parent; a failure changes none.
     pub fn fork(&mut self, parent: Proc, child: Proc) -> Result<(), NoMemory>
         ensures ok { OnOk result
-            (bytes_of self.new.processes.items ≡ with_at (bytes_of self.old.processes.items) child (bytes_of self.old.processes.items parent)) }
+            (bytes_of self.new.processes.items
+            ≡ with_at (bytes_of self.old.processes.items) child (bytes_of self.old.processes.items parent)) }
         ensures err { OnErr result (bytes_of self.new.processes.items ≡ bytes_of self.old.processes.items) }
     {
         let of_child = self.processes[parent.number() as usize].copy()?;

@@ -244,7 +244,8 @@ impl SeqState {
 
     fn tell(&mut self, actor: Actor, mirror: MirrorId, span: Span, seq: u64)
         requires { sequences_accept (sequences_of self.old) actor (AnyKind.Told mirror span seq) ≡ true }
-        ensures { sequences_of self.new ≡ sequences_next (sequences_of self.old) actor (AnyKind.Told mirror span seq) }
+        ensures { sequences_of self.new
+            ≡ sequences_next (sequences_of self.old) actor (AnyKind.Told mirror span seq) }
     {
         let at = mirror.number() as usize;
         let by = actor.number() as usize;

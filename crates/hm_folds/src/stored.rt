@@ -104,7 +104,8 @@ impl Stored {
     /// The bytes from an address up to another are zeros.
     pub fn clear(&mut self, from: u64, end: u64)
         requires { from ≤ end }
-        ensures { (a : ℕ) → byte_in self.new a ≡ (if nat_le from a && nat_lt a end then 0 else byte_in self.old a) }
+        ensures { (a : ℕ)
+            → byte_in self.new a ≡ (if nat_le from a && nat_lt a end then 0 else byte_in self.old a) }
     {
         let mut at = from;
         while let Some(next) = self.first(at) {

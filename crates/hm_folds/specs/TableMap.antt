@@ -1,0 +1,38 @@
+-- The table of a mirror, by page.
+use Rattle.std.specs.Prelude.{◌≡◌, ℕ, ◌≤◌, ◌<◌, Option, Some, None, option_map}
+use Rattle.std.specs.Ordering.{nat_cmp}
+use Rattle.std.specs.BTreeMap as tree
+use Rattle.hm_history.specs.Places.{TableEntry}
+use Rattle.hm_base.specs.declared.Frame.{Frame}
+use Rattle.hm_base.specs.declared.PoolId.{PoolId}
+use Rattle.hm_folds.specs.declared.table_map.KeptEntry.{KeptEntry}
+use Rattle.hm_folds.specs.declared.table_map.TableMap.{TableMap}
+
+-- a frame of no device is the system's
+abbrev pub pool_of : Option ℕ → PoolId
+pool_of None = PoolId.System
+pool_of (Some d) = PoolId.Device d
+
+-- no number is the zero page
+abbrev pub target_of : Option ℕ → Option ℕ → Option Frame
+target_of dev number = option_map (λ n. record { pool = pool_of dev; number = n }) number
+
+abbrev pub dev_of_pool : PoolId → Option ℕ
+dev_of_pool PoolId.System = None
+dev_of_pool (PoolId.Device d) = Some d
+
+abbrev pub dev_of : Option Frame → Option ℕ
+dev_of None = None
+dev_of (Some f) = dev_of_pool f.pool
+
+abbrev pub entry_of : KeptEntry → TableEntry
+entry_of x = record { target = target_of x.dev x.number; right = x.right; from = x.since }
+
+-- the entry of a page
+abbrev pub entry_in : TableMap → ℕ → Option TableEntry
+entry_in x v = option_map entry_of (tree.get nat_cmp x.entries v)
+
+-- a page from there on, and none before it has an entry; without one, none has
+abbrev pub IsFirstEntry : TableMap → ℕ → Option ℕ → Type 0
+IsFirstEntry x from None = (v : ℕ) → from ≤ v → entry_in x v ≡ None
+IsFirstEntry x from (Some at) = (from ≤ at) × ((v : ℕ) → from ≤ v → v < at → entry_in x v ≡ None)
