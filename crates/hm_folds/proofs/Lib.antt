@@ -6,3 +6,4 @@ pub mod Written
 pub mod PlainParts
 pub mod AreaEnds
 pub mod Tables
+pub mod LeastHeld

@@ -8,3 +8,5 @@ pub mod Been
 pub mod Plain
 pub mod TableMap
 pub mod MirrorTables
+pub mod Numbers
+pub mod Held

@@ -4,9 +4,11 @@
 
 mod been;
 mod guards;
+pub mod held;
 mod intervals;
 mod memory;
 pub mod mirror_tables;
+mod numbers;
 mod plain;
 mod sequences;
 mod stored;

@@ -1,5 +1,5 @@
 // Invalidations, intervals and their sequences, of all processes (mm/mmu_notifier.c).
-ghost use Rattle.std.specs.Prelude.{◌≡◌, ◌==◌, ◌+◌, ◌%◌, ℕ, IfOk, OnErr, Ok, Err, true, if◌then◌else◌};
+ghost use Rattle.std.specs.Prelude.{◌≡◌, ◌==◌, ◌+◌, ◌%◌, ℕ, IfOk, OnErr, is_ok, Ok, Err, true, if◌then◌else◌};
 ghost use Rattle.hm_history.specs.Sequences.{sequences_start, sequences_next, sequences_accept, interval_seq, interval_proc, insert_deferred, in_tree, next_told, is_odd, is_next_told, is_last_end, interval_inserted, seq_inserted};
 ghost use Rattle.hm_history.specs.declared.Kind.{Kind as AnyKind};
 ghost use Rattle.hm_folds.specs.Kept.{sequences_of, guarded, stage_of, standing};
@@ -24,9 +24,10 @@ pub struct SeqState {
 }
 
 impl SeqState {
-    /// Before the first entry.
+    /// Before the first entry. It takes no memory, so it never fails.
     pub fn start(_alloc: Global, _script: &Script) -> Result<SeqState, NoMemory>
-        ensures { IfOk result (λ x. sequences_of x ≡ sequences_start) }
+        ensures ok { is_ok result ≡ true }
+        ensures start { IfOk result (λ x. sequences_of x ≡ sequences_start) }
     {
         Ok(SeqState {
             seqs: [2; 32],
