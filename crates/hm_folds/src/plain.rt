@@ -1,12 +1,12 @@
 // Processes, areas, plain bytes and mirrors: what the memory of a process is, wherever its pages lie.
-ghost use Rattle.std.specs.Prelude.{◌≡◌, ◌==◌, ◌&&◌, ◌||◌, ℕ, ◌<◌, ◌≤◌, ◌^◌, ◌+◌, not, true, is_none, is_some, length, nat_lt, IfOk, OnOk, OnErr, None};
+ghost use Rattle.std.specs.Prelude.{◌≡◌, ◌==◌, ◌&&◌, ◌||◌, ℕ, ◌<◌, ◌≤◌, ◌^◌, ◌+◌, not, true, is_none, is_some, is_ok, false, length, nat_lt, IfOk, OnOk, OnErr, None};
 ghost use Rattle.hm_history.specs.Words.{page_of, same_bytes, bytes_from};
 ghost use Rattle.hm_history.specs.Plain.{plain_start, plain_next, plain_accepts, rights_of, area_refusal, cause_at, outside_cause, is_cause, may_fail, owner, owned, proc_of, is_attached, plain_bytes, written_for};
 ghost use Rattle.hm_history.specs.declared.Kind.{Kind as AnyKind};
 ghost use Rattle.hm_history.specs.declared.Who.{Who as AnyWho};
 ghost use Rattle.hm_spaces.specs.Spaces.{SpacesFit};
 ghost use Rattle.hm_folds.specs.Ranges.{IsSized, InRange};
-ghost use Rattle.hm_folds.specs.Applied.{is_not_legal};
+ghost use Rattle.hm_folds.specs.Applied.{is_not_legal, is_no_memory, writes_bytes};
 ghost use Rattle.hm_folds.specs.Windows.{mirror_read, mirrors_next};
 
 use crate::been::{facts_of, step_been};
@@ -88,11 +88,12 @@ impl PlainState {
     }
 
     /// The state after one entry more. An entry that is not legal changes nothing; where memory ran out, what is kept
-    /// still stands for the state before the entry.
+    /// still stands for the state before the entry. Only a store, an addition and a fork take memory.
     pub fn apply(&mut self, entry: &Entry) -> Result<(), FoldError>
         ensures legal { is_not_legal result ≡ not (plain_accepts (plain_of self.old) entry.now.kind) }
         ensures ok { OnOk result (plain_of self.new ≡ plain_next (plain_of self.old) entry.now.kind) }
         ensures err { OnErr result (plain_of self.new ≡ plain_of self.old) }
+        ensures memory { writes_bytes entry.now.kind ≡ false → is_no_memory result ≡ false }
     {
         if !self.accepts(&entry.kind) {
             return Err(FoldError::NotLegal);
@@ -125,6 +126,7 @@ impl PlainState {
             (plain_of self.new
             ≡ with_plain_bytes (plain_of self.old) (plain_next (plain_of self.old) kind.now).bytes) }
         ensures err { OnErr result (plain_of self.new ≡ plain_of self.old) }
+        ensures memory { writes_bytes kind.now ≡ false → is_ok result ≡ true }
     {
         match kind {
             Kind::Mapped {
