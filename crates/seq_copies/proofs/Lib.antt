@@ -1,2 +1,2 @@
 mod Quiet
-mod Current
+pub mod Current

@@ -21,31 +21,41 @@ other_write f None at bs q other = refl
 other_write f (Some p) at bs q other = other_place f p (with_bytes (f p) at bs) q other
 
 -- an entry that does not touch the process
-untouched : (s : Plain) (k : Kind) (q : ℕ) → touched s k ≢ Some q → (plain_next s k).bytes q ≡ s.bytes q
+pub untouched : (s : Plain) (k : Kind) (q : ℕ) → touched s k ≢ Some q → (plain_next s k).bytes q ≡ s.bytes q
 untouched s (Kind.Mapped p r w) q other = other_place s.bytes p _ q other
 untouched s (Kind.Stored x at bs) q other = other_write s.bytes (owner s x) at bs q other
 untouched s (Kind.Added m at was now) q other = other_write s.bytes (mirror_owner s m) at (now ∷ []) q other
 untouched s (Kind.Forked p c) q other = other_place s.bytes c (s.bytes p) q other
 untouched s _ q other = refl
 
--- one entry more, which does not touch the process
-pub quiet_entry : (h : List Entry) (i q : ℕ) → i < length h → touch_at h i ≢ Some q → (after (take (i + 1) h)).plain.bytes q ≡ (after (take i h)).plain.bytes q
-unfolding touched_after
-quiet_entry [] i q lt other = absurd (omega (arith, lt))
-quiet_entry (d ∷ h) i q lt other =
-    let es : List Entry = d ∷ h in
-    let e : Entry = get_or es i d in
-    let here : slice_get es i ≡ Some e = slice_get-get_or es i d lt in
-    let apart : touched (after (take i es)).plain e.kind ≢ Some q = λ t. other (ap (touched_after (take i es)) here ∙ t) in
-    ap (λ (xs : List Entry). (after xs).plain.bytes q) (take_more es i d lt)
-    ∙ ap (λ s. s.plain.bytes q) (fold-append after_entry after_nothing (take i es) (e ∷ []))
-    ∙ untouched (after (take i es)).plain e.kind q apart
+pub same_areas : (s : Plain) (k : Kind) (q : ℕ) → touched s k ≢ Some q → (plain_next s k).areas q ≡ s.areas q
+same_areas s (Kind.Mapped p r w) q other = other_place s.areas p _ q other
+same_areas s (Kind.Unmapped p r) q other = other_place s.areas p _ q other
+same_areas s (Kind.Protected p r w) q other = other_place s.areas p _ q other
+same_areas s (Kind.Forked p c) q other = other_place s.areas c (s.areas p) q other
+same_areas s (Kind.Exited p) q other = other_place s.areas p [] q other
+same_areas s _ q other = refl
 
--- so many entries more, none of which touches the process
-pub quiet_entries : (h : List Entry) (i n q : ℕ) → i + n ≤ length h → ((k : ℕ) → i ≤ k → k < i + n → touch_at h k ≢ Some q) → (after (take (i + n) h)).plain.bytes q ≡ (after (take i h)).plain.bytes q
-quiet_entries h i zero q within other = ap (λ k. (after (take k h)).plain.bytes q) (add-zero i)
-quiet_entries h i (suc n) q within other =
-    let next : i + suc n ≡ (i + n) + 1 = omega arith in
-    ap (λ k. (after (take k h)).plain.bytes q) next
-    ∙ quiet_entry h (i + n) q (omega (arith, within)) (other (i + n) (omega arith) (omega arith))
-    ∙ quiet_entries h i n q (omega (arith, within)) (λ k above below. other k above (omega arith))
+-- what such entries leave: a part of the plain state
+module _ {X : Type 0} (part : Plain → X) (q : ℕ) (same : (s : Plain) (k : Kind) → touched s k ≢ Some q → part (plain_next s k) ≡ part s) where
+  -- one entry more, which does not touch the process
+  quiet_entry : (h : List Entry) (i : ℕ) → i < length h → touch_at h i ≢ Some q → part (after (take (i + 1) h)).plain ≡ part (after (take i h)).plain
+  unfolding touched_after
+  quiet_entry [] i lt other = absurd (omega (arith, lt))
+  quiet_entry (d ∷ h) i lt other =
+      let es : List Entry = d ∷ h in
+      let e : Entry = get_or es i d in
+      let here : slice_get es i ≡ Some e = slice_get-get_or es i d lt in
+      let apart : touched (after (take i es)).plain e.kind ≢ Some q = λ t. other (ap (touched_after (take i es)) here ∙ t) in
+      ap (λ (xs : List Entry). part (after xs).plain) (take_more es i d lt)
+      ∙ ap (λ s. part s.plain) (fold-append after_entry after_nothing (take i es) (e ∷ []))
+      ∙ same (after (take i es)).plain e.kind apart
+
+  -- so many entries more, none of which touches the process
+  pub quiet_entries : (h : List Entry) (i n : ℕ) → i + n ≤ length h → ((k : ℕ) → i ≤ k → k < i + n → touch_at h k ≢ Some q) → part (after (take (i + n) h)).plain ≡ part (after (take i h)).plain
+  quiet_entries h i zero within other = ap (λ k. part (after (take k h)).plain) (add-zero i)
+  quiet_entries h i (suc n) within other =
+      let next : i + suc n ≡ (i + n) + 1 = omega arith in
+      ap (λ k. part (after (take k h)).plain) next
+      ∙ quiet_entry h (i + n) (omega (arith, within)) (other (i + n) (omega arith) (omega arith))
+      ∙ quiet_entries h i n (omega (arith, within)) (λ k above below. other k above (omega arith))

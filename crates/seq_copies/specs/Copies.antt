@@ -1,8 +1,9 @@
 -- What a copy of a process's bytes is, and when it is current.
-use Rattle.std.specs.Prelude.{◌≡◌, ◌≢◌, ℕ, ◌+◌, ◌≤◌, List, [], ◌∷◌, ◌++◌, length, take}
+use Rattle.std.specs.Prelude.{◌≡◌, ◌≢◌, ℕ, ◌+◌, ◌≤◌, true, List, [], ◌∷◌, ◌++◌, length, take}
 use Rattle.hm_base.specs.Program.{Program}
+use Rattle.hm_history.specs.After.{after}
 use Rattle.hm_history.specs.declared.Entry.{Entry}
-use Rattle.hm_turns.specs.Looking.{Sees, looked_after, plain_after}
+use Rattle.hm_turns.specs.Looking.{Sees, all_have_areas, looked_after, plain_after}
 use Rattle.hm_turns.specs.Sights.{Sight, IsShown, Halts, all_shares}
 use Rattle.hm_turns.specs.declared.looks.Looked.{Looked}
 use Rattle.seq_copies.specs.declared.answers.Snapshot.{Snapshot}
@@ -13,6 +14,10 @@ use Rattle.seq_copies.specs.declared.answers.Taken.{Taken}
 pub record IsCopy (s : Snapshot) (list : List Entry) : Type 0 where
   pub inside : s.at ≤ length list
   pub bytes_are : s.bytes ≡ plain_after (take s.at list) s.proc s.addr (length s.bytes)
+
+-- all its bytes have areas after so many entries of a list
+abbrev pub HaveAreas : Snapshot → ℕ → List Entry → Type 0
+HaveAreas s count list = all_have_areas (after (take count list)).plain s.proc s.addr (length s.bytes) ≡ true
 
 -- the copy that was asked for, of the whole list
 pub record IsTaken (s : Snapshot) (p at n : ℕ) (list : List Entry) : Type 0 where
@@ -45,3 +50,7 @@ checked v p t = record v {
 abbrev pub IsCurrent : Snapshot → Sight → ℕ → Type 0
 IsCurrent s w count =
     (later : List Entry) → IsShown w later → s.bytes ≡ plain_after (take count later) s.proc s.addr (length s.bytes)
+
+-- and all its bytes have areas then
+abbrev pub StillHaveAreas : Snapshot → Sight → ℕ → Type 0
+StillHaveAreas s w count = (later : List Entry) → IsShown w later → HaveAreas s count later

@@ -2,7 +2,7 @@
 ghost use Rattle.std.specs.Prelude.{◌≡◌, ◌≤◌, length, true, nat_le, IfOk, OnErr};
 ghost use Rattle.hm_turns.specs.Looking.{IsLook, Sees};
 ghost use Rattle.hm_turns.specs.Sights.{GoesOn, OwnsOnce, all_shares};
-ghost use Rattle.seq_copies.specs.Copies.{IsCopy, IsCurrent, TakesTo, checked};
+ghost use Rattle.seq_copies.specs.Copies.{HaveAreas, IsCopy, IsCurrent, StillHaveAreas, TakesTo, checked};
 
 use crate::answers::{Snapshot, Still, Taken};
 use hm_base::{Bytes, NoMemory, Proc};
@@ -67,7 +67,7 @@ pub fn take_copy<S: Looks>(
 }
 
 /// Whether the copy has the process's bytes as they are after the count that is loaded here. It loads the count, then
-/// the mark, and takes no memory.
+/// the mark, and takes no memory. Where all its bytes had areas they still have.
 pub fn still<S: Stepped>(turns: &Turns<S>, pass: &mut Pass, snapshot: &Snapshot) -> Still
     requires own { pass.old.desk ≡ turns.now }
     requires copy { IsCopy snapshot.now pass.old.list }
@@ -76,6 +76,8 @@ pub fn still<S: Stepped>(turns: &Turns<S>, pass: &mut Pass, snapshot: &Snapshot)
     ensures whole { pass.old.shares ≡ all_shares → result.count ≡ length pass.old.list }
     ensures holds { result.holds ≡ nat_le result.mark snapshot.now.at }
     ensures current { result.holds ≡ true → IsCurrent snapshot.now pass.new result.count }
+    ensures areas { result.holds ≡ true → HaveAreas snapshot.now snapshot.now.at pass.old.list
+        → StillHaveAreas snapshot.now pass.new result.count }
 {
     let count = turns.count(pass);
     let mark = turns.mark(pass, snapshot.proc);
