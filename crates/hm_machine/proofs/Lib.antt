@@ -6,3 +6,4 @@ pub mod Rounds
 pub mod Draining
 pub mod Lines
 pub mod Touched
+pub mod Looks

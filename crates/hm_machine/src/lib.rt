@@ -2,6 +2,7 @@
 #![tactic(auto)]
 
 mod copies;
+mod looking;
 mod stepped;
 
 ghost use Rattle.std.specs.Prelude.{◌≡◌, ◌<◌, ◌≤◌, fold, length, slice_get, IfOk, None, Some, false};
