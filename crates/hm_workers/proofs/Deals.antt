@@ -1,5 +1,5 @@
 -- Lists of passes.
-use Rattle.std.proofs.Common.{◌≡◌, ℕ, zero, suc, ◌+◌, ◌<◌, List, [], ◌∷◌, ◌++◌, length, Option, Some, None, slice_get, Bool, true, sym, refl, ap, ◌∙◌, subst, ⊎_elim, inl, inr, arith}
+use Rattle.std.proofs.Common.{◌≡◌, ℕ, zero, suc, ◌+◌, ◌<◌, List, [], ◌∷◌, ◌++◌, length, Option, Some, None, slice_get, Bool, true, false, sym, refl, ap, ◌∙◌, subst, ⊎_elim, inl, inr, arith}
 use Rattle.std.proofs.lemmas.List.Sums.{sum_by_push, sum_by-cons}
 use mathlib.Core.List.{IsPrefix}
 use Rattle.hm_history.specs.declared.Entry.{Entry}
@@ -29,7 +29,7 @@ shares_more ps q = sum_by_push (λ (p : Sight). p.shares) ps q
 pub are_less : (d : Desk) (all ps : List Sight) (q : Sight) → all ≡ ps ++ q ∷ [] → AreOf d all → AreOf d ps × (q.desk ≡ d)
 are_less d all ps q is own = let own' = subst (AreOf d) is own in ((λ i p e. own' i p (get_append ps (q ∷ []) i (slice_get_within ps i p e) ∙ e)), own' (length ps) q (get_last ps q))
 
-true_or : (a b : Option StepError) → is_halted a ≡ true → is_halted (either_told a b) ≡ true
+pub true_or : (a b : Option StepError) → is_halted a ≡ true → is_halted (either_told a b) ≡ true
 true_or None b e = absurd (let h = e in cc)
 true_or (Some x) b e = refl
 
@@ -40,6 +40,10 @@ or_true (Some x) b e = refl
 pub halts_too : (a b : Option StepError) → ((e : StepError) → a ≡ Some e → b ≡ Some e) → is_halted a ≡ true → is_halted b ≡ true
 halts_too None b same h = absurd (let g = h in cc)
 halts_too (Some e) b same h = ap is_halted (same e refl)
+
+pub halts_before : (a b : Option StepError) → ((e : StepError) → a ≡ Some e → b ≡ Some e) → is_halted b ≡ false → is_halted a ≡ false
+halts_before None b same h = refl
+halts_before (Some e) b same h = sym (ap is_halted (same e refl)) ∙ h
 
 pub gathered_none : (v : Sight) → IsGathered v [] v
 gathered_none v = record { first = prefix_refl v.list; told = λ t. t; each = λ i p e. absurd (let h = e in cc) }
@@ -55,6 +59,14 @@ gathered_more old v p w gone k is one two = let told : w.told ≡ either_told v.
   first = prefix_trans old.list v.list w.list k.first one;
   told = λ t. ap is_halted told ∙ true_or v.told p.told (k.told t);
   each = taken_in old v p w gone k told one two;
+}
+
+-- a pass that goes on after that
+pub gathered_on : (old v w : Sight) (gone : List Sight) → IsGathered old gone v → IsPrefix v.list w.list → (is_halted v.told ≡ true → is_halted w.told ≡ true) → IsGathered old gone w
+gathered_on old v w gone k later told = record {
+  first = prefix_trans old.list v.list w.list k.first later;
+  told = λ t. told (k.told t);
+  each = λ i p at. let e = k.each i p at in (prefix_trans p.list v.list w.list e.0 later, λ t. told (e.1 t));
 }
 
 there_is : (ps : List Sight) (i : ℕ) → i < length ps → (p : Sight) × (slice_get ps i ≡ Some p)

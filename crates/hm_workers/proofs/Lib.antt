@@ -1,3 +1,5 @@
 pub mod Numbers
 pub mod Deals
 pub mod Tries
+pub mod Watched
+pub mod Recorded

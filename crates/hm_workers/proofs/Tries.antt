@@ -1,14 +1,13 @@
 -- What a try of a worker leaves, by the turn's answer.
-use Rattle.std.proofs.Common.{◌≡◌, ℕ, ◌+◌, inl, inr, List, [], ◌∷◌, ◌++◌, length, ap, sym, ◌∙◌, subst, arith, length-append}
+use Rattle.std.proofs.Common.{◌≡◌, ℕ, inl, inr, List, [], ◌∷◌, length, ap, sym, ◌∙◌, subst, arith, length-append}
 use Rattle.hm_base.specs.Program.{Program}
 use Rattle.hm_history.specs.declared.Entry.{Entry}
 use Rattle.hm_history.specs.declared.Progress.{Progress}
 use Rattle.hm_turns.specs.Sights.{Sight, GoesOn, TurnsTo}
 use Rattle.hm_turns.specs.Stepping.{is_halted}
-use Rattle.hm_turns.specs.declared.known.Own.{Own}
 use Rattle.hm_turns.specs.declared.turn.Turn.{Turn}
 use Rattle.hm_turns.specs.declared.turn.Turn.TheVariants as turn
-use Rattle.hm_workers.specs.Working.{GoesBy, Tries, Works, next_of}
+use Rattle.hm_workers.specs.Working.{Tries, next_of}
 use Rattle.hm_workers.specs.declared.workers.Next.{Next}
 
 module _ (legal : Program → List Entry → Type 0) (due : Program → List Entry → ℕ → Progress) (actor : ℕ) (v w : Sight) (goes : GoesOn v w) where

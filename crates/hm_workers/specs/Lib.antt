@@ -1,2 +1,4 @@
 pub mod Working
 pub mod Dealing
+pub mod Peeking
+pub mod Watching

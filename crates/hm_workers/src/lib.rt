@@ -4,11 +4,16 @@
 mod dealing;
 mod gate;
 mod passes;
+mod peeked;
+mod peeks;
 mod run;
+mod watching;
 mod workers;
 
 pub use dealing::{deal, gather};
 pub use gate::Gate;
 pub use passes::Passes;
-pub use run::run_all;
+pub use peeked::run_peeked;
+pub use peeks::{Peek, PeekList};
+pub use run::{peek_all, run_all};
 pub use workers::run_actors;

@@ -67,7 +67,7 @@ fn try_once<S: Stepped, G: Gate>(
 const MOST_YIELDS: u32 = 64;
 
 // Lets others go first, the longer the oftener nothing was added. Answers for how long to do so the next time.
-fn back_off(yields: u32) -> u32 {
+pub(crate) fn back_off(yields: u32) -> u32 {
     for _ in 0..yields {
         thread::yield_now();
     }

@@ -21,7 +21,7 @@ use Rattle.seq_copies.specs.declared.answers.Still.{Still}
 use Rattle.seq_copies.proofs.Quiet.{quiet_entries, same_areas, untouched}
 
 -- the last mark is right
-last_mark : (list : List Entry) (ms : List Marked) (m : Marked) → AreMarks list (ms ++ m ∷ []) → IsMark list m
+pub last_mark : (list : List Entry) (ms : List Marked) (m : Marked) → AreMarks list (ms ++ m ∷ []) → IsMark list m
 last_mark list [] m are = are.0
 last_mark list (x ∷ ms) m are = last_mark list ms m are.1
 
