@@ -9,6 +9,7 @@ pub mod Replaying
 pub mod Threading
 pub mod Making
 pub mod Upgrading
+pub mod Checking
 pub mod Used
 mod SentParts
 mod SentTree

@@ -71,6 +71,7 @@ tried r t script h Status.Done is ran made = answered r t script h is ran made
 tried r t script h Status.WriteFault is ran made = answered r t script h is ran made
 tried r t script h Status.NoMemory is ran made = made
 tried r t script h Status.Usage is ran made = made
+tried r t script h (Status.NotLegal l) is ran made = made
 tried r t script h (Status.Refused x) is ran made = made
 tried r t script h Status.ReadFault is ran made = made
 tried r t script h Status.HistoryFull is ran made = made

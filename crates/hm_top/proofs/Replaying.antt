@@ -34,12 +34,13 @@ stopped io e n faults none same = record {
   complete = λ no_fault. given io.source.left (λ bytes at s is_given room. short_of_memory io e.status bytes s at n faults no_fault is_given);
 }
 
-pub read_shown : (r : Ran) (e : Ended) (b a : SourceState) (status : Status) → ShowsAt r e status → ReadAs (IsTextOf r.script) b a → HasRead (IsItsText e.script) b a status
-read_shown r e b a Status.Done shows read = subst (λ x. ReadAs (IsItsText x) b a) (sym shows.1.script_is) read
-read_shown r e b a Status.HistoryFull shows read = subst (λ x. ReadAs (IsItsText x) b a) (sym shows.1.script_is) read
-read_shown r e b a Status.WriteFault shows read = subst (λ x. ReadAs (IsItsText x) b a) (sym shows.script_is) read
+pub read_shown : (r : Ran) (e : Ended) (b a : SourceState) (status : Status) → ShowsAt r e status → ReadAs 4194304 (IsTextOf r.script) b a → HasRead (IsItsText e.script) b a status
+read_shown r e b a Status.Done shows read = subst (λ x. ReadAs 4194304 (IsItsText x) b a) (sym shows.1.script_is) read
+read_shown r e b a Status.HistoryFull shows read = subst (λ x. ReadAs 4194304 (IsItsText x) b a) (sym shows.1.script_is) read
+read_shown r e b a Status.WriteFault shows read = subst (λ x. ReadAs 4194304 (IsItsText x) b a) (sym shows.script_is) read
 read_shown r e b a Status.NoMemory shows read = tt
 read_shown r e b a Status.Usage shows read = absurd shows
+read_shown r e b a (Status.NotLegal l) shows read = absurd shows
 read_shown r e b a (Status.Refused x) shows read = absurd shows
 read_shown r e b a Status.TooLong shows read = absurd shows
 read_shown r e b a Status.ReadFault shows read = tt
@@ -51,6 +52,7 @@ faults_shown r e n n' Status.HistoryFull shows same = same
 faults_shown r e n n' Status.WriteFault shows same = same
 faults_shown r e n n' Status.NoMemory shows same = same
 faults_shown r e n n' Status.Usage shows same = same
+faults_shown r e n n' (Status.NotLegal l) shows same = same
 faults_shown r e n n' (Status.Refused x) shows same = same
 faults_shown r e n n' Status.TooLong shows same = same
 
@@ -68,6 +70,7 @@ run_shown r e Status.HistoryFull shows whole over = answered RanFull r e shows.1
 run_shown r e Status.WriteFault shows whole over = answered RanSo r e shows (ran_so r.script r.history.entries r.full whole over)
 run_shown r e Status.NoMemory shows whole over = shows.none
 run_shown r e Status.Usage shows whole over = absurd shows
+run_shown r e (Status.NotLegal l) shows whole over = absurd shows
 run_shown r e (Status.Refused x) shows whole over = absurd shows
 run_shown r e Status.TooLong shows whole over = absurd shows
 run_shown r e Status.ReadFault shows whole over = absurd shows
@@ -83,6 +86,7 @@ report_shown Goes r e k k' Status.WriteFault shows goes w = subst (AddsFront k.h
 report_shown Goes r e k k' Status.NoMemory shows goes (inl same) = inl same
 report_shown Goes r e k k' Status.NoMemory shows goes (inr w) = inr (record { text = w.text; goes = subst Goes (sym w.goes) goes; front = w.front; wants = w.wants })
 report_shown Goes r e k k' Status.Usage shows goes w = absurd shows
+report_shown Goes r e k k' (Status.NotLegal l) shows goes w = absurd shows
 report_shown Goes r e k k' (Status.Refused x) shows goes w = absurd shows
 report_shown Goes r e k k' Status.TooLong shows goes w = absurd shows
 report_shown Goes r e k k' Status.ReadFault shows goes w = absurd shows
@@ -100,6 +104,7 @@ ends io r e Status.NoMemory s shows w none same room over = tt
 ends io r e Status.WriteFault s shows w none same room over = none.writes w
 ends io r e Status.HistoryFull s shows w none same room over = let b = (over shows.0).beyond in let never : true ≡ false = sym b ∙ sym (ap overruns same) ∙ room in cc
 ends io r e Status.Usage s shows w none same room over = shows
+ends io r e (Status.NotLegal l) s shows w none same room over = shows
 ends io r e (Status.Refused x) s shows w none same room over = shows
 ends io r e Status.TooLong s shows w none same room over = shows
 ends io r e Status.ReadFault s shows w none same room over = shows
@@ -110,12 +115,13 @@ receipt_shown r e Status.HistoryFull shows none = shows.1.receipt_is ∙ none
 receipt_shown r e Status.WriteFault shows none = shows.receipt_is ∙ none
 receipt_shown r e Status.NoMemory shows none = shows.receipt_is
 receipt_shown r e Status.Usage shows none = absurd shows
+receipt_shown r e (Status.NotLegal l) shows none = absurd shows
 receipt_shown r e (Status.Refused x) shows none = absurd shows
 receipt_shown r e Status.TooLong shows none = absurd shows
 receipt_shown r e Status.ReadFault shows none = absurd shows
 
 -- it has shown a run
-pub shown : OneText → DrainAloneHasRoom → (io : Traffic) (r : Ran) (e : Ended) → ReadAs (IsTextOf r.script) io.source io.source_after → io.source_after.faults ≡ io.source.faults
+pub shown : OneText → DrainAloneHasRoom → (io : Traffic) (r : Ran) (e : Ended) → ReadAs 4194304 (IsTextOf r.script) io.source io.source_after → io.source_after.faults ≡ io.source.faults
     → (r.full ≡ false → RanWhole r.script r.history.entries) → (r.full ≡ true → RanFull r.script r.history.entries) → Shows r e
     → HasWritten (report r.script r.history.entries) (λ t. t ≡ report r.script r.history.entries) io.sink io.sink_after e.status → WriteFaulted io.sink.faults io.sink_after.faults e.status → r.receipt ≡ None → Replays io e
 shown one alone io r e read same whole over shows w faults no_receipt = record {
@@ -138,8 +144,8 @@ shown one alone io r e read same whole over shows w faults no_receipt = record {
 }
 
 -- so of the script that was read
-pub shown_for : OneText → DrainAloneHasRoom → (io : Traffic) (r : Ran) (e : Ended) (s : Program) → r.script ≡ s → ReadAs (IsTextOf s) io.source io.source_after → io.source_after.faults ≡ io.source.faults
+pub shown_for : OneText → DrainAloneHasRoom → (io : Traffic) (r : Ran) (e : Ended) (s : Program) → r.script ≡ s → ReadAs 4194304 (IsTextOf s) io.source io.source_after → io.source_after.faults ≡ io.source.faults
     → (r.full ≡ false → RanWhole s r.history.entries) → (r.full ≡ true → RanFull s r.history.entries) → Shows r e
     → HasWritten (report r.script r.history.entries) (λ t. t ≡ report r.script r.history.entries) io.sink io.sink_after e.status → WriteFaulted io.sink.faults io.sink_after.faults e.status → r.receipt ≡ None → Replays io e
 shown_for one alone io r e s is read same whole over shows w faults none =
-    shown one alone io r e (subst (λ x. ReadAs (IsTextOf x) io.source io.source_after) (sym is) read) same (λ f. subst (λ x. RanWhole x r.history.entries) (sym is) (whole f)) (λ f. subst (λ x. RanFull x r.history.entries) (sym is) (over f)) shows w faults none
+    shown one alone io r e (subst (λ x. ReadAs 4194304 (IsTextOf x) io.source io.source_after) (sym is) read) same (λ f. subst (λ x. RanWhole x r.history.entries) (sym is) (whole f)) (λ f. subst (λ x. RanFull x r.history.entries) (sym is) (over f)) shows w faults none

@@ -22,6 +22,7 @@ none_run b a e Status.Done n none = absurd n
 none_run b a e Status.HistoryFull n none = absurd n
 none_run b a e Status.WriteFault n none = absurd n
 none_run b a e Status.Usage n none = none.none
+none_run b a e (Status.NotLegal l) n none = absurd n
 none_run b a e (Status.Refused r) n none = none.none
 none_run b a e Status.TooLong n none = none.none
 none_run b a e Status.ReadFault n none = none.none
@@ -32,6 +33,7 @@ none_received b a e Status.Done n none = absurd n
 none_received b a e Status.HistoryFull n none = absurd n
 none_received b a e Status.WriteFault n none = absurd n
 none_received b a e Status.Usage n none = none.receipt_is
+none_received b a e (Status.NotLegal l) n none = none.receipt_is
 none_received b a e (Status.Refused r) n none = none.receipt_is
 none_received b a e Status.TooLong n none = none.receipt_is
 none_received b a e Status.ReadFault n none = none.receipt_is
@@ -43,6 +45,7 @@ or_full Status.NoMemory e = tt
 or_full Status.HistoryFull e = tt
 or_full Status.WriteFault e = e
 or_full Status.Usage e = e
+or_full (Status.NotLegal l) e = e
 or_full (Status.Refused r) e = e
 or_full Status.TooLong e = e
 or_full Status.ReadFault e = e
@@ -69,6 +72,7 @@ run_shown r e Status.HistoryFull shows whole over = answered StoppedFull r e sho
 run_shown r e Status.WriteFault shows whole over = answered CameToEnd r e shows (came r.script r.history.entries r.full whole over)
 run_shown r e Status.NoMemory shows whole over = shows.none
 run_shown r e Status.Usage shows whole over = absurd shows
+run_shown r e (Status.NotLegal l) shows whole over = absurd shows
 run_shown r e (Status.Refused x) shows whole over = absurd shows
 run_shown r e Status.TooLong shows whole over = absurd shows
 run_shown r e Status.ReadFault shows whole over = absurd shows
@@ -82,6 +86,7 @@ receipt_shown r e Status.HistoryFull shows some = receipt_of r e shows.1 some
 receipt_shown r e Status.WriteFault shows some = receipt_of r e shows some
 receipt_shown r e Status.NoMemory shows some = shows.receipt_is
 receipt_shown r e Status.Usage shows some = absurd shows
+receipt_shown r e (Status.NotLegal l) shows some = absurd shows
 receipt_shown r e (Status.Refused x) shows some = absurd shows
 receipt_shown r e Status.TooLong shows some = absurd shows
 receipt_shown r e Status.ReadFault shows some = absurd shows
@@ -92,12 +97,13 @@ ends io r e Status.NoMemory shows w none = tt
 ends io r e Status.HistoryFull shows w none = tt
 ends io r e Status.WriteFault shows w none = none.writes w
 ends io r e Status.Usage shows w none = shows
+ends io r e (Status.NotLegal l) shows w none = shows
 ends io r e (Status.Refused x) shows w none = shows
 ends io r e Status.TooLong shows w none = shows
 ends io r e Status.ReadFault shows w none = shows
 
 -- it has shown what its threads did
-pub shown : (io : Traffic) (r : Ran) (e : Ended) → ReadAs (IsTextOf r.script) io.source io.source_after → io.source_after.faults ≡ io.source.faults
+pub shown : (io : Traffic) (r : Ran) (e : Ended) → ReadAs 4194304 (IsTextOf r.script) io.source io.source_after → io.source_after.faults ≡ io.source.faults
     → (r.full ≡ false → AllEnded r.script r.history.entries) → (r.full ≡ true → StoppedFull r.script r.history.entries) → r.receipt ≡ Some r.history.entries → Shows r e
     → HasWritten (report r.script r.history.entries) (λ t. t ≡ report r.script r.history.entries) io.sink io.sink_after e.status → WriteFaulted io.sink.faults io.sink_after.faults e.status → RunsThreads io e
 shown io r e read same whole over some shows w faults = record {
@@ -117,8 +123,8 @@ shown io r e read same whole over some shows w faults = record {
 }
 
 -- so of the script that was read
-pub shown_for : (io : Traffic) (r : Ran) (e : Ended) (s : Program) → r.script ≡ s → ReadAs (IsTextOf s) io.source io.source_after → io.source_after.faults ≡ io.source.faults
+pub shown_for : (io : Traffic) (r : Ran) (e : Ended) (s : Program) → r.script ≡ s → ReadAs 4194304 (IsTextOf s) io.source io.source_after → io.source_after.faults ≡ io.source.faults
     → (r.full ≡ false → AllEnded s r.history.entries) → (r.full ≡ true → StoppedFull s r.history.entries) → r.receipt ≡ Some r.history.entries → Shows r e
     → HasWritten (report r.script r.history.entries) (λ t. t ≡ report r.script r.history.entries) io.sink io.sink_after e.status → WriteFaulted io.sink.faults io.sink_after.faults e.status → RunsThreads io e
 shown_for io r e s is read same whole over some shows w faults =
-    shown io r e (subst (λ x. ReadAs (IsTextOf x) io.source io.source_after) (sym is) read) same (λ f. subst (λ x. AllEnded x r.history.entries) (sym is) (whole f)) (λ f. subst (λ x. StoppedFull x r.history.entries) (sym is) (over f)) some shows w faults
+    shown io r e (subst (λ x. ReadAs 4194304 (IsTextOf x) io.source io.source_after) (sym is) read) same (λ f. subst (λ x. AllEnded x r.history.entries) (sym is) (whole f)) (λ f. subst (λ x. StoppedFull x r.history.entries) (sym is) (over f)) some shows w faults

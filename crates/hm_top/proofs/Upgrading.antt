@@ -23,6 +23,7 @@ none_upgraded b a script Status.Done n e = absurd n
 none_upgraded b a script Status.HistoryFull n e = n
 none_upgraded b a script Status.WriteFault n e = absurd n
 none_upgraded b a script Status.Usage n e = n
+none_upgraded b a script (Status.NotLegal l) n e = n
 none_upgraded b a script (Status.Refused r) n e = e
 none_upgraded b a script Status.TooLong n e = e
 none_upgraded b a script Status.ReadFault n e = e
@@ -50,12 +51,13 @@ no_history u None h a = absurd a
 no_history u (Some s) h a = a.1
 
 module _ (b a : SourceState) (u : Program) (script : Option Program) (h : List Entry) where
-  read_made : (status : Status) → HasMade (IsAlone u) script h status → ReadAs (IsUpgradeOf u) b a → HasRead (IsItsUpgrade script) b a status
-  read_made Status.Done made read = subst (λ x. ReadAs (IsItsUpgrade x) b a) (sym (the_script u script h made)) read
-  read_made Status.WriteFault made read = subst (λ x. ReadAs (IsItsUpgrade x) b a) (sym (the_script u script h made)) read
+  read_made : (status : Status) → HasMade (IsAlone u) script h status → ReadAs 4194304 (IsUpgradeOf u) b a → HasRead (IsItsUpgrade script) b a status
+  read_made Status.Done made read = subst (λ x. ReadAs 4194304 (IsItsUpgrade x) b a) (sym (the_script u script h made)) read
+  read_made Status.WriteFault made read = subst (λ x. ReadAs 4194304 (IsItsUpgrade x) b a) (sym (the_script u script h made)) read
   read_made Status.NoMemory made read = tt
   read_made Status.HistoryFull made read = absurd made
   read_made Status.Usage made read = absurd made
+  read_made (Status.NotLegal l) made read = absurd made
   read_made (Status.Refused x) made read = absurd made
   read_made Status.TooLong made read = absurd made
   read_made Status.ReadFault made read = tt
@@ -67,6 +69,7 @@ module _ (b a : SourceState) (u : Program) (script : Option Program) (h : List E
   faults_made n n' Status.WriteFault made same = same
   faults_made n n' Status.NoMemory made same = same
   faults_made n n' Status.Usage made same = same
+  faults_made n n' (Status.NotLegal l) made same = same
   faults_made n n' (Status.Refused x) made same = same
   faults_made n n' Status.TooLong made same = same
 
@@ -76,6 +79,7 @@ module _ (b a : SourceState) (u : Program) (script : Option Program) (h : List E
   script_made Status.NoMemory made = made.script_is
   script_made Status.HistoryFull made = made
   script_made Status.Usage made = made
+  script_made (Status.NotLegal l) made = made
   script_made (Status.Refused x) made = absurd made
   script_made Status.TooLong made = absurd made
   script_made Status.ReadFault made = absurd made
@@ -86,6 +90,7 @@ module _ (b a : SourceState) (u : Program) (script : Option Program) (h : List E
   history_made Status.NoMemory made = made.history_is
   history_made Status.HistoryFull made = absurd made
   history_made Status.Usage made = absurd made
+  history_made (Status.NotLegal l) made = absurd made
   history_made (Status.Refused x) made = absurd made
   history_made Status.TooLong made = absurd made
   history_made Status.ReadFault made = absurd made
@@ -100,6 +105,7 @@ module _ (b a : SourceState) (u : Program) (script : Option Program) (h : List E
   text_made k k' Status.NoMemory made goes (inr w) = inr (record { text = w.text; goes = subst (IsUpgradedText b) (sym w.goes) goes; front = w.front; wants = w.wants })
   text_made k k' Status.HistoryFull made goes w = absurd made
   text_made k k' Status.Usage made goes w = absurd made
+  text_made k k' (Status.NotLegal l) made goes w = absurd made
   text_made k k' (Status.Refused x) made goes w = absurd made
   text_made k k' Status.TooLong made goes w = absurd made
   text_made k k' Status.ReadFault made goes w = absurd made
@@ -110,6 +116,7 @@ module _ (b a : SourceState) (u : Program) (script : Option Program) (h : List E
   ends_made io Status.WriteFault made w none = none.writes w
   ends_made io Status.HistoryFull made w none = made
   ends_made io Status.Usage made w none = made
+  ends_made io (Status.NotLegal l) made w none = made
   ends_made io (Status.Refused x) made w none = made
   ends_made io Status.TooLong made w none = made
   ends_made io Status.ReadFault made w none = made
@@ -119,7 +126,7 @@ upgrade_of None s u is x = tt
 upgrade_of (Some bytes) s u is x = record { script = s; text_is = x; upgrade = is }
 
 -- the text in version 2 was written
-pub written : (io : Traffic) (e : Ended) (s u : Program) → ReadAs (IsTextOf s) io.source io.source_after → io.source_after.faults ≡ io.source.faults → u ≡ upgraded s
+pub written : (io : Traffic) (e : Ended) (s u : Program) → ReadAs 4194304 (IsTextOf s) io.source io.source_after → io.source_after.faults ≡ io.source.faults → u ≡ upgraded s
     → HasMade (IsAlone u) e.script e.history.entries e.status → HasWritten (text u) (λ t. t ≡ text u) io.sink io.sink_after e.status → WriteFaulted io.sink.faults io.sink_after.faults e.status → e.receipt ≡ None → Upgrades io e
 written io e s u read same is made w faults receipt =
     let mine = upgrade_of io.source.left s u is read.bytes_are in record {

@@ -11,6 +11,8 @@ pub mod Replays
 pub mod RunsThreads
 pub mod Generates
 pub mod Upgrades
+pub mod Checks
+pub mod Verdicts
 pub mod Usage
 pub mod Does
 pub mod Messages

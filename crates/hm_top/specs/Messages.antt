@@ -10,6 +10,7 @@ use Rattle.hm_top.specs.declared.status.Status.{Status}
 -- the exit code
 abbrev pub code_of : Status → ℕ
 code_of Status.Done = 0
+code_of (Status.NotLegal n) = 1
 code_of Status.Usage = 2
 code_of (Status.Refused refused) = 3
 code_of Status.ReadFault = 4
@@ -25,7 +26,8 @@ refusal_text r = codes "script line " ++ (decimal r.line ++ (codes ": " ++ reaso
 -- the message, which is empty where all was done
 abbrev pub message_text : Status → List ℕ
 message_text Status.Done = []
-message_text Status.Usage = codes "usage: hmmrun replay | threads | generate N | trial N | upgrade"
+message_text (Status.NotLegal n) = codes "not legal"
+message_text Status.Usage = codes "usage: hmmrun replay | threads | generate N | trial N | upgrade | check"
 message_text (Status.Refused refused) = refusal_text refused
 message_text Status.ReadFault = codes "read fault"
 message_text Status.WriteFault = codes "write fault"

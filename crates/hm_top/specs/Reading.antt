@@ -23,19 +23,19 @@ pub record IsRefusalOf (refused : Refused) (bytes : List ℕ) : Type 0 where
   pub first : IsFirstBad bytes refused.line
   pub reason : reading every_word bytes ≡ Err refused
 
--- a source that tells what is left in it was read to its end, and had no more bytes than a script has
-pub record ReadWhole (before after : SourceState) : Type 0 where
+-- a source that tells what is left in it was read to its end, and had no more bytes than the limit
+pub record ReadWhole (most : ℕ) (before after : SourceState) : Type 0 where
   pub rest : IfSome before.left (λ bytes. after.left ≡ Some [])
-  pub short : IfSome before.left (λ bytes. length bytes ≤ MOST_SCRIPT_BYTES)
+  pub short : IfSome before.left (λ bytes. length bytes ≤ most)
 
 -- it was, and this holds of the bytes
-pub record ReadAs (Are : List ℕ → Type 0) (before after : SourceState) : Type 0 where
+pub record ReadAs (most : ℕ) (Are : List ℕ → Type 0) (before after : SourceState) : Type 0 where
   pub bytes_are : IfSome before.left Are
-  pub whole : ReadWhole before after
+  pub whole : ReadWhole most before after
 
 -- how reading ends that gives no script
 abbrev pub HasNotRead : SourceState → SourceState → Status → Type 0
-HasNotRead before after (Status.Refused refused) = ReadAs (IsRefusalOf refused) before after
+HasNotRead before after (Status.Refused refused) = ReadAs MOST_SCRIPT_BYTES (IsRefusalOf refused) before after
 HasNotRead before after Status.TooLong = LeftOver before.left MOST_SCRIPT_BYTES
 HasNotRead before after Status.ReadFault = Unit {0}
 HasNotRead before after Status.NoMemory = Unit {0}
@@ -43,9 +43,9 @@ HasNotRead before after _ = ⊥
 
 -- what was read, where this holds of the bytes if the call came to write something
 abbrev pub HasRead : (List ℕ → Type 0) → SourceState → SourceState → Status → Type 0
-HasRead Are before after Status.Done = ReadAs Are before after
-HasRead Are before after Status.HistoryFull = ReadAs Are before after
-HasRead Are before after Status.WriteFault = ReadAs Are before after
+HasRead Are before after Status.Done = ReadAs MOST_SCRIPT_BYTES Are before after
+HasRead Are before after Status.HistoryFull = ReadAs MOST_SCRIPT_BYTES Are before after
+HasRead Are before after Status.WriteFault = ReadAs MOST_SCRIPT_BYTES Are before after
 HasRead Are before after status = HasNotRead before after status
 
 -- the source's count of faults rose at `ReadFault`, and is as it was at every other status

@@ -47,6 +47,7 @@ abbrev pub HasRun : Option Program → List Entry → Status → Type 0
 HasRun script h Status.Done = Answered RanWhole script h
 HasRun script h Status.HistoryFull = Answered RanFull script h
 HasRun script h Status.WriteFault = Answered RanSo script h
+HasRun script h (Status.NotLegal n) = ⊥
 HasRun script h _ = AnsweredNone script h
 
 -- the report that goes out

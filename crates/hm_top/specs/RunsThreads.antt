@@ -36,6 +36,7 @@ abbrev pub HasRunThreads : Option Program → List Entry → Status → Type 0
 HasRunThreads script h Status.Done = Answered AllEnded script h
 HasRunThreads script h Status.HistoryFull = Answered StoppedFull script h
 HasRunThreads script h Status.WriteFault = Answered CameToEnd script h
+HasRunThreads script h (Status.NotLegal n) = ⊥
 HasRunThreads script h _ = AnsweredNone script h
 
 -- where a report went out there is a receipt, and its list is the history

@@ -31,6 +31,7 @@ HasUpgraded script Status.Done = (u : Program) × (script ≡ Some u)
 HasUpgraded script Status.WriteFault = (u : Program) × (script ≡ Some u)
 HasUpgraded script Status.HistoryFull = ⊥
 HasUpgraded script Status.Usage = ⊥
+HasUpgraded script (Status.NotLegal n) = ⊥
 HasUpgraded script _ = script ≡ None
 
 -- the text of the script in the answer

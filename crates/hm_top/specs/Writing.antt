@@ -15,6 +15,7 @@ pub record WantedIn (Goes : List ℕ → Type 0) (before after : SinkState) : Ty
 -- a text, and that only where the sink itself wanted memory
 abbrev pub HasWritten : List ℕ → (List ℕ → Type 0) → SinkState → SinkState → Status → Type 0
 HasWritten text Goes before after Status.Done = Adds before.held after.held text
+HasWritten text Goes before after (Status.NotLegal n) = Adds before.held after.held text
 HasWritten text Goes before after Status.HistoryFull = Adds before.held after.held text
 HasWritten text Goes before after Status.WriteFault = AddsFront before.held after.held text
 HasWritten text Goes before after Status.NoMemory = (after.held ≡ before.held) ⊎ WantedIn Goes before after

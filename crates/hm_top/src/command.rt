@@ -17,6 +17,8 @@ pub enum Command {
     Trial(u64),
     /// Writes the text of a script in version 2.
     Upgrade,
+    /// Writes the verdict on a report.
+    Check,
 }
 
 fn plain_command(word: &str) -> Option<Command>
@@ -30,6 +32,9 @@ fn plain_command(word: &str) -> Option<Command>
     }
     if word == "upgrade" {
         return Some(Command::Upgrade);
+    }
+    if word == "check" {
+        return Some(Command::Check);
     }
     None
 }

@@ -11,9 +11,9 @@ use std::alloc::Global;
 #[derive(Drop)]
 pub struct Ended {
     pub status: Status,
-    /// The script that was run or whose text went out.
+    /// The script that was run, whose text went out, or whose report was checked.
     pub script: Option<Script>,
-    /// Its history, where it was run.
+    /// Its history, where it was run or its report was checked.
     pub history: History,
     /// Where threads made it: that it is the history of the one machine that they shared.
     pub receipt: Option<Receipt>,

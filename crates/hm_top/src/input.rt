@@ -1,5 +1,5 @@
 // Reading a source to its end.
-ghost use Rattle.std.specs.Prelude.{◌≡◌, IfOk, IfErr, OnOk};
+ghost use Rattle.std.specs.Prelude.{◌≡◌, ◌<◌, ◌^◌, IfOk, IfErr, OnOk};
 ghost use Rattle.hm_base.specs.Program.{IsScript};
 ghost use Rattle.hm_base.specs.declared.limits.TheConstants.{MOST_SCRIPT_BYTES};
 ghost use Rattle.hm_top.specs.Reading.{HasNotRead, IsTextOf, ReadAs, ReadFaulted};
@@ -21,22 +21,23 @@ pub enum Input {
     NoMemory,
 }
 
-/// Reads in pieces of up to 4,096 bytes, until the source ends, fails or gives a byte more than a script has.
-pub fn read_all<S: Source>(alloc: Global, source: &mut S) -> Input
-    ensures text { ReadsText MOST_SCRIPT_BYTES (S.left source.old) (S.left source.new) result }
+/// Reads in pieces of up to 4,096 bytes, until the source ends, fails or gives a byte more than the limit.
+pub fn read_all<S: Source>(alloc: Global, source: &mut S, most: u64) -> Input
+    requires { most < 2 ^ 63 }
+    ensures text { ReadsText most (S.left source.old) (S.left source.new) result }
     ensures faults { ReadFaults (S.failures source.old) (S.failures source.new) result }
 {
     let mut text = Text::new(alloc);
     let mut chunk = [0u8; 4096];
     // A call brings a byte at least, so the limit is passed by one call more than it has bytes, if not before.
-    for turn in 0..MOST_SCRIPT_BYTES + 1 {
+    for turn in 0..most + 1 {
         match source.read(&mut chunk) {
             Got::Bytes(count) => {
                 let piece = &chunk[..count];
                 if text.extend(piece).is_err() {
                     return Input::NoMemory;
                 }
-                if text.len() > MOST_SCRIPT_BYTES {
+                if text.len() > most {
                     return Input::TooLong;
                 }
             }
@@ -51,14 +52,14 @@ pub fn read_all<S: Source>(alloc: Global, source: &mut S) -> Input
 pub fn read_script<S: Source>(alloc: Global, source: &mut S) -> Result<Script, Status>
     ensures script { IfOk result IsScript }
     ensures text { IfOk result
-        (λ s. ReadAs (IsTextOf s) (source_state S.left S.failures source.old)
+        (λ s. ReadAs MOST_SCRIPT_BYTES (IsTextOf s) (source_state S.left S.failures source.old)
         (source_state S.left S.failures source.new)) }
     ensures none { IfErr result
         (HasNotRead (source_state S.left S.failures source.old) (source_state S.left S.failures source.new)) }
     ensures faults { OnOk result (S.failures source.new ≡ S.failures source.old) }
     ensures fault { IfErr result (ReadFaulted (S.failures source.old) (S.failures source.new)) }
 {
-    let text = match read_all(alloc, source) {
+    let text = match read_all(alloc, source, MOST_SCRIPT_BYTES) {
         Input::Whole(text) => text,
         Input::Fault => return Err(Status::ReadFault),
         Input::TooLong => return Err(Status::TooLong),

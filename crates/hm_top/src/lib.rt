@@ -1,6 +1,7 @@
 // The top call: what the words after the program's name ask for.
 #![tactic(auto)]
 
+mod check;
 mod command;
 mod ended;
 mod ending;
@@ -15,6 +16,7 @@ mod threads;
 mod top;
 mod upgrade;
 
+pub use check::MOST_REPORT_BYTES;
 pub use command::Command;
 pub use ended::Ended;
 pub use ending::finish;

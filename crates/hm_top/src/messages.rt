@@ -23,7 +23,8 @@ pub fn message(alloc: Global, status: &Status) -> Result<Text, NoMemory>
 {
     let text = match status {
         Status::Done => "",
-        Status::Usage => "usage: hmmrun replay | threads | generate N | trial N | upgrade",
+        Status::NotLegal(_) => "not legal",
+        Status::Usage => "usage: hmmrun replay | threads | generate N | trial N | upgrade | check",
         Status::Refused(refused) => return refusal(alloc, refused),
         Status::ReadFault => "read fault",
         Status::WriteFault => "write fault",

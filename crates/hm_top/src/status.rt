@@ -7,21 +7,23 @@ use hm_script::Refused;
 /// How a call ended.
 #[derive(Clone, Copy, Debug, PartialEq, Eq)]
 pub enum Status {
-    /// The schedule's turns were made, and the report went out whole.
+    /// What the words ask for was done, and its text went out whole.
     Done,
+    /// The bytes are no legal report: the first bad line.
+    NotLegal(u64),
     /// The words ask for nothing that there is.
     Usage,
     /// No script has the bytes as its text: the first bad line and its reason.
     Refused(Refused),
     /// The source failed.
     ReadFault,
-    /// The sink failed, and a front of the report went out.
+    /// The sink failed, and a front of the text went out.
     WriteFault,
     /// Memory ran out.
     NoMemory,
     /// A turn found an entry due and the history full. The report went out whole.
     HistoryFull,
-    /// The source has more bytes than a script.
+    /// The source has more bytes than a script, or for `check` than a report.
     TooLong,
 }
 
@@ -32,6 +34,7 @@ impl Status {
     {
         match self {
             Status::Done => 0,
+            Status::NotLegal(_) => 1,
             Status::Usage => 2,
             Status::Refused(_) => 3,
             Status::ReadFault => 4,

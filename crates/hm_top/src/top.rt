@@ -7,6 +7,7 @@ ghost use Rattle.hm_top.specs.Traffic.{source_state, traffic};
 ghost use Rattle.hm_top.specs.declared.command.Command.{Command};
 ghost use Rattle.hm_top.specs.declared.status.Status.{Status};
 
+use crate::check::check;
 use crate::command::Command;
 use crate::ended::Ended;
 use crate::generate::{generate, trial};
@@ -40,6 +41,7 @@ pub fn run_alone<S: Source, K: Sink>(
         Some(Command::Generate(number)) => generate(alloc, number, sink),
         Some(Command::Trial(number)) => trial(alloc, number, sink),
         Some(Command::Upgrade) => upgrade(alloc, source, sink),
+        Some(Command::Check) => check(alloc, source, sink),
         None => Ended::stopped(alloc, Status::Usage),
     }
 }

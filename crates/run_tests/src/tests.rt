@@ -20,7 +20,13 @@ const EMPTY: &[u8] = b"hmm 1\nframes 0\n";
 const MEETING: &[u8] =
     b"hmm 1\nframes 8\ndevice 0 4\nactor 0\nmap 0 16 2 rw\nstore 0 0x10000 41\nstore 0 0x11000 42\nfork 0 1\nattach 0 0 0 16 1\ntodev 0 16 1\nactor 1\nload 1 0x11000 1\n";
 
-const USAGE: &str = "usage: hmmrun replay | threads | generate N | trial N | upgrade";
+/// The report of `SCRIPT`.
+const REPORT: &str =
+    "hmm 1\nframes 4\nactor 0\nmap 0 16 1 rw\nstore 0 0x10000 41\nload 0 0x10000 2\n\
+    turns 0 20\nhistory\n0 a0 wlock p0\n1 a0 mapped p0 16 1 rw\n2 a0 rlock p0\n3 a0 take s0\n\
+    4 a0 place p0 16 sys s0 w\n5 a0 runlock p0\n6 a0 stored p0 0x10000 41\n7 a0 loaded p0 0x10000 4100\nend 8\n";
+
+const USAGE: &str = "usage: hmmrun replay | threads | generate N | trial N | upgrade | check";
 
 fn ends<R: Abort + Threads + Wait + Sync, S: Source, K: Sink, G: Gate + Sync>(
     rt: &R,
@@ -53,6 +59,7 @@ fn words_that_it_has_not(rt: HostRuntime) -> Result<(), Fail> {
         "generate 07",
         "trial 18446744073709551616",
         "upgrade 2",
+        "check 1",
     ] {
         let mut source = SureSource::new(rt.alloc(), SCRIPT)?;
         let mut sink = SureSink::new(rt.alloc());
@@ -65,7 +72,12 @@ fn words_that_it_has_not(rt: HostRuntime) -> Result<(), Fail> {
 
 #[test]
 fn a_read_that_fails(rt: HostRuntime) -> Result<(), Fail> {
-    for words in ["replay", "threads", "upgrade"] {
+    for (words, code, text) in [
+        ("replay", 0, ""),
+        ("threads", 0, ""),
+        ("upgrade", 0, ""),
+        ("check", 1, "not legal"),
+    ] {
         for call in 1..8 {
             let mut source = MemorySource::new(rt.alloc(), SCRIPT, 16, &[call])?;
             let mut sink = SureSink::new(rt.alloc());
@@ -76,7 +88,7 @@ fn a_read_that_fails(rt: HostRuntime) -> Result<(), Fail> {
         let mut source = MemorySource::new(rt.alloc(), SCRIPT, 16, &[8])?;
         let mut sink = SureSink::new(rt.alloc());
         let streams = (&mut source, &mut sink);
-        ends(&rt, rt.alloc(), words, streams, &Open, (0, ""))?;
+        ends(&rt, rt.alloc(), words, streams, &Open, (code, text))?;
     }
     Ok(())
 }
@@ -190,6 +202,62 @@ fn a_byte_too_many(rt: HostRuntime) -> Result<(), Fail> {
         let streams = (&mut source, &mut sink);
         ends(&rt, rt.alloc(), "replay", streams, &Open, (code, text))?;
         assert_eq!(rt; sink.held().len(), 0);
+    }
+    Ok(())
+}
+
+/// Checks a report, and compares the line that is written.
+fn judges<R: Abort + Threads + Wait + Sync>(
+    rt: &R,
+    alloc: Global,
+    report: &str,
+    line: &str,
+    wanted: (u8, &str),
+) -> Result<(), Fail> {
+    let mut source = SureSource::new(alloc, report.as_bytes())?;
+    let mut sink = SureSink::new(alloc);
+    ends(rt, alloc, "check", (&mut source, &mut sink), &Open, wanted)?;
+    assert_eq!(rt; sink.held(), line.as_bytes());
+    Ok(())
+}
+
+#[test]
+fn a_legal_report(rt: HostRuntime) -> Result<(), Fail> {
+    judges(&rt, rt.alloc(), REPORT, "legal 8\n", (0, ""))?;
+    let mut early = String::new(rt.alloc());
+    for line in REPORT.lines().take(14) {
+        early.push_str(line)?;
+        early.push('\n')?;
+    }
+    early.push_str("unfinished a0 1\nend 6\n")?;
+    judges(&rt, rt.alloc(), early.as_str(), "legal 6\n", (0, ""))
+}
+
+#[test]
+fn a_report_that_is_not_legal(rt: HostRuntime) -> Result<(), Fail> {
+    let not_legal = (1, "not legal");
+    for (from, to, line) in [
+        ("4100\n", "4101\n", "bad 16\n"),
+        ("take s0", "take s1", "bad 12\n"),
+        ("end 8\n", "", "bad 17\n"),
+        (REPORT, "", "bad 1\n"),
+    ] {
+        let report = REPORT.replace(rt.alloc(), from, to)?;
+        judges(&rt, rt.alloc(), report.as_str(), line, not_legal)?;
+    }
+    Ok(())
+}
+
+#[test]
+fn a_verdict_that_is_cut_off(rt: HostRuntime) -> Result<(), Fail> {
+    for (report, room, line) in [(REPORT, 8, "legal 8\n"), ("", 6, "bad 1\n")] {
+        for cut in 0..room {
+            let mut source = SureSource::new(rt.alloc(), report.as_bytes())?;
+            let mut sink = MemorySink::new(rt.alloc(), cut, &[])?;
+            let streams = (&mut source, &mut sink);
+            ends(&rt, rt.alloc(), "check", streams, &Open, (5, "write fault"))?;
+            assert!(rt; line.as_bytes().starts_with(sink.held()));
+        }
     }
     Ok(())
 }

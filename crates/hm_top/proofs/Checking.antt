@@ -1,0 +1,242 @@
+-- What a call with the word `check` comes to.
+use Rattle.std.proofs.Common.{◌≡◌, ℕ, ◌≤◌, ◌<◌, inl, inr, Some, None, Option, List, [], length, refl, sym, ◌∙◌, ap, subst, arith}
+use Rattle.std.specs.Prelude.{IfSome}
+use Rattle.hm_base.specs.Program.{Program}
+use Rattle.hm_check.specs.FirstBad.{IsFirstBad, IsLegalReport}
+use Rattle.hm_check.specs.Judged.{IsYes}
+use Rattle.hm_check.specs.declared.verdict.Report.{Report}
+use Rattle.hm_check.specs.declared.verdict.Verdict.{Verdict}
+use Rattle.hm_check.specs.declared.verdict.Verdict.TheVariants.{Yes, No}
+use Rattle.hm_history.specs.declared.Entry.{Entry}
+use Rattle.hm_io.specs.Streams.{Adds, AddsFront}
+use Rattle.hm_report.specs.SinkState.{SinkState}
+use Rattle.hm_top.specs.Checks.{Checks, Finds, HasJudged, HasNotJudged, HasReport, HasTold, IsAsAnswered, IsItsReport, IsJudged, IsLegalReportOf, Tells, TellsBad, WroteFrontFor, bad_line, legal_line}
+use Rattle.hm_top.specs.Complete.{NoFault}
+use Rattle.hm_top.specs.Ran.{HasNothing}
+use Rattle.hm_top.specs.Reading.{ReadAs, ReadFaulted}
+use Rattle.hm_top.specs.Running.{Answered, AnsweredNone}
+use Rattle.hm_top.specs.Streams.{CameWhole}
+use Rattle.hm_top.specs.Traffic.{SourceState, Traffic}
+use Rattle.hm_top.specs.Verdicts.{AnswersTo, EndsAt, HasReportOf, IsVerdictOn, verdict_line}
+use Rattle.hm_top.specs.Writing.{HasWritten, WriteFaulted}
+use Rattle.hm_top.specs.declared.ended.Ended.{Ended}
+use Rattle.hm_top.specs.declared.status.Status.{Status}
+use Rattle.hm_top.proofs.Calls.{given}
+
+-- ---- where there is no verdict
+
+not_judged : (script : Option Program) (h : List Entry) (b a : SourceState) (status : Status) → HasNotJudged b a status → HasJudged script h b a status
+not_judged script h b a Status.Done n = absurd n
+not_judged script h b a (Status.NotLegal l) n = absurd n
+not_judged script h b a Status.WriteFault n = absurd n
+not_judged script h b a Status.HistoryFull n = n
+not_judged script h b a Status.Usage n = n
+not_judged script h b a (Status.Refused r) n = n
+not_judged script h b a Status.TooLong n = n
+not_judged script h b a Status.ReadFault n = n
+not_judged script h b a Status.NoMemory n = n
+
+none_answered : (b a : SourceState) (script : Option Program) (h : List Entry) (status : Status) → HasNotJudged b a status → AnsweredNone script h → HasReport script h status
+none_answered b a script h Status.Done n none = absurd n
+none_answered b a script h (Status.NotLegal l) n none = none
+none_answered b a script h Status.WriteFault n none = absurd n
+none_answered b a script h Status.HistoryFull n none = none
+none_answered b a script h Status.Usage n none = none
+none_answered b a script h (Status.Refused r) n none = none
+none_answered b a script h Status.TooLong n none = none
+none_answered b a script h Status.ReadFault n none = none
+none_answered b a script h Status.NoMemory n none = none
+
+none_told : (b a from : SourceState) (script : Option Program) (h : List Entry) (k k' : SinkState) (status : Status) → HasNotJudged b a status → k' ≡ k → HasTold from script h k k' status
+none_told b a from script h k k' Status.Done n same = absurd n
+none_told b a from script h k k' (Status.NotLegal l) n same = absurd n
+none_told b a from script h k k' Status.WriteFault n same = absurd n
+none_told b a from script h k k' Status.HistoryFull n same = absurd n
+none_told b a from script h k k' Status.Usage n same = absurd n
+none_told b a from script h k k' (Status.Refused r) n same = absurd n
+none_told b a from script h k k' Status.TooLong n same = ap (λ x. x.held) same
+none_told b a from script h k k' Status.ReadFault n same = ap (λ x. x.held) same
+none_told b a from script h k k' Status.NoMemory n same = inl (ap (λ x. x.held) same)
+
+none_failed : (b a : SourceState) (n n' : ℕ) (status : Status) → HasNotJudged b a status → n' ≡ n → WriteFaulted n n' status
+none_failed b a n n' Status.Done x same = absurd x
+none_failed b a n n' (Status.NotLegal l) x same = absurd x
+none_failed b a n n' Status.WriteFault x same = absurd x
+none_failed b a n n' Status.HistoryFull x same = absurd x
+none_failed b a n n' Status.Usage x same = absurd x
+none_failed b a n n' (Status.Refused r) x same = absurd x
+none_failed b a n n' Status.TooLong x same = same
+none_failed b a n n' Status.ReadFault x same = same
+none_failed b a n n' Status.NoMemory x same = same
+
+long : (bytes : List ℕ) → 268435456 < length bytes → length bytes ≤ 268435456 → ⊥
+long bytes l m = omega (arith, l, m)
+
+-- where there are no more bytes than the limit and no fault was counted, it is for want of memory
+short_of_memory : (io : Traffic) (status : Status) (bytes : List ℕ) → io.source.left ≡ Some bytes → HasNotJudged io.source io.source_after status → ReadFaulted io.source.faults io.source_after.faults status → NoFault io → length bytes ≤ 268435456 → status ≡ Status.NoMemory
+short_of_memory io status bytes e n faults none short = by io.source.left status e n faults
+  where
+    by : (left : Option (List ℕ)) (status : Status) → left ≡ Some bytes → HasNotJudged (record io.source { left = left }) io.source_after status → ReadFaulted io.source.faults io.source_after.faults status → status ≡ Status.NoMemory
+    by None status e n faults = cc
+    by (Some bs) Status.NoMemory e n faults = refl
+    by (Some bs) Status.Done e n faults = absurd n
+    by (Some bs) (Status.NotLegal l) e n faults = absurd n
+    by (Some bs) Status.HistoryFull e n faults = absurd n
+    by (Some bs) Status.WriteFault e n faults = absurd n
+    by (Some bs) Status.Usage e n faults = absurd n
+    by (Some bs) (Status.Refused r) e n faults = absurd n
+    by (Some bs) Status.ReadFault e n faults = absurd (none.reads faults)
+    by (Some bs) Status.TooLong e n faults = let same : bs ≡ bytes = cc in absurd (long bytes (subst (λ x. 268435456 < length x) same n) short)
+
+-- it had nothing to tell
+pub stopped : (io : Traffic) (e : Ended) → HasNotJudged io.source io.source_after e.status → ReadFaulted io.source.faults io.source_after.faults e.status → HasNothing e → io.sink_after ≡ io.sink → Checks io e
+stopped io e n faults none same = record {
+  read = not_judged e.script e.history.entries io.source io.source_after e.status n;
+  read_faults = faults;
+  answer = none_answered io.source io.source_after e.script e.history.entries e.status n none.none;
+  written = none_told io.source io.source_after io.source e.script e.history.entries io.sink io.sink_after e.status n same;
+  write_faults = none_failed io.source io.source_after io.sink.faults io.sink_after.faults e.status n (ap (λ k. k.faults) same);
+  receipt = none.receipt_is;
+  complete = λ no_fault. given io.source.left (λ bytes at short. subst IsJudged (sym (short_of_memory io e.status bytes at n faults no_fault short)) tt);
+  finds = λ no_fault. given io.source.left (λ bytes at short c h is. subst (Finds c h e) (sym (short_of_memory io e.status bytes at n faults no_fault short)) tt);
+}
+
+-- ---- where there is one
+
+came_as : (P : List ℕ → Type 0) (left after : Option (List ℕ)) (bytes : List ℕ) → CameWhole left after bytes → P bytes → IfSome left P
+came_as P None after bytes came p = tt
+came_as P (Some l) after bytes came p = subst P (sym came.0) p
+
+came_rest : (left after : Option (List ℕ)) (bytes : List ℕ) → CameWhole left after bytes → IfSome left (λ l. after ≡ Some [])
+came_rest None after bytes came = tt
+came_rest (Some l) after bytes came = came.1
+
+came_bytes : (left after : Option (List ℕ)) (bytes all : List ℕ) → CameWhole left after bytes → left ≡ Some all → all ≡ bytes
+came_bytes None after bytes all came e = cc
+came_bytes (Some l) after bytes all came e = let same : l ≡ all = cc in sym same ∙ came.0
+
+answered : (Is : Program → List Entry → Type 0) (r : Report) (e : Ended) → HasReportOf r e → Is r.script r.history.entries → Answered Is e.script e.history.entries
+answered Is r e has is = subst (λ s. Answered Is s e.history.entries) (sym has.script_is) (subst (Is r.script) (sym has.history_is) is)
+
+module _ (b a : SourceState) (e : Ended) where
+  read_of : (P : List ℕ → Type 0) (v : Verdict) (x : IsVerdictOn b a v) → P x.bytes → ReadAs 268435456 P b a
+  read_of P v x p = record {
+    bytes_are = came_as P b.left a.left x.bytes x.whole p;
+    whole = record {
+      rest = came_rest b.left a.left x.bytes x.whole;
+      short = came_as (λ bytes. length bytes ≤ 268435456) b.left a.left x.bytes x.whole x.short;
+    };
+  }
+
+  its_report : (r : Report) (x : IsVerdictOn b a (Yes r)) → IsLegalReportOf r.script r.history.entries x.bytes
+  its_report r x = record { legal = x.judged.0; text_is = x.judged.1 }
+
+  as_answered : (r : Report) (bytes : List ℕ) → HasReportOf r e → IsLegalReportOf r.script r.history.entries bytes → IsAsAnswered e.script e.history.entries bytes
+  as_answered r bytes has is = subst (λ s. IsAsAnswered s e.history.entries bytes) (sym has.script_is) (subst (λ h. IsLegalReportOf r.script h bytes) (sym has.history_is) is)
+
+  read_judged : (v : Verdict) (status : Status) → EndsAt v e status → IsVerdictOn b a v → HasJudged e.script e.history.entries b a status
+  read_judged (Yes r) Status.Done ends x = read_of (IsItsReport e.script e.history.entries) (Yes r) x (answered (λ c h. IsLegalReportOf c h x.bytes) r e ends.1 (its_report r x))
+  read_judged (Yes r) (Status.NotLegal m) ends x = let never = ends.0 in cc
+  read_judged (Yes r) Status.WriteFault ends x = read_of (IsAsAnswered e.script e.history.entries) (Yes r) x (as_answered r x.bytes ends (its_report r x))
+  read_judged (No n) Status.Done ends x = let never = ends.0 in cc
+  read_judged (No n) (Status.NotLegal m) ends x = let is = ends.0 in let same : n ≡ m = cc in read_of (λ bytes. IsFirstBad bytes m) (No n) x (subst (IsFirstBad x.bytes) same x.judged)
+  read_judged (No n) Status.WriteFault ends x = read_of (IsAsAnswered e.script e.history.entries) (No n) x (subst (λ s. IsAsAnswered s e.history.entries x.bytes) (sym ends.none.script_is) (record { line = n; first = x.judged }))
+  read_judged v Status.NoMemory ends x = tt
+  read_judged v Status.HistoryFull ends x = ends
+  read_judged v Status.Usage ends x = ends
+  read_judged v (Status.Refused r) ends x = ends
+  read_judged v Status.TooLong ends x = absurd ends
+  read_judged v Status.ReadFault ends x = tt
+
+  answer_judged : (v : Verdict) (status : Status) → EndsAt v e status → IsVerdictOn b a v → HasReport e.script e.history.entries status
+  answer_judged (Yes r) Status.Done ends x = answered IsLegalReport r e ends.1 x.judged.0
+  answer_judged (Yes r) (Status.NotLegal m) ends x = let never = ends.0 in cc
+  answer_judged (Yes r) Status.WriteFault ends x = inl (answered IsLegalReport r e ends x.judged.0)
+  answer_judged (No n) Status.Done ends x = let never = ends.0 in cc
+  answer_judged (No n) (Status.NotLegal m) ends x = ends.1.none
+  answer_judged (No n) Status.WriteFault ends x = inr ends.none
+  answer_judged v Status.NoMemory ends x = ends.none
+  answer_judged v Status.HistoryFull ends x = absurd ends
+  answer_judged v Status.Usage ends x = absurd ends
+  answer_judged v (Status.Refused r) ends x = absurd ends
+  answer_judged v Status.TooLong ends x = absurd ends
+  answer_judged v Status.ReadFault ends x = absurd ends
+
+  tells_bad : (n : ℕ) → IsVerdictOn b a (No n) → TellsBad b (bad_line n)
+  tells_bad n x = record { line = n; read = came_as (λ bytes. IsFirstBad bytes n) b.left a.left x.bytes x.whole x.judged; text_is = refl }
+
+  tells : (v : Verdict) → IsVerdictOn b a v → Tells b (verdict_line v)
+  tells (Yes r) x = inl (record {
+    script = r.script;
+    history = r.history.entries;
+    legal = x.judged.0;
+    read = came_as (IsLegalReportOf r.script r.history.entries) b.left a.left x.bytes x.whole (its_report r x);
+    text_is = refl;
+  })
+  tells (No n) x = inr (tells_bad n x)
+
+  told : (k k' : SinkState) (v : Verdict) (status : Status) → EndsAt v e status → IsVerdictOn b a v → HasWritten (verdict_line v) (λ t. t ≡ verdict_line v) k k' status → HasTold b e.script e.history.entries k k' status
+  told k k' (Yes r) Status.Done ends x w = subst (λ h. Adds k.held k'.held (legal_line (length h))) (sym ends.1.history_is) w
+  told k k' (Yes r) (Status.NotLegal m) ends x w = let never = ends.0 in cc
+  told k k' (Yes r) Status.WriteFault ends x w = subst (λ s. WroteFrontFor b s e.history.entries k k') (sym ends.script_is) (subst (λ h. AddsFront k.held k'.held (legal_line (length h))) (sym ends.history_is) w)
+  told k k' (No n) Status.Done ends x w = let never = ends.0 in cc
+  told k k' (No n) (Status.NotLegal m) ends x w = let is = ends.0 in let same : n ≡ m = cc in subst (λ l. Adds k.held k'.held (bad_line l)) same w
+  told k k' (No n) Status.WriteFault ends x w = subst (λ s. WroteFrontFor b s e.history.entries k k') (sym ends.none.script_is) (record { text = bad_line n; goes = tells_bad n x; front = w })
+  told k k' v Status.NoMemory ends x (inl same) = inl same
+  told k k' v Status.NoMemory ends x (inr w) = inr (record { text = w.text; goes = subst (Tells b) (sym w.goes) (tells v x); front = w.front; wants = w.wants })
+  told k k' v Status.HistoryFull ends x w = absurd ends
+  told k k' v Status.Usage ends x w = absurd ends
+  told k k' v (Status.Refused r) ends x w = absurd ends
+  told k k' v Status.TooLong ends x w = absurd ends
+  told k k' v Status.ReadFault ends x w = absurd ends
+
+  faults_judged : (n n' : ℕ) (v : Verdict) (status : Status) → EndsAt v e status → n' ≡ n → ReadFaulted n n' status
+  faults_judged n n' v Status.Done ends same = same
+  faults_judged n n' v (Status.NotLegal m) ends same = same
+  faults_judged n n' v Status.WriteFault ends same = same
+  faults_judged n n' v Status.NoMemory ends same = same
+  faults_judged n n' v Status.HistoryFull ends same = same
+  faults_judged n n' v Status.Usage ends same = same
+  faults_judged n n' v (Status.Refused r) ends same = same
+  faults_judged n n' v Status.TooLong ends same = same
+  faults_judged n n' v Status.ReadFault ends same = absurd ends
+
+  judged_whole : (io : Traffic) (v : Verdict) (status : Status) → EndsAt v e status → WriteFaulted io.sink.faults io.sink_after.faults status → NoFault io → IsJudged status
+  judged_whole io v Status.Done ends w none = tt
+  judged_whole io v (Status.NotLegal m) ends w none = tt
+  judged_whole io v Status.NoMemory ends w none = tt
+  judged_whole io v Status.WriteFault ends w none = none.writes w
+  judged_whole io v Status.HistoryFull ends w none = ends
+  judged_whole io v Status.Usage ends w none = ends
+  judged_whole io v (Status.Refused r) ends w none = ends
+  judged_whole io v Status.TooLong ends w none = ends
+  judged_whole io v Status.ReadFault ends w none = ends
+
+  found : (io : Traffic) (c : Program) (h : List Entry) (v : Verdict) (status : Status) → EndsAt v e status → IsYes c h v → WriteFaulted io.sink.faults io.sink_after.faults status → NoFault io → Finds c h e status
+  found io c h (Yes r) Status.Done ends mine w none = (ends.1.script_is ∙ ap Some mine.0, ends.1.history_is ∙ mine.1)
+  found io c h (No n) Status.Done ends mine w none = absurd mine
+  found io c h (Yes r) (Status.NotLegal m) ends mine w none = let never = ends.0 in cc
+  found io c h (No n) (Status.NotLegal m) ends mine w none = mine
+  found io c h v Status.NoMemory ends mine w none = tt
+  found io c h v Status.WriteFault ends mine w none = none.writes w
+  found io c h v Status.HistoryFull ends mine w none = ends
+  found io c h v Status.Usage ends mine w none = ends
+  found io c h v (Status.Refused r) ends mine w none = ends
+  found io c h v Status.TooLong ends mine w none = ends
+  found io c h v Status.ReadFault ends mine w none = ends
+
+-- it came to a verdict
+pub judged : (io : Traffic) (e : Ended) (v : Verdict) → IsVerdictOn io.source io.source_after v → io.source_after.faults ≡ io.source.faults → EndsAt v e e.status
+    → HasWritten (verdict_line v) (λ t. t ≡ verdict_line v) io.sink io.sink_after e.status → WriteFaulted io.sink.faults io.sink_after.faults e.status → e.receipt ≡ None → Checks io e
+judged io e v x same ends w faults receipt = record {
+  read = read_judged io.source io.source_after e v e.status ends x;
+  read_faults = faults_judged io.source io.source_after e io.source.faults io.source_after.faults v e.status ends same;
+  answer = answer_judged io.source io.source_after e v e.status ends x;
+  written = told io.source io.source_after e io.sink io.sink_after v e.status ends x w;
+  write_faults = faults;
+  receipt = receipt;
+  complete = λ none. given io.source.left (λ bytes at short. judged_whole io.source io.source_after e io v e.status ends faults none);
+  finds = λ none. given io.source.left (λ bytes at short c h is.
+      let mine = x.only c h (subst (IsLegalReportOf c h) (came_bytes io.source.left io.source_after.left x.bytes bytes x.whole at) is) in
+      found io.source io.source_after e io c h v e.status ends mine faults none);
+}

@@ -1,0 +1,106 @@
+// The word `check`.
+ghost use Rattle.std.specs.Prelude.{◌≡◌, None, IfOk, IfErr, OnOk};
+ghost use Rattle.hm_report.specs.SinkState.{sink_state};
+ghost use Rattle.hm_top.specs.Checks.{Checks, HasNotJudged};
+ghost use Rattle.hm_top.specs.Reading.{ReadFaulted};
+ghost use Rattle.hm_top.specs.Traffic.{source_state, traffic};
+ghost use Rattle.hm_top.specs.Verdicts.{AnswersTo, EndsAt, IsVerdictOn, verdict_line, verdict_status};
+ghost use Rattle.hm_top.specs.Writing.{HasWritten, WriteFaulted};
+
+use crate::ended::Ended;
+use crate::input::{Input, read_all};
+use crate::status::Status;
+use hm_base::{NoMemory, Text};
+use hm_check::Verdict;
+use hm_io::{Sink, Source};
+use hm_report::{Written, write_text};
+use std::alloc::Global;
+
+/// As many bytes as a report that is checked has at most.
+pub const MOST_REPORT_BYTES: u64 = 268_435_456;
+
+/// The verdict on all that the source has, or how a call ends that comes to none.
+fn judge<S: Source>(alloc: Global, source: &mut S) -> Result<Verdict, Status>
+    ensures verdict { IfOk result
+        (IsVerdictOn (source_state S.left S.failures source.old) (source_state S.left S.failures source.new)) }
+    ensures none { IfErr result
+        (HasNotJudged (source_state S.left S.failures source.old) (source_state S.left S.failures source.new)) }
+    ensures faults { OnOk result (S.failures source.new ≡ S.failures source.old) }
+    ensures fault { IfErr result (ReadFaulted (S.failures source.old) (S.failures source.new)) }
+{
+    let text = match read_all(alloc, source, MOST_REPORT_BYTES) {
+        Input::Whole(text) => text,
+        Input::Fault => return Err(Status::ReadFault),
+        Input::TooLong => return Err(Status::TooLong),
+        Input::NoMemory => return Err(Status::NoMemory),
+    };
+    match hm_check::check(alloc, text.as_slice()) {
+        Ok(verdict) => Ok(verdict),
+        Err(NoMemory) => Err(Status::NoMemory),
+    }
+}
+
+/// The line of a verdict.
+fn verdict_line(alloc: Global, verdict: &Verdict) -> Result<Text, NoMemory>
+    ensures { IfOk result (λ t. t ≡ verdict_line verdict.now) }
+{
+    let text = match verdict {
+        Verdict::Yes(report) => {
+            let count = report.history.len();
+            format!(in alloc; "legal {count}\n")?
+        }
+        Verdict::No(line) => format!(in alloc; "bad {line}\n")?,
+    };
+    Text::from_slice(alloc, text.as_bytes())
+}
+
+/// Ends a call whose line went out.
+fn answer(alloc: Global, verdict: Verdict) -> Ended
+    ensures status { result.status ≡ verdict_status verdict }
+    ensures answer { AnswersTo verdict result }
+{
+    match verdict {
+        Verdict::Yes(report) => Ended {
+            status: Status::Done,
+            script: Some(report.script),
+            history: report.history,
+            receipt: None,
+        },
+        Verdict::No(line) => Ended::stopped(alloc, Status::NotLegal(line)),
+    }
+}
+
+/// Writes the line of the verdict, and ends the call.
+fn write_verdict<K: Sink>(alloc: Global, verdict: Verdict, sink: &mut K) -> Ended
+    ensures ends { EndsAt verdict result result.status }
+    ensures receipt { result.receipt ≡ None }
+    ensures written { HasWritten (verdict_line verdict) (λ t. t ≡ verdict_line verdict)
+        (sink_state K.held K.failures K.wanted sink.old) (sink_state K.held K.failures K.wanted sink.new)
+        result.status }
+    ensures write_faults { WriteFaulted (K.failures sink.old) (K.failures sink.new) result.status }
+{
+    let Ok(line) = verdict_line(alloc, &verdict) else {
+        return Ended::stopped(alloc, Status::NoMemory);
+    };
+    match write_text(alloc, &line, sink) {
+        Written::Done => answer(alloc, verdict),
+        Written::Fault => {
+            let mut ended = answer(alloc, verdict);
+            ended.status = Status::WriteFault;
+            ended
+        }
+        Written::NoMemory => Ended::stopped(alloc, Status::NoMemory),
+    }
+}
+
+/// Reads a report, and writes the verdict on it.
+pub fn check<S: Source, K: Sink>(alloc: Global, source: &mut S, sink: &mut K) -> Ended
+    ensures { Checks
+        (traffic (source_state S.left S.failures) (sink_state K.held K.failures K.wanted) source.old source.new sink.old
+        sink.new) result }
+{
+    match judge(alloc, source) {
+        Ok(verdict) => write_verdict(alloc, verdict, sink),
+        Err(status) => Ended::stopped(alloc, status),
+    }
+}
