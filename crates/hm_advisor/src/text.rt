@@ -100,8 +100,7 @@ pub fn advice_text(alloc: Global, advice: &Advice) -> Result<Text, NoMemory>
     Ok(text)
 }
 
-/// Writes that text in pieces of 4,096 bytes, the last one shorter or whole, and flushes the sink. It is made whole
-/// before anything is written.
+/// Writes that text and flushes the sink. The text is made whole before anything is written.
 pub fn write_advice<K: Sink>(alloc: Global, advice: &Advice, sink: &mut K) -> Written
     ensures text { Writes (K.held sink.old) (K.held sink.new) (advice_text advice.now) result }
     ensures sent { SentOn (K.pending sink.new) result }

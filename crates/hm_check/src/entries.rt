@@ -8,6 +8,7 @@ ghost use Rattle.hm_check.specs.Parts.{TakesLine, TakesAll};
 
 use crate::actor::actor_in;
 use crate::lines::strip_front;
+use crate::skips::Multiples;
 use hm_base::{MOST_ENTRIES, NoMemory};
 use hm_history::{Entry, Kind, Progress};
 use hm_report::{Buffer, digit, put_front};
@@ -106,7 +107,7 @@ fn take_line(
     let Some(actor) = actor_in(out, line, at) else {
         return Ok(false);
     };
-    match hm_steps::due(&*world, alloc, actor)? {
+    match hm_steps::due(&*world, &Multiples, alloc, actor)? {
         Progress::Did(entry) => {
             if !is_line_of(out, line, at, &entry) {
                 return Ok(false);

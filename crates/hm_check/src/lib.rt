@@ -5,6 +5,7 @@ mod actor;
 mod entries;
 mod head;
 mod lines;
+mod skips;
 mod tail;
 mod verdict;
 

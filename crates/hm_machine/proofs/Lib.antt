@@ -7,3 +7,4 @@ pub mod Draining
 pub mod Lines
 pub mod Touched
 pub mod Looks
+pub mod Unlocked

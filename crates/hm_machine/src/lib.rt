@@ -19,6 +19,7 @@ use hm_base::{Actor, MOST_ENTRIES, NoMemory, Schedule, ScheduleLine, Script};
 use hm_history::{Entry, History, Progress, StepError, Why};
 use hm_reads::Reads;
 use hm_world::World;
+use skip_rules::SkipRule;
 use std::alloc::Global;
 use std::marker::Model;
 
@@ -33,15 +34,17 @@ pub enum Turn {
     Idle,
 }
 
-/// A script with its world, which takes one step at each turn. An error halts it for good.
+/// A script with its world, which takes one step at each turn. Its rule decides which pages a migration skips. An error
+/// halts it for good.
 #[derive(Drop)]
-pub struct Machine {
+pub struct Machine<R> {
     // In a place of its own, so that a machine that goes from thread to thread is a few words.
     world: Box<World>,
+    rule: R,
     alloc: Global,
 }
 
-impl Model for Machine {
+impl<R> Model for Machine<R> {
     ghost use Rattle.hm_world.specs.WorldValue.{WorldValue};
 
     ghost Value = { WorldValue };
@@ -59,14 +62,14 @@ fn line_of(turns: &Schedule, at: u64) -> ScheduleLine
     }
 }
 
-impl Machine {
+impl<R: SkipRule> Machine<R> {
     /// The machine before the first turn.
-    pub fn new(alloc: Global, script: Script) -> Result<Machine, NoMemory>
+    pub fn new(alloc: Global, script: Script, rule: R) -> Result<Machine<R>, NoMemory>
         ensures { IfOk result (λ machine. machine ≡ opening script) }
     {
         let world = World::new(alloc, script)?;
         match Box::new(alloc, world) {
-            Ok(world) => Ok(Machine { world, alloc }),
+            Ok(world) => Ok(Machine { world, rule, alloc }),
             Err(_) => Err(NoMemory),
         }
     }
@@ -120,7 +123,7 @@ impl Machine {
             return Err(error);
         }
         self.world.facts();
-        match hm_steps::due(&*self.world, self.alloc, actor) {
+        match hm_steps::due(&*self.world, &self.rule, self.alloc, actor) {
             Ok(Progress::Did(entry)) => self.add(entry),
             Ok(Progress::Waiting(why)) => Ok(Turn::Waiting(why)),
             Ok(Progress::Idle) => Ok(Turn::Idle),

@@ -9,8 +9,9 @@ use crate::Machine;
 use hm_base::Proc;
 use hm_reads::Reads;
 use hm_turns::{Looked, Looks};
+use skip_rules::SkipRule;
 
-impl Machine {
+impl<R: SkipRule> Machine<R> {
     // Copies what the process's pages show from an address on, until one has no area. Answers whether all have one.
     fn copy_shown(&self, proc: Proc, addr: u64, into: &mut [u8]) -> bool
         requires { IsLook addr (length into.old) }
@@ -29,7 +30,7 @@ impl Machine {
     }
 }
 
-impl Looks for Machine {
+impl<R: SkipRule> Looks for Machine<R> {
     fn look(&self, proc: Proc, addr: u64, into: &mut [u8]) -> Looked {
         hm_laws::frames_read();
         hm_laws::history_stands();

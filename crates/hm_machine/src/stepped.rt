@@ -13,6 +13,7 @@ use hm_base::{Actor, MirrorId, NoMemory, Proc};
 use hm_history::{Entry, Kind, Progress, StepError, Who};
 use hm_reads::Reads;
 use hm_turns::Stepped;
+use skip_rules::SkipRule;
 
 // The last entry.
 fn last(history: &[Entry]) -> Option<&Entry>
@@ -21,7 +22,7 @@ fn last(history: &[Entry]) -> Option<&Entry>
     history.get(history.len().saturating_sub(1))
 }
 
-impl Machine {
+impl<R: SkipRule> Machine<R> {
     /// Costs nothing: it hands the prover what holds of every machine.
     pub fn stands(&self)
         ensures script { IsScript self.now.script }
@@ -83,7 +84,7 @@ impl Machine {
     }
 }
 
-impl Stepped for Machine {
+impl<R: SkipRule> Stepped for Machine<R> {
     ghost use Rattle.hm_history.specs.Due.{due};
     ghost use Rattle.hm_history.specs.Legal.{Legal};
 
@@ -103,7 +104,7 @@ impl Stepped for Machine {
             return Err(error);
         }
         self.world.facts();
-        let result = match hm_steps::due(&*self.world, self.alloc, actor) {
+        let result = match hm_steps::due(&*self.world, &self.rule, self.alloc, actor) {
             Ok(Progress::Did(entry)) => self.add_copied(entry),
             Ok(Progress::Waiting(why)) => Ok(Progress::Waiting(why)),
             Ok(Progress::Idle) => Ok(Progress::Idle),

@@ -14,6 +14,7 @@ use hm_history::phases::Next;
 use hm_history::{Entry, Progress};
 use hm_reads::Reads;
 use phases::due_phase;
+use skip_rules::SkipRule;
 use std::alloc::Global;
 
 fn progress_of(actor: Actor, next: Next) -> Progress
@@ -26,8 +27,13 @@ fn progress_of(actor: Actor, next: Next) -> Progress
 }
 
 /// What is due to the actor in the world: the entry that its next step adds, or why it waits; idle where it has no
-/// operation left. Memory is taken for the bytes of an answer alone.
-pub fn due<W: Reads>(world: &W, alloc: Global, actor: Actor) -> Result<Progress, NoMemory>
+/// operation left. The rule decides which pages a migration skips. Memory is taken for the bytes of an answer alone.
+pub fn due<W: Reads, R: SkipRule>(
+    world: &W,
+    rule: &R,
+    alloc: Global,
+    actor: Actor,
+) -> Result<Progress, NoMemory>
     ensures { IfOk result (λ progress. progress ≡ spec.due_in (W.program world.now) (W.state world.now) actor) }
 {
     world.script().facts();
@@ -36,7 +42,7 @@ pub fn due<W: Reads>(world: &W, alloc: Global, actor: Actor) -> Result<Progress,
         Some(op) => match world.phase(actor) {
             None => Ok(Progress::Idle),
             Some(top) => {
-                let next = due_phase(world, alloc, actor, op, top)?;
+                let next = due_phase(world, rule, alloc, actor, op, top)?;
                 Ok(progress_of(actor, next))
             }
         },

@@ -15,6 +15,7 @@ use mig_copy::step_copy;
 use mig_finish::finish_page;
 use mig_freeze::others;
 use migrate_ops::{commit, set_own};
+use skip_rules::SkipRule;
 
 fn mirrors_proc<W: Reads>(world: &W, op: &Op) -> Proc
     ensures { result ≡ mirror_proc (W.state world.now).after.plain (op_mirror op.now) }
@@ -22,12 +23,18 @@ fn mirrors_proc<W: Reads>(world: &W, op: &Op) -> Proc
     world.mirror_proc(op_mirror(op))
 }
 
-fn due_step<W: Reads>(world: &W, op: &Op, step: MoveStep, page: &Migrating) -> Kind
+fn due_step<W: Reads, R: SkipRule>(
+    world: &W,
+    rule: &R,
+    op: &Op,
+    step: MoveStep,
+    page: &Migrating,
+) -> Kind
     ensures { result ≡ spec.due_step (W.program world.now) (W.state world.now).after op.now step page.now }
 {
     match step {
         MoveStep::FreezeOthers => others(world, &page.source),
-        MoveStep::TakeAndCopy => step_copy(world, op, page.page),
+        MoveStep::TakeAndCopy => step_copy(world, rule, op, page.page),
         MoveStep::Commit => commit(
             world,
             mirrors_proc(world, op),
@@ -41,7 +48,14 @@ fn due_step<W: Reads>(world: &W, op: &Op, step: MoveStep, page: &Migrating) -> K
 }
 
 /// The turn of a migration that has come to a step and a page: what that step has for its next page, or the answer.
-pub fn due_moves<W: Reads>(world: &W, actor: Actor, op: &Op, step: MoveStep, next: u64) -> Kind
+pub fn due_moves<W: Reads, R: SkipRule>(
+    world: &W,
+    rule: &R,
+    actor: Actor,
+    op: &Op,
+    step: MoveStep,
+    next: u64,
+) -> Kind
     ensures { result
         ≡ spec.due_moves (W.program world.now) (W.state world.now).after op.now
         ((W.state world.now).going actor).pages
@@ -50,6 +64,6 @@ pub fn due_moves<W: Reads>(world: &W, actor: Actor, op: &Op, step: MoveStep, nex
 {
     match world.coming(actor, op, step, next) {
         None => Kind::Migrated(world.moved_pages(actor)),
-        Some((at, page)) => due_step(world, op, at, &page),
+        Some((at, page)) => due_step(world, rule, op, at, &page),
     }
 }

@@ -26,6 +26,7 @@ use hm_reads::operations::{op_mirror, piece_of, touch_page, touch_proc};
 use mig_finish::{settle, step_finish};
 use mirror_ops::leave;
 use range_walk::noted;
+use skip_rules::SkipRule;
 use std::alloc::Global;
 
 fn wanted<W: Reads>(world: &W, op: &Op, touch: &Touch) -> Wanted
@@ -96,7 +97,7 @@ fn due_begun<W: Reads>(world: &W, op: &Op) -> Next
     rlock_mirror(world, op_mirror(op))
 }
 
-fn due_frame<W: Reads>(world: &W, actor: Actor, op: &Op, top: &Phase) -> Next
+fn due_frame<W: Reads, R: SkipRule>(world: &W, rule: &R, actor: Actor, op: &Op, top: &Phase) -> Next
     requires op { IsTrue (op_in_range op.now) }
     requires top { IsTrue (phase_in_range top.now) }
     requires group { 2 ≤ group top.now }
@@ -127,7 +128,7 @@ fn due_frame<W: Reads>(world: &W, actor: Actor, op: &Op, top: &Phase) -> Next
         Phase::Settle { frame } => Next::Do(settle(world, frame)),
         Phase::GiveUp { touch } => Next::Do(give_up(op, touch)),
         Phase::Frames { next, emptied } => step_evict(world, actor, op, *next, *emptied),
-        Phase::Moves { step, next } => Next::Do(due_moves(world, actor, op, *step, *next)),
+        Phase::Moves { step, next } => Next::Do(due_moves(world, rule, actor, op, *step, *next)),
         Phase::Lost { page, .. } => Next::Do(Kind::Kept {
             at: KeptAt::Page(*page),
             why: KeptWhy::Lost,
@@ -136,7 +137,7 @@ fn due_frame<W: Reads>(world: &W, actor: Actor, op: &Op, top: &Phase) -> Next
     }
 }
 
-fn due_fault<W: Reads>(world: &W, actor: Actor, op: &Op, top: &Phase) -> Next
+fn due_fault<W: Reads, R: SkipRule>(world: &W, rule: &R, actor: Actor, op: &Op, top: &Phase) -> Next
     requires op { IsTrue (op_in_range op.now) }
     requires top { IsTrue (phase_in_range top.now) }
     requires group { 1 ≤ group top.now }
@@ -161,13 +162,14 @@ fn due_fault<W: Reads>(world: &W, actor: Actor, op: &Op, top: &Phase) -> Next
         } => noted(world, op, *piece, *since, *seq, place),
         Phase::Taken { touch, by, over } => due_taken(world, op, touch, by, over),
         Phase::Armed { touch, .. } => Next::Do(due_armed(world, op, touch)),
-        _ => due_frame(world, actor, op, top),
+        _ => due_frame(world, rule, actor, op, top),
     }
 }
 
 /// The turn at a phase. Only the answers of accesses take memory.
-pub fn due_phase<W: Reads>(
+pub fn due_phase<W: Reads, R: SkipRule>(
     world: &W,
+    rule: &R,
     alloc: Global,
     actor: Actor,
     op: &Op,
@@ -183,6 +185,6 @@ pub fn due_phase<W: Reads>(
     match top {
         Phase::Piece { piece } => due_piece(world, alloc, actor, op, *piece),
         Phase::Fetched { old } => fetched(world, alloc, actor, op, *old),
-        _ => Ok(due_fault(world, actor, op, top)),
+        _ => Ok(due_fault(world, rule, actor, op, top)),
     }
 }

@@ -1,4 +1,4 @@
--- What a call with the word `check` comes to.
+-- What a call with the word `check` or `why` comes to.
 use Rattle.std.proofs.Common.{◌≡◌, ℕ, ◌≤◌, ◌<◌, inl, inr, Some, None, Option, List, [], length, refl, sym, ◌∙◌, ap, subst, arith}
 use Rattle.std.specs.Prelude.{IfSome}
 use Rattle.hm_base.specs.Program.{Program}
@@ -10,14 +10,14 @@ use Rattle.hm_check.specs.declared.verdict.Verdict.TheVariants.{Yes, No}
 use Rattle.hm_history.specs.declared.Entry.{Entry}
 use Rattle.hm_io.specs.Streams.{Adds, AddsFront}
 use Rattle.hm_report.specs.SinkState.{SinkState}
-use Rattle.hm_top.specs.Checks.{Checks, Finds, HasJudged, HasNotJudged, HasReport, HasTold, IsAsAnswered, IsItsReport, IsJudged, IsLegalReportOf, Tells, TellsBad, WroteFrontFor, bad_line, legal_line}
+use Rattle.hm_top.specs.Checks.{SaysOfReport, Finds, HasJudged, HasNotJudged, HasReport, HasTold, IsAsAnswered, IsItsReport, IsJudged, IsLegalReportOf, Tells, TellsBad, WroteFrontFor, bad_line}
 use Rattle.hm_top.specs.Complete.{NoFault}
 use Rattle.hm_top.specs.Ran.{HasNothing}
 use Rattle.hm_top.specs.Reading.{ReadAs, ReadFaulted}
 use Rattle.hm_top.specs.Running.{Answered, AnsweredNone}
 use Rattle.hm_top.specs.Streams.{CameWhole}
 use Rattle.hm_top.specs.Traffic.{SourceState, Traffic}
-use Rattle.hm_top.specs.Verdicts.{AnswersTo, EndsAt, HasReportOf, IsVerdictOn, verdict_line}
+use Rattle.hm_top.specs.Verdicts.{AnswersTo, EndsAt, HasReportOf, IsVerdictOn, verdict_text}
 use Rattle.hm_top.specs.Writing.{HasWritten, WriteFaulted}
 use Rattle.hm_top.specs.declared.ended.Ended.{Ended}
 use Rattle.hm_top.specs.declared.status.Status.{Status}
@@ -47,16 +47,16 @@ none_answered b a script h Status.TooLong n none = none
 none_answered b a script h Status.ReadFault n none = none
 none_answered b a script h Status.NoMemory n none = none
 
-none_told : (b a from : SourceState) (script : Option Program) (h : List Entry) (k k' : SinkState) (status : Status) → HasNotJudged b a status → k' ≡ k → HasTold from script h k k' status
-none_told b a from script h k k' Status.Done n same = absurd n
-none_told b a from script h k k' (Status.NotLegal l) n same = absurd n
-none_told b a from script h k k' Status.WriteFault n same = absurd n
-none_told b a from script h k k' Status.HistoryFull n same = absurd n
-none_told b a from script h k k' Status.Usage n same = absurd n
-none_told b a from script h k k' (Status.Refused r) n same = absurd n
-none_told b a from script h k k' Status.TooLong n same = ap (λ x. x.held) same
-none_told b a from script h k k' Status.ReadFault n same = ap (λ x. x.held) same
-none_told b a from script h k k' Status.NoMemory n same = inl (ap (λ x. x.held) same)
+none_told : (say : List Entry → List ℕ) (b a from : SourceState) (script : Option Program) (h : List Entry) (k k' : SinkState) (status : Status) → HasNotJudged b a status → k' ≡ k → HasTold say from script h k k' status
+none_told say b a from script h k k' Status.Done n same = absurd n
+none_told say b a from script h k k' (Status.NotLegal l) n same = absurd n
+none_told say b a from script h k k' Status.WriteFault n same = absurd n
+none_told say b a from script h k k' Status.HistoryFull n same = absurd n
+none_told say b a from script h k k' Status.Usage n same = absurd n
+none_told say b a from script h k k' (Status.Refused r) n same = absurd n
+none_told say b a from script h k k' Status.TooLong n same = ap (λ x. x.held) same
+none_told say b a from script h k k' Status.ReadFault n same = ap (λ x. x.held) same
+none_told say b a from script h k k' Status.NoMemory n same = inl (ap (λ x. x.held) same)
 
 none_failed : (b a : SourceState) (n n' : ℕ) (status : Status) → HasNotJudged b a status → n' ≡ n → WriteFaulted n n' status
 none_failed b a n n' Status.Done x same = absurd x
@@ -89,12 +89,12 @@ short_of_memory io status bytes e n faults none short = by io.source.left status
     by (Some bs) Status.TooLong e n faults = let same : bs ≡ bytes = cc in absurd (long bytes (subst (λ x. 268435456 < length x) same n) short)
 
 -- it had nothing to tell
-pub stopped : (io : Traffic) (e : Ended) → HasNotJudged io.source io.source_after e.status → ReadFaulted io.source.faults io.source_after.faults e.status → HasNothing e → io.sink_after ≡ io.sink → Checks io e
-stopped io e n faults none same = record {
+pub stopped : (say : List Entry → List ℕ) (io : Traffic) (e : Ended) → HasNotJudged io.source io.source_after e.status → ReadFaulted io.source.faults io.source_after.faults e.status → HasNothing e → io.sink_after ≡ io.sink → SaysOfReport say io e
+stopped say io e n faults none same = record {
   read = not_judged e.script e.history.entries io.source io.source_after e.status n;
   read_faults = faults;
   answer = none_answered io.source io.source_after e.script e.history.entries e.status n none.none;
-  written = none_told io.source io.source_after io.source e.script e.history.entries io.sink io.sink_after e.status n same;
+  written = none_told say io.source io.source_after io.source e.script e.history.entries io.sink io.sink_after e.status n same;
   write_faults = none_failed io.source io.source_after io.sink.faults io.sink_after.faults e.status n (ap (λ k. k.faults) same);
   receipt = none.receipt_is;
   complete = λ no_fault. given io.source.left (λ bytes at short. subst IsJudged (sym (short_of_memory io e.status bytes at n faults no_fault short)) tt);
@@ -165,30 +165,30 @@ module _ (b a : SourceState) (e : Ended) where
   tells_bad : (n : ℕ) → IsVerdictOn b a (No n) → TellsBad b (bad_line n)
   tells_bad n x = record { line = n; read = came_as (λ bytes. IsFirstBad bytes n) b.left a.left x.bytes x.whole x.judged; text_is = refl }
 
-  tells : (v : Verdict) → IsVerdictOn b a v → Tells b (verdict_line v)
-  tells (Yes r) x = inl (record {
+  tells : (say : List Entry → List ℕ) (v : Verdict) → IsVerdictOn b a v → Tells say b (verdict_text say v)
+  tells say (Yes r) x = inl (record {
     script = r.script;
     history = r.history.entries;
     legal = x.judged.0;
     read = came_as (IsLegalReportOf r.script r.history.entries) b.left a.left x.bytes x.whole (its_report r x);
     text_is = refl;
   })
-  tells (No n) x = inr (tells_bad n x)
+  tells say (No n) x = inr (tells_bad n x)
 
-  told : (k k' : SinkState) (v : Verdict) (status : Status) → EndsAt v e status → IsVerdictOn b a v → HasWritten (verdict_line v) (λ t. t ≡ verdict_line v) k k' status → HasTold b e.script e.history.entries k k' status
-  told k k' (Yes r) Status.Done ends x w = subst (λ h. Adds k.held k'.held (legal_line (length h))) (sym ends.1.history_is) w
-  told k k' (Yes r) (Status.NotLegal m) ends x w = let never = ends.0 in cc
-  told k k' (Yes r) Status.WriteFault ends x w = subst (λ s. WroteFrontFor b s e.history.entries k k') (sym ends.script_is) (subst (λ h. AddsFront k.held k'.held (legal_line (length h))) (sym ends.history_is) w)
-  told k k' (No n) Status.Done ends x w = let never = ends.0 in cc
-  told k k' (No n) (Status.NotLegal m) ends x w = let is = ends.0 in let same : n ≡ m = cc in subst (λ l. Adds k.held k'.held (bad_line l)) same w
-  told k k' (No n) Status.WriteFault ends x w = subst (λ s. WroteFrontFor b s e.history.entries k k') (sym ends.none.script_is) (record { text = bad_line n; goes = tells_bad n x; front = w })
-  told k k' v Status.NoMemory ends x (inl same) = inl same
-  told k k' v Status.NoMemory ends x (inr w) = inr (record { text = w.text; goes = subst (Tells b) (sym w.goes) (tells v x); front = w.front; wants = w.wants })
-  told k k' v Status.HistoryFull ends x w = absurd ends
-  told k k' v Status.Usage ends x w = absurd ends
-  told k k' v (Status.Refused r) ends x w = absurd ends
-  told k k' v Status.TooLong ends x w = absurd ends
-  told k k' v Status.ReadFault ends x w = absurd ends
+  told : (say : List Entry → List ℕ) (k k' : SinkState) (v : Verdict) (status : Status) → EndsAt v e status → IsVerdictOn b a v → HasWritten (verdict_text say v) (λ t. t ≡ verdict_text say v) k k' status → HasTold say b e.script e.history.entries k k' status
+  told say k k' (Yes r) Status.Done ends x w = subst (λ h. Adds k.held k'.held (say h)) (sym ends.1.history_is) w
+  told say k k' (Yes r) (Status.NotLegal m) ends x w = let never = ends.0 in cc
+  told say k k' (Yes r) Status.WriteFault ends x w = subst (λ s. WroteFrontFor say b s e.history.entries k k') (sym ends.script_is) (subst (λ h. AddsFront k.held k'.held (say h)) (sym ends.history_is) w)
+  told say k k' (No n) Status.Done ends x w = let never = ends.0 in cc
+  told say k k' (No n) (Status.NotLegal m) ends x w = let is = ends.0 in let same : n ≡ m = cc in subst (λ l. Adds k.held k'.held (bad_line l)) same w
+  told say k k' (No n) Status.WriteFault ends x w = subst (λ s. WroteFrontFor say b s e.history.entries k k') (sym ends.none.script_is) (record { text = bad_line n; goes = tells_bad n x; front = w })
+  told say k k' v Status.NoMemory ends x (inl same) = inl same
+  told say k k' v Status.NoMemory ends x (inr w) = inr (record { text = w.text; goes = subst (Tells say b) (sym w.goes) (tells say v x); front = w.front; wants = w.wants })
+  told say k k' v Status.HistoryFull ends x w = absurd ends
+  told say k k' v Status.Usage ends x w = absurd ends
+  told say k k' v (Status.Refused r) ends x w = absurd ends
+  told say k k' v Status.TooLong ends x w = absurd ends
+  told say k k' v Status.ReadFault ends x w = absurd ends
 
   faults_judged : (n n' : ℕ) (v : Verdict) (status : Status) → EndsAt v e status → n' ≡ n → ReadFaulted n n' status
   faults_judged n n' v Status.Done ends same = same
@@ -226,13 +226,13 @@ module _ (b a : SourceState) (e : Ended) where
   found io c h v Status.ReadFault ends mine w none = ends
 
 -- it came to a verdict
-pub judged : (io : Traffic) (e : Ended) (v : Verdict) → IsVerdictOn io.source io.source_after v → io.source_after.faults ≡ io.source.faults → EndsAt v e e.status
-    → HasWritten (verdict_line v) (λ t. t ≡ verdict_line v) io.sink io.sink_after e.status → WriteFaulted io.sink.faults io.sink_after.faults e.status → e.receipt ≡ None → Checks io e
-judged io e v x same ends w faults receipt = record {
+pub judged : (say : List Entry → List ℕ) (io : Traffic) (e : Ended) (v : Verdict) → IsVerdictOn io.source io.source_after v → io.source_after.faults ≡ io.source.faults → EndsAt v e e.status
+    → HasWritten (verdict_text say v) (λ t. t ≡ verdict_text say v) io.sink io.sink_after e.status → WriteFaulted io.sink.faults io.sink_after.faults e.status → e.receipt ≡ None → SaysOfReport say io e
+judged say io e v x same ends w faults receipt = record {
   read = read_judged io.source io.source_after e v e.status ends x;
   read_faults = faults_judged io.source io.source_after e io.source.faults io.source_after.faults v e.status ends same;
   answer = answer_judged io.source io.source_after e v e.status ends x;
-  written = told io.source io.source_after e io.sink io.sink_after v e.status ends x w;
+  written = told io.source io.source_after e say io.sink io.sink_after v e.status ends x w;
   write_faults = faults;
   receipt = receipt;
   complete = λ none. given io.source.left (λ bytes at short. judged_whole io.source io.source_after e io v e.status ends faults none);

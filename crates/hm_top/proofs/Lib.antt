@@ -5,6 +5,7 @@ pub mod Trial
 pub mod Idle
 pub mod Calls
 pub mod Sending
+pub mod Advising
 pub mod Replaying
 pub mod Threading
 pub mod Making

@@ -6,14 +6,13 @@ use Rattle.hm_history.specs.Overrun.{overruns}
 use Rattle.hm_history.specs.declared.Entry.{Entry}
 use Rattle.hm_io.specs.Streams.{Adds, AddsFront}
 use Rattle.hm_quiet.specs.Quiet.{DrainAloneHasRoom}
-use Rattle.hm_report.specs.Report.{report}
 use Rattle.hm_report.specs.SinkState.{SinkState}
 use Rattle.hm_script.specs.Spelling.{text}
 use Rattle.hm_top.specs.Complete.{IsComplete, NoFault}
 use Rattle.hm_top.specs.Ran.{HasAll, HasNothing, Shows, ShowsAt}
 use Rattle.hm_top.specs.Reading.{HasNotRead, HasRead, IsTextOf, ReadAs, ReadFaulted}
-use Rattle.hm_top.specs.Replays.{IsItsText, IsReportOf, Replays}
-use Rattle.hm_top.specs.Running.{Answered, HasRun, RanFull, RanSo, RanWhole, report_for}
+use Rattle.hm_top.specs.Replays.{IsItsText, IsToldOfRun, TellsOfRun}
+use Rattle.hm_top.specs.Running.{Answered, HasRun, RanFull, RanSo, RanWhole, told_of}
 use Rattle.hm_top.specs.Traffic.{SourceState, Traffic}
 use Rattle.hm_top.specs.Writing.{HasWritten, WriteFaulted}
 use Rattle.hm_top.specs.declared.ended.Ended.{Ended}
@@ -23,12 +22,12 @@ use Rattle.hm_top.proofs.Calls.{given, none_failed, none_run, none_written, not_
 use Rattle.hm_top.proofs.Room.{room_fits}
 
 -- it had nothing to show
-pub stopped : (io : Traffic) (e : Ended) → HasNotRead io.source io.source_after e.status → ReadFaulted io.source.faults io.source_after.faults e.status → HasNothing e → io.sink_after ≡ io.sink → Replays io e
-stopped io e n faults none same = record {
+pub stopped : (tell : Program → List Entry → List ℕ) (io : Traffic) (e : Ended) → HasNotRead io.source io.source_after e.status → ReadFaulted io.source.faults io.source_after.faults e.status → HasNothing e → io.sink_after ≡ io.sink → TellsOfRun tell io e
+stopped tell io e n faults none same = record {
   read = not_read (IsItsText e.script) io.source io.source_after e.status n;
   read_faults = faults;
   ran = none_run io.source io.source_after e.script e.history.entries e.status n none.none;
-  written = none_written io.source io.source_after (report_for e.script e.history.entries) (IsReportOf io.source) io.sink io.sink_after e.status n same;
+  written = none_written io.source io.source_after (told_of tell e.script e.history.entries) (IsToldOfRun tell io.source) io.sink io.sink_after e.status n same;
   write_faults = none_failed io.source io.source_after io.sink.faults io.sink_after.faults e.status n (ap (λ k. k.faults) same);
   receipt = none.receipt_is;
   complete = λ no_fault. given io.source.left (λ bytes at s is_given room. short_of_memory io e.status bytes s at n faults no_fault is_given);
@@ -75,21 +74,21 @@ run_shown r e (Status.Refused x) shows whole over = absurd shows
 run_shown r e Status.TooLong shows whole over = absurd shows
 run_shown r e Status.ReadFault shows whole over = absurd shows
 
-same_report : (r : Ran) (e : Ended) → HasAll r e → report r.script r.history.entries ≡ report_for e.script e.history.entries
-same_report r e all = ap (report r.script) (sym all.history_is) ∙ ap (λ x. report_for x e.history.entries) (sym all.script_is)
+same_text : (tell : Program → List Entry → List ℕ) (r : Ran) (e : Ended) → HasAll r e → tell r.script r.history.entries ≡ told_of tell e.script e.history.entries
+same_text tell r e all = ap (tell r.script) (sym all.history_is) ∙ ap (λ x. told_of tell x e.history.entries) (sym all.script_is)
 
-pub report_shown : (Goes : List ℕ → Type 0) (r : Ran) (e : Ended) (k k' : SinkState) (status : Status) → ShowsAt r e status → Goes (report r.script r.history.entries)
-    → HasWritten (report r.script r.history.entries) (λ t. t ≡ report r.script r.history.entries) k k' status → HasWritten (report_for e.script e.history.entries) Goes k k' status
-report_shown Goes r e k k' Status.Done shows goes w = subst (Adds k.held k'.held) (same_report r e shows.1) w
-report_shown Goes r e k k' Status.HistoryFull shows goes w = subst (Adds k.held k'.held) (same_report r e shows.1) w
-report_shown Goes r e k k' Status.WriteFault shows goes w = subst (AddsFront k.held k'.held) (same_report r e shows) w
-report_shown Goes r e k k' Status.NoMemory shows goes (inl same) = inl same
-report_shown Goes r e k k' Status.NoMemory shows goes (inr w) = inr (record { text = w.text; goes = subst Goes (sym w.goes) goes; front = w.front; wants = w.wants })
-report_shown Goes r e k k' Status.Usage shows goes w = absurd shows
-report_shown Goes r e k k' (Status.NotLegal l) shows goes w = absurd shows
-report_shown Goes r e k k' (Status.Refused x) shows goes w = absurd shows
-report_shown Goes r e k k' Status.TooLong shows goes w = absurd shows
-report_shown Goes r e k k' Status.ReadFault shows goes w = absurd shows
+pub text_shown : (tell : Program → List Entry → List ℕ) (Goes : List ℕ → Type 0) (r : Ran) (e : Ended) (k k' : SinkState) (status : Status) → ShowsAt r e status → Goes (tell r.script r.history.entries)
+    → HasWritten (tell r.script r.history.entries) (λ t. t ≡ tell r.script r.history.entries) k k' status → HasWritten (told_of tell e.script e.history.entries) Goes k k' status
+text_shown tell Goes r e k k' Status.Done shows goes w = subst (Adds k.held k'.held) (same_text tell r e shows.1) w
+text_shown tell Goes r e k k' Status.HistoryFull shows goes w = subst (Adds k.held k'.held) (same_text tell r e shows.1) w
+text_shown tell Goes r e k k' Status.WriteFault shows goes w = subst (AddsFront k.held k'.held) (same_text tell r e shows) w
+text_shown tell Goes r e k k' Status.NoMemory shows goes (inl same) = inl same
+text_shown tell Goes r e k k' Status.NoMemory shows goes (inr w) = inr (record { text = w.text; goes = subst Goes (sym w.goes) goes; front = w.front; wants = w.wants })
+text_shown tell Goes r e k k' Status.Usage shows goes w = absurd shows
+text_shown tell Goes r e k k' (Status.NotLegal l) shows goes w = absurd shows
+text_shown tell Goes r e k k' (Status.Refused x) shows goes w = absurd shows
+text_shown tell Goes r e k k' Status.TooLong shows goes w = absurd shows
+text_shown tell Goes r e k k' Status.ReadFault shows goes w = absurd shows
 
 abbrev pub OneText : Type 0
 OneText = (s t : Program) → IsScript s → IsScript t → text s ≡ text t → s ≡ t
@@ -121,14 +120,14 @@ receipt_shown r e Status.TooLong shows none = absurd shows
 receipt_shown r e Status.ReadFault shows none = absurd shows
 
 -- it has shown a run
-pub shown : OneText → DrainAloneHasRoom → (io : Traffic) (r : Ran) (e : Ended) → ReadAs 4194304 (IsTextOf r.script) io.source io.source_after → io.source_after.faults ≡ io.source.faults
+pub shown : (tell : Program → List Entry → List ℕ) → OneText → DrainAloneHasRoom → (io : Traffic) (r : Ran) (e : Ended) → ReadAs 4194304 (IsTextOf r.script) io.source io.source_after → io.source_after.faults ≡ io.source.faults
     → (r.full ≡ false → RanWhole r.script r.history.entries) → (r.full ≡ true → RanFull r.script r.history.entries) → Shows r e
-    → HasWritten (report r.script r.history.entries) (λ t. t ≡ report r.script r.history.entries) io.sink io.sink_after e.status → WriteFaulted io.sink.faults io.sink_after.faults e.status → r.receipt ≡ None → Replays io e
-shown one alone io r e read same whole over shows w faults no_receipt = record {
+    → HasWritten (tell r.script r.history.entries) (λ t. t ≡ tell r.script r.history.entries) io.sink io.sink_after e.status → WriteFaulted io.sink.faults io.sink_after.faults e.status → r.receipt ≡ None → TellsOfRun tell io e
+shown tell one alone io r e read same whole over shows w faults no_receipt = record {
   read = read_shown r e io.source io.source_after e.status shows read;
   read_faults = faults_shown r e io.source.faults io.source_after.faults e.status shows same;
   ran = run_shown r e e.status shows whole over;
-  written = report_shown (IsReportOf io.source) r e io.sink io.sink_after e.status shows (record {
+  written = text_shown tell (IsToldOfRun tell io.source) r e io.sink io.sink_after e.status shows (record {
     script = r.script;
     history = r.history.entries;
     read = read.bytes_are;
@@ -144,8 +143,8 @@ shown one alone io r e read same whole over shows w faults no_receipt = record {
 }
 
 -- so of the script that was read
-pub shown_for : OneText → DrainAloneHasRoom → (io : Traffic) (r : Ran) (e : Ended) (s : Program) → r.script ≡ s → ReadAs 4194304 (IsTextOf s) io.source io.source_after → io.source_after.faults ≡ io.source.faults
+pub shown_for : (tell : Program → List Entry → List ℕ) → OneText → DrainAloneHasRoom → (io : Traffic) (r : Ran) (e : Ended) (s : Program) → r.script ≡ s → ReadAs 4194304 (IsTextOf s) io.source io.source_after → io.source_after.faults ≡ io.source.faults
     → (r.full ≡ false → RanWhole s r.history.entries) → (r.full ≡ true → RanFull s r.history.entries) → Shows r e
-    → HasWritten (report r.script r.history.entries) (λ t. t ≡ report r.script r.history.entries) io.sink io.sink_after e.status → WriteFaulted io.sink.faults io.sink_after.faults e.status → r.receipt ≡ None → Replays io e
-shown_for one alone io r e s is read same whole over shows w faults none =
-    shown one alone io r e (subst (λ x. ReadAs 4194304 (IsTextOf x) io.source io.source_after) (sym is) read) same (λ f. subst (λ x. RanWhole x r.history.entries) (sym is) (whole f)) (λ f. subst (λ x. RanFull x r.history.entries) (sym is) (over f)) shows w faults none
+    → HasWritten (tell r.script r.history.entries) (λ t. t ≡ tell r.script r.history.entries) io.sink io.sink_after e.status → WriteFaulted io.sink.faults io.sink_after.faults e.status → r.receipt ≡ None → TellsOfRun tell io e
+shown_for tell one alone io r e s is read same whole over shows w faults none =
+    shown tell one alone io r e (subst (λ x. ReadAs 4194304 (IsTextOf x) io.source io.source_after) (sym is) read) same (λ f. subst (λ x. RanWhole x r.history.entries) (sym is) (whole f)) (λ f. subst (λ x. RanFull x r.history.entries) (sym is) (over f)) shows w faults none

@@ -8,6 +8,7 @@ use Rattle.hm_spaces.specs.contracts.Spaces as Spaces
 use Rattle.hm_tables.specs.contracts.tables.PageTables as PageTables
 use Rattle.hm_world.specs.contracts.World as World
 use Rattle.interval_tree.specs.contracts.IntervalTree as IntervalTree
+use Rattle.skip_rules.specs.contracts.Kept as Kept
 use Rattle.hm_top.proofs.SentParts.{script, history, actors, mirrors}
 use Rattle.hm_top.proofs.SentTree.{tree}
 
@@ -28,6 +29,3 @@ notifiers = search (intervals, sendable, crosses) depth 40 fits 4000
 
 pub world : IsSend World.the_row
 world = search (script, history, frames, tables, spaces, notifiers, mirrors, actors, sendable, crosses) depth 40 fits 4000
-
-pub machine : IsSend Machine.the_row
-machine = search (world, sendable, crosses) depth 40 fits 4000

@@ -15,7 +15,7 @@ use Rattle.hm_top.specs.declared.ended.Ended.{Ended}
 use Rattle.hm_top.specs.declared.schedule.Ran.{Ran}
 use Rattle.hm_top.specs.declared.status.Status.{Status}
 use Rattle.hm_top.proofs.Calls.{given, none_failed, none_written, not_read, short_of_memory}
-use Rattle.hm_top.proofs.Replaying.{answered, faults_shown, read_shown, report_shown}
+use Rattle.hm_top.proofs.Replaying.{answered, faults_shown, read_shown, text_shown}
 
 none_run : (b a : SourceState) (e : Ended) (status : Status) → HasNotRead b a status → HasNothing e → HasRunThreads e.script e.history.entries status
 none_run b a e Status.Done n none = absurd n
@@ -111,7 +111,7 @@ shown io r e read same whole over some shows w faults = record {
   read_faults = faults_shown r e io.source.faults io.source_after.faults e.status shows same;
   ran = run_shown r e e.status shows whole over;
   receipt = receipt_shown r e e.status shows some;
-  written = report_shown (IsThreadsReport io.source) r e io.sink io.sink_after e.status shows (record {
+  written = text_shown report (IsThreadsReport io.source) r e io.sink io.sink_after e.status shows (record {
     script = r.script;
     history = r.history.entries;
     read = read.bytes_are;

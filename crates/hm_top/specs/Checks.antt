@@ -1,4 +1,4 @@
--- The call with the word `check`: a report is read, and a line goes out that tells the verdict on it.
+-- The calls with the words `check` and `why`: a report is read, and what goes out tells the verdict on it.
 use Rattle.std.specs.Prelude.{◌≡◌, ◌⊎◌, ℕ, ◌≤◌, List, ◌∷◌, [], ◌++◌, length, Option, Some, None, IfSome, codes}
 use Rattle.std.specs.Fmt.{decimal}
 use Rattle.hm_base.specs.Program.{Program}
@@ -16,6 +16,7 @@ use Rattle.hm_top.specs.Writing.{WantedIn, WriteFaulted}
 use Rattle.hm_top.specs.declared.ended.Ended.{Ended}
 use Rattle.hm_top.specs.declared.check.TheConstants.{MOST_REPORT_BYTES}
 use Rattle.hm_top.specs.declared.status.Status.{Status}
+use Rattle.hm_why.specs.Loads.{why_text}
 
 -- ---- the two lines
 
@@ -71,13 +72,13 @@ HasReport script h Status.Done = Answered IsLegalReport script h
 HasReport script h Status.WriteFault = Answered IsLegalReport script h ⊎ AnsweredNone script h
 HasReport script h _ = AnsweredNone script h
 
--- the text is the line on a legal report, which was read
-pub record TellsLegal (from : SourceState) (t : List ℕ) : Type 0 where
+-- the text is what is said of a legal report, which was read
+pub record TellsLegal (say : List Entry → List ℕ) (from : SourceState) (t : List ℕ) : Type 0 where
   pub script : Program
   pub history : List Entry
   pub legal : IsLegalReport script history
   pub read : IfSome from.left (IsLegalReportOf script history)
-  pub text_is : t ≡ legal_line (length history)
+  pub text_is : t ≡ say history
 
 -- the text is the line on bytes whose first bad line it tells
 pub record TellsBad (from : SourceState) (t : List ℕ) : Type 0 where
@@ -86,27 +87,30 @@ pub record TellsBad (from : SourceState) (t : List ℕ) : Type 0 where
   pub text_is : t ≡ bad_line line
 
 -- one of the two
-abbrev pub Tells : SourceState → List ℕ → Type 0
-Tells from t = TellsLegal from t ⊎ TellsBad from t
+abbrev pub Tells : (List Entry → List ℕ) → SourceState → List ℕ → Type 0
+Tells say from t = TellsLegal say from t ⊎ TellsBad from t
 
--- a front of such a line was written
+-- a front of such a text was written
 pub record WroteFront (Goes : List ℕ → Type 0) (before after : SinkState) : Type 0 where
   pub text : List ℕ
   pub goes : Goes text
   pub front : AddsFront before.held after.held text
 
--- a front of the line on the report in the answer; where the answer has none, of the line on the first bad line
-abbrev pub WroteFrontFor : SourceState → Option Program → List Entry → SinkState → SinkState → Type 0
-WroteFrontFor from None h before after = WroteFront (TellsBad from) before after
-WroteFrontFor from (Some c) h before after = AddsFront before.held after.held (legal_line (length h))
+-- a front of what is said of the report in the answer; where the answer has none, of the line on the first bad line
+abbrev pub WroteFrontFor : (List Entry → List ℕ) → SourceState → Option Program → List Entry → SinkState → SinkState
+    → Type 0
+WroteFrontFor say from None h before after = WroteFront (TellsBad from) before after
+WroteFrontFor say from (Some c) h before after = AddsFront before.held after.held (say h)
 
 -- what was written
-abbrev pub HasTold : SourceState → Option Program → List Entry → SinkState → SinkState → Status → Type 0
-HasTold from script h before after Status.Done = Adds before.held after.held (legal_line (length h))
-HasTold from script h before after (Status.NotLegal n) = Adds before.held after.held (bad_line n)
-HasTold from script h before after Status.WriteFault = WroteFrontFor from script h before after
-HasTold from script h before after Status.NoMemory = (after.held ≡ before.held) ⊎ WantedIn (Tells from) before after
-HasTold from script h before after _ = after.held ≡ before.held
+abbrev pub HasTold : (List Entry → List ℕ) → SourceState → Option Program → List Entry → SinkState → SinkState → Status
+    → Type 0
+HasTold say from script h before after Status.Done = Adds before.held after.held (say h)
+HasTold say from script h before after (Status.NotLegal n) = Adds before.held after.held (bad_line n)
+HasTold say from script h before after Status.WriteFault = WroteFrontFor say from script h before after
+HasTold say from script h before after Status.NoMemory =
+    (after.held ≡ before.held) ⊎ WantedIn (Tells say from) before after
+HasTold say from script h before after _ = after.held ≡ before.held
 
 -- the line was written, or memory ran out
 abbrev pub IsJudged : Status → Type 0
@@ -121,20 +125,21 @@ Finds c h ended Status.Done = (ended.script ≡ Some c) × (ended.history.entrie
 Finds c h ended Status.NoMemory = Unit {0}
 Finds c h ended _ = ⊥
 
-pub record Checks (io : Traffic) (ended : Ended) : Type 0 where
+-- A report is read; of a legal one something is said, and of other bytes the first bad line is told.
+pub record SaysOfReport (say : List Entry → List ℕ) (io : Traffic) (ended : Ended) : Type 0 where
   -- At `Done` the bytes read are the report of the script and the history in the answer, which is legal. At `NotLegal`
   -- the line that is told is the first bad one of the bytes. At `WriteFault` it is one of both. `TooLong` tells that
   -- more was there to read than the limit. There are no other statuses but `ReadFault` and `NoMemory`.
   pub read : HasJudged ended.script ended.history.entries io.source io.source_after ended.status
   -- `ReadFault` comes only where the source counted a fault.
   pub read_faults : ReadFaulted io.source.faults io.source_after.faults ended.status
-  -- The answer has a script and a history that is legal for it at `Done`, and at `WriteFault` where it was the line on
+  -- The answer has a script and a history that is legal for it at `Done`, and at `WriteFault` where it was the text on
   -- a legal report that did not go out; else it has none.
   pub answer : HasReport ended.script ended.history.entries ended.status
-  -- At `Done` the line written has the number of the history's entries, and at `NotLegal` the first bad line. At
-  -- `WriteFault` a front of the line that was due was written; at `NoMemory` nothing, or a front of the line that was
-  -- due where the sink itself wanted memory; nothing at other statuses.
-  pub written : HasTold io.source ended.script ended.history.entries io.sink io.sink_after ended.status
+  -- At `Done` what is said of the history was written, and at `NotLegal` the line on the first bad line. At `WriteFault`
+  -- a front of the text that was due was written; at `NoMemory` nothing, or a front of the text that was due where the
+  -- sink itself wanted memory; nothing at other statuses.
+  pub written : HasTold say io.source ended.script ended.history.entries io.sink io.sink_after ended.status
   -- `WriteFault` comes only where the sink counted a fault.
   pub write_faults : WriteFaulted io.sink.faults io.sink_after.faults ended.status
   pub receipt : ended.receipt ≡ None
@@ -145,3 +150,11 @@ pub record Checks (io : Traffic) (ended : Ended) : Type 0 where
   -- Where the bytes are then the report of a script and of a history that is legal for it, these are found.
   pub finds : NoFault io → IfSome io.source.left (λ bytes. length bytes ≤ MOST_REPORT_BYTES
       → (c : Program) (h : List Entry) → IsLegalReportOf c h bytes → Finds c h ended ended.status)
+
+-- the text is a line with the number of entries
+abbrev pub Checks : Traffic → Ended → Type 0
+Checks = SaysOfReport (λ h. legal_line (length h))
+
+-- the text tells for each load the entries that its bytes came from
+abbrev pub Explains : Traffic → Ended → Type 0
+Explains = SaysOfReport why_text

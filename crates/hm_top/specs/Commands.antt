@@ -15,7 +15,9 @@ abbrev pub plain_command : List ℕ → Option Command
 plain_command w = if bytes_eq w (codes "replay") then Some Command.Replay
     else (if bytes_eq w (codes "threads") then Some Command.Threads
     else (if bytes_eq w (codes "upgrade") then Some Command.Upgrade
-    else (if bytes_eq w (codes "check") then Some Command.Check else None)))
+    else (if bytes_eq w (codes "check") then Some Command.Check
+    else (if bytes_eq w (codes "advise") then Some Command.Advise
+    else (if bytes_eq w (codes "why") then Some Command.Why else None)))))
 
 -- the command of a word and a number
 abbrev pub numbered_command : List ℕ → List ℕ → Option Command

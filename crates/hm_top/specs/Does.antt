@@ -1,6 +1,7 @@
 -- What a call does, by what its words ask for.
 use Rattle.std.specs.Prelude.{Option, Some, None}
-use Rattle.hm_top.specs.Checks.{Checks}
+use Rattle.hm_top.specs.Advises.{Advises}
+use Rattle.hm_top.specs.Checks.{Checks, Explains}
 use Rattle.hm_top.specs.Generates.{Generates, Tries}
 use Rattle.hm_top.specs.Replays.{Replays}
 use Rattle.hm_top.specs.RunsThreads.{RunsThreads}
@@ -19,3 +20,5 @@ Does (Some (Command.Generate n)) io ended = Generates n io ended
 Does (Some (Command.Trial n)) io ended = Tries n io ended
 Does (Some Command.Upgrade) io ended = Upgrades io ended
 Does (Some Command.Check) io ended = Checks io ended
+Does (Some Command.Advise) io ended = Advises io ended
+Does (Some Command.Why) io ended = Explains io ended

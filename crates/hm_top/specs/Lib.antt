@@ -8,6 +8,7 @@ pub mod Running
 pub mod Ran
 pub mod Complete
 pub mod Replays
+pub mod Advises
 pub mod RunsThreads
 pub mod Generates
 pub mod Upgrades

@@ -5,6 +5,7 @@ use Rattle.hm_history.specs.Overrun.{overruns}
 use Rattle.hm_history.specs.Run.{run}
 use Rattle.hm_history.specs.declared.Entry.{Entry}
 use Rattle.hm_history.specs.declared.StepError.{StepError}
+use Rattle.hm_report.specs.declared.written.Written.{Written}
 use Rattle.hm_world.specs.WorldValue.{WorldValue}
 use Rattle.hm_top.specs.Running.{AnsweredNone}
 use Rattle.hm_top.specs.declared.ended.Ended.{Ended}
@@ -36,6 +37,13 @@ ShowsAt ran ended Status.HistoryFull = (ran.full ≡ true) × HasAll ran ended
 ShowsAt ran ended Status.WriteFault = HasAll ran ended
 ShowsAt ran ended Status.NoMemory = HasNothing ended
 ShowsAt ran ended _ = ⊥
+
+-- the status of a call whose text of what ran was written so
+abbrev pub shown_status : Written → Bool → Status
+shown_status Written.Done false = Status.Done
+shown_status Written.Done true = Status.HistoryFull
+shown_status Written.Fault full = Status.WriteFault
+shown_status Written.NoMemory full = Status.NoMemory
 
 abbrev pub Shows : Ran → Ended → Type 0
 Shows ran ended = ShowsAt ran ended ended.status

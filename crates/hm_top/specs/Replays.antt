@@ -5,7 +5,7 @@ use Rattle.hm_history.specs.declared.Entry.{Entry}
 use Rattle.hm_report.specs.Report.{report}
 use Rattle.hm_top.specs.Complete.{HasRoom, IsComplete, IsGiven, NoFault}
 use Rattle.hm_top.specs.Reading.{HasRead, IsTextOf, ReadFaulted}
-use Rattle.hm_top.specs.Running.{HasRun, RanSo, report_for}
+use Rattle.hm_top.specs.Running.{HasRun, RanSo, told_of}
 use Rattle.hm_top.specs.Traffic.{SourceState, Traffic}
 use Rattle.hm_top.specs.Writing.{HasWritten, WriteFaulted}
 use Rattle.hm_top.specs.declared.ended.Ended.{Ended}
@@ -15,32 +15,37 @@ abbrev pub IsItsText : Option Program → List ℕ → Type 0
 IsItsText None bytes = ⊥
 IsItsText (Some s) bytes = IsTextOf s bytes
 
--- the text is the report of a script with these bytes, and of its run
-pub record IsReportOf (from : SourceState) (t : List ℕ) : Type 0 where
+-- this is told of a script with these bytes, and of its run
+pub record IsToldOfRun (tell : Program → List Entry → List ℕ) (from : SourceState) (t : List ℕ) : Type 0 where
   pub script : Program
   pub history : List Entry
   pub read : IfSome from.left (IsTextOf script)
   pub ran : RanSo script history
-  pub text_is : t ≡ report script history
+  pub text_is : t ≡ tell script history
 
-pub record Replays (io : Traffic) (ended : Ended) : Type 0 where
-  -- Where a report goes out, the bytes read are the text of the script in the answer, and nothing is left. A script is
+-- A script is read and run by its schedule, and a text that tells of the run goes out.
+pub record TellsOfRun (tell : Program → List Entry → List ℕ) (io : Traffic) (ended : Ended) : Type 0 where
+  -- Where the text goes out, the bytes read are the text of the script in the answer, and nothing is left. A script is
   -- refused exactly where no script has the bytes as its text, with the first bad line and its reason; `TooLong` tells
   -- that more was there to read than a script has.
   pub read : HasRead (IsItsText ended.script) io.source io.source_after ended.status
   -- `ReadFault` comes only where the source counted a fault.
   pub read_faults : ReadFaulted io.source.faults io.source_after.faults ended.status
-  -- Where a report goes out, the history is the script's run, and legal for it. `HistoryFull` comes exactly where a
+  -- Where the text goes out, the history is the script's run, and legal for it. `HistoryFull` comes exactly where a
   -- turn found an entry due and the history full. At `Done` every actor is done, where the schedule has a `drain`.
   pub ran : HasRun ended.script ended.history.entries ended.status
-  -- The bytes written are the report of that script and history; at `WriteFault` a front of it; at `NoMemory` nothing,
-  -- or a front of such a report where the sink itself wanted memory; nothing at other statuses.
-  pub written : HasWritten (report_for ended.script ended.history.entries) (IsReportOf io.source) io.sink io.sink_after
-      ended.status
+  -- The bytes written are the text of that script and history; at `WriteFault` a front of it; at `NoMemory` nothing, or
+  -- a front of such a text where the sink itself wanted memory; nothing at other statuses.
+  pub written : HasWritten (told_of tell ended.script ended.history.entries) (IsToldOfRun tell io.source) io.sink
+      io.sink_after ended.status
   -- `WriteFault` comes only where the sink counted a fault.
   pub write_faults : WriteFaulted io.sink.faults io.sink_after.faults ended.status
   pub receipt : ended.receipt ≡ None
-  -- Where neither stream counted a fault, and the bytes are the text of a script whose history has room, the report is
+  -- Where neither stream counted a fault, and the bytes are the text of a script whose history has room, the text is
   -- written, or memory runs out.
   pub complete : NoFault io
       → IfSome io.source.left (λ bytes. (s : Program) → IsGiven s bytes → HasRoom s → IsComplete ended.status)
+
+-- the text is the report of that script and history
+abbrev pub Replays : Traffic → Ended → Type 0
+Replays = TellsOfRun report

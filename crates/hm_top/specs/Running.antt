@@ -50,7 +50,11 @@ HasRun script h Status.WriteFault = Answered RanSo script h
 HasRun script h (Status.NotLegal n) = ⊥
 HasRun script h _ = AnsweredNone script h
 
+-- what goes out of a run, by what is told of one
+abbrev pub told_of : (Program → List Entry → List ℕ) → Option Program → List Entry → List ℕ
+told_of tell None h = []
+told_of tell (Some s) h = tell s h
+
 -- the report that goes out
 abbrev pub report_for : Option Program → List Entry → List ℕ
-report_for None h = []
-report_for (Some s) h = report s h
+report_for = told_of report

@@ -1,11 +1,13 @@
 -- From a source to a verdict, and from a verdict to how the call ends.
 use Rattle.std.specs.Prelude.{◌≡◌, ℕ, ◌≤◌, List, length, Some, None}
 use Rattle.hm_base.specs.Program.{Program}
+use Rattle.hm_check.specs.FirstBad.{IsLegalReport}
 use Rattle.hm_check.specs.Judged.{IsYes, Judged}
 use Rattle.hm_check.specs.declared.verdict.Report.{Report}
 use Rattle.hm_check.specs.declared.verdict.Verdict.{Verdict}
 use Rattle.hm_check.specs.declared.verdict.Verdict.TheVariants.{Yes, No}
 use Rattle.hm_history.specs.declared.Entry.{Entry}
+use Rattle.hm_report.specs.declared.written.Written.{Written}
 use Rattle.hm_top.specs.Checks.{IsLegalReportOf, bad_line, legal_line}
 use Rattle.hm_top.specs.Ran.{HasNothing}
 use Rattle.hm_top.specs.Streams.{CameWhole}
@@ -22,10 +24,19 @@ pub record IsVerdictOn (before after : SourceState) (v : Verdict) : Type 0 where
   pub judged : Judged bytes v
   pub only : (c : Program) (h : List Entry) → IsLegalReportOf c h bytes → IsYes c h v
 
+-- the text of a verdict, by what is said of a legal report
+abbrev pub verdict_text : (List Entry → List ℕ) → Verdict → List ℕ
+verdict_text say (Yes r) = say r.history.entries
+verdict_text say (No n) = bad_line n
+
 -- the line of a verdict
 abbrev pub verdict_line : Verdict → List ℕ
-verdict_line (Yes r) = legal_line (length r.history.entries)
-verdict_line (No n) = bad_line n
+verdict_line = verdict_text (λ h. legal_line (length h))
+
+-- the report that was found is legal
+abbrev pub IsSound : Verdict → Type 0
+IsSound (Yes r) = IsLegalReport r.script r.history.entries
+IsSound (No n) = Unit {0}
 
 -- the status of a call whose line went out
 abbrev pub verdict_status : Verdict → Status
@@ -42,6 +53,12 @@ pub record HasReportOf (r : Report) (ended : Ended) : Type 0 where
 abbrev pub AnswersTo : Verdict → Ended → Type 0
 AnswersTo (Yes r) ended = HasReportOf r ended
 AnswersTo (No n) ended = HasNothing ended
+
+-- the status of a call whose text of a verdict was written so
+abbrev pub told_status : Verdict → Written → Status
+told_status v Written.Done = verdict_status v
+told_status v Written.Fault = Status.WriteFault
+told_status v Written.NoMemory = Status.NoMemory
 
 -- how a call ends that has come to a verdict
 abbrev pub EndsAt : Verdict → Ended → Status → Type 0

@@ -1,10 +1,10 @@
 // The word `check`.
 ghost use Rattle.std.specs.Prelude.{◌≡◌, None, IfOk, IfErr, OnOk};
 ghost use Rattle.hm_report.specs.SinkState.{sink_state};
-ghost use Rattle.hm_top.specs.Checks.{Checks, HasNotJudged};
+ghost use Rattle.hm_top.specs.Checks.{Checks, HasNotJudged, bad_line};
 ghost use Rattle.hm_top.specs.Reading.{ReadFaulted};
 ghost use Rattle.hm_top.specs.Traffic.{source_state, traffic};
-ghost use Rattle.hm_top.specs.Verdicts.{AnswersTo, EndsAt, IsVerdictOn, verdict_line, verdict_status};
+ghost use Rattle.hm_top.specs.Verdicts.{AnswersTo, EndsAt, IsSound, IsVerdictOn, told_status, verdict_line, verdict_status};
 ghost use Rattle.hm_top.specs.Writing.{HasWritten, WriteFaulted};
 
 use crate::ended::Ended;
@@ -20,7 +20,8 @@ use std::alloc::Global;
 pub const MOST_REPORT_BYTES: u64 = 268_435_456;
 
 /// The verdict on all that the source has, or how a call ends that comes to none.
-fn judge<S: Source>(alloc: Global, source: &mut S) -> Result<Verdict, Status>
+pub fn judge<S: Source>(alloc: Global, source: &mut S) -> Result<Verdict, Status>
+    ensures sound { IfOk result IsSound }
     ensures verdict { IfOk result
         (IsVerdictOn (source_state S.left S.failures source.old) (source_state S.left S.failures source.new)) }
     ensures none { IfErr result
@@ -40,18 +41,26 @@ fn judge<S: Source>(alloc: Global, source: &mut S) -> Result<Verdict, Status>
     }
 }
 
+/// The line on bytes with this first bad line.
+pub fn bad_line(alloc: Global, line: u64) -> Result<Text, NoMemory>
+    ensures { IfOk result (λ t. t ≡ bad_line line) }
+{
+    let text = format!(in alloc; "bad {line}\n")?;
+    Text::from_slice(alloc, text.as_bytes())
+}
+
 /// The line of a verdict.
 fn verdict_line(alloc: Global, verdict: &Verdict) -> Result<Text, NoMemory>
     ensures { IfOk result (λ t. t ≡ verdict_line verdict.now) }
 {
-    let text = match verdict {
+    match verdict {
         Verdict::Yes(report) => {
             let count = report.history.len();
-            format!(in alloc; "legal {count}\n")?
+            let text = format!(in alloc; "legal {count}\n")?;
+            Text::from_slice(alloc, text.as_bytes())
         }
-        Verdict::No(line) => format!(in alloc; "bad {line}\n")?,
-    };
-    Text::from_slice(alloc, text.as_bytes())
+        Verdict::No(line) => bad_line(alloc, *line),
+    }
 }
 
 /// Ends a call whose line went out.
@@ -70,6 +79,23 @@ fn answer(alloc: Global, verdict: Verdict) -> Ended
     }
 }
 
+/// Ends a call whose text of the verdict was written so.
+pub fn end_judged(alloc: Global, verdict: Verdict, written: Written) -> Ended
+    ensures status { result.status ≡ told_status verdict written }
+    ensures ends { EndsAt verdict result result.status }
+    ensures receipt { result.receipt ≡ None }
+{
+    match written {
+        Written::Done => answer(alloc, verdict),
+        Written::Fault => {
+            let mut ended = answer(alloc, verdict);
+            ended.status = Status::WriteFault;
+            ended
+        }
+        Written::NoMemory => Ended::stopped(alloc, Status::NoMemory),
+    }
+}
+
 /// Writes the line of the verdict, and ends the call.
 fn write_verdict<K: Sink>(alloc: Global, verdict: Verdict, sink: &mut K) -> Ended
     ensures ends { EndsAt verdict result result.status }
@@ -82,15 +108,8 @@ fn write_verdict<K: Sink>(alloc: Global, verdict: Verdict, sink: &mut K) -> Ende
     let Ok(line) = verdict_line(alloc, &verdict) else {
         return Ended::stopped(alloc, Status::NoMemory);
     };
-    match write_text(alloc, &line, sink) {
-        Written::Done => answer(alloc, verdict),
-        Written::Fault => {
-            let mut ended = answer(alloc, verdict);
-            ended.status = Status::WriteFault;
-            ended
-        }
-        Written::NoMemory => Ended::stopped(alloc, Status::NoMemory),
-    }
+    let written = write_text(alloc, &line, sink);
+    end_judged(alloc, verdict, written)
 }
 
 /// Reads a report, and writes the verdict on it.

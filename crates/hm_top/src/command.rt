@@ -19,6 +19,10 @@ pub enum Command {
     Upgrade,
     /// Writes the verdict on a report.
     Check,
+    /// Runs a script by its schedule, and writes which pages were accessed and where they should live.
+    Advise,
+    /// Reads a report, and writes for each load the entries that its bytes came from.
+    Why,
 }
 
 fn plain_command(word: &str) -> Option<Command>
@@ -35,6 +39,12 @@ fn plain_command(word: &str) -> Option<Command>
     }
     if word == "check" {
         return Some(Command::Check);
+    }
+    if word == "advise" {
+        return Some(Command::Advise);
+    }
+    if word == "why" {
+        return Some(Command::Why);
     }
     None
 }

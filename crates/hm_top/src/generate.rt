@@ -8,6 +8,7 @@ use crate::output::{write_script, write_summary};
 use crate::schedule::run_script;
 use crate::status::Status;
 use hm_io::Sink;
+use skip_rules::Kept;
 use std::alloc::Global;
 
 /// Writes the text of the trial of this number.
@@ -22,14 +23,14 @@ pub fn generate<K: Sink>(alloc: Global, number: u64, sink: &mut K) -> Ended
 }
 
 /// Runs the trial of this number, and writes the summary.
-pub fn trial<K: Sink>(alloc: Global, number: u64, sink: &mut K) -> Ended
+pub fn trial<K: Sink>(alloc: Global, number: u64, sink: &mut K, skip: &Kept) -> Ended
     ensures { (source : SourceState) → Tries number
         (traffic_of source (sink_state K.held K.failures K.wanted) sink.old sink.new) result }
 {
     let Ok(script) = hm_script::generate(alloc, number) else {
         return Ended::stopped(alloc, Status::NoMemory);
     };
-    match run_script(alloc, script) {
+    match run_script(alloc, script, skip) {
         Ok(ran) => write_summary(alloc, number, ran, sink),
         Err(_) => Ended::stopped(alloc, Status::NoMemory),
     }

@@ -21,7 +21,7 @@ pub enum Input {
     NoMemory,
 }
 
-/// Reads in pieces of up to 4,096 bytes, until the source ends, fails or gives a byte more than the limit.
+/// Reads piece by piece, until the source ends, fails or gives a byte more than the limit.
 pub fn read_all<S: Source>(alloc: Global, source: &mut S, most: u64) -> Input
     requires { most < 2 ^ 63 }
     ensures text { ReadsText most (S.left source.old) (S.left source.new) result }

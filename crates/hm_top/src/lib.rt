@@ -1,6 +1,7 @@
 // The top call: what the words after the program's name ask for.
 #![tactic(auto)]
 
+mod advise;
 mod check;
 mod command;
 mod ended;
@@ -15,6 +16,7 @@ mod status;
 mod threads;
 mod top;
 mod upgrade;
+mod why;
 
 pub use check::MOST_REPORT_BYTES;
 pub use command::Command;

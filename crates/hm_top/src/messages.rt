@@ -24,7 +24,8 @@ pub fn message(alloc: Global, status: &Status) -> Result<Text, NoMemory>
     let text = match status {
         Status::Done => "",
         Status::NotLegal(_) => "not legal",
-        Status::Usage => "usage: hmmrun replay | threads | generate N | trial N | upgrade | check",
+        Status::Usage =>
+            "usage: hmmrun replay | threads | generate N | trial N | upgrade | check | advise | why",
         Status::Refused(refused) => return refusal(alloc, refused),
         Status::ReadFault => "read fault",
         Status::WriteFault => "write fault",

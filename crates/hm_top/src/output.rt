@@ -6,7 +6,7 @@ ghost use Rattle.hm_report.specs.SinkState.{sink_state};
 ghost use Rattle.hm_report.specs.Summary.{summary};
 ghost use Rattle.hm_script.specs.Spelling.{text};
 ghost use Rattle.hm_top.specs.Generates.{HasMade, IsAlone};
-ghost use Rattle.hm_top.specs.Ran.{IsRan, Shows};
+ghost use Rattle.hm_top.specs.Ran.{IsRan, Shows, shown_status};
 ghost use Rattle.hm_top.specs.Writing.{HasWritten, WriteFaulted};
 
 use crate::ended::Ended;
@@ -19,6 +19,25 @@ use hm_report::{Written, summary, write_report, write_text};
 use hm_script::print;
 use std::alloc::Global;
 
+/// Ends a call whose text of what ran was written so.
+pub fn show_run(alloc: Global, ran: Ran, written: Written) -> Ended
+    ensures shows { Shows ran result }
+    ensures status { result.status ≡ shown_status written ran.full }
+{
+    let status = match written {
+        Written::Done if ran.full => Status::HistoryFull,
+        Written::Done => Status::Done,
+        Written::Fault => Status::WriteFault,
+        Written::NoMemory => return Ended::stopped(alloc, Status::NoMemory),
+    };
+    Ended {
+        status,
+        script: Some(ran.script),
+        history: ran.history,
+        receipt: ran.receipt,
+    }
+}
+
 /// Writes the report of what ran, and ends the call.
 pub fn report_run<K: Sink>(alloc: Global, ran: Ran, sink: &mut K) -> Ended
     requires { Legal ran.script ran.history.entries }
@@ -28,27 +47,8 @@ pub fn report_run<K: Sink>(alloc: Global, ran: Ran, sink: &mut K) -> Ended
         (sink_state K.held K.failures K.wanted sink.new) result.status }
     ensures write_faults { WriteFaulted (K.failures sink.old) (K.failures sink.new) result.status }
 {
-    let Ran {
-        script,
-        history,
-        full,
-        receipt,
-    } = ran;
-    let status = match write_report(alloc, &script, &history, sink) {
-        Written::Done => if full {
-            Status::HistoryFull
-        } else {
-            Status::Done
-        },
-        Written::Fault => Status::WriteFault,
-        Written::NoMemory => return Ended::stopped(alloc, Status::NoMemory),
-    };
-    Ended {
-        status,
-        script: Some(script),
-        history,
-        receipt,
-    }
+    let written = write_report(alloc, &ran.script, &ran.history, sink);
+    show_run(alloc, ran, written)
 }
 
 /// Writes the script's text, and ends the call.

@@ -10,10 +10,11 @@ use crate::schedule::run_script;
 use crate::status::Status;
 use hm_io::{Sink, Source};
 use hm_script::one_text;
+use skip_rules::Kept;
 use std::alloc::Global;
 
 /// Reads a script, makes its schedule's turns and writes the report.
-pub fn replay<S: Source, K: Sink>(alloc: Global, source: &mut S, sink: &mut K) -> Ended
+pub fn replay<S: Source, K: Sink>(alloc: Global, source: &mut S, sink: &mut K, skip: &Kept) -> Ended
     ensures { Replays
         (traffic (source_state S.left S.failures) (sink_state K.held K.failures K.wanted) source.old source.new sink.old
         sink.new) result }
@@ -24,7 +25,7 @@ pub fn replay<S: Source, K: Sink>(alloc: Global, source: &mut S, sink: &mut K) -
         Ok(script) => script,
         Err(status) => return Ended::stopped(alloc, status),
     };
-    match run_script(alloc, script) {
+    match run_script(alloc, script, skip) {
         Ok(ran) => report_run(alloc, ran, sink),
         Err(_) => Ended::stopped(alloc, Status::NoMemory),
     }

@@ -13,6 +13,7 @@ use hm_base::{NoMemory, Script};
 use hm_history::{History, StepError};
 use hm_machine::Machine;
 use hm_turns::Receipt;
+use skip_rules::Kept;
 use std::alloc::Global;
 
 /// A script with its history, and whether a turn found the history full and an entry due.
@@ -26,7 +27,7 @@ pub struct Ran {
 }
 
 /// Makes the schedule's turns, and says whether one found the history full and an entry due.
-fn run_schedule(machine: &mut Machine) -> Result<bool, NoMemory>
+fn run_schedule(machine: &mut Machine<Kept>) -> Result<bool, NoMemory>
     requires { machine.old ≡ opening machine.old.script }
     ensures { IfOk result (Replayed machine.old machine.new) }
 {
@@ -37,8 +38,8 @@ fn run_schedule(machine: &mut Machine) -> Result<bool, NoMemory>
     }
 }
 
-/// Runs the script by its schedule.
-pub fn run_script(alloc: Global, script: Script) -> Result<Ran, NoMemory>
+/// Runs the script by its schedule. The rule decides which pages a migration skips.
+pub fn run_script(alloc: Global, script: Script, skip: &Kept) -> Result<Ran, NoMemory>
     ensures script { IfOk result (λ r. r.script ≡ script) }
     ensures receipt { IfOk result (λ r. r.receipt ≡ None) }
     ensures legal { IfOk result (λ r. Legal r.script r.history.entries) }
@@ -49,7 +50,7 @@ pub fn run_script(alloc: Global, script: Script) -> Result<Ran, NoMemory>
     hm_laws::every_run_is_legal();
     hm_laws::never_stuck();
     hm_history::laws::runs_are_due();
-    let mut machine = Machine::new(alloc, script)?;
+    let mut machine = Machine::new(alloc, script, *skip)?;
     let full = run_schedule(&mut machine)?;
     machine.world().facts();
     let (script, history) = machine.into_parts();

@@ -17,6 +17,7 @@ use hm_io::{Sink, Source};
 use hm_machine::Machine;
 use hm_script::one_text;
 use hm_workers::{Gate, run_all};
+use skip_rules::Kept;
 use std::alloc::Global;
 use std::sync::Wait;
 use std::thread::Threads;
@@ -27,6 +28,7 @@ fn run_threads<R: Threads + Wait + Sync, G: Gate + Sync>(
     alloc: Global,
     script: Script,
     gate: &G,
+    skip: &Kept,
 ) -> Result<Ran, NoMemory>
     ensures script { IfOk result (λ r. r.script ≡ script) }
     ensures legal { IfOk result (λ r. Legal r.script r.history.entries) }
@@ -37,7 +39,7 @@ fn run_threads<R: Threads + Wait + Sync, G: Gate + Sync>(
     script.facts();
     hm_laws::never_stuck();
     let actors = script.actors.len() as u32;
-    let machine = Machine::new(alloc, script)?;
+    let machine = Machine::new(alloc, script, *skip)?;
     let (machine, receipt) = run_all(rt, alloc, machine, actors, gate)?;
     machine.stands();
     let full = match machine.world().halted() {
@@ -61,6 +63,7 @@ pub fn threads<R: Threads + Wait + Sync, S: Source, K: Sink, G: Gate + Sync>(
     source: &mut S,
     sink: &mut K,
     gate: &G,
+    skip: &Kept,
 ) -> Ended
     ensures { RunsThreads
         (traffic (source_state S.left S.failures) (sink_state K.held K.failures K.wanted) source.old source.new sink.old
@@ -70,7 +73,7 @@ pub fn threads<R: Threads + Wait + Sync, S: Source, K: Sink, G: Gate + Sync>(
         Ok(script) => script,
         Err(status) => return Ended::stopped(alloc, status),
     };
-    match run_threads(rt, alloc, script, gate) {
+    match run_threads(rt, alloc, script, gate, skip) {
         Ok(ran) => report_run(alloc, ran, sink),
         Err(_) => Ended::stopped(alloc, Status::NoMemory),
     }

@@ -7,6 +7,7 @@ ghost use Rattle.hm_top.specs.Traffic.{source_state, traffic};
 ghost use Rattle.hm_top.specs.declared.command.Command.{Command};
 ghost use Rattle.hm_top.specs.declared.status.Status.{Status};
 
+use crate::advise::advise;
 use crate::check::check;
 use crate::command::Command;
 use crate::ended::Ended;
@@ -15,19 +16,24 @@ use crate::replay::replay;
 use crate::status::Status;
 use crate::threads::threads;
 use crate::upgrade::upgrade;
+use crate::why::why;
 use hm_io::{Sink, Source};
 use hm_workers::Gate;
+use skip_rules::{Kept, Leans};
 use std::alloc::Global;
 use std::sync::Wait;
 use std::thread::Threads;
 
 /// Does what the words after the program's name ask for, where that is not `threads`: reads from the source, runs, and
-/// writes to the sink. It waits for nobody.
+/// writes to the sink. It waits for nobody. The rules are the caller's: which pages a migration skips, and where a page
+/// should live.
 pub fn run_alone<S: Source, K: Sink>(
     alloc: Global,
     words: Vec<String>,
     source: &mut S,
     sink: &mut K,
+    skip: &Kept,
+    leans: &Leans,
 ) -> Ended
     requires { command_of (map string_bytes words.items) ≢ Some Command.Threads }
     ensures usage { (result.status ≡ Status.Usage) ↔ (command_of (map string_bytes words.items) ≡ None) }
@@ -36,18 +42,21 @@ pub fn run_alone<S: Source, K: Sink>(
         sink.new) result }
 {
     match Command::of(words.as_slice()) {
-        Some(Command::Replay) => replay(alloc, source, sink),
+        Some(Command::Replay) => replay(alloc, source, sink, skip),
         Some(Command::Threads) => unreachable!(),
         Some(Command::Generate(number)) => generate(alloc, number, sink),
-        Some(Command::Trial(number)) => trial(alloc, number, sink),
+        Some(Command::Trial(number)) => trial(alloc, number, sink, skip),
         Some(Command::Upgrade) => upgrade(alloc, source, sink),
         Some(Command::Check) => check(alloc, source, sink),
+        Some(Command::Advise) => advise(alloc, source, sink, skip, leans),
+        Some(Command::Why) => why(alloc, source, sink),
         None => Ended::stopped(alloc, Status::Usage),
     }
 }
 
 /// Does what the words after the program's name ask for: reads from the source, runs, and writes to the sink. With
-/// `threads` each actor goes from a thread of its own, when the gate admits it. Other words wait for nobody.
+/// `threads` each actor goes from a thread of its own, when the gate admits it. Other words wait for nobody. The rules
+/// are the caller's: which pages a migration skips, and where a page should live.
 pub fn run<R: Threads + Wait + Sync, S: Source, K: Sink, G: Gate + Sync>(
     rt: &R,
     alloc: Global,
@@ -55,6 +64,8 @@ pub fn run<R: Threads + Wait + Sync, S: Source, K: Sink, G: Gate + Sync>(
     source: &mut S,
     sink: &mut K,
     gate: &G,
+    skip: &Kept,
+    leans: &Leans,
 ) -> Ended
     // `Usage` comes exactly where the words are none of the forms.
     ensures usage { (result.status ≡ Status.Usage) ↔ (command_of (map string_bytes words.items) ≡ None) }
@@ -64,7 +75,7 @@ pub fn run<R: Threads + Wait + Sync, S: Source, K: Sink, G: Gate + Sync>(
         sink.new) result }
 {
     match Command::of(words.as_slice()) {
-        Some(Command::Threads) => threads(rt, alloc, source, sink, gate),
-        _ => run_alone(alloc, words, source, sink),
+        Some(Command::Threads) => threads(rt, alloc, source, sink, gate, skip),
+        _ => run_alone(alloc, words, source, sink, skip, leans),
     }
 }

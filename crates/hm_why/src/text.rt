@@ -117,8 +117,7 @@ pub fn why_text(alloc: Global, history: &History) -> Result<Text, NoMemory>
     Ok(text)
 }
 
-/// Writes that text in pieces of 4,096 bytes, the last one shorter or whole, and flushes the sink. It is made whole
-/// before anything is written.
+/// Writes that text and flushes the sink. The text is made whole before anything is written.
 pub fn write_why<K: Sink>(alloc: Global, history: &History, sink: &mut K) -> Written
     requires { IsLegal history.now.entries }
     ensures text { Writes (K.held sink.old) (K.held sink.new) (why_text history.now.entries) result }

@@ -5,6 +5,7 @@ use hm_base::{Actor, NoMemory};
 use hm_io::{StreamSink, StreamSource};
 use hm_top::{Status, finish, run};
 use hm_workers::Gate;
+use skip_rules::{Kept, Leans};
 use std::env;
 use std::process::ExitCode;
 
@@ -34,7 +35,19 @@ fn main(rt: HostRuntime) -> ExitCode {
         Ok(words) => {
             let mut source = StreamSource::new(rt.stdin());
             let mut sink = StreamSink::new(rt.stdout());
-            run(&rt, rt.alloc(), words, &mut source, &mut sink, &Open).status
+            let skip = Kept::new(|every: u64, page: u64| every != 0 && page % every == 0);
+            let leans = Leans::new(|x: u64, y: u64| x >= 4 && x - 4 >= y);
+            run(
+                &rt,
+                rt.alloc(),
+                words,
+                &mut source,
+                &mut sink,
+                &Open,
+                &skip,
+                &leans,
+            )
+            .status
         }
         Err(NoMemory) => Status::NoMemory,
     };

@@ -9,12 +9,12 @@ use hm_base::{Op, Page, PoolId};
 use hm_history::{KeptAt, KeptWhy, Kind};
 use hm_reads::Reads;
 use hm_reads::operations::{is_to_device, op_mirror};
+use skip_rules::SkipRule;
 
-fn skips<W: Reads>(world: &W, op: &Op, page: Page) -> bool
+fn skips<W: Reads, R: SkipRule>(world: &W, rule: &R, op: &Op, page: Page) -> bool
     ensures { result ≡ spec.skips (W.program world.now) op.now page }
 {
-    let skip = world.script().skip;
-    is_to_device(op) && skip != 0 && page.number() % skip == 0
+    is_to_device(op) && rule.skips(world.script().skip, page.number())
 }
 
 fn pool_of<W: Reads>(world: &W, op: &Op) -> PoolId
@@ -27,11 +27,11 @@ fn pool_of<W: Reads>(world: &W, op: &Op) -> PoolId
     }
 }
 
-/// A page gets its destination, or stays: its driver skips it, or no frame is free.
-pub fn step_copy<W: Reads>(world: &W, op: &Op, page: Page) -> Kind
+/// A page gets its destination, or stays: its driver skips it, which the rule decides, or no frame is free.
+pub fn step_copy<W: Reads, R: SkipRule>(world: &W, rule: &R, op: &Op, page: Page) -> Kind
     ensures { result ≡ spec.fetch_page (W.program world.now) (W.state world.now).after op.now page }
 {
-    if skips(world, op, page) {
+    if skips(world, rule, op, page) {
         Kind::Kept {
             at: KeptAt::Page(page),
             why: KeptWhy::Skipped,

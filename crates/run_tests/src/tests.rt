@@ -3,6 +3,7 @@ use crate::gates::{Meets, Open};
 use hm_io::{MemorySink, MemorySource, Sink, Source, SureSink, SureSource};
 use hm_top::{message, run};
 use hm_workers::Gate;
+use skip_rules::{Kept, Leans};
 use std::alloc::Global;
 use std::process::Abort;
 use std::sync::Wait;
@@ -26,7 +27,8 @@ const REPORT: &str =
     turns 0 20\nhistory\n0 a0 wlock p0\n1 a0 mapped p0 16 1 rw\n2 a0 rlock p0\n3 a0 take s0\n\
     4 a0 place p0 16 sys s0 w\n5 a0 runlock p0\n6 a0 stored p0 0x10000 41\n7 a0 loaded p0 0x10000 4100\nend 8\n";
 
-const USAGE: &str = "usage: hmmrun replay | threads | generate N | trial N | upgrade | check";
+const USAGE: &str =
+    "usage: hmmrun replay | threads | generate N | trial N | upgrade | check | advise | why";
 
 fn ends<R: Abort + Threads + Wait + Sync, S: Source, K: Sink, G: Gate + Sync>(
     rt: &R,
@@ -42,7 +44,9 @@ fn ends<R: Abort + Threads + Wait + Sync, S: Source, K: Sink, G: Gate + Sync>(
     for word in words.split(' ') {
         listed.push(String::from_str(alloc, word)?)?;
     }
-    let ended = run(rt, alloc, listed, source, sink, gate);
+    let skip = Kept::new(|every: u64, page: u64| every != 0 && page % every == 0);
+    let leans = Leans::new(|x: u64, y: u64| x >= 4 && x - 4 >= y);
+    let ended = run(rt, alloc, listed, source, sink, gate, &skip, &leans);
     assert_eq!(rt; ended.status.code(), code);
     assert_eq!(rt; message(alloc, &ended.status)?.as_slice(), text.as_bytes());
     Ok(())

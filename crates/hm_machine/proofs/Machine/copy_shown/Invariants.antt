@@ -7,7 +7,7 @@ use Rattle.hm_machine.specs.Showing.{shown_at}
 use Rattle.hm_machine.proofs.Machine.copy_shown.Given as goal
 
 abbrev pub invariant-loop-at : goal.invariant-loop-at
-invariant-loop-at l = record {
+invariant-loop-at g l = record {
   areas : (k : ℕ) → k < l.at → is_some (rights_of (now l.self).after.plain l.proc (page_of (l.addr + k))) ≡ true;
   bytes : (k : ℕ) → k < l.at → get_or l.into k 0 ≡ shown_at (now l.self).after l.proc (l.addr + k);
 }

@@ -6,7 +6,7 @@ use Rattle.hm_machine.proofs.Touched.{no_owner, some_owner}
 use Rattle.hm_machine.proofs.Machine.owner.Goals as goal
 
 pub returns-then-has_mirror : goal.returns-then-has_mirror
-returns-then-has_mirror c =
+returns-then-has_mirror g c =
     let m = c.args.mirror in
     let has : is_some ((now c.deref.result.now).after.plain.mirrors m) ≡ true = sym c.has_mirror.ensures ∙ c.if-has_mirror.true in
     let there = subst (λ w. is_some ((now w).after.plain.mirrors m) ≡ true) (c.deref.ensures ∙ c.self.view_is) has in
@@ -14,7 +14,7 @@ returns-then-has_mirror c =
     ap Some proc ∙ some_owner ((now c.args.self.now).after.plain.mirrors m) there
 
 pub returns-else-has_mirror : goal.returns-else-has_mirror
-returns-else-has_mirror c =
+returns-else-has_mirror g c =
     let m = c.args.mirror in
     let has : is_some ((now c.deref.result.now).after.plain.mirrors m) ≡ false = sym c.has_mirror.ensures ∙ c.if-has_mirror.false in
     no_owner ((now c.args.self.now).after.plain.mirrors m) (subst (λ w. is_some ((now w).after.plain.mirrors m) ≡ false) (c.deref.ensures ∙ c.self.view_is) has)

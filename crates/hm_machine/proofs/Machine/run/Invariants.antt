@@ -5,6 +5,6 @@ use Rattle.hm_machine.proofs.Lines.{Left}
 use Rattle.hm_machine.proofs.Machine.run.Given as goal
 
 abbrev pub invariant-loop-at : goal.invariant-loop-at
-invariant-loop-at l =
+invariant-loop-at g l =
     let s = l.fn.self in
     Left s.script.schedule s l.self l.at (fold (line_run s.script) s.history s.script.schedule) (overruns_lines s.script s.history s.script.schedule)

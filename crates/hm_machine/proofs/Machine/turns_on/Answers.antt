@@ -9,7 +9,7 @@ use Rattle.hm_machine.proofs.Machine.turns_on.Goals.{then-not-has_room-via-then-
 use Rattle.hm_machine.proofs.Machine.turns_on.Goals as goal
 
 pub returns-then-not-has_room : goal.returns-then-not-has_room
-returns-then-not-has_room c = elim c.then-not-has_room.branch [
+returns-then-not-has_room g c = elim c.then-not-has_room.branch [
   | then-not-has_room-via-then-not-has_room w ↦
       let full : has_room c.loop-turn.self.history ≡ false = sym c.has_room.ensures ∙ w.if-not-has_room.true in
       (w.self-is ∙ ended c.args.self.now c.loop-turn.self _ _ c.loop-turn.invariant (on_full c.args.self.now.script c.loop-turn.self.history c.args.actor (enough - c.loop-turn.turn) full), refl)
@@ -19,15 +19,15 @@ returns-then-not-has_room c = elim c.then-not-has_room.branch [
 ]
 
 pub returns-in_err-adds : goal.returns-in_err-adds
-returns-in_err-adds c =
+returns-in_err-adds g c =
     let p = err_from_is_err_and c.from_residual.result c.from_residual.ensures.1 in
     let room : has_room c.loop-turn.self.history ≡ true = sym c.has_room.ensures ∙ c.if-not-has_room.false in
     rw (p.1, p.2) (turn_fails c.args.self.now c.loop-turn.self c.adds.new.self c.args.actor (enough - c.loop-turn.turn) c.in_err-adds.field-0.0 _ c.loop-turn.invariant room c.in_err-adds.ensures)
 
 pub loop-turn-preserved : goal.loop-turn-preserved
-loop-turn-preserved c =
+loop-turn-preserved g c =
     let room : has_room c.loop-turn.self.history ≡ true = sym c.has_room.ensures ∙ c.if-not-has_room.false in
     turn_goes c.args.self.now c.loop-turn.self c.adds.new.self c.args.actor c.loop-turn.turn c.in_ok-adds.field-0 _ c.loop-turn.invariant c.loop-turn-test.true room c.in_ok-adds.ensures
 
 pub returns : goal.returns
-returns c = (turns_end c.args.self.now c.loop-turn.self c.args.actor c.loop-turn.turn _ c.loop-turn.invariant c.loop-turn-test.false, refl)
+returns g c = (turns_end c.args.self.now c.loop-turn.self c.args.actor c.loop-turn.turn _ c.loop-turn.invariant c.loop-turn-test.false, refl)

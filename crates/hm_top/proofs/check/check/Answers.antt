@@ -1,3 +1,5 @@
+use Rattle.std.proofs.Common.{length}
+use Rattle.hm_top.specs.Checks.{legal_line}
 use Rattle.hm_top.proofs.Checking.{judged}
 use Rattle.hm_top.proofs.check.check.Goals as goal
 
@@ -5,4 +7,4 @@ pub returns-in-Ok : goal.returns-in-Ok
 returns-in-Ok g c =
     let s = c.in-Ok.ensures in
     let e = c.write_verdict.ensures in
-    judged _ c.write_verdict.result c.in-Ok.verdict s.verdict s.faults e.ends e.written e.write_faults e.receipt
+    judged (λ h. legal_line (length h)) _ c.write_verdict.result c.in-Ok.verdict s.verdict s.faults e.ends e.written e.write_faults e.receipt

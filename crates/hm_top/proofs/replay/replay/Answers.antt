@@ -1,3 +1,4 @@
+use Rattle.hm_report.specs.Report.{report}
 use Rattle.hm_top.proofs.Replaying.{shown_for}
 use Rattle.hm_top.proofs.replay.replay.Goals as goal
 
@@ -6,4 +7,4 @@ returns-in-Ok-run_script g c =
     let s = c.in-Ok.ensures in
     let r = c.in-Ok-run_script.ensures in
     let e = c.report_run.ensures in
-    shown_for c.one_text.ensures c.drain_alone_has_room.ensures _ c.in-Ok-run_script.ran c.report_run.result c.in-Ok.script r.script s.text s.faults r.whole r.full e.shows e.written e.write_faults r.receipt
+    shown_for report c.one_text.ensures c.drain_alone_has_room.ensures _ c.in-Ok-run_script.ran c.report_run.result c.in-Ok.script r.script s.text s.faults r.whole r.full e.shows e.written e.write_faults r.receipt

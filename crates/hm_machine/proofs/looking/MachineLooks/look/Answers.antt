@@ -8,7 +8,7 @@ use Rattle.hm_machine.proofs.Looks.{after_now, finds_bytes, finds_no_area, finds
 use Rattle.hm_machine.proofs.looking.MachineLooks.look.Goals as goal
 
 pub returns-in-Some-clause-read : goal.returns-in-Some-clause-read
-returns-in-Some-clause-read c =
+returns-in-Some-clause-read g c =
     let t = c.args.self.now in
     let p = c.args.proc in
     let st : Stands t.script t.history = subst (λ (w : WorldValue). Stands w.script w.history) (c.deref.ensures ∙ c.self.view_is) (c.history_stands.ensures c.deref.result.now.script c.facts.ensures.script c.deref.result.now.history c.facts.ensures.due) in
@@ -16,7 +16,7 @@ returns-in-Some-clause-read c =
     finds_writer t.history p c.args.addr c.in-Some.by c.args.into.now (ap (λ s. writer s.locks p) (sym (after_now t st)) ∙ locked)
 
 pub returns-then-copy_shown-clause-read : goal.returns-then-copy_shown-clause-read
-returns-then-copy_shown-clause-read c =
+returns-then-copy_shown-clause-read g c =
     let t = c.args.self.now in
     let p = c.args.proc in
     let w = c.deref.result.now in
@@ -27,7 +27,7 @@ returns-then-copy_shown-clause-read c =
     finds_bytes t st p c.args.addr _ c.copy_shown.new.into k.length none reads k.areas (k.bytes refl)
 
 pub returns-else-copy_shown-clause-read : goal.returns-else-copy_shown-clause-read
-returns-else-copy_shown-clause-read c =
+returns-else-copy_shown-clause-read g c =
     let t = c.args.self.now in
     let p = c.args.proc in
     let w = c.deref.result.now in
