@@ -1,17 +1,21 @@
 #!/usr/bin/env python3
 """Compares what the program answers with what a second program of the same behaviour answers.
 
-    tools/compare_words.py --against 'COMMAND' [--with 'COMMAND'] [--numbers N] [--texts N] [--words WORD..]
+    tools/compare_words.py --against 'COMMAND' [--with 'COMMAND'] [--numbers N] [--texts N] [--drawn N] [--words WORD..]
 
 For so many numbers (200) both are asked to `generate` and to `trial`: the least and greatest numbers, those that are no
 numbers of the command, and drawn ones. For so many texts (2,000) both are asked to `upgrade` and to `replay`: drawn
 scripts, and scripts spoiled at random (a byte changed, left out or doubled, a line left out, doubled, moved or cut).
-Output, status and message must be the same. `--words` asks these commands alone.
+For so many small scripts (1,000), drawn operation by operation with turns in a drawn order, both are asked to `replay`
+and to `advise`, and on the report of each, one of two spoiled, to `check` and to say `why`. Output, status and message
+must be the same. `--words` asks these commands alone.
 
 The first difference is printed, with what was asked, and the tool ends with status 1. It is run by hand, outside the
 gate. A difference says that one of the two is wrong, and not which.
 """
 import argparse, os, random, shlex, subprocess, sys
+
+import quiet_share
 
 TOP = os.path.dirname(os.path.dirname(os.path.abspath(__file__)))
 WORKED = os.path.join(TOP, 'crates', 'replay_examples', 'data')
@@ -113,22 +117,44 @@ def texts(given, draw):
         yield text if at % 2 == 0 else spoil(draw, text)
 
 
+def drawn(draw):
+    """A small script, with turns of its actors in a drawn order and then each to its end."""
+    script = quiet_share.Drawn(draw)
+    actors = range(len(script.actors))
+    turns = [(draw.choice(actors), draw.choice([1, 2, 5, 20])) for _ in range(draw.choice([5, 20, 60]))]
+    return script.text(turns + [(actor, 100000) for actor in actors])
+
+
+def compare_drawn(given, draw):
+    for at in range(given.drawn):
+        script = drawn(draw)
+        report = ask(given.theirs, ['replay'], script)[1]
+        for word in [w for w in given.words if w in ('replay', 'advise')]:
+            same(given, [word], script)
+        for word in [w for w in given.words if w in ('check', 'why')]:
+            same(given, [word], report if at % 2 == 0 else spoil(draw, report))
+
+
 def main():
     parse = argparse.ArgumentParser(usage=__doc__)
     parse.add_argument('--against', dest='theirs', type=shlex.split, required=True)
     parse.add_argument('--with', dest='ours', type=shlex.split, default=[os.path.join(TOP, 'hmmrun.sh')])
     parse.add_argument('--numbers', type=int, default=200)
     parse.add_argument('--texts', type=int, default=2000)
-    parse.add_argument('--words', nargs='+', default=['generate', 'trial', 'upgrade', 'replay'])
+    parse.add_argument('--drawn', type=int, default=1000)
+    parse.add_argument('--words', nargs='+',
+                       default=['generate', 'trial', 'upgrade', 'replay', 'advise', 'check', 'why'])
     given = parse.parse_args()
     draw = random.Random(1)
     for of in numbers(draw, given.numbers):
         for word in [w for w in given.words if w in ('generate', 'trial')]:
             same(given, [word, of], b'')
     for text in texts(given, draw):
-        for word in [w for w in given.words if w not in ('generate', 'trial')]:
+        for word in [w for w in given.words if w in ('upgrade', 'replay')]:
             same(given, [word], text)
-    print(f'no difference: {given.numbers} numbers, {given.texts} texts, {" ".join(given.words)}')
+    compare_drawn(given, draw)
+    print(f'no difference: {given.numbers} numbers, {given.texts} texts, {given.drawn} drawn scripts, '
+          f'{" ".join(given.words)}')
 
 
 main()

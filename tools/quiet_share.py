@@ -241,4 +241,5 @@ def main():
     return 0 if fine and max(shares.share.values()) <= 1 else 1
 
 
-sys.exit(main())
+if __name__ == '__main__':
+    sys.exit(main())

@@ -4,7 +4,7 @@
     tools/threads_runs.py [RUNS] [--with COMMAND..] < SCRIPT
 
 Runs `threads` on the script so often (200). Each report must be whole (no operation is left unfinished) and legal, as
-tools/reference judges it. How many different reports came is said at the end.
+tools/reference judges it and as the command's own `check` does. How many different reports came is said at the end.
 
 Then it draws as many scripts (from seed 1) whose actors cannot meet in their answers: each maps, stores to and loads
 from pages of its own, with frames enough for all. There each actor must have the same answers as under `replay`.
@@ -34,7 +34,7 @@ def fail(why, report):
     sys.exit(1)
 
 
-def judge(status, report):
+def judge(command, status, report):
     """Status 0, no operation left, and legal."""
     if status != 0:
         fail(f'status {status}', report)
@@ -44,13 +44,16 @@ def judge(status, report):
         reports.check(report)
     except reports.NotLegal as bad:
         fail(f'line {bad.args[0]} is not legal', report)
+    code, said = run(command, 'check', report)
+    if code != 0 or not said.startswith(b'legal '):
+        fail(f'check says {said.decode().strip()}', report)
 
 
 def repeat(command, script, runs):
     seen = set()
     for _ in range(runs):
         status, report = run(command, 'threads', script)
-        judge(status, report)
+        judge(command, status, report)
         seen.add(report)
     print(f'{runs} runs of the script: each whole and legal, {len(seen)} different reports')
 
@@ -84,7 +87,7 @@ def compare(command, runs):
     for _ in range(runs):
         script = apart(draw)
         status, report = run(command, 'threads', script)
-        judge(status, report)
+        judge(command, status, report)
         if answers(report) != answers(run(command, 'replay', script)[1]):
             fail('an actor has other answers than under `replay`', report)
     print(f'{runs} drawn scripts whose actors cannot meet: the same answers as under `replay`')
