@@ -20,7 +20,7 @@ pub use generator::generate;
 pub use keyword::OpWord;
 pub use laws::{is_trial, one_text, upgraded_text, whole_grammar};
 pub use lines::cut_line;
-pub use numeral::number;
+pub use numeral::{address, number};
 pub use printing::print;
 pub use reason::{Reason, Refused, ScriptError};
 pub use script::{parse, parse_words};

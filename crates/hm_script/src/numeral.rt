@@ -58,7 +58,7 @@ fn numeral(word: &[u8], base: u64) -> Option<u64>
     }
 }
 
-/// Reads a decimal number.
+/// Reads a decimal number, without leading zeros, below 2^64.
 pub fn number(word: &[u8]) -> Result<u64, Reason>
     ensures { result ≡ number word.now }
 {
@@ -79,7 +79,7 @@ fn after_prefix(word: &[u8]) -> Option<&[u8]>
     }
 }
 
-/// Reads an address.
+/// Reads an address: `0x` and hexadecimal digits in lower case, without leading zeros, below 2^64.
 pub fn address(word: &[u8]) -> Result<u64, Reason>
     ensures { result ≡ address word.now }
 {
