@@ -17,7 +17,7 @@ use Rattle.hm_top.specs.Reading.{ReadAs, ReadFaulted}
 use Rattle.hm_top.specs.Running.{Answered, AnsweredNone}
 use Rattle.hm_top.specs.Streams.{CameWhole}
 use Rattle.hm_top.specs.Traffic.{SourceState, Traffic}
-use Rattle.hm_top.specs.Verdicts.{AnswersTo, EndsAt, HasReportOf, IsVerdictOn, verdict_text}
+use Rattle.hm_top.specs.Verdicts.{EndsAt, HasReportOf, IsVerdictOn, verdict_text}
 use Rattle.hm_top.specs.Writing.{HasWritten, WriteFaulted}
 use Rattle.hm_top.specs.declared.ended.Ended.{Ended}
 use Rattle.hm_top.specs.declared.status.Status.{Status}

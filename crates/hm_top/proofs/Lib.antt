@@ -7,6 +7,7 @@ pub mod Calls
 pub mod Sending
 pub mod Advising
 pub mod Replaying
+pub mod Peeking
 pub mod Threading
 pub mod Making
 pub mod Upgrading

@@ -77,18 +77,18 @@ run_shown r e Status.ReadFault shows whole over = absurd shows
 same_text : (tell : Program → List Entry → List ℕ) (r : Ran) (e : Ended) → HasAll r e → tell r.script r.history.entries ≡ told_of tell e.script e.history.entries
 same_text tell r e all = ap (tell r.script) (sym all.history_is) ∙ ap (λ x. told_of tell x e.history.entries) (sym all.script_is)
 
-pub text_shown : (tell : Program → List Entry → List ℕ) (Goes : List ℕ → Type 0) (r : Ran) (e : Ended) (k k' : SinkState) (status : Status) → ShowsAt r e status → Goes (tell r.script r.history.entries)
-    → HasWritten (tell r.script r.history.entries) (λ t. t ≡ tell r.script r.history.entries) k k' status → HasWritten (told_of tell e.script e.history.entries) Goes k k' status
-text_shown tell Goes r e k k' Status.Done shows goes w = subst (Adds k.held k'.held) (same_text tell r e shows.1) w
-text_shown tell Goes r e k k' Status.HistoryFull shows goes w = subst (Adds k.held k'.held) (same_text tell r e shows.1) w
-text_shown tell Goes r e k k' Status.WriteFault shows goes w = subst (AddsFront k.held k'.held) (same_text tell r e shows) w
-text_shown tell Goes r e k k' Status.NoMemory shows goes (inl same) = inl same
-text_shown tell Goes r e k k' Status.NoMemory shows goes (inr w) = inr (record { text = w.text; goes = subst Goes (sym w.goes) goes; front = w.front; wants = w.wants })
-text_shown tell Goes r e k k' Status.Usage shows goes w = absurd shows
-text_shown tell Goes r e k k' (Status.NotLegal l) shows goes w = absurd shows
-text_shown tell Goes r e k k' (Status.Refused x) shows goes w = absurd shows
-text_shown tell Goes r e k k' Status.TooLong shows goes w = absurd shows
-text_shown tell Goes r e k k' Status.ReadFault shows goes w = absurd shows
+pub text_shown : (tell : Program → List Entry → List ℕ) (Own Goes : List ℕ → Type 0) (r : Ran) (e : Ended) (k k' : SinkState) (status : Status) → ShowsAt r e status → ((t : List ℕ) → Own t → Goes t)
+    → HasWritten (tell r.script r.history.entries) Own k k' status → HasWritten (told_of tell e.script e.history.entries) Goes k k' status
+text_shown tell Own Goes r e k k' Status.Done shows goes w = subst (Adds k.held k'.held) (same_text tell r e shows.1) w
+text_shown tell Own Goes r e k k' Status.HistoryFull shows goes w = subst (Adds k.held k'.held) (same_text tell r e shows.1) w
+text_shown tell Own Goes r e k k' Status.WriteFault shows goes w = subst (AddsFront k.held k'.held) (same_text tell r e shows) w
+text_shown tell Own Goes r e k k' Status.NoMemory shows goes (inl same) = inl same
+text_shown tell Own Goes r e k k' Status.NoMemory shows goes (inr w) = inr (record { text = w.text; goes = goes w.text w.goes; front = w.front; wants = w.wants })
+text_shown tell Own Goes r e k k' Status.Usage shows goes w = absurd shows
+text_shown tell Own Goes r e k k' (Status.NotLegal l) shows goes w = absurd shows
+text_shown tell Own Goes r e k k' (Status.Refused x) shows goes w = absurd shows
+text_shown tell Own Goes r e k k' Status.TooLong shows goes w = absurd shows
+text_shown tell Own Goes r e k k' Status.ReadFault shows goes w = absurd shows
 
 abbrev pub OneText : Type 0
 OneText = (s t : Program) → IsScript s → IsScript t → text s ≡ text t → s ≡ t
@@ -127,12 +127,12 @@ shown tell one alone io r e read same whole over shows w faults no_receipt = rec
   read = read_shown r e io.source io.source_after e.status shows read;
   read_faults = faults_shown r e io.source.faults io.source_after.faults e.status shows same;
   ran = run_shown r e e.status shows whole over;
-  written = text_shown tell (IsToldOfRun tell io.source) r e io.sink io.sink_after e.status shows (record {
+  written = text_shown tell (λ t. t ≡ tell r.script r.history.entries) (IsToldOfRun tell io.source) r e io.sink io.sink_after e.status shows (λ t is. record {
     script = r.script;
     history = r.history.entries;
     read = read.bytes_are;
     ran = ran_so r.script r.history.entries r.full whole over;
-    text_is = refl;
+    text_is = is;
   }) w;
   write_faults = faults;
   receipt = receipt_shown r e e.status shows no_receipt;

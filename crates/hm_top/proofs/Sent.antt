@@ -2,13 +2,11 @@
 use denote.Param.Send.{IsSend, sendable}
 use Rattle.std.proofs.Crossing.{crosses}
 use Rattle.hm_frames.specs.contracts.pools.FramePools as FramePools
-use Rattle.hm_machine.specs.contracts.Machine as Machine
 use Rattle.hm_notifiers.specs.contracts.AllNotifiers as AllNotifiers
 use Rattle.hm_spaces.specs.contracts.Spaces as Spaces
 use Rattle.hm_tables.specs.contracts.tables.PageTables as PageTables
 use Rattle.hm_world.specs.contracts.World as World
 use Rattle.interval_tree.specs.contracts.IntervalTree as IntervalTree
-use Rattle.skip_rules.specs.contracts.Kept as Kept
 use Rattle.hm_top.proofs.SentParts.{script, history, actors, mirrors}
 use Rattle.hm_top.proofs.SentTree.{tree}
 

@@ -1,5 +1,5 @@
 -- What a call with the word `threads` comes to.
-use Rattle.std.proofs.Common.{◌≡◌, inl, inr, Bool, true, false, Some, List, refl, sym, ◌∙◌, ap, subst}
+use Rattle.std.proofs.Common.{◌≡◌, ℕ, inl, inr, Bool, true, false, Some, List, refl, sym, ◌∙◌, ap, subst}
 use Rattle.hm_base.specs.Program.{Program}
 use Rattle.hm_history.specs.declared.Entry.{Entry}
 use Rattle.hm_report.specs.Report.{report}
@@ -7,8 +7,8 @@ use Rattle.hm_top.specs.Complete.{IsComplete, NoFault}
 use Rattle.hm_top.specs.Ran.{HasAll, HasNothing, Shows, ShowsAt}
 use Rattle.hm_top.specs.Reading.{HasNotRead, IsTextOf, ReadAs, ReadFaulted}
 use Rattle.hm_top.specs.Replays.{IsItsText}
-use Rattle.hm_top.specs.Running.{report_for}
-use Rattle.hm_top.specs.RunsThreads.{AllEnded, CameToEnd, HasReceipt, HasRunThreads, IsCompleteOrFull, IsThreadsReport, RunsThreads, StoppedFull}
+use Rattle.hm_top.specs.Running.{told_of}
+use Rattle.hm_top.specs.RunsThreads.{AllEnded, CameToEnd, HasReceipt, HasRunThreads, IsCompleteOrFull, IsThreadsReport, StoppedFull, TellsOfThreads}
 use Rattle.hm_top.specs.Traffic.{SourceState, Traffic}
 use Rattle.hm_top.specs.Writing.{HasWritten, WriteFaulted}
 use Rattle.hm_top.specs.declared.ended.Ended.{Ended}
@@ -51,18 +51,18 @@ or_full Status.TooLong e = e
 or_full Status.ReadFault e = e
 
 -- it had nothing to show
-pub stopped : (io : Traffic) (e : Ended) → HasNotRead io.source io.source_after e.status → ReadFaulted io.source.faults io.source_after.faults e.status → HasNothing e → io.sink_after ≡ io.sink → RunsThreads io e
-stopped io e n faults none same = record {
+pub stopped : (tell : Program → List Entry → List ℕ) (Goes : List ℕ → Type 0) (io : Traffic) (e : Ended) → HasNotRead io.source io.source_after e.status → ReadFaulted io.source.faults io.source_after.faults e.status → HasNothing e → io.sink_after ≡ io.sink → TellsOfThreads tell Goes io e
+stopped tell Goes io e n faults none same = record {
   read = not_read (IsItsText e.script) io.source io.source_after e.status n;
   read_faults = faults;
   ran = none_run io.source io.source_after e e.status n none;
   receipt = none_received io.source io.source_after e e.status n none;
-  written = none_written io.source io.source_after (report_for e.script e.history.entries) (IsThreadsReport io.source) io.sink io.sink_after e.status n same;
+  written = none_written io.source io.source_after (told_of tell e.script e.history.entries) Goes io.sink io.sink_after e.status n same;
   write_faults = none_failed io.source io.source_after io.sink.faults io.sink_after.faults e.status n (ap (λ k. k.faults) same);
   complete = λ no_fault. given io.source.left (λ bytes at s is_given. or_full e.status (short_of_memory io e.status bytes s at n faults no_fault is_given));
 }
 
-came : (s : Program) (h : List Entry) (full : Bool) → (full ≡ false → AllEnded s h) → (full ≡ true → StoppedFull s h) → CameToEnd s h
+pub came : (s : Program) (h : List Entry) (full : Bool) → (full ≡ false → AllEnded s h) → (full ≡ true → StoppedFull s h) → CameToEnd s h
 came s h false whole over = inl (whole refl)
 came s h true whole over = inr (over refl)
 
@@ -103,28 +103,32 @@ ends io r e Status.TooLong shows w none = shows
 ends io r e Status.ReadFault shows w none = shows
 
 -- it has shown what its threads did
-pub shown : (io : Traffic) (r : Ran) (e : Ended) → ReadAs 4194304 (IsTextOf r.script) io.source io.source_after → io.source_after.faults ≡ io.source.faults
-    → (r.full ≡ false → AllEnded r.script r.history.entries) → (r.full ≡ true → StoppedFull r.script r.history.entries) → r.receipt ≡ Some r.history.entries → Shows r e
-    → HasWritten (report r.script r.history.entries) (λ t. t ≡ report r.script r.history.entries) io.sink io.sink_after e.status → WriteFaulted io.sink.faults io.sink_after.faults e.status → RunsThreads io e
-shown io r e read same whole over some shows w faults = record {
+pub shown : (tell : Program → List Entry → List ℕ) (Own Goes : List ℕ → Type 0) (io : Traffic) (r : Ran) (e : Ended) → ReadAs 4194304 (IsTextOf r.script) io.source io.source_after → io.source_after.faults ≡ io.source.faults
+    → (r.full ≡ false → AllEnded r.script r.history.entries) → (r.full ≡ true → StoppedFull r.script r.history.entries) → r.receipt ≡ Some r.history.entries → Shows r e → ((t : List ℕ) → Own t → Goes t)
+    → HasWritten (tell r.script r.history.entries) Own io.sink io.sink_after e.status → WriteFaulted io.sink.faults io.sink_after.faults e.status → TellsOfThreads tell Goes io e
+shown tell Own Goes io r e read same whole over some shows goes w faults = record {
   read = read_shown r e io.source io.source_after e.status shows read;
   read_faults = faults_shown r e io.source.faults io.source_after.faults e.status shows same;
   ran = run_shown r e e.status shows whole over;
   receipt = receipt_shown r e e.status shows some;
-  written = text_shown report (IsThreadsReport io.source) r e io.sink io.sink_after e.status shows (record {
-    script = r.script;
-    history = r.history.entries;
-    read = read.bytes_are;
-    ran = came r.script r.history.entries r.full whole over;
-    text_is = refl;
-  }) w;
+  written = text_shown tell Own Goes r e io.sink io.sink_after e.status shows goes w;
   write_faults = faults;
   complete = λ none. given io.source.left (λ bytes at s is_given. ends io r e e.status shows faults none);
 }
 
 -- so of the script that was read
-pub shown_for : (io : Traffic) (r : Ran) (e : Ended) (s : Program) → r.script ≡ s → ReadAs 4194304 (IsTextOf s) io.source io.source_after → io.source_after.faults ≡ io.source.faults
-    → (r.full ≡ false → AllEnded s r.history.entries) → (r.full ≡ true → StoppedFull s r.history.entries) → r.receipt ≡ Some r.history.entries → Shows r e
-    → HasWritten (report r.script r.history.entries) (λ t. t ≡ report r.script r.history.entries) io.sink io.sink_after e.status → WriteFaulted io.sink.faults io.sink_after.faults e.status → RunsThreads io e
-shown_for io r e s is read same whole over some shows w faults =
-    shown io r e (subst (λ x. ReadAs 4194304 (IsTextOf x) io.source io.source_after) (sym is) read) same (λ f. subst (λ x. AllEnded x r.history.entries) (sym is) (whole f)) (λ f. subst (λ x. StoppedFull x r.history.entries) (sym is) (over f)) some shows w faults
+pub shown_for : (tell : Program → List Entry → List ℕ) (Own Goes : List ℕ → Type 0) (io : Traffic) (r : Ran) (e : Ended) (s : Program) → r.script ≡ s → ReadAs 4194304 (IsTextOf s) io.source io.source_after → io.source_after.faults ≡ io.source.faults
+    → (r.full ≡ false → AllEnded s r.history.entries) → (r.full ≡ true → StoppedFull s r.history.entries) → r.receipt ≡ Some r.history.entries → Shows r e → ((t : List ℕ) → Own t → Goes t)
+    → HasWritten (tell r.script r.history.entries) Own io.sink io.sink_after e.status → WriteFaulted io.sink.faults io.sink_after.faults e.status → TellsOfThreads tell Goes io e
+shown_for tell Own Goes io r e s is read same whole over some shows goes w faults =
+    shown tell Own Goes io r e (subst (λ x. ReadAs 4194304 (IsTextOf x) io.source io.source_after) (sym is) read) same (λ f. subst (λ x. AllEnded x r.history.entries) (sym is) (whole f)) (λ f. subst (λ x. StoppedFull x r.history.entries) (sym is) (over f)) some shows goes w faults
+
+-- the report of what the threads did
+pub reported : (from after : SourceState) (r : Ran) (s : Program) → r.script ≡ s → ReadAs 4194304 (IsTextOf s) from after → (r.full ≡ false → AllEnded s r.history.entries) → (r.full ≡ true → StoppedFull s r.history.entries) → (t : List ℕ) → t ≡ report r.script r.history.entries → IsThreadsReport from t
+reported from after r s is read whole over t text = record {
+  script = s;
+  history = r.history.entries;
+  read = read.bytes_are;
+  ran = came s r.history.entries r.full whole over;
+  text_is = text ∙ ap (λ x. report x r.history.entries) is;
+}

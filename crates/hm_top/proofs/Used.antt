@@ -20,6 +20,7 @@ is_used io e (Command.Trial n) does usage = subst (HasMade (IsTried (generated n
 is_used io e Command.Upgrade does usage = subst (HasRead (IsItsUpgrade e.script) io.source io.source_after) usage does.read
 is_used io e Command.Advise does usage = subst (HasRead (IsItsText e.script) io.source io.source_after) usage does.read
 is_used io e Command.Why does usage = subst (HasJudged e.script e.history.entries io.source io.source_after) usage does.read
+is_used io e (Command.Peek asked) does usage = subst (HasRead (IsItsText e.script) io.source io.source_after) usage does.threads.read
 is_used io e Command.Check does usage = subst (HasJudged e.script e.history.entries io.source io.source_after) usage does.read
 
 pub does_so : (io : Traffic) (e : Ended) (x : Option Command) (c : Command) → x ≡ Some c → Does (Some c) io e → Does x io e

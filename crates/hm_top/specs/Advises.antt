@@ -1,4 +1,5 @@
--- The call with the word `advise`: a script is read, its schedule's turns are made, and an advice on its pages goes out.
+-- The call with the word `advise`: a script is read, its schedule's turns are made, and an advice on its pages goes
+-- out.
 use Rattle.std.specs.Prelude.{ℕ, List}
 use Rattle.hm_advisor.specs.Counts.{counts}
 use Rattle.hm_advisor.specs.Moves.{moves_for}

@@ -136,9 +136,9 @@ pub record SaysOfReport (say : List Entry → List ℕ) (io : Traffic) (ended : 
   -- The answer has a script and a history that is legal for it at `Done`, and at `WriteFault` where it was the text on
   -- a legal report that did not go out; else it has none.
   pub answer : HasReport ended.script ended.history.entries ended.status
-  -- At `Done` what is said of the history was written, and at `NotLegal` the line on the first bad line. At `WriteFault`
-  -- a front of the text that was due was written; at `NoMemory` nothing, or a front of the text that was due where the
-  -- sink itself wanted memory; nothing at other statuses.
+  -- At `Done` what is said of the history was written, and at `NotLegal` the line on the first bad line. At
+  -- `WriteFault` a front of the text that was due was written; at `NoMemory` nothing, or a front of the text that was
+  -- due where the sink itself wanted memory; nothing at other statuses.
   pub written : HasTold say io.source ended.script ended.history.entries io.sink io.sink_after ended.status
   -- `WriteFault` comes only where the sink counted a fault.
   pub write_faults : WriteFaulted io.sink.faults io.sink_after.faults ended.status

@@ -1,8 +1,9 @@
 -- What the words after the program's name ask for.
-use Rattle.std.specs.Prelude.{ℕ, List, [], ◌∷◌, Option, Some, None, Result, Ok, Err, if◌then◌else◌, codes}
+use Rattle.std.specs.Prelude.{ℕ, ◌-◌, List, [], ◌∷◌, Bool, true, false, Option, Some, None, Result, Ok, Err, if◌then◌else◌, nat_lt, nat_le, ◌&&◌, codes}
 use Rattle.std.specs.Str.{bytes_eq}
-use Rattle.hm_script.specs.Numerals.{number}
+use Rattle.hm_script.specs.Numerals.{address, number}
 use Rattle.hm_script.specs.declared.reason.Reason.{Reason}
+use Rattle.hm_turns.specs.Looking.{IsLook}
 use Rattle.hm_top.specs.declared.command.Command.{Command}
 
 -- the command that takes a number, where the word spells one: decimal, without leading zeros, below 2 ^ 64
@@ -24,8 +25,42 @@ abbrev pub numbered_command : List ℕ → List ℕ → Option Command
 numbered_command w n = if bytes_eq w (codes "generate") then numbered Command.Generate (number n)
     else (if bytes_eq w (codes "trial") then numbered Command.Trial (number n) else None)
 
+-- a peek of so many bytes of a process from an address on: 1 to 256 of them, that end at or below 2 ^ 48
+abbrev pub peek_at : ℕ → ℕ → ℕ → Option Command
+peek_at p at n =
+    if nat_lt p 32 && (nat_lt 0 n && (nat_le n 256 && nat_le at (281474976710656 - n)))
+    then Some (Command.Peek (record { proc = p; addr = at; len = n })) else None
+
+-- so by the words of the three numbers, which are spelled as in scripts
+abbrev pub peek_of : Result ℕ Reason → Result ℕ Reason → Result ℕ Reason → Option Command
+peek_of (Ok p) (Ok at) (Ok n) = peek_at p at n
+peek_of (Ok p) (Ok at) (Err why) = None
+peek_of (Ok p) (Err why) n = None
+peek_of (Err why) at n = None
+
+-- the command of a word and three numbers
+abbrev pub peek_command : List ℕ → List ℕ → List ℕ → List ℕ → Option Command
+peek_command w p at n = if bytes_eq w (codes "peek") then peek_of (number p) (address at) (number n) else None
+
+-- the command may wait for threads
+abbrev pub waits : Option Command → Bool
+waits (Some Command.Threads) = true
+waits (Some (Command.Peek asked)) = true
+waits _ = false
+
+-- a peek is of 1 to 256 bytes that end at or below 2 ^ 48
+abbrev pub Looks : Option Command → Type 0
+Looks (Some (Command.Peek asked)) = IsLook asked.addr asked.len
+Looks _ = Unit {0}
+
+-- the command is no peek
+abbrev pub IsNoPeek : Option Command → Type 0
+IsNoPeek (Some (Command.Peek asked)) = ⊥
+IsNoPeek _ = Unit {0}
+
 -- what the words ask for; none where they are none of the forms
 abbrev pub command_of : List (List ℕ) → Option Command
 command_of (w ∷ []) = plain_command w
 command_of (w ∷ n ∷ []) = numbered_command w n
+command_of (w ∷ p ∷ at ∷ n ∷ []) = peek_command w p at n
 command_of _ = None

@@ -3,6 +3,7 @@ use Rattle.std.specs.Prelude.{Option, Some, None}
 use Rattle.hm_top.specs.Advises.{Advises}
 use Rattle.hm_top.specs.Checks.{Checks, Explains}
 use Rattle.hm_top.specs.Generates.{Generates, Tries}
+use Rattle.hm_top.specs.Peeks.{RunsPeeked}
 use Rattle.hm_top.specs.Replays.{Replays}
 use Rattle.hm_top.specs.RunsThreads.{RunsThreads}
 use Rattle.hm_top.specs.Traffic.{Traffic}
@@ -22,3 +23,4 @@ Does (Some Command.Upgrade) io ended = Upgrades io ended
 Does (Some Command.Check) io ended = Checks io ended
 Does (Some Command.Advise) io ended = Advises io ended
 Does (Some Command.Why) io ended = Explains io ended
+Does (Some (Command.Peek asked)) io ended = RunsPeeked asked.proc asked.addr asked.len io ended

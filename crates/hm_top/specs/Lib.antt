@@ -10,6 +10,7 @@ pub mod Complete
 pub mod Replays
 pub mod Advises
 pub mod RunsThreads
+pub mod Peeks
 pub mod Generates
 pub mod Upgrades
 pub mod Checks

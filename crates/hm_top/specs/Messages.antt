@@ -27,7 +27,8 @@ refusal_text r = codes "script line " ++ (decimal r.line ++ (codes ": " ++ reaso
 abbrev pub message_text : Status → List ℕ
 message_text Status.Done = []
 message_text (Status.NotLegal n) = codes "not legal"
-message_text Status.Usage = codes "usage: hmmrun replay | threads | generate N | trial N | upgrade | check | advise | why"
+message_text Status.Usage =
+    codes "usage: hmmrun replay | threads | generate N | trial N | upgrade | check | peek P ADDR LEN | advise | why"
 message_text (Status.Refused refused) = refusal_text refused
 message_text Status.ReadFault = codes "read fault"
 message_text Status.WriteFault = codes "write fault"

@@ -10,7 +10,7 @@ use Rattle.hm_top.specs.Complete.{IsGiven, NoFault}
 use Rattle.hm_top.specs.Drained.{IsDone}
 use Rattle.hm_top.specs.Reading.{HasRead, IsTextOf, ReadFaulted}
 use Rattle.hm_top.specs.Replays.{IsItsText}
-use Rattle.hm_top.specs.Running.{Answered, AnsweredNone, report_for}
+use Rattle.hm_top.specs.Running.{Answered, AnsweredNone, told_of}
 use Rattle.hm_top.specs.Traffic.{SourceState, Traffic}
 use Rattle.hm_top.specs.Writing.{HasWritten, WriteFaulted}
 use Rattle.hm_top.specs.declared.ended.Ended.{Ended}
@@ -61,21 +61,26 @@ IsCompleteOrFull Status.HistoryFull = Unit {0}
 IsCompleteOrFull Status.NoMemory = Unit {0}
 IsCompleteOrFull _ = ⊥
 
-pub record RunsThreads (io : Traffic) (ended : Ended) : Type 0 where
+-- A script is read, its actors go from threads of their own to their ends, and a text that tells of that goes out.
+pub record TellsOfThreads (tell : Program → List Entry → List ℕ) (Goes : List ℕ → Type 0) (io : Traffic)
+    (ended : Ended) : Type 0 where
   -- What is read is as for `replay`.
   pub read : HasRead (IsItsText ended.script) io.source io.source_after ended.status
   pub read_faults : ReadFaulted io.source.faults io.source_after.faults ended.status
-  -- Where a report goes out, the history is legal for the script. At `Done` every operation has ended; `HistoryFull`
+  -- Where the text goes out, the history is legal for the script. At `Done` every operation has ended; `HistoryFull`
   -- comes exactly where a turn found an entry due and the history full.
   pub ran : HasRunThreads ended.script ended.history.entries ended.status
   -- The history is that of the one machine that the workers shared, each of whose turns began with all that the
   -- worker had seen: only the end of such a sharing gives a receipt.
   pub receipt : HasReceipt ended.receipt ended.history.entries ended.status
   -- What is written is as for `replay`.
-  pub written : HasWritten (report_for ended.script ended.history.entries) (IsThreadsReport io.source) io.sink
-      io.sink_after ended.status
+  pub written : HasWritten (told_of tell ended.script ended.history.entries) Goes io.sink io.sink_after ended.status
   pub write_faults : WriteFaulted io.sink.faults io.sink_after.faults ended.status
-  -- Where neither stream counted a fault, and the bytes are the text of a script, the report is written, or memory runs
+  -- Where neither stream counted a fault, and the bytes are the text of a script, the text is written, or memory runs
   -- out.
   pub complete : NoFault io
       → IfSome io.source.left (λ bytes. (s : Program) → IsGiven s bytes → IsCompleteOrFull ended.status)
+
+-- the text is the report of that script and history
+abbrev pub RunsThreads : Traffic → Ended → Type 0
+RunsThreads io = TellsOfThreads report (IsThreadsReport io.source) io

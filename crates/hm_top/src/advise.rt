@@ -1,5 +1,5 @@
 // The word `advise`.
-ghost use Rattle.std.specs.Prelude.{◌≡◌};
+ghost use Rattle.std.specs.Prelude.{◌≡◌, []};
 ghost use Rattle.hm_report.specs.SinkState.{sink_state};
 ghost use Rattle.hm_top.specs.Advises.{Advises, advice_on};
 ghost use Rattle.hm_top.specs.Ran.{Shows};
@@ -24,6 +24,7 @@ fn advise_on<K: Sink>(alloc: Global, ran: Ran, sink: &mut K, leans: &Leans) -> E
         (λ t. t ≡ advice_on ran.script ran.history.entries) (sink_state K.held K.failures K.wanted sink.old)
         (sink_state K.held K.failures K.wanted sink.new) result.status }
     ensures write_faults { WriteFaulted (K.failures sink.old) (K.failures sink.new) result.status }
+    ensures peeks { result.peeks ≡ [] }
 {
     let Ok(advice) = hm_advisor::advise(alloc, &ran.history, leans) else {
         return Ended::stopped(alloc, Status::NoMemory);
@@ -32,8 +33,8 @@ fn advise_on<K: Sink>(alloc: Global, ran: Ran, sink: &mut K, leans: &Leans) -> E
     show_run(alloc, ran, written)
 }
 
-/// Reads a script, makes its schedule's turns, and writes how often the pages of its mirrors' windows were accessed, and
-/// which of them should move.
+/// Reads a script, makes its schedule's turns, and writes how often the pages of its mirrors' windows were accessed,
+/// and which of them should move.
 pub fn advise<S: Source, K: Sink>(
     alloc: Global,
     source: &mut S,
@@ -41,9 +42,10 @@ pub fn advise<S: Source, K: Sink>(
     skip: &Kept,
     leans: &Leans,
 ) -> Ended
-    ensures { Advises
+    ensures does { Advises
         (traffic (source_state S.left S.failures) (sink_state K.held K.failures K.wanted) source.old source.new sink.old
         sink.new) result }
+    ensures peeks { result.peeks ≡ [] }
 {
     one_text();
     hm_quiet::drain_alone_has_room();

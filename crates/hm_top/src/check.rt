@@ -1,5 +1,5 @@
 // The word `check`.
-ghost use Rattle.std.specs.Prelude.{◌≡◌, None, IfOk, IfErr, OnOk};
+ghost use Rattle.std.specs.Prelude.{◌≡◌, [], None, IfOk, IfErr, OnOk};
 ghost use Rattle.hm_report.specs.SinkState.{sink_state};
 ghost use Rattle.hm_top.specs.Checks.{Checks, HasNotJudged, bad_line};
 ghost use Rattle.hm_top.specs.Reading.{ReadFaulted};
@@ -14,6 +14,7 @@ use hm_base::{NoMemory, Text};
 use hm_check::Verdict;
 use hm_io::{Sink, Source};
 use hm_report::{Written, write_text};
+use hm_workers::PeekList;
 use std::alloc::Global;
 
 /// As many bytes as a report that is checked has at most.
@@ -67,6 +68,7 @@ fn verdict_line(alloc: Global, verdict: &Verdict) -> Result<Text, NoMemory>
 fn answer(alloc: Global, verdict: Verdict) -> Ended
     ensures status { result.status ≡ verdict_status verdict }
     ensures answer { AnswersTo verdict result }
+    ensures peeks { result.peeks ≡ [] }
 {
     match verdict {
         Verdict::Yes(report) => Ended {
@@ -74,6 +76,7 @@ fn answer(alloc: Global, verdict: Verdict) -> Ended
             script: Some(report.script),
             history: report.history,
             receipt: None,
+            peeks: PeekList::new(alloc),
         },
         Verdict::No(line) => Ended::stopped(alloc, Status::NotLegal(line)),
     }
@@ -82,6 +85,7 @@ fn answer(alloc: Global, verdict: Verdict) -> Ended
 /// Ends a call whose text of the verdict was written so.
 pub fn end_judged(alloc: Global, verdict: Verdict, written: Written) -> Ended
     ensures status { result.status ≡ told_status verdict written }
+    ensures peeks { result.peeks ≡ [] }
     ensures ends { EndsAt verdict result result.status }
     ensures receipt { result.receipt ≡ None }
 {
@@ -104,6 +108,7 @@ fn write_verdict<K: Sink>(alloc: Global, verdict: Verdict, sink: &mut K) -> Ende
         (sink_state K.held K.failures K.wanted sink.old) (sink_state K.held K.failures K.wanted sink.new)
         result.status }
     ensures write_faults { WriteFaulted (K.failures sink.old) (K.failures sink.new) result.status }
+    ensures peeks { result.peeks ≡ [] }
 {
     let Ok(line) = verdict_line(alloc, &verdict) else {
         return Ended::stopped(alloc, Status::NoMemory);
@@ -114,9 +119,10 @@ fn write_verdict<K: Sink>(alloc: Global, verdict: Verdict, sink: &mut K) -> Ende
 
 /// Reads a report, and writes the verdict on it.
 pub fn check<S: Source, K: Sink>(alloc: Global, source: &mut S, sink: &mut K) -> Ended
-    ensures { Checks
+    ensures does { Checks
         (traffic (source_state S.left S.failures) (sink_state K.held K.failures K.wanted) source.old source.new sink.old
         sink.new) result }
+    ensures peeks { result.peeks ≡ [] }
 {
     match judge(alloc, source) {
         Ok(verdict) => write_verdict(alloc, verdict, sink),

@@ -2,7 +2,17 @@
 ghost use Rattle.std.specs.Prelude.{◌≡◌, map, string_bytes};
 ghost use Rattle.hm_top.specs.Commands as spec;
 
-use hm_script::number;
+use hm_base::Proc;
+use hm_script::{address, number};
+
+/// Bytes of a process that are asked for: 1 to 256 of them, that end at or below 2^48.
+#[derive(Clone, Copy, Debug, PartialEq, Eq)]
+pub struct Asked {
+    pub proc: Proc,
+    /// The address of the first.
+    pub addr: u64,
+    pub len: u32,
+}
 
 /// What the program does, by its words.
 #[derive(Clone, Copy, Debug, PartialEq, Eq)]
@@ -23,10 +33,13 @@ pub enum Command {
     Advise,
     /// Reads a report, and writes for each load the entries that its bytes came from.
     Why,
+    /// Does what `threads` does, with a watcher that looks at bytes of a process, and writes what it saw too.
+    Peek(Asked),
 }
 
 fn plain_command(word: &str) -> Option<Command>
-    ensures { result ≡ spec.plain_command word.now }
+    ensures same { result ≡ spec.plain_command word.now }
+    ensures looks { spec.Looks result }
 {
     if word == "replay" {
         return Some(Command::Replay);
@@ -50,26 +63,71 @@ fn plain_command(word: &str) -> Option<Command>
 }
 
 fn numbered_command(word: &str, numeral: &str) -> Option<Command>
-    ensures { result ≡ spec.numbered_command word.now numeral.now }
+    ensures same { result ≡ spec.numbered_command word.now numeral.now }
+    ensures looks { spec.Looks result }
 {
     if word == "generate" {
-        return number(numeral.as_bytes()).ok().map(Command::Generate);
+        return match number(numeral.as_bytes()) {
+            Ok(number) => Some(Command::Generate(number)),
+            Err(_) => None,
+        };
     }
     if word == "trial" {
-        return number(numeral.as_bytes()).ok().map(Command::Trial);
+        return match number(numeral.as_bytes()) {
+            Ok(number) => Some(Command::Trial(number)),
+            Err(_) => None,
+        };
     }
     None
+}
+
+fn peek_at(proc: u64, addr: u64, len: u64) -> Option<Command>
+    ensures same { result ≡ spec.peek_at proc addr len }
+    ensures looks { spec.Looks result }
+{
+    if proc < 32 && len > 0 && len <= 256 && addr <= (1 << 48) - len {
+        Some(Command::Peek(Asked {
+            proc: Proc::new(proc as u32),
+            addr,
+            len: len as u32,
+        }))
+    } else {
+        None
+    }
+}
+
+fn peek_command(word: &str, proc: &str, addr: &str, len: &str) -> Option<Command>
+    ensures same { result ≡ spec.peek_command word.now proc.now addr.now len.now }
+    ensures looks { spec.Looks result }
+{
+    if word != "peek" {
+        return None;
+    }
+    let Ok(proc) = number(proc.as_bytes()) else {
+        return None;
+    };
+    let Ok(addr) = address(addr.as_bytes()) else {
+        return None;
+    };
+    match number(len.as_bytes()) {
+        Ok(len) => peek_at(proc, addr, len),
+        Err(_) => None,
+    }
 }
 
 impl Command {
     /// What the words ask for, if it is something that there is. A number is decimal, without leading zeros, and below
     /// 2^64.
     pub fn of(words: &[String]) -> Option<Command>
-        ensures { result ≡ spec.command_of (map string_bytes words.now) }
+        ensures same { result ≡ spec.command_of (map string_bytes words.now) }
+        ensures looks { spec.Looks result }
     {
         match words {
             [word] => plain_command(word.as_str()),
             [word, numeral] => numbered_command(word.as_str(), numeral.as_str()),
+            [word, proc, addr, len] => {
+                peek_command(word.as_str(), proc.as_str(), addr.as_str(), len.as_str())
+            }
             _ => None,
         }
     }

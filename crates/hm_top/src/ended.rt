@@ -5,6 +5,7 @@ use crate::status::Status;
 use hm_base::Script;
 use hm_history::History;
 use hm_turns::Receipt;
+use hm_workers::PeekList;
 use std::alloc::Global;
 
 /// How a call ended, and what it ran.
@@ -17,6 +18,8 @@ pub struct Ended {
     pub history: History,
     /// Where threads made it: that it is the history of the one machine that they shared.
     pub receipt: Option<Receipt>,
+    /// Where a watcher looked at a process's memory: what it saw, in the order of the history.
+    pub peeks: PeekList,
 }
 
 impl Ended {
@@ -26,12 +29,14 @@ impl Ended {
         ensures script { result.script ≡ None }
         ensures history { result.history.entries ≡ [] }
         ensures receipt { result.receipt ≡ None }
+        ensures peeks { result.peeks ≡ [] }
     {
         Ended {
             status,
             script: None,
             history: History::new(alloc),
             receipt: None,
+            peeks: PeekList::new(alloc),
         }
     }
 }

@@ -1,4 +1,5 @@
 // The words `generate N` and `trial N`, which read nothing.
+ghost use Rattle.std.specs.Prelude.{◌≡◌, []};
 ghost use Rattle.hm_report.specs.SinkState.{SinkState, sink_state};
 ghost use Rattle.hm_top.specs.Generates.{Generates, Tries};
 ghost use Rattle.hm_top.specs.Traffic.{SourceState, traffic_of};
@@ -13,8 +14,9 @@ use std::alloc::Global;
 
 /// Writes the text of the trial of this number.
 pub fn generate<K: Sink>(alloc: Global, number: u64, sink: &mut K) -> Ended
-    ensures { (source : SourceState) → Generates number
+    ensures does { (source : SourceState) → Generates number
         (traffic_of source (sink_state K.held K.failures K.wanted) sink.old sink.new) result }
+    ensures peeks { result.peeks ≡ [] }
 {
     match hm_script::generate(alloc, number) {
         Ok(script) => write_script(alloc, script, sink),
@@ -24,8 +26,9 @@ pub fn generate<K: Sink>(alloc: Global, number: u64, sink: &mut K) -> Ended
 
 /// Runs the trial of this number, and writes the summary.
 pub fn trial<K: Sink>(alloc: Global, number: u64, sink: &mut K, skip: &Kept) -> Ended
-    ensures { (source : SourceState) → Tries number
+    ensures does { (source : SourceState) → Tries number
         (traffic_of source (sink_state K.held K.failures K.wanted) sink.old sink.new) result }
+    ensures peeks { result.peeks ≡ [] }
 {
     let Ok(script) = hm_script::generate(alloc, number) else {
         return Ended::stopped(alloc, Status::NoMemory);

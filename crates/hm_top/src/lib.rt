@@ -10,6 +10,7 @@ mod generate;
 mod input;
 mod messages;
 mod output;
+mod peek;
 mod replay;
 mod schedule;
 mod status;
@@ -19,7 +20,7 @@ mod upgrade;
 mod why;
 
 pub use check::MOST_REPORT_BYTES;
-pub use command::Command;
+pub use command::{Asked, Command};
 pub use ended::Ended;
 pub use ending::finish;
 pub use messages::message;

@@ -25,7 +25,7 @@ pub fn message(alloc: Global, status: &Status) -> Result<Text, NoMemory>
         Status::Done => "",
         Status::NotLegal(_) => "not legal",
         Status::Usage =>
-            "usage: hmmrun replay | threads | generate N | trial N | upgrade | check | advise | why",
+            "usage: hmmrun replay | threads | generate N | trial N | upgrade | check | peek P ADDR LEN | advise | why",
         Status::Refused(refused) => return refusal(alloc, refused),
         Status::ReadFault => "read fault",
         Status::WriteFault => "write fault",

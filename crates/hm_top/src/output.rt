@@ -1,5 +1,5 @@
 // Writing what a call has made.
-ghost use Rattle.std.specs.Prelude.{◌≡◌, None};
+ghost use Rattle.std.specs.Prelude.{◌≡◌, [], None};
 ghost use Rattle.hm_history.specs.Legal.{Legal};
 ghost use Rattle.hm_report.specs.Report.{report};
 ghost use Rattle.hm_report.specs.SinkState.{sink_state};
@@ -17,12 +17,14 @@ use hm_history::History;
 use hm_io::Sink;
 use hm_report::{Written, summary, write_report, write_text};
 use hm_script::print;
+use hm_workers::PeekList;
 use std::alloc::Global;
 
 /// Ends a call whose text of what ran was written so.
 pub fn show_run(alloc: Global, ran: Ran, written: Written) -> Ended
     ensures shows { Shows ran result }
     ensures status { result.status ≡ shown_status written ran.full }
+    ensures peeks { result.peeks ≡ [] }
 {
     let status = match written {
         Written::Done if ran.full => Status::HistoryFull,
@@ -35,6 +37,7 @@ pub fn show_run(alloc: Global, ran: Ran, written: Written) -> Ended
         script: Some(ran.script),
         history: ran.history,
         receipt: ran.receipt,
+        peeks: PeekList::new(alloc),
     }
 }
 
@@ -46,6 +49,7 @@ pub fn report_run<K: Sink>(alloc: Global, ran: Ran, sink: &mut K) -> Ended
         (λ t. t ≡ report ran.script ran.history.entries) (sink_state K.held K.failures K.wanted sink.old)
         (sink_state K.held K.failures K.wanted sink.new) result.status }
     ensures write_faults { WriteFaulted (K.failures sink.old) (K.failures sink.new) result.status }
+    ensures peeks { result.peeks ≡ [] }
 {
     let written = write_report(alloc, &ran.script, &ran.history, sink);
     show_run(alloc, ran, written)
@@ -59,6 +63,7 @@ pub fn write_script<K: Sink>(alloc: Global, script: Script, sink: &mut K) -> End
         result.status }
     ensures receipt { result.receipt ≡ None }
     ensures write_faults { WriteFaulted (K.failures sink.old) (K.failures sink.new) result.status }
+    ensures peeks { result.peeks ≡ [] }
 {
     let Ok(text) = print(alloc, &script) else {
         return Ended::stopped(alloc, Status::NoMemory);
@@ -73,6 +78,7 @@ pub fn write_script<K: Sink>(alloc: Global, script: Script, sink: &mut K) -> End
         script: Some(script),
         history: History::new(alloc),
         receipt: None,
+        peeks: PeekList::new(alloc),
     }
 }
 
@@ -85,6 +91,7 @@ pub fn write_summary<K: Sink>(alloc: Global, number: u64, ran: Ran, sink: &mut K
         (sink_state K.held K.failures K.wanted sink.new) result.status }
     ensures receipt { result.receipt ≡ None }
     ensures write_faults { WriteFaulted (K.failures sink.old) (K.failures sink.new) result.status }
+    ensures peeks { result.peeks ≡ [] }
 {
     let Ran {
         script,
@@ -105,5 +112,6 @@ pub fn write_summary<K: Sink>(alloc: Global, number: u64, ran: Ran, sink: &mut K
         script: Some(script),
         history,
         receipt: None,
+        peeks: PeekList::new(alloc),
     }
 }

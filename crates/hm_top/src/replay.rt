@@ -1,4 +1,5 @@
 // The word `replay`.
+ghost use Rattle.std.specs.Prelude.{◌≡◌, []};
 ghost use Rattle.hm_report.specs.SinkState.{sink_state};
 ghost use Rattle.hm_top.specs.Replays.{Replays};
 ghost use Rattle.hm_top.specs.Traffic.{source_state, traffic};
@@ -15,9 +16,10 @@ use std::alloc::Global;
 
 /// Reads a script, makes its schedule's turns and writes the report.
 pub fn replay<S: Source, K: Sink>(alloc: Global, source: &mut S, sink: &mut K, skip: &Kept) -> Ended
-    ensures { Replays
+    ensures does { Replays
         (traffic (source_state S.left S.failures) (sink_state K.held K.failures K.wanted) source.old source.new sink.old
         sink.new) result }
+    ensures peeks { result.peeks ≡ [] }
 {
     one_text();
     hm_quiet::drain_alone_has_room();

@@ -1,5 +1,5 @@
 // The word `threads`.
-ghost use Rattle.std.specs.Prelude.{◌≡◌, IfOk, Some, true, false};
+ghost use Rattle.std.specs.Prelude.{◌≡◌, [], IfOk, Some, true, false};
 ghost use Rattle.hm_base.specs.Program.{IsScript};
 ghost use Rattle.hm_history.specs.Legal.{Legal};
 ghost use Rattle.hm_report.specs.SinkState.{sink_state};
@@ -65,9 +65,10 @@ pub fn threads<R: Threads + Wait + Sync, S: Source, K: Sink, G: Gate + Sync>(
     gate: &G,
     skip: &Kept,
 ) -> Ended
-    ensures { RunsThreads
+    ensures does { RunsThreads
         (traffic (source_state S.left S.failures) (sink_state K.held K.failures K.wanted) source.old source.new sink.old
         sink.new) result }
+    ensures peeks { result.peeks ≡ [] }
 {
     let script = match read_script(alloc, source) {
         Ok(script) => script,

@@ -1,10 +1,9 @@
 // `run`: does what the words after the program's name ask for.
-ghost use Rattle.std.specs.Prelude.{◌≡◌, ◌≢◌, ◌↔◌, None, Some, map, string_bytes};
+ghost use Rattle.std.specs.Prelude.{◌≡◌, ◌↔◌, [], None, false, map, string_bytes};
 ghost use Rattle.hm_report.specs.SinkState.{sink_state};
-ghost use Rattle.hm_top.specs.Commands.{command_of};
+ghost use Rattle.hm_top.specs.Commands.{IsNoPeek, command_of, waits};
 ghost use Rattle.hm_top.specs.Does.{Does};
 ghost use Rattle.hm_top.specs.Traffic.{source_state, traffic};
-ghost use Rattle.hm_top.specs.declared.command.Command.{Command};
 ghost use Rattle.hm_top.specs.declared.status.Status.{Status};
 
 use crate::advise::advise;
@@ -12,6 +11,7 @@ use crate::check::check;
 use crate::command::Command;
 use crate::ended::Ended;
 use crate::generate::{generate, trial};
+use crate::peek::peek;
 use crate::replay::replay;
 use crate::status::Status;
 use crate::threads::threads;
@@ -24,9 +24,9 @@ use std::alloc::Global;
 use std::sync::Wait;
 use std::thread::Threads;
 
-/// Does what the words after the program's name ask for, where that is not `threads`: reads from the source, runs, and
-/// writes to the sink. It waits for nobody. The rules are the caller's: which pages a migration skips, and where a page
-/// should live.
+/// Does what the words after the program's name ask for, where that is neither `threads` nor `peek`: reads from the
+/// source, runs, and writes to the sink. It waits for nobody. The rules are the caller's: which pages a migration
+/// skips, and where a page should live.
 pub fn run_alone<S: Source, K: Sink>(
     alloc: Global,
     words: Vec<String>,
@@ -35,8 +35,9 @@ pub fn run_alone<S: Source, K: Sink>(
     skip: &Kept,
     leans: &Leans,
 ) -> Ended
-    requires { command_of (map string_bytes words.items) ≢ Some Command.Threads }
+    requires { waits (command_of (map string_bytes words.items)) ≡ false }
     ensures usage { (result.status ≡ Status.Usage) ↔ (command_of (map string_bytes words.items) ≡ None) }
+    ensures peeks { result.peeks ≡ [] }
     ensures does { Does (command_of (map string_bytes words.items))
         (traffic (source_state S.left S.failures) (sink_state K.held K.failures K.wanted) source.old source.new sink.old
         sink.new) result }
@@ -44,6 +45,7 @@ pub fn run_alone<S: Source, K: Sink>(
     match Command::of(words.as_slice()) {
         Some(Command::Replay) => replay(alloc, source, sink, skip),
         Some(Command::Threads) => unreachable!(),
+        Some(Command::Peek(_)) => unreachable!(),
         Some(Command::Generate(number)) => generate(alloc, number, sink),
         Some(Command::Trial(number)) => trial(alloc, number, sink, skip),
         Some(Command::Upgrade) => upgrade(alloc, source, sink),
@@ -55,8 +57,8 @@ pub fn run_alone<S: Source, K: Sink>(
 }
 
 /// Does what the words after the program's name ask for: reads from the source, runs, and writes to the sink. With
-/// `threads` each actor goes from a thread of its own, when the gate admits it. Other words wait for nobody. The rules
-/// are the caller's: which pages a migration skips, and where a page should live.
+/// `threads` and `peek` each actor goes from a thread of its own, when the gate admits it. Other words wait for nobody.
+/// The rules are the caller's: which pages a migration skips, and where a page should live.
 pub fn run<R: Threads + Wait + Sync, S: Source, K: Sink, G: Gate + Sync>(
     rt: &R,
     alloc: Global,
@@ -73,8 +75,11 @@ pub fn run<R: Threads + Wait + Sync, S: Source, K: Sink, G: Gate + Sync>(
     ensures does { Does (command_of (map string_bytes words.items))
         (traffic (source_state S.left S.failures) (sink_state K.held K.failures K.wanted) source.old source.new sink.old
         sink.new) result }
+    // Only `peek` answers peeks.
+    ensures peeks { IsNoPeek (command_of (map string_bytes words.items)) → result.peeks ≡ [] }
 {
     match Command::of(words.as_slice()) {
+        Some(Command::Peek(asked)) => peek(rt, alloc, source, sink, gate, skip, &asked),
         Some(Command::Threads) => threads(rt, alloc, source, sink, gate, skip),
         _ => run_alone(alloc, words, source, sink, skip, leans),
     }

@@ -1,5 +1,5 @@
 // The word `why`.
-ghost use Rattle.std.specs.Prelude.{◌≡◌, None};
+ghost use Rattle.std.specs.Prelude.{◌≡◌, [], None};
 ghost use Rattle.hm_report.specs.SinkState.{sink_state};
 ghost use Rattle.hm_report.specs.Written.{FaultCause, ReportWants, Writes};
 ghost use Rattle.hm_top.specs.Checks.{Explains, bad_line};
@@ -53,6 +53,7 @@ fn write_sources<K: Sink>(alloc: Global, verdict: Verdict, sink: &mut K) -> Ende
         (sink_state K.held K.failures K.wanted sink.old) (sink_state K.held K.failures K.wanted sink.new)
         result.status }
     ensures write_faults { WriteFaulted (K.failures sink.old) (K.failures sink.new) result.status }
+    ensures peeks { result.peeks ≡ [] }
 {
     let written = tell_sources(alloc, &verdict, sink);
     end_judged(alloc, verdict, written)
@@ -60,9 +61,10 @@ fn write_sources<K: Sink>(alloc: Global, verdict: Verdict, sink: &mut K) -> Ende
 
 /// Reads a report, and writes for each load the entries that its bytes came from.
 pub fn why<S: Source, K: Sink>(alloc: Global, source: &mut S, sink: &mut K) -> Ended
-    ensures { Explains
+    ensures does { Explains
         (traffic (source_state S.left S.failures) (sink_state K.held K.failures K.wanted) source.old source.new sink.old
         sink.new) result }
+    ensures peeks { result.peeks ≡ [] }
 {
     match judge(alloc, source) {
         Ok(verdict) => write_sources(alloc, verdict, sink),

@@ -28,7 +28,7 @@ const REPORT: &str =
     4 a0 place p0 16 sys s0 w\n5 a0 runlock p0\n6 a0 stored p0 0x10000 41\n7 a0 loaded p0 0x10000 4100\nend 8\n";
 
 const USAGE: &str =
-    "usage: hmmrun replay | threads | generate N | trial N | upgrade | check | advise | why";
+    "usage: hmmrun replay | threads | generate N | trial N | upgrade | check | peek P ADDR LEN | advise | why";
 
 fn ends<R: Abort + Threads + Wait + Sync, S: Source, K: Sink, G: Gate + Sync>(
     rt: &R,
@@ -63,6 +63,10 @@ fn words_that_it_has_not(rt: HostRuntime) -> Result<(), Fail> {
         "generate 07",
         "trial 18446744073709551616",
         "upgrade 2",
+        "peek 0 0x0",
+        "peek 0 0x0 0",
+        "peek 32 0x0 1",
+        "peek 0 0xffffffffffff 2",
         "check 1",
     ] {
         let mut source = SureSource::new(rt.alloc(), SCRIPT)?;
@@ -189,6 +193,22 @@ fn two_threads_meet(rt: HostRuntime) -> Result<(), Fail> {
         let line = format!(in rt.alloc(); "{at} a1 loaded p1 0x11000 42")?;
         assert!(rt; has_line(sink.held(), line.as_str()));
     }
+    Ok(())
+}
+
+#[test]
+fn a_look_at_the_end(rt: HostRuntime) -> Result<(), Fail> {
+    let mut source = SureSource::new(rt.alloc(), MEETING)?;
+    let mut sink = SureSink::new(rt.alloc());
+    let streams = (&mut source, &mut sink);
+    let words = "peek 0 0x10000 1";
+    ends(&rt, rt.alloc(), words, streams, &Open, (0, ""))?;
+    assert!(rt; sink.held().ends_with(b"\npeek p0 0x10000 47 41\n"));
+    let mut source = SureSource::new(rt.alloc(), EMPTY)?;
+    let mut sink = SureSink::new(rt.alloc());
+    let streams = (&mut source, &mut sink);
+    ends(&rt, rt.alloc(), "peek 0 0x0 1", streams, &Open, (0, ""))?;
+    assert_eq!(rt; sink.held().len(), 29);
     Ok(())
 }
 

@@ -2,8 +2,8 @@ use Rattle.hm_top.specs.Advises.{advice_on}
 use Rattle.hm_top.proofs.Replaying.{shown_for}
 use Rattle.hm_top.proofs.advise.advise.Goals as goal
 
-pub returns-in-Ok-run_script : goal.returns-in-Ok-run_script
-returns-in-Ok-run_script g c =
+pub returns-in-Ok-run_script-clause-does : goal.returns-in-Ok-run_script-clause-does
+returns-in-Ok-run_script-clause-does g c =
     let s = c.in-Ok.ensures in
     let r = c.in-Ok-run_script.ensures in
     let e = c.advise_on.ensures in

@@ -1,0 +1,8 @@
+use Rattle.std.proofs.Common.{◌++◌, subst}
+use Rattle.hm_report.specs.Report.{report}
+use Rattle.hm_report.specs.Written.{Writes}
+use Rattle.hm_top.proofs.peek.write_peeked.Goals as goal
+
+pub returns-in-Ok-clause-text : goal.returns-in-Ok-clause-text
+returns-in-Ok-clause-text g c =
+    subst (λ lines. Writes (g.K.Sink.held c.args.sink.now) (g.K.Sink.held c.write_with.new.sink) (report c.args.script.now c.args.history.now.entries ++ lines) c.write_with.result) c.in-Ok.ensures c.write_with.ensures.text
