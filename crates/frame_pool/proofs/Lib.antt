@@ -1,4 +1,5 @@
 pub mod Words
 pub mod Members
 pub mod Overwrites
+pub mod Padded
 pub mod Free

@@ -1,5 +1,5 @@
 -- A pool of frames of 4,096 bytes, as contracts see it.
-use Rattle.std.specs.Prelude.{◌≡◌, ℕ, ◌+◌, ◌*◌, ◌<◌, ◌^◌, Bool, true, false, not, Option, Some, None, List, length, replicate, slice_set, slice_index_or, slice_range, if◌then◌else◌}
+use Rattle.std.specs.Prelude.{◌≡◌, ℕ, ◌+◌, ◌-◌, ◌*◌, ◌<◌, ◌^◌, Bool, true, false, not, Option, Some, None, List, ◌++◌, length, replicate, slice_set, slice_index_or, slice_range, if◌then◌else◌}
 use Rattle.std.specs.List.{position, splice}
 use Rattle.frame_pool.specs.declared.pool.Piece.{Piece}
 use Rattle.frame_pool.specs.declared.pool.Piece.TheVariants.{All, Part}
@@ -36,6 +36,10 @@ overwritten xs at ys = splice xs at (at + length ys) ys
 -- so many bytes of the pool
 abbrev pub part_of : List ℕ → ℕ → ℕ → List ℕ
 part_of xs at n = slice_range xs at (at + n)
+
+-- so many bytes: these first, and then zeros
+abbrev pub padded : List ℕ → ℕ → List ℕ
+padded xs n = xs ++ replicate (n - length xs) 0
 
 -- the bytes of a frame that was just taken
 unfoldable pub zero_frame : List ℕ

@@ -4,7 +4,7 @@ use Rattle.frame_pool.specs.Frames.{Frames, IsFrames}
 use Rattle.frame_pool.specs.declared.pool.Pool.TheInside.{Inside}
 
 abbrev pub frames_of : Inside → Frames
-frames_of a = record { held = a.held; bytes = a.bytes.items; locks = a.locks.items; withdrawn = a.withdrawn }
+frames_of a = record { held = a.held; bytes = a.bytes; locks = a.locks.items; withdrawn = a.withdrawn }
 
 pub record IsPool (a : Inside) : Type 0 where
   pub frames : IsFrames (frames_of a)

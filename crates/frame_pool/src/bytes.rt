@@ -1,22 +1,60 @@
 // Bytes of frames in one block of memory.
-ghost use Rattle.std.specs.Prelude.{◌≡◌, ℕ, ◌+◌, ◌≤◌, length, replicate};
-ghost use Rattle.frame_pool.specs.Frames.{overwritten, part_of, zero_frame};
+ghost use Rattle.std.specs.Prelude.{◌≡◌, ℕ, ◌+◌, ◌-◌, ◌≤◌, ◌<◌, ◌^◌, ◌++◌, length, replicate, vec_capacity};
+ghost use Rattle.frame_pool.specs.Frames.{overwritten, padded, part_of, zero_frame};
 
 /// The bytes of a frame.
 pub const FRAME_BYTES: usize = 4096;
 
+/// Adds zeros at the end, up to so many bytes, for which there is room.
+pub fn grow(bytes: &mut Vec<u8>, len: usize)
+    requires { len ≤ vec_capacity bytes.old }
+    ensures items { bytes.new.items ≡ bytes.old.items ++ replicate (len - length bytes.old.items) 0 }
+    ensures capacity { vec_capacity bytes.old ≤ vec_capacity bytes.new }
+{
+    if bytes.len() < len {
+        match bytes.resize(len, 0) {
+            Ok(_) => (),
+            Err(_) => unreachable!(),
+        }
+    }
+}
+
+/// Fills `into` with the bytes from `at` on, and with zeros where there are none.
+pub fn read(bytes: &[u8], at: usize, into: &mut [u8])
+    requires { at + length into.old < 2 ^ 64 }
+    ensures { into.new ≡ padded (part_of bytes.now at (length into.old)) (length into.old) }
+{
+    let end = (at + into.len()).min(bytes.len());
+    let start = at.min(end);
+    let (there, past) = into.split_at_mut(end - start);
+    there.copy_from_slice(&bytes[start..end]);
+    past.fill(0);
+}
+
 /// Writes the bytes over those from `at` on.
 pub fn overwrite(bytes: &mut Vec<u8>, at: usize, from: &[u8])
     requires { at + length from.now ≤ length bytes.old.items }
-    ensures { bytes.new.items ≡ overwritten bytes.old.items at from.now }
+    ensures items { bytes.new.items ≡ overwritten bytes.old.items at from.now }
+    ensures capacity { vec_capacity bytes.new ≡ vec_capacity bytes.old }
 {
     bytes[at..at + from.len()].copy_from_slice(from);
+}
+
+/// Writes so many bytes of another block from `from` on over those from `at` on, and zeros where it has none.
+pub fn read_over(bytes: &mut Vec<u8>, at: usize, count: usize, source: &[u8], from: usize)
+    requires target { at + count ≤ length bytes.old.items }
+    requires source { from + count < 2 ^ 64 }
+    ensures items { bytes.new.items ≡ overwritten bytes.old.items at (padded (part_of source.now from count) count) }
+    ensures capacity { vec_capacity bytes.new ≡ vec_capacity bytes.old }
+{
+    read(source, from, &mut bytes[at..at + count]);
 }
 
 /// Writes so many zeros over the bytes from `at` on.
 fn overwrite_by_zeros(bytes: &mut Vec<u8>, at: usize, count: usize)
     requires { at + count ≤ length bytes.old.items }
-    ensures { bytes.new.items ≡ overwritten bytes.old.items at (replicate count 0) }
+    ensures items { bytes.new.items ≡ overwritten bytes.old.items at (replicate count 0) }
+    ensures capacity { vec_capacity bytes.new ≡ vec_capacity bytes.old }
 {
     bytes[at..at + count].fill(0);
 }
@@ -24,7 +62,8 @@ fn overwrite_by_zeros(bytes: &mut Vec<u8>, at: usize, count: usize)
 /// Writes zeros over the frame that begins there.
 pub fn zero_frame(bytes: &mut Vec<u8>, at: usize)
     requires { at + 4096 ≤ length bytes.old.items }
-    ensures { bytes.new.items ≡ overwritten bytes.old.items at zero_frame }
+    ensures items { bytes.new.items ≡ overwritten bytes.old.items at zero_frame }
+    ensures capacity { vec_capacity bytes.new ≡ vec_capacity bytes.old }
 {
     overwrite_by_zeros(bytes, at, FRAME_BYTES);
 }
@@ -33,7 +72,8 @@ pub fn zero_frame(bytes: &mut Vec<u8>, at: usize)
 pub fn copy(bytes: &mut Vec<u8>, at: usize, to: usize, count: usize)
     requires source { at + count ≤ length bytes.old.items }
     requires target { to + count ≤ length bytes.old.items }
-    ensures { bytes.new.items ≡ overwritten bytes.old.items to (part_of bytes.old.items at count) }
+    ensures items { bytes.new.items ≡ overwritten bytes.old.items to (part_of bytes.old.items at count) }
+    ensures capacity { vec_capacity bytes.new ≡ vec_capacity bytes.old }
 {
     bytes.copy_within(at..at + count, to);
 }

@@ -4,6 +4,7 @@
 
 mod bits;
 mod bytes;
+mod frame_bytes;
 mod number_set;
 mod pool;
 

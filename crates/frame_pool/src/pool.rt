@@ -3,7 +3,8 @@ ghost use Rattle.std.specs.Prelude.{◌≡◌, ◌≢◌, ℕ, ◌+◌, ◌*◌,
 ghost use Rattle.frame_pool.specs.Bits.{next_true};
 ghost use Rattle.frame_pool.specs.Frames.{IsFrames, IsPiece, fresh, is_held, locker, lowest_free, lowest_taken, taken, dropped, written, copied, part_of, locked, unlocked, piece_start, piece_len};
 
-use crate::bytes::{self, FRAME_BYTES};
+use crate::bytes::FRAME_BYTES;
+use crate::frame_bytes::FrameBytes;
 use crate::number_set::NumberSet;
 use hm_base::{Actor, NoMemory};
 use std::alloc::Global;
@@ -23,13 +24,13 @@ pub enum Piece {
 #[derive(Clone, Copy, PartialEq, Eq, Debug)]
 pub struct Held(pub Actor);
 
-/// Frames of 4,096 bytes by their numbers, in one block of memory: the system's, or a device's own
+/// Frames of 4,096 bytes by their numbers, in one row: the system's, or a device's own
 /// (`MEMORY_DEVICE_PRIVATE`, as `dmirror_devmem` of lib/test_hmm.c has them).
 #[derive(Drop)]
 pub struct Pool {
     free: NumberSet,
     held: NumberSet,
-    bytes: Vec<u8>,
+    bytes: FrameBytes,
     locks: Vec<Option<Actor>>,
     withdrawn: bool,
 }
@@ -47,13 +48,14 @@ impl Model for Pool {
 }
 
 impl Pool {
-    /// A pool of so many frames, none of which is held. It takes all the memory that it will need.
+    /// A pool of so many frames, none of which is held. It reserves all the memory that it will need; the machine gives
+    /// that of a frame's bytes when the frame is first taken.
     pub fn new(alloc: Global, frames: u32) -> Result<Pool, NoMemory>
         ensures { IfOk result (λ pool. pool ≡ fresh frames) }
     {
         let free = NumberSet::full(alloc, frames)?;
         let held = NumberSet::empty(alloc, frames)?;
-        let bytes = zeros(alloc, frames as usize * FRAME_BYTES)?;
+        let bytes = FrameBytes::new(alloc, frames as usize * FRAME_BYTES)?;
         let locks = unlocked_frames(alloc, frames as usize)?;
         Ok(Pool {
             free,
@@ -99,7 +101,7 @@ impl Pool {
     {
         self.free.remove(number);
         self.held.insert(number);
-        bytes::zero_frame(&mut self.bytes, number as usize * FRAME_BYTES);
+        self.bytes.zero_frame(number as usize * FRAME_BYTES);
     }
 
     /// Gives the frame back; it is then not locked.
@@ -119,8 +121,7 @@ impl Pool {
         ensures { into.new ≡ part_of self.now.bytes (number * 4096 + offset) (length into.old) }
     {
         let at = number as usize * FRAME_BYTES + offset as usize;
-        let end = at + into.len();
-        into.copy_from_slice(&self.bytes[at..end]);
+        self.bytes.read(at, into);
     }
 
     /// Writes the bytes over the frame's from `offset` on.
@@ -130,7 +131,7 @@ impl Pool {
         ensures { self.new ≡ written self.old number offset from.now }
     {
         let at = number as usize * FRAME_BYTES + offset as usize;
-        bytes::overwrite(&mut self.bytes, at, from);
+        self.bytes.overwrite(at, from);
     }
 
     /// Copies the piece of one frame over that of another.
@@ -143,7 +144,7 @@ impl Pool {
     {
         let from = src as usize * FRAME_BYTES + piece.start();
         let to = dst as usize * FRAME_BYTES + piece.start();
-        bytes::copy(&mut self.bytes, from, to, piece.len());
+        self.bytes.copy(from, to, piece.len());
     }
 
     /// Locks the frame for the actor; `Held` names the actor that has it locked already.
@@ -229,19 +230,8 @@ pub fn copy_across(from: &Pool, src: u32, to: &mut Pool, dst: u32, piece: Piece)
     ensures { to.new ≡ copied from.now src to.old dst piece }
 {
     let at = src as usize * FRAME_BYTES + piece.start();
-    let bytes = &from.bytes[at..at + piece.len()];
-    bytes::overwrite(
-        &mut to.bytes,
-        dst as usize * FRAME_BYTES + piece.start(),
-        bytes,
-    );
-}
-
-/// So many bytes that are zero.
-fn zeros(alloc: Global, count: usize) -> Result<Vec<u8>, NoMemory>
-    ensures { IfOk result (λ bytes. bytes.items ≡ replicate count 0) }
-{
-    Ok(vec![in alloc; 0; count]?)
+    let over = dst as usize * FRAME_BYTES + piece.start();
+    to.bytes.copy_from(&from.bytes, at, over, piece.len());
 }
 
 /// The locks of so many frames, which nobody has.

@@ -1,0 +1,86 @@
+// Bytes of all frames of a pool, which take memory when they are first needed.
+ghost use Rattle.std.specs.Prelude.{◌≡◌, ◌+◌, ◌≤◌, length, replicate, IfOk};
+ghost use Rattle.frame_pool.specs.Frames.{overwritten, part_of, zero_frame};
+
+use crate::bytes::{self, FRAME_BYTES};
+use hm_base::NoMemory;
+use std::alloc::Global;
+use std::marker::Model;
+
+/// So many bytes in a row, at first zeros. Their addresses are reserved at the start, and so no call runs out of
+/// memory; the machine gives memory to a byte only once one at or past it was written.
+#[derive(Drop)]
+pub struct FrameBytes {
+    size: usize,
+    front: Vec<u8>,
+}
+
+impl Model for FrameBytes {
+    ghost use Rattle.std.specs.Prelude.{ℕ, List, ◌≤◌, vec_len, vec_capacity};
+    ghost use Rattle.frame_pool.specs.Frames.{padded};
+
+    ghost Value = { List ℕ };
+
+    ghost view = { λ b. padded b.front.items b.size };
+
+    ghost invariant = { λ b. record { within : vec_len b.front ≤ b.size; kept : b.size ≤ vec_capacity b.front } };
+}
+
+impl FrameBytes {
+    /// So many zeros.
+    pub fn new(alloc: Global, size: usize) -> Result<FrameBytes, NoMemory>
+        ensures { IfOk result (λ bytes. bytes ≡ replicate size 0) }
+    {
+        Ok(FrameBytes {
+            size,
+            front: Vec::with_capacity(alloc, size)?,
+        })
+    }
+
+    /// Fills `into` with the bytes from `at` on.
+    pub fn read(&self, at: usize, into: &mut [u8])
+        requires { at + length into.old ≤ length self.now }
+        ensures { into.new ≡ part_of self.now at (length into.old) }
+    {
+        bytes::read(&self.front, at, into);
+    }
+
+    /// Writes the bytes over those from `at` on.
+    pub fn overwrite(&mut self, at: usize, from: &[u8])
+        requires { at + length from.now ≤ length self.old }
+        ensures { self.new ≡ overwritten self.old at from.now }
+    {
+        bytes::grow(&mut self.front, at + from.len());
+        bytes::overwrite(&mut self.front, at, from);
+    }
+
+    /// Writes zeros over the frame that begins there.
+    pub fn zero_frame(&mut self, at: usize)
+        requires { at + 4096 ≤ length self.old }
+        ensures { self.new ≡ overwritten self.old at zero_frame }
+    {
+        bytes::grow(&mut self.front, at + FRAME_BYTES);
+        bytes::zero_frame(&mut self.front, at);
+    }
+
+    /// Copies so many bytes from `at` on over those from `to` on.
+    pub fn copy(&mut self, at: usize, to: usize, count: usize)
+        requires source { at + count ≤ length self.old }
+        requires target { to + count ≤ length self.old }
+        ensures { self.new ≡ overwritten self.old to (part_of self.old at count) }
+    {
+        bytes::grow(&mut self.front, at + count);
+        bytes::grow(&mut self.front, to + count);
+        bytes::copy(&mut self.front, at, to, count);
+    }
+
+    /// Copies so many bytes of another row from `at` on over those from `to` on.
+    pub fn copy_from(&mut self, from: &FrameBytes, at: usize, to: usize, count: usize)
+        requires source { at + count ≤ length from.now }
+        requires target { to + count ≤ length self.old }
+        ensures { self.new ≡ overwritten self.old to (part_of from.now at count) }
+    {
+        bytes::grow(&mut self.front, to + count);
+        bytes::read_over(&mut self.front, to, count, &from.front, at);
+    }
+}
