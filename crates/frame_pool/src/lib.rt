@@ -2,7 +2,7 @@
 // mm/page_alloc.c, `trylock_page` of include/linux/pagemap.h).
 #![tactic(auto)]
 
-mod bits;
+pub mod bits;
 mod bytes;
 mod frame_bytes;
 mod number_set;

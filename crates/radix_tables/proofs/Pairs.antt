@@ -1,12 +1,12 @@
 -- The map of a function, over a range of numbers.
-use Rattle.std.proofs.Common.{◌≡◌, ◌≢◌, ℕ, zero, suc, ◌+◌, ◌/◌, ◌^◌, ◌<◌, ◌≤◌, Bool, true, false, not, eqb, ltb, leb, cond, Option, Some, None, List, [], ◌∷◌, ◌++◌, refl, sym, ap, ◌∙◌, arith, ◌⊎◌, inl, inr}
+use Rattle.std.proofs.Common.{◌≡◌, ◌≢◌, ℕ, zero, suc, ◌+◌, ◌/◌, ◌^◌, ◌<◌, ◌≤◌, Bool, true, false, not, ◌&&◌, eqb, ltb, leb, cond, Option, Some, None, List, [], ◌∷◌, ◌++◌, refl, sym, ap, ◌∙◌, arith, ◌⊎◌, inl, inr}
 use Rattle.std.specs.Prelude.{find, unwrap_or}
 use Rattle.std.specs.List.{filter, list_any, range_with_len}
 use Rattle.std.specs.Ordering.{nat_cmp}
 use Rattle.std.specs.FinMap.Entries as sorted
 use Rattle.std.proofs.lemmas.Bool.{cases_eq, cases_lt}
 use Rattle.std.proofs.lemmas.Bool.Decides.{nat_tests}
-use Rattle.radix_tables.specs.Maps.{pairs, pages, blocks, page_count, block_count, map_of, word_at, is_reserved, with_word, without_word, next_word}
+use Rattle.radix_tables.specs.Maps.{pairs, pages, blocks, page_count, block_count, map_of, word_at, is_reserved, with_word, without_word, next_word, is_marked, marked, next_marked}
 use Rattle.radix_tables.specs.Levels.{IsLeast}
 
 same_test : (a b : ℕ) → a ≡ b → eqb a b ≡ true
@@ -219,6 +219,32 @@ word_cleared f g p h = sym (kept_in f g (λ v. not (eqb v p)) pages (λ q. h q �
 pub least_word : (f t : ℕ → ℕ) (p : ℕ) (r : Option (ℕ × ℕ)) → IsLeast f p r → ((q : ℕ) → f q ≢ 0 → q < 2 ^ 36) → r ≡ next_word (map_of f t) p
 least_word f t p None h l = none_in f p 0 page_count h
 least_word f t p (Some e) h l = ap (λ w. Some (e.0, w)) (sym h.1) ∙ next_in f p e.0 0 page_count h.0 (omega arith) (omega (arith, page_below e.0 (l e.0 (λ z. h.2 (sym h.1 ∙ z))))) (λ z. h.2 (sym h.1 ∙ z)) h.3
+
+-- the first whose word is marked
+marked_first : (f : ℕ → ℕ) (p : ℕ) (ns : List ℕ) → find (λ e. leb p e.0) (pairs (λ v. marked (f v)) ns) ≡ find (λ e. leb p e.0 && is_marked e.1) (pairs f ns)
+marked_first f p [] = refl
+marked_first f p (a ∷ ns) = by (is_marked (f a)) refl (eqb (f a) 0) refl (marked_first f p ns)
+  where
+    is_zero : (x : ℕ) → eqb x 0 ≡ true → x ≡ 0
+    is_zero x e = grind (arith, nat_tests)
+
+    not_and : (b c : Bool) → c ≡ false → (b && c) ≡ false
+    not_and true c e = e
+    not_and false c e = refl
+
+    and_true : (b c : Bool) → c ≡ true → (b && c) ≡ b
+    and_true true c e = e
+    and_true false c e = refl
+
+    by : (m : Bool) → is_marked (f a) ≡ m → (b : Bool) → eqb (f a) 0 ≡ b → find (λ e. leb p e.0) (pairs (λ v. marked (f v)) ns) ≡ find (λ e. leb p e.0 && is_marked e.1) (pairs f ns) →
+        find (λ e. leb p e.0) (cond (eqb (cond m (f a) 0) 0) [] ((a, cond m (f a) 0) ∷ []) ++ pairs (λ v. marked (f v)) ns) ≡ find (λ e. leb p e.0 && is_marked e.1) (cond b [] ((a, f a) ∷ []) ++ pairs f ns)
+    by false e true z r = r
+    by false e false z r = r ∙ sym (ap (λ t. cond t (Some (a, f a)) (find (λ e. leb p e.0 && is_marked e.1) (pairs f ns))) (not_and (leb p a) (is_marked (f a)) e))
+    by true e true z r = cc (sym e ∙ ap is_marked (is_zero (f a) z))
+    by true e false z r = rw z (ap (cond (leb p a) (Some (a, f a))) r ∙ sym (ap (λ t. cond t (Some (a, f a)) (find (λ e. leb p e.0 && is_marked e.1) (pairs f ns))) (and_true (leb p a) (is_marked (f a)) e)))
+
+pub least_marked : (f t : ℕ → ℕ) (p : ℕ) (r : Option (ℕ × ℕ)) → IsLeast (λ v. marked (f v)) p r → ((q : ℕ) → marked (f q) ≢ 0 → q < 2 ^ 36) → r ≡ next_marked (map_of f t) p
+least_marked f t p r h l = least_word (λ v. marked (f v)) t p r h l ∙ marked_first f p pages
 
 some_test : (x : ℕ) → not (eqb x 0) ≡ true → x ≢ 0
 some_test x e z = absurd (no (sym e ∙ rw (same_test x 0 z) refl))

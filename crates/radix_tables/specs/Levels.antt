@@ -1,6 +1,8 @@
 -- The four levels of a radix table.
 use Rattle.std.specs.Prelude.{◌≡◌, ◌≢◌, ℕ, ◌+◌, ◌*◌, ◌/◌, ◌^◌, ◌<◌, ◌≤◌, Option, List, [], ◌∷◌, length, slice_index, slice_set, replicate, ◌++◌, ◌⊎◌}
 use Rattle.std.specs.Option.{MatchOption}
+use Rattle.frame_pool.specs.Bits.{bit}
+use Rattle.radix_tables.specs.Maps.{is_marked, marked}
 use Rattle.radix_tables.specs.Walks.{walk, IsWhole, IsTables}
 use Rattle.radix_tables.specs.declared.levels.Levels.{Levels}
 use Rattle.radix_tables.specs.declared.levels.Step.{Step}
@@ -11,12 +13,18 @@ pub record IsLonger (entries now : List ℕ) : Type 0 where
   pub by : ℕ
   pub added : now ≡ entries ++ replicate by 0
 
+-- a bit for each word, which says whether it is marked
+pub record AreMarks (words marks : List ℕ) : Type 0 where
+  pub covers : length words ≤ 64 * length marks
+  pub bits : (k : ℕ) → bit marks k ≡ is_marked (slice_index words k)
+
 pub record IsLevels (l : Levels) : Type 0 where
   pub root : 0 < length l.pgd.items → 1024 ≤ length l.pgd.items
   pub pgd : IsTables l.pgd.items (length l.pud.items)
   pub pud : IsTables l.pud.items (length l.pmd.items)
   pub pmd : IsTables l.pmd.items (length l.pte.items)
   pub pte : IsWhole l.pte.items
+  pub marks : AreMarks l.pte.items l.marks.items
 
 -- the entry names a table of the level below, which was added if there was none
 pub record IsChild (entries now below below_now : List ℕ) (at table : ℕ) : Type 0 where
@@ -40,6 +48,10 @@ table_of l block = walk (l.pmd.items ∷ l.pud.items ∷ l.pgd.items ∷ []) blo
 -- the word of a page, 0 where there is none
 abbrev pub word_of : Levels → ℕ → ℕ
 word_of l page = walk (l.pte.items ∷ l.pmd.items ∷ l.pud.items ∷ l.pgd.items ∷ []) page
+
+-- the same where the word is marked
+abbrev pub marked_of : Levels → ℕ → ℕ
+marked_of l page = marked (word_of l page)
 
 -- no lowest table and no word is another
 pub record IsSame (l m : Levels) : Type 0 where

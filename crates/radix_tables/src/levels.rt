@@ -1,8 +1,11 @@
 // The four levels, named as the kernel names them: page global directory, page upper directory, page
 // middle directory, and page table entries.
-ghost use Rattle.std.specs.Prelude.{◌≡◌, ◌≢◌, ℕ, ◌+◌, ◌*◌, ◌/◌, ◌%◌, ◌^◌, ◌<◌, ◌≤◌, ◌==◌, if◌then◌else◌, [], ◌++◌, length, replicate, slice_index, slice_set, is_ok, MatchOption, MatchResult, OnOk, OnErr, IfOk};
-ghost use Rattle.radix_tables.specs.Levels.{IsLevels, IsLonger, IsChild, IsStep, IsLeast, IsSame, IsMade, upper_of, middle_of, table_of, word_of};
+ghost use Rattle.std.specs.Prelude.{◌≡◌, ◌≢◌, ℕ, ◌+◌, ◌*◌, ◌/◌, ◌%◌, ◌^◌, ◌<◌, ◌≤◌, ◌==◌, if◌then◌else◌, [], ◌++◌, length, replicate, slice_index, slice_set, is_ok, MatchOption, MatchResult, OnOk, OnErr, IfOk, true};
+ghost use Rattle.frame_pool.specs.Bits.{bit};
+ghost use Rattle.radix_tables.specs.Maps.{is_marked};
+ghost use Rattle.radix_tables.specs.Levels.{IsLevels, IsLonger, IsChild, IsStep, IsLeast, IsSame, IsMade, AreMarks, upper_of, middle_of, table_of, word_of, marked_of};
 
+use frame_pool::bits;
 use hm_base::NoMemory;
 use std::alloc::Global;
 
@@ -12,17 +15,25 @@ const ENTRIES: u64 = 512;
 /// One more than the highest page.
 const PAGES: u64 = 1 << 36;
 
+/// Words of 64 marks, for the entries of a table.
+const MARK_WORDS: usize = 8;
+
+/// What a marked word has in it.
+const MARK: u64 = 8;
+
 /// The table of the highest level.
 const ROOT: u64 = 1;
 
 /// The tables of each level in a row, 512 entries each. An entry is the number of a table of the next
-/// level, and one of the last level is a word; 0 is none. Table 0 of a level stays empty.
+/// level, and one of the last level is a word; 0 is none. Table 0 of a level stays empty. For each entry
+/// of the last level there is a bit that says whether its word is marked.
 #[derive(Drop)]
 pub struct Levels {
     pgd: Vec<u64>,
     pud: Vec<u64>,
     pmd: Vec<u64>,
     pte: Vec<u64>,
+    marks: Vec<u64>,
 }
 
 /// What a walk to a page came to: its lowest table, or a gap that ends before this page.
@@ -42,6 +53,7 @@ impl Levels {
             pud: Vec::new(alloc),
             pmd: Vec::new(alloc),
             pte: Vec::new(alloc),
+            marks: Vec::new(alloc),
         }
     }
 
@@ -132,6 +144,7 @@ impl Levels {
         ensures { MatchResult result (λ _. IsMade self.old self.new number) (λ _. IsSame self.old self.new) }
     {
         let middle = self.middle(number >> 9);
+        grow_marks(&mut self.marks, self.pte.len())?;
         child(&mut self.pmd, place(middle, number), &mut self.pte)?;
         Ok(())
     }
@@ -147,6 +160,7 @@ impl Levels {
     {
         let at = place(self.table(page / ENTRIES), page);
         self.pte[at] = word;
+        put_mark(&mut self.marks, at, word);
     }
 
     /// The least page from `page` on that has a word, and that word.
@@ -161,6 +175,27 @@ impl Levels {
                 Step::Gap(next) => at = next,
                 Step::Table(table) => {
                     if let Some(found) = self.next_in_table(table, at) {
+                        return Some(found);
+                    }
+                    at = (at / ENTRIES + 1) * ENTRIES;
+                }
+            }
+        }
+        None
+    }
+
+    /// The least page from `page` on whose word is marked, and that word.
+    pub fn next_marked(&self, page: u64) -> Option<(u64, u64)>
+        requires levels { IsLevels self.now }
+        requires page { page < 2 ^ 36 }
+        ensures { IsLeast (marked_of self.now) page result }
+    {
+        let mut at = page;
+        while at < PAGES {
+            match self.step(at) {
+                Step::Gap(next) => at = next,
+                Step::Table(table) => {
+                    if let Some(found) = self.next_mark(table, at) {
                         return Some(found);
                     }
                     at = (at / ENTRIES + 1) * ENTRIES;
@@ -207,6 +242,22 @@ impl Levels {
             }
         }
         None
+    }
+
+    /// The least page of the table from `page` on whose word is marked, and that word.
+    fn next_mark(&self, table: u64, page: u64) -> Option<(u64, u64)>
+        requires levels { IsLevels self.now }
+        requires page { page < 2 ^ 36 }
+        requires table { IsStep self.now page (Step.Table table) }
+        ensures { MatchOption result ((v : ℕ) → page ≤ v → v < (page / 512 + 1) * 512 → marked_of self.now v ≡ 0)
+            (λ e. (page ≤ e.0) × (e.0 < 2 ^ 36) × (marked_of self.now e.0 ≡ e.1) × (e.1 ≢ 0)
+            × ((v : ℕ) → page ≤ v → v < e.0 → marked_of self.now v ≡ 0)) }
+    {
+        let first = table as usize * MARK_WORDS;
+        let marks = &self.marks[first..first + MARK_WORDS];
+        let next = bits::next_bit(marks, (page % ENTRIES) as usize)?;
+        let found = page / ENTRIES * ENTRIES + next as u64;
+        Some((found, entry(&self.pte, table, found)))
     }
 }
 
@@ -255,6 +306,7 @@ fn add_table(entries: &mut Vec<u64>) -> Result<u64, NoMemory>
     ensures number { IfOk result
         (λ table. (table ≢ 0) × (length entries.old.items ≤ table * 512)
         × (length entries.new.items ≡ table * 512 + 512)) }
+    ensures grown { length entries.new.items ≤ length entries.old.items + 1024 }
 {
     let tables = (entries.len() / ENTRIES as usize).max(1);
     entries.resize((tables + 1) * ENTRIES as usize, 0)?;
@@ -265,12 +317,46 @@ fn add_table(entries: &mut Vec<u64>) -> Result<u64, NoMemory>
 fn child(entries: &mut Vec<u64>, at: usize, below: &mut Vec<u64>) -> Result<u64, NoMemory>
     requires at { at < length entries.old.items }
     requires below { length below.old.items % 512 ≡ 0 }
-    ensures { MatchResult result
+    ensures child { MatchResult result
         (λ table. IsChild entries.old.items entries.new.items below.old.items below.new.items at table)
         (λ _. (entries.new.items ≡ entries.old.items) × (below.new.items ≡ below.old.items)) }
+    ensures grown { length below.new.items ≤ length below.old.items + 1024 }
 {
     if entries[at] == 0 {
         entries[at] = add_table(below)?;
     }
     Ok(entries[at])
+}
+
+/// Makes room for the marks of so many entries and of two more tables.
+fn grow_marks(marks: &mut Vec<u64>, entries: usize) -> Result<(), NoMemory>
+    requires { entries < 2 ^ 63 }
+    ensures same { (k : ℕ) → bit marks.new.items k ≡ bit marks.old.items k }
+    ensures more { length marks.old.items ≤ length marks.new.items }
+    ensures ok { OnOk result (entries + 1024 ≤ 64 * length marks.new.items) }
+{
+    let words = entries / 64 + 1 + 2 * MARK_WORDS;
+    if marks.len() < words {
+        marks.resize(words, 0)?;
+    }
+    Ok(())
+}
+
+/// The mark of the entry there, which is now this word.
+fn put_mark(marks: &mut Vec<u64>, at: usize, word: u64)
+    requires { at / 64 < length marks.old.items }
+    ensures bits { (k : ℕ) → bit marks.new.items k ≡ (if k == at then is_marked word else bit marks.old.items k) }
+    ensures len { length marks.new.items ≡ length marks.old.items }
+{
+    if is_marked(word) {
+        bits::set_bit(marks, at);
+    } else {
+        bits::clear_bit(marks, at);
+    }
+}
+
+fn is_marked(word: u64) -> bool
+    ensures { result ≡ is_marked word }
+{
+    word / MARK % 2 == 1
 }

@@ -1,6 +1,6 @@
 // What a page has is read, set, cleared, and found from a page on.
 ghost use Rattle.std.specs.Prelude.{◌≡◌, ◌≢◌, ℕ, ◌^◌, ◌<◌, ◌≤◌, [], true, OnOk, OnErr};
-ghost use Rattle.radix_tables.specs.Maps.{word_at, with_word, without_word, next_word, is_reserved};
+ghost use Rattle.radix_tables.specs.Maps.{word_at, with_word, without_word, next_word, next_marked, is_reserved};
 
 use crate::levels::Levels;
 use hm_base::{NoMemory, Page};
@@ -78,5 +78,14 @@ impl Radix {
     {
         let (number, word) = self.levels.next(page.number())?;
         Some((Page::new(number), word))
+    }
+
+    /// The lowest page from this one on whose word is marked, that is has bit 3, and the word. It looks at marks,
+    /// 64 words at a time.
+    pub fn next_marked(&self, page: Page) -> Option<(Page, u64)>
+        ensures { result ≡ next_marked self.now page }
+    {
+        let (found, word) = self.levels.next_marked(page.number())?;
+        Some((Page::new(found), word))
     }
 }
