@@ -1,10 +1,10 @@
 -- What is read of the tables.
-use Rattle.std.specs.Prelude.{ℕ, Bool, not, ◌&&◌, ◌==◌, nat_le, Option, Some, None, length, option_map, find, if◌then◌else◌}
+use Rattle.std.specs.Prelude.{ℕ, Bool, true, not, ◌&&◌, ◌==◌, nat_le, Option, Some, None, length, option_map, find, if◌then◌else◌}
 use Rattle.hm_base.specs.declared.Frame.{Frame}
 use Rattle.hm_base.specs.declared.Place.{Place}
 use Rattle.hm_base.specs.PlaceWords.{names, is_frame, writable}
 use Rattle.hm_history.specs.Places.{is_used}
-use Rattle.radix_tables.specs.Maps.{Map}
+use Rattle.radix_tables.specs.Maps.{Map, is_marked}
 use Rattle.rev_maps.specs.Uses.{first_use}
 use Rattle.hm_tables.specs.Values.{Tables, table_of, uses_in, place_of_word}
 use Rattle.hm_tables.specs.declared.places.PageTest.{PageTest}
@@ -17,6 +17,15 @@ page_test Writable = writable
 -- the first page of a table from there on whose place passes
 abbrev pub next_in_table : Map → (Place → Bool) → ℕ → Option ℕ
 next_in_table m test from = option_map (λ e. e.0) (find (λ e. nat_le from e.0 && test (place_of_word e.1)) m.words)
+
+-- a word that a place that passes may have
+abbrev pub is_likely : PageTest → ℕ → Bool
+is_likely Used w = true
+is_likely Writable w = is_marked w
+
+-- the first such word from there on, with its page
+abbrev pub next_likely : Map → PageTest → ℕ → Option (ℕ × ℕ)
+next_likely m test from = find (λ e. nat_le from e.0 && is_likely test e.1) m.words
 
 abbrev pub next_page_of : Tables → (Place → Bool) → ℕ → ℕ → Option ℕ
 next_page_of x test p from = next_in_table (table_of x p) test from

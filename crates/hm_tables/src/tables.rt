@@ -6,7 +6,7 @@ ghost use Rattle.hm_base.specs.PlaceWords.{names};
 ghost use Rattle.hm_tables.specs.Values.{no_words, size_in, place_in_table, place_of, table_with};
 ghost use Rattle.hm_tables.specs.Sound.{IsOrdered};
 ghost use Rattle.hm_tables.specs.Steps.{tables_start, tables_next, TablesFit, TablesRoom, TablesRange, SameTables};
-ghost use Rattle.hm_tables.specs.Reads.{page_test, next_in_table, next_page_of, lowest_of, use_count, orphaned};
+ghost use Rattle.hm_tables.specs.Reads.{page_test, next_in_table, next_likely, next_page_of, lowest_of, use_count, orphaned};
 
 use crate::places::{PageTest, is_named_by, place_of_word};
 use crate::pools::{change_use, new_pools, pool_index, reserve_use};
@@ -216,7 +216,7 @@ fn next_in(table: &Radix, from: Page, test: PageTest) -> Option<Page>
     ensures { result ≡ next_in_table table.now (page_test test) from }
 {
     let mut at = from;
-    while let Some((page, word)) = table.next_at_or_after(at) {
+    while let Some((page, word)) = next_word(table, at, test) {
         if test.passes(place_of_word(word)) {
             return Some(page);
         }
@@ -226,4 +226,14 @@ fn next_in(table: &Radix, from: Page, test: PageTest) -> Option<Page>
         at = Page::new(page.number() + 1);
     }
     None
+}
+
+/// The first word from a page on that may pass: the word of a place with the write right is marked.
+fn next_word(table: &Radix, at: Page, test: PageTest) -> Option<(Page, u64)>
+    ensures { result ≡ next_likely table.now test at }
+{
+    match test {
+        PageTest::Used => table.next_at_or_after(at),
+        PageTest::Writable => table.next_marked(at),
+    }
 }

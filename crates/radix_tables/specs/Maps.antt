@@ -1,6 +1,5 @@
 -- The map that a radix table is: its words with their pages, in rising order of the pages.
-use Rattle.std.specs.Prelude.{ℕ, ◌/◌, ◌^◌, Bool, not, ◌&&◌, ◌==◌, nat_le, Option, List, [], ◌∷◌, unwrap_or, find, if◌then◌else◌}
-use Rattle.std.specs.Int.{bit_at}
+use Rattle.std.specs.Prelude.{ℕ, ◌/◌, ◌%◌, ◌^◌, Bool, not, ◌&&◌, ◌==◌, nat_le, Option, List, [], ◌∷◌, unwrap_or, find, if◌then◌else◌}
 use Rattle.std.specs.List.{filter, flat_map, list_any, range_with_len}
 use Rattle.std.specs.Ordering.{nat_cmp}
 use Rattle.std.specs.FinMap.Entries as sorted
@@ -27,9 +26,9 @@ without_word m page = record m { words = sorted.where_key nat_cmp (λ v. not (v 
 abbrev pub next_word : Map → ℕ → Option (ℕ × ℕ)
 next_word m page = find (λ e. nat_le page e.0) m.words
 
--- whether a word has its mark: bit 3
+-- whether a word is marked: by its lowest four bits
 abbrev pub is_marked : ℕ → Bool
-is_marked w = bit_at w 3 == 1
+is_marked w = nat_le 5 (w % 16)
 
 -- the first page from there on whose word is marked, and its word
 abbrev pub next_marked : Map → ℕ → Option (ℕ × ℕ)

@@ -18,8 +18,8 @@ const PAGES: u64 = 1 << 36;
 /// Words of 64 marks, for the entries of a table.
 const MARK_WORDS: usize = 8;
 
-/// What a marked word has in it.
-const MARK: u64 = 8;
+/// The lowest four bits of a marked word are at least this.
+const LEAST_MARKED: u64 = 5;
 
 /// The table of the highest level.
 const ROOT: u64 = 1;
@@ -358,5 +358,5 @@ fn put_mark(marks: &mut Vec<u64>, at: usize, word: u64)
 fn is_marked(word: u64) -> bool
     ensures { result ≡ is_marked word }
 {
-    word / MARK % 2 == 1
+    word % 16 >= LEAST_MARKED
 }

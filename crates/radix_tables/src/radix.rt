@@ -80,8 +80,8 @@ impl Radix {
         Some((Page::new(number), word))
     }
 
-    /// The lowest page from this one on whose word is marked, that is has bit 3, and the word. It looks at marks,
-    /// 64 words at a time.
+    /// The lowest page from this one on whose word is marked, that is whose lowest four bits are 5 or more, and
+    /// the word. It looks at a bit for each word, and at 64 of them at a time.
     pub fn next_marked(&self, page: Page) -> Option<(Page, u64)>
         ensures { result ≡ next_marked self.now page }
     {
