@@ -99,6 +99,10 @@ pub made_over : {T E : Type 0} (l m n : Levels) (block : ℕ) (r : Result T E) �
 made_over l m n block (Ok x) p q = record { levels = q.levels; words = λ v. q.words v ∙ p.words v; made = q.made; kept = λ b d. q.kept b (λ z. d (sym (p.tables b) ∙ z)) }
 made_over l m n block (Err e) p q = same_over l m n p q
 
+-- a lowest table is there already
+pub made_before : (l : Levels) (block : ℕ) → IsLevels l → table_of l block ≢ 0 → IsMade l l block
+made_before l block h d = record { levels = h; words = λ v. refl; made = d; kept = λ b e. e }
+
 -- nothing came in
 pub none_made : {T E : Type 0} (l m : Levels) (block : ℕ) (r : Result T E) → IsErr r → IsSame l m → MatchResult r (λ _. IsMade l m block) (λ _. IsSame l m)
 none_made l m block (Ok x) e h = cc

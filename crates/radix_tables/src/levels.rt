@@ -97,6 +97,9 @@ impl Levels {
         requires page { page < 2 ^ 36 }
         ensures { MatchResult result (λ _. IsMade self.old self.new (page / 512)) (λ _. IsSame self.old self.new) }
     {
+        if self.table(page / ENTRIES) != 0 {
+            return Ok(());
+        }
         self.make_root()?;
         self.make_upper(page >> 27)?;
         self.make_middle(page >> 18)?;
