@@ -4,6 +4,7 @@ ghost use Rattle.std.specs.Int.{bit_at};
 ghost use Rattle.frame_pool.specs.Bits.{bit, IsNext};
 
 /// Sets the bit.
+#[inline]
 pub fn set_bit(words: &mut Vec<u64>, at: usize)
     requires { at / 64 < length words.old.items }
     ensures bits { (k : ℕ) → bit words.new.items k ≡ (if k == at then true else bit words.old.items k) }
@@ -14,6 +15,7 @@ pub fn set_bit(words: &mut Vec<u64>, at: usize)
 }
 
 /// Clears the bit.
+#[inline]
 pub fn clear_bit(words: &mut Vec<u64>, at: usize)
     requires { at / 64 < length words.old.items }
     ensures bits { (k : ℕ) → bit words.new.items k ≡ (if k == at then false else bit words.old.items k) }
@@ -24,6 +26,7 @@ pub fn clear_bit(words: &mut Vec<u64>, at: usize)
 }
 
 /// The lowest bit of the word that is set, from `from` on.
+#[inline]
 pub fn next_in_word(word: u64, from: u32) -> Option<u32>
     requires { from < 64 }
     ensures next { MatchOption result ((k : ℕ) → from ≤ k → k < 64 → bit_at word k ≡ 0)
@@ -37,6 +40,7 @@ pub fn next_in_word(word: u64, from: u32) -> Option<u32>
 }
 
 /// The lowest bit of the words that is set, from `from` on.
+#[inline]
 pub fn next_bit(words: &[u64], from: usize) -> Option<usize>
     requires { length words.now ≤ 2 ^ 32 }
     ensures { IsNext (bit words.now) from result }

@@ -1,5 +1,5 @@
 pub mod Tables
-pub mod Marks
+pub mod TableBits
 pub mod Lasts
 pub mod Made
 pub mod Pairs

@@ -1,5 +1,5 @@
 -- The four levels of a radix table.
-use Rattle.std.specs.Prelude.{◌≡◌, ◌≢◌, ℕ, ◌+◌, ◌*◌, ◌/◌, ◌^◌, ◌<◌, ◌≤◌, Option, List, [], ◌∷◌, length, slice_index, slice_set, replicate, ◌++◌, ◌⊎◌}
+use Rattle.std.specs.Prelude.{◌≡◌, ◌≢◌, ℕ, ◌+◌, ◌*◌, ◌/◌, ◌^◌, ◌<◌, ◌≤◌, Bool, not, ◌==◌, Option, List, [], ◌∷◌, length, slice_index, slice_set, replicate, ◌++◌, ◌⊎◌}
 use Rattle.std.specs.Option.{MatchOption}
 use Rattle.frame_pool.specs.Bits.{bit}
 use Rattle.radix_tables.specs.Maps.{is_marked, marked}
@@ -13,10 +13,13 @@ pub record IsLonger (entries now : List ℕ) : Type 0 where
   pub by : ℕ
   pub added : now ≡ entries ++ replicate by 0
 
--- a bit for each word, which says whether it is marked
-pub record AreMarks (words marks : List ℕ) : Type 0 where
-  pub covers : length words ≤ 64 * length marks
-  pub bits : (k : ℕ) → bit marks k ≡ is_marked (slice_index words k)
+-- a bit for each word, which says whether it passes a test
+pub record AreBits (test : ℕ → Bool) (words bits : List ℕ) : Type 0 where
+  pub covers : length words ≤ 64 * length bits
+  pub each : (k : ℕ) → bit bits k ≡ test (slice_index words k)
+
+abbrev pub is_used : ℕ → Bool
+is_used w = not (w == 0)
 
 pub record IsLevels (l : Levels) : Type 0 where
   pub root : 0 < length l.pgd.items → 1024 ≤ length l.pgd.items
@@ -24,7 +27,8 @@ pub record IsLevels (l : Levels) : Type 0 where
   pub pud : IsTables l.pud.items (length l.pmd.items)
   pub pmd : IsTables l.pmd.items (length l.pte.items)
   pub pte : IsWhole l.pte.items
-  pub marks : AreMarks l.pte.items l.marks.items
+  pub used : AreBits is_used l.pte.items l.used.items
+  pub marks : AreBits is_marked l.pte.items l.marks.items
 
 -- the entry names a table of the level below, which was added if there was none
 pub record IsChild (entries now below below_now : List ℕ) (at table : ℕ) : Type 0 where

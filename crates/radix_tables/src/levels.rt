@@ -1,9 +1,9 @@
 // The four levels, named as the kernel names them: page global directory, page upper directory, page
 // middle directory, and page table entries.
-ghost use Rattle.std.specs.Prelude.{◌≡◌, ◌≢◌, ℕ, ◌+◌, ◌*◌, ◌/◌, ◌%◌, ◌^◌, ◌<◌, ◌≤◌, ◌==◌, if◌then◌else◌, [], ◌++◌, length, replicate, slice_index, slice_set, is_ok, MatchOption, MatchResult, OnOk, OnErr, IfOk, true};
+ghost use Rattle.std.specs.Prelude.{◌≡◌, ◌≢◌, ℕ, ◌+◌, ◌*◌, ◌/◌, ◌%◌, ◌^◌, ◌<◌, ◌≤◌, ◌==◌, if◌then◌else◌, [], ◌++◌, length, replicate, slice_index, slice_set, is_ok, MatchOption, MatchResult, OnOk, OnErr, IfOk, true, false};
 ghost use Rattle.frame_pool.specs.Bits.{bit};
 ghost use Rattle.radix_tables.specs.Maps.{is_marked};
-ghost use Rattle.radix_tables.specs.Levels.{IsLevels, IsLonger, IsChild, IsStep, IsLeast, IsSame, IsMade, AreMarks, upper_of, middle_of, table_of, word_of, marked_of};
+ghost use Rattle.radix_tables.specs.Levels.{IsLevels, IsLonger, IsChild, IsStep, IsLeast, IsSame, IsMade, is_used, upper_of, middle_of, table_of, word_of, marked_of};
 
 use frame_pool::bits;
 use hm_base::NoMemory;
@@ -15,8 +15,8 @@ const ENTRIES: u64 = 512;
 /// One more than the highest page.
 const PAGES: u64 = 1 << 36;
 
-/// Words of 64 marks, for the entries of a table.
-const MARK_WORDS: usize = 8;
+/// Words of 64 bits, for the entries of a table.
+const BIT_WORDS: usize = 8;
 
 /// The lowest four bits of a marked word are at least this.
 const LEAST_MARKED: u64 = 5;
@@ -26,13 +26,14 @@ const ROOT: u64 = 1;
 
 /// The tables of each level in a row, 512 entries each. An entry is the number of a table of the next
 /// level, and one of the last level is a word; 0 is none. Table 0 of a level stays empty. For each entry
-/// of the last level there is a bit that says whether its word is marked.
+/// of the last level there is a bit that says whether it is a word, and one that says whether it is marked.
 #[derive(Drop)]
 pub struct Levels {
     pgd: Vec<u64>,
     pud: Vec<u64>,
     pmd: Vec<u64>,
     pte: Vec<u64>,
+    used: Vec<u64>,
     marks: Vec<u64>,
 }
 
@@ -53,6 +54,7 @@ impl Levels {
             pud: Vec::new(alloc),
             pmd: Vec::new(alloc),
             pte: Vec::new(alloc),
+            used: Vec::new(alloc),
             marks: Vec::new(alloc),
         }
     }
@@ -147,7 +149,8 @@ impl Levels {
         ensures { MatchResult result (λ _. IsMade self.old self.new number) (λ _. IsSame self.old self.new) }
     {
         let middle = self.middle(number >> 9);
-        grow_marks(&mut self.marks, self.pte.len())?;
+        grow_bits(&mut self.used, self.pte.len())?;
+        grow_bits(&mut self.marks, self.pte.len())?;
         child(&mut self.pmd, place(middle, number), &mut self.pte)?;
         Ok(())
     }
@@ -163,7 +166,8 @@ impl Levels {
     {
         let at = place(self.table(page / ENTRIES), page);
         self.pte[at] = word;
-        put_mark(&mut self.marks, at, word);
+        put_bit(&mut self.used, at, is_used(word));
+        put_bit(&mut self.marks, at, is_marked(word));
     }
 
     /// The least page from `page` on that has a word, and that word.
@@ -238,13 +242,8 @@ impl Levels {
             (λ e. (page ≤ e.0) × (e.0 < 2 ^ 36) × (word_of self.now e.0 ≡ e.1) × (e.1 ≢ 0)
             × ((v : ℕ) → page ≤ v → v < e.0 → word_of self.now v ≡ 0)) }
     {
-        for at in page..(page / ENTRIES + 1) * ENTRIES {
-            let word = entry(&self.pte, table, at);
-            if word != 0 {
-                return Some((at, word));
-            }
-        }
-        None
+        let found = next_entry(&self.used, table, page)?;
+        Some((found, entry(&self.pte, table, found)))
     }
 
     /// The least page of the table from `page` on whose word is marked, and that word.
@@ -256,10 +255,7 @@ impl Levels {
             (λ e. (page ≤ e.0) × (e.0 < 2 ^ 36) × (marked_of self.now e.0 ≡ e.1) × (e.1 ≢ 0)
             × ((v : ℕ) → page ≤ v → v < e.0 → marked_of self.now v ≡ 0)) }
     {
-        let first = table as usize * MARK_WORDS;
-        let marks = &self.marks[first..first + MARK_WORDS];
-        let next = bits::next_bit(marks, (page % ENTRIES) as usize)?;
-        let found = page / ENTRIES * ENTRIES + next as u64;
+        let found = next_entry(&self.marks, table, page)?;
         Some((found, entry(&self.pte, table, found)))
     }
 }
@@ -331,31 +327,53 @@ fn child(entries: &mut Vec<u64>, at: usize, below: &mut Vec<u64>) -> Result<u64,
     Ok(entries[at])
 }
 
-/// Makes room for the marks of so many entries and of two more tables.
-fn grow_marks(marks: &mut Vec<u64>, entries: usize) -> Result<(), NoMemory>
-    requires { entries < 2 ^ 63 }
-    ensures same { (k : ℕ) → bit marks.new.items k ≡ bit marks.old.items k }
-    ensures more { length marks.old.items ≤ length marks.new.items }
-    ensures ok { OnOk result (entries + 1024 ≤ 64 * length marks.new.items) }
+/// The number of the first entry of the table from that of `number` on whose bit is set.
+fn next_entry(bits: &[u64], table: u64, number: u64) -> Option<u64>
+    requires table { table * 8 + 8 ≤ length bits.now }
+    requires number { number < 2 ^ 36 }
+    requires few { length bits.now < 2 ^ 60 }
+    ensures { MatchOption result
+        ((k : ℕ) → number ≤ k → k < (number / 512 + 1) * 512 → bit bits.now (table * 512 + k % 512) ≡ false)
+        (λ q. (number ≤ q) × (q < (number / 512 + 1) * 512) × (bit bits.now (table * 512 + q % 512) ≡ true)
+        × ((k : ℕ) → number ≤ k → k < q → bit bits.now (table * 512 + k % 512) ≡ false)) }
 {
-    let words = entries / 64 + 1 + 2 * MARK_WORDS;
-    if marks.len() < words {
-        marks.resize(words, 0)?;
+    let first = table as usize * BIT_WORDS;
+    let of_table = &bits[first..first + BIT_WORDS];
+    let next = bits::next_bit(of_table, (number % ENTRIES) as usize)?;
+    Some(number / ENTRIES * ENTRIES + next as u64)
+}
+
+/// Makes room for the bits of so many entries and of two more tables.
+fn grow_bits(bits: &mut Vec<u64>, entries: usize) -> Result<(), NoMemory>
+    requires { entries < 2 ^ 63 }
+    ensures same { (k : ℕ) → bit bits.new.items k ≡ bit bits.old.items k }
+    ensures more { length bits.old.items ≤ length bits.new.items }
+    ensures ok { OnOk result (entries + 1024 ≤ 64 * length bits.new.items) }
+{
+    let words = entries / 64 + 1 + 2 * BIT_WORDS;
+    if bits.len() < words {
+        bits.resize(words, 0)?;
     }
     Ok(())
 }
 
-/// The mark of the entry there, which is now this word.
-fn put_mark(marks: &mut Vec<u64>, at: usize, word: u64)
-    requires { at / 64 < length marks.old.items }
-    ensures bits { (k : ℕ) → bit marks.new.items k ≡ (if k == at then is_marked word else bit marks.old.items k) }
-    ensures len { length marks.new.items ≡ length marks.old.items }
+/// Makes the bit there so.
+fn put_bit(bits: &mut Vec<u64>, at: usize, is_set: bool)
+    requires { at / 64 < length bits.old.items }
+    ensures bits { (k : ℕ) → bit bits.new.items k ≡ (if k == at then is_set else bit bits.old.items k) }
+    ensures len { length bits.new.items ≡ length bits.old.items }
 {
-    if is_marked(word) {
-        bits::set_bit(marks, at);
+    if is_set {
+        bits::set_bit(bits, at);
     } else {
-        bits::clear_bit(marks, at);
+        bits::clear_bit(bits, at);
     }
+}
+
+fn is_used(word: u64) -> bool
+    ensures { result ≡ is_used word }
+{
+    word != 0
 }
 
 fn is_marked(word: u64) -> bool

@@ -1,9 +1,16 @@
-use Rattle.std.proofs.Common.{◌∙◌, arith}
-use Rattle.radix_tables.specs.Levels.{word_of}
-use Rattle.radix_tables.proofs.Lasts.{further, word_here}
+use Rattle.std.proofs.Common.{◌*◌, ◌+◌, ◌%◌, ℕ, List, ap, sym, subst, ◌∙◌}
+use Rattle.std.specs.Prelude.{slice_index}
+use Rattle.radix_tables.specs.Levels.{AreBits, is_used}
+use Rattle.radix_tables.proofs.TableBits.{none_word, some_word, found_none, unused, used}
 use Rattle.radix_tables.proofs.levels.Levels.next_in_table.Goals as goal
 
-pub loop-at-preserved : goal.loop-at-preserved
-loop-at-preserved c =
-    further (word_of c.args.self.now) c.args.page c.loop-at.at c.loop-at.invariant
-    (word_here c.args.self.now _ c.args.table c.args.page c.loop-at.at _ c.deref.ensures.value c.requires.table.0 (omega arith) (omega arith) c.entry-word.ensures ∙ c.if-word-ne0.false)
+pub returns-in_err-found : goal.returns-in_err-found
+returns-in_err-found c =
+    found_none _ c.from_residual.ensures (none_word is_used (λ w. w) c.args.self.now c.deref.result.now c.args.table c.args.page
+    (subst (AreBits is_used c.args.self.now.pte.items) (sym c.deref.ensures.value) c.requires.levels.used) c.requires.table.0 c.in_err-found.ensures unused)
+
+pub returns : goal.returns
+returns c =
+    some_word is_used (λ w. w) c.args.self.now c.deref.result.now c.args.table c.args.page c.in_ok-found.found _
+    (subst (AreBits is_used c.args.self.now.pte.items) (sym c.deref.ensures.value) c.requires.levels.used) c.requires.table.0 c.requires.page c.in_ok-found.ensures
+    (c.entry.ensures ∙ ap (λ (xs : List ℕ). slice_index xs (c.args.table * 512 + c.in_ok-found.found % 512)) c.deref-2.ensures.value) unused used

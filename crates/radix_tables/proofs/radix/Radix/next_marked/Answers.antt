@@ -2,7 +2,7 @@ use Rattle.std.proofs.Common.{ap, ◌∙◌, None, Some}
 use Rattle.radix_tables.specs.Levels.{table_of, word_of}
 use Rattle.radix_tables.specs.Maps.{map_of, next_marked}
 use Rattle.radix_tables.proofs.Made.{word_below}
-use Rattle.radix_tables.proofs.Marks.{marked_some}
+use Rattle.radix_tables.proofs.TableBits.{marked_some}
 use Rattle.radix_tables.proofs.Pairs.{least_marked}
 use Rattle.radix_tables.proofs.radix.Radix.next_marked.Goals as goal
 
