@@ -11,8 +11,8 @@ use Rattle.hm_history.specs.declared.Entry.{Entry}
 use Rattle.hm_history.specs.declared.Progress.{Progress}
 use Rattle.hm_laws.proofs.Histories.Sound.{Small, small}
 use Rattle.hm_races.specs.Outcomes.{Point, Reached, ended_in}
-use Rattle.hm_races.specs.Blur.{blurred, blurred_entry, blurred_progress, unlisted, tidied}
-use Rattle.hm_races.specs.Laws.{TellsTidied, TidiedIsComplete}
+use Rattle.hm_races.specs.Blur.{blurred, blurred_entry, blurred_progress, unlisted, tidied, form_of}
+use Rattle.hm_races.specs.Laws.{TidiedIsComplete, FormsAreComplete}
 use Rattle.hm_races.proofs.Points.{state_after}
 use Rattle.hm_races.proofs.Closed.{Match, Likeness, all_outcomes}
 use Rattle.hm_races.proofs.PlacedLists.{Distinct, still_distinct}
@@ -92,7 +92,11 @@ goes_alike c x y e sm h d = by (due_in c y.state e.actor) refl (sym (dues c x y 
 reached_once : (c : Program) (h : List Entry) (x : Point) → Reached c h x → Once x.state
 reached_once c h x r = subst Once (sym (state_after c h r.entries) ∙ ap (λ (z : Point). z.state) r.same) (once_after c (state_start c) (h ++ r.entries) tt)
 
-likeness : (c : Program) (h : List Entry) (key : Point → List ℕ) → Small c → DueFrom c [] h → TellsTidied c h key → Likeness c h key (Alike c)
+-- equal keys of reached points are states and answers that are equal but for all this
+abbrev Tells : {K : Type 0} → Program → List Entry → (Point → K) → Type 0
+Tells c h key = (x y : Point) → Reached c h x → Reached c h y → key x ≡ key y → (tidied c x.state ≡ tidied c y.state) × (x.answers ≡ y.answers)
+
+likeness : {K : Type 0} (c : Program) (h : List Entry) (key : Point → K) → Small c → DueFrom c [] h → Tells c h key → Likeness c h key (Alike c)
 likeness c h key sm d tells = record {
   by_key = λ x y rx ry e. record {
     left = reached_valid c h x sm d rx;
@@ -110,3 +114,9 @@ likeness c h key sm d tells = record {
 
 pub tidied_is_complete : TidiedIsComplete
 tidied_is_complete c sc h d key ks xs tells s es k en = all_outcomes c h key (Alike c) ks xs (likeness c h key (small c sc) d tells) s es k en
+
+pub forms_are_complete : FormsAreComplete
+forms_are_complete c sc h d ks xs s es k en = all_outcomes c h (form_of c) (Alike c) ks xs (likeness c h (form_of c) (small c sc) d tells) s es k en
+  where
+    tells : Tells c h (form_of c)
+    tells x y rx ry e = (ap (λ (z : Point). z.state) e, ap (λ (z : Point). z.answers) e)

@@ -1,5 +1,5 @@
--- Sets of keys that a search has found, and when they are whole.
-use Rattle.std.specs.Prelude.{◌≡◌, ℕ, ◌⊎◌, true, List, [], ◌∷◌, ◌++◌}
+-- Sets of keys that a search has found, and when they are whole. A key may be of any type.
+use Rattle.std.specs.Prelude.{◌≡◌, ◌⊎◌, true, List, [], ◌∷◌, ◌++◌}
 use Rattle.hm_base.specs.Program.{Program}
 use Rattle.hm_history.specs.Due.{due_in}
 use Rattle.hm_history.specs.declared.Kind.{Kind}
@@ -12,13 +12,13 @@ IsListed [] x = ⊥
 IsListed (y ∷ ys) x = (y ≡ x) ⊎ IsListed ys x
 
 -- a point of the race that stands for a key
-pub record Stands (c : Program) (h : List Entry) (key : Point → List ℕ) (k : List ℕ) : Type 0 where
+pub record Stands {K : Type 0} (c : Program) (h : List Entry) (key : Point → K) (k : K) : Type 0 where
   pub point : Point
   pub reached : Reached c h point
   pub has_key : key point ≡ k
 
 -- the keys of all points after one entry are listed
-abbrev pub Onward : Program → (Point → List ℕ) → List (List ℕ) → Point → Type 0
+abbrev pub Onward : {K : Type 0} → Program → (Point → K) → List K → Point → Type 0
 Onward c key ks x = (e : Entry) → due_in c x.state e.actor ≡ Progress.Did e → IsListed ks (key (point_next c x e))
 
 -- what a point answers, where all operations have ended, is listed
@@ -26,8 +26,8 @@ abbrev pub Told : Program → List (List (List Kind)) → Point → Type 0
 Told c xs x = ended_in c x.state ≡ true → IsListed xs (outcome c x.answers)
 
 -- a key that is done: a point that stands for it has all its next keys listed, and its outcome if it has one
-pub record Done (c : Program) (h : List Entry) (key : Point → List ℕ) (ks : List (List ℕ))
-    (xs : List (List (List Kind))) (k : List ℕ) : Type 0 where
+pub record Done {K : Type 0} (c : Program) (h : List Entry) (key : Point → K) (ks : List K)
+    (xs : List (List (List Kind))) (k : K) : Type 0 where
   pub stands : Stands c h key k
   pub onward : Onward c key ks stands.point
   pub told : Told c xs stands.point
@@ -40,9 +40,9 @@ pub record Outcome (c : Program) (h : List Entry) (x : List (List Kind)) : Type 
   pub same : outcome c point.answers ≡ x
 
 -- a search: the outcomes found, the keys that it is done with, and those that it has still to look at
-pub record Searched (c : Program) (h : List Entry) (key : Point → List ℕ) (xs : List (List (List Kind)))
-    (done todo : List (List ℕ)) : Type 0 where
+pub record Searched {K : Type 0} (c : Program) (h : List Entry) (key : Point → K) (xs : List (List (List Kind)))
+    (done todo : List K) : Type 0 where
   pub from : IsListed (done ++ todo) (key (point_from c h))
-  pub each : (k : List ℕ) → IsListed done k → Done c h key (done ++ todo) xs k
-  pub waiting : (k : List ℕ) → IsListed todo k → Stands c h key k
+  pub each : (k : K) → IsListed done k → Done c h key (done ++ todo) xs k
+  pub waiting : (k : K) → IsListed todo k → Stands c h key k
   pub real : (x : List (List Kind)) → IsListed xs x → Outcome c h x

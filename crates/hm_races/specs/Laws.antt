@@ -7,7 +7,7 @@ use Rattle.hm_history.specs.declared.Entry.{Entry}
 use Rattle.hm_races.specs.Outcomes.{Point, Reached, outcome, answers_of, ended, raced}
 use Rattle.hm_races.specs.Closed.{IsListed, Searched}
 use Rattle.hm_races.specs.Positions.{forget_state}
-use Rattle.hm_races.specs.Blur.{blurred, tidied}
+use Rattle.hm_races.specs.Blur.{blurred, tidied, form_of}
 
 -- equal keys are states and answers that are equal but for positions
 abbrev pub TellsApart : Program → List Entry → (Point → List ℕ) → Type 0
@@ -54,4 +54,11 @@ TidiedIsComplete =
     (c : Program) → IsScript c → (h : List Entry) → DueFrom c [] h
     → (key : Point → List ℕ) (ks : List (List ℕ)) (xs : List (List (List Kind))) →
     TellsTidied c h key → Searched c h key xs ks [] →
+    (es : List Entry) → DueFrom c h es → ended c (h ++ es) ≡ true → IsListed xs (outcome c (answers_of es))
+
+-- and for the forms themselves in place of keys: a program whose keys are read as forms has nothing more to show
+abbrev pub FormsAreComplete : Type 0
+FormsAreComplete =
+    (c : Program) → IsScript c → (h : List Entry) → DueFrom c [] h
+    → (ks : List Point) (xs : List (List (List Kind))) → Searched c h (form_of c) xs ks [] →
     (es : List Entry) → DueFrom c h es → ended c (h ++ es) ≡ true → IsListed xs (outcome c (answers_of es))

@@ -2,7 +2,7 @@
 // what is due has every outcome. Each law is the contract of a function with an empty body.
 #![tactic(auto)]
 
-ghost use Rattle.hm_races.specs.Laws.{BlurredIsComplete, ClosedIsComplete, RacedIsDue, TidiedIsComplete};
+ghost use Rattle.hm_races.specs.Laws.{BlurredIsComplete, ClosedIsComplete, FormsAreComplete, RacedIsDue, TidiedIsComplete};
 
 /// A set of states that is closed under what is due has every outcome.
 pub fn closed_is_complete()
@@ -22,4 +22,9 @@ pub fn blurred_is_complete()
 /// And one whose states leave out in which order pages were placed.
 pub fn tidied_is_complete()
     ensures { TidiedIsComplete }
+{}
+
+/// So has one whose keys are read as such states: no code of them has to tell anything apart.
+pub fn forms_are_complete()
+    ensures { FormsAreComplete }
 {}
