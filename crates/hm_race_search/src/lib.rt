@@ -1,0 +1,10 @@
+// Every outcome of a race: a search through all that its actors can do, in any order of their turns.
+#![tactic(auto)]
+
+mod known;
+mod race;
+mod search;
+
+pub use known::{Known, Open};
+pub use race::{Race, RaceKey};
+pub use search::{Explored, explore};
