@@ -1,12 +1,14 @@
 // All actors of a script.
 ghost use Rattle.std.specs.Prelude.{◌≡◌, ◌<◌, ◌≤◌, [], true, is_none, count_by, length, OnOk, OnErr, IfOk, option_copied, slice_get};
 ghost use Rattle.hm_history.specs.Going.{op_at};
+ghost use Rattle.hm_phases.specs.Items.{phases_of};
 ghost use Rattle.hm_actors.specs.Actors.{actors_start, actors_next, going_of, goings, is_found, ActorsFit, ActorsRoom};
 
 use crate::tasks::{Task, op_at};
 use hm_base::{Actor, NoMemory, Op, Script};
 use hm_history::Kind;
 use hm_history::phases::{Migrating, Phase, Seen};
+use hm_phases::Items;
 use std::alloc::Global;
 use std::marker::Model;
 
@@ -93,6 +95,16 @@ impl Actors {
         match self.tasks.get(actor.number() as usize) {
             Some(task) => task.top(),
             None => None,
+        }
+    }
+
+    /// The actor's phases, the top first; none where there is no such actor.
+    pub fn phases(&self, actor: Actor) -> Items
+        ensures { phases_of result ≡ (going_of self.now actor).stack }
+    {
+        match self.tasks.get(actor.number() as usize) {
+            Some(task) => task.phases(),
+            None => Items::Zero,
         }
     }
 

@@ -1,13 +1,14 @@
 // One actor: the number of its operation, the phases there, and the records of a migration.
 ghost use Rattle.std.specs.Prelude.{◌≡◌, ◌+◌, ◌<◌, ◌≤◌, ◌^◌, [], true, Some, OnOk, OnErr, OnSome, IfOk, is_none, option_copied, slice_get};
 ghost use Rattle.hm_history.specs.Going.{going_from, op_at};
+ghost use Rattle.hm_phases.specs.Items.{phases_of};
 ghost use Rattle.hm_actors.specs.Actors.{task_start, task_next, task_top, adds_record, ActorsFit, StackFits};
 
 use crate::records::Records;
 use hm_base::{Actor, NoMemory, Op, Script};
 use hm_history::Kind;
 use hm_history::phases::{Migrating, Phase, Seen};
-use hm_phases::Stack;
+use hm_phases::{Items, Stack};
 use std::alloc::Global;
 use std::marker::Model;
 
@@ -70,6 +71,12 @@ impl Task {
         ensures { option_copied result ≡ slice_get self.now.going.stack 0 }
     {
         self.stack.top()
+    }
+
+    pub fn phases(&self) -> Items
+        ensures { phases_of result ≡ self.now.going.stack }
+    {
+        self.stack.items()
     }
 
     pub fn records(&self) -> &[Migrating]

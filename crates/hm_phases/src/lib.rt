@@ -5,7 +5,7 @@
 
 ghost use Rattle.std.specs.Prelude.{◌≡◌, ℕ, ◌+◌, ◌≤◌, ◌<◌, [], ◌∷◌, length, IfOk, IsTrue, IsOk, option_copied, slice_get};
 ghost use Rattle.hm_history.specs.Stacks.{first_phase, stack_after};
-ghost use Rattle.hm_phases.specs.Items.{below_takes_count};
+ghost use Rattle.hm_phases.specs.Items.{below_takes_count, phases_of};
 
 use hm_base::{NoMemory, Op};
 use hm_history::Kind;
@@ -22,7 +22,7 @@ mod moves;
 mod operations;
 
 pub use hm_history::phases::{Body, Migrating, Phase, Seen, Touch};
-use items::Items;
+pub use items::Items;
 
 /// An actor's phases within its operation; contracts see the list, the top first.
 #[derive(Drop)]
@@ -69,6 +69,13 @@ impl Stack {
             Items::Two(top, _) => Some(top),
             Items::Three(top, _, _) => Some(top),
         }
+    }
+
+    /// The phases.
+    pub fn items(&self) -> Items
+        ensures { phases_of result ≡ self.now }
+    {
+        self.items
     }
 
     /// What the stack is after the actor's entry, given what the world showed just before it; empty where the entry

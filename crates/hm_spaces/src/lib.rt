@@ -8,7 +8,7 @@ ghost use Rattle.hm_history.specs.Locks.{writer, lowest_other};
 ghost use Rattle.hm_history.specs.Due.{proc_of_op};
 ghost use Rattle.hm_spaces.specs.Spaces.{spaces_start, spaces_next, SpacesFit, HasParent, plain_of, locks_of};
 
-use hm_base::{Actor, Cause, NoMemory, Op, Page, Proc, Rights, Span};
+use hm_base::{Actor, Area, Cause, NoMemory, Op, Page, Proc, Rights, Span};
 use hm_history::Kind;
 use hm_history::locks::MapLock;
 use std::alloc::Global;
@@ -93,6 +93,13 @@ impl Spaces {
         ensures { result ≡ rights_of (plain_of self.now) proc page }
     {
         self.areas[proc.number() as usize].find(page)
+    }
+
+    /// The areas of a process, in rising order.
+    pub fn areas(&self, proc: Proc) -> &[Area]
+        ensures { result.now ≡ (plain_of self.now).areas proc }
+    {
+        self.areas[proc.number() as usize].as_slice()
     }
 
     /// Whether some page of the span has an area.

@@ -10,6 +10,7 @@ ghost use Rattle.hm_world.specs.WorldValue.{opening, halted_first, now, MayHalt,
 
 mod adds;
 mod contents;
+mod goings;
 mod migrations;
 mod noted;
 mod reads;

@@ -72,6 +72,13 @@ impl Areas {
         let _ = &self.areas;
     }
 
+    /// All areas, in rising order.
+    pub fn as_slice(&self) -> &[Area]
+        ensures { result.now ≡ self.now }
+    {
+        self.areas.as_slice()
+    }
+
     /// The right of a page (`find_vma` of mm/mmap.c); None where it has no area.
     pub fn find(&self, page: Page) -> Option<Rights>
         ensures { result ≡ rights_at self.now page }
