@@ -13,13 +13,13 @@ none_from t from zero h = refl
 none_from t from (suc n) h = rw (h from (omega arith) (omega arith), least) (none_from t (from + 1) n (λ k a b. h k (omega arith) (omega arith)))
 
 -- what the least number is
-record Found (t : ℕ → Bool) (from n i : ℕ) : Type 0 where
-  above : from ≤ i
-  within : i < from + n
-  there : t i ≡ true
-  none : (k : ℕ) → from ≤ k → k < i → t k ≡ false
+pub record Found (t : ℕ → Bool) (from n i : ℕ) : Type 0 where
+  pub above : from ≤ i
+  pub within : i < from + n
+  pub there : t i ≡ true
+  pub none : (k : ℕ) → from ≤ k → k < i → t k ≡ false
 
-least_is : (t : ℕ → Bool) (from n i : ℕ) → least t from n ≡ Some i → Found t from n i
+pub least_is : (t : ℕ → Bool) (from n i : ℕ) → least t from n ≡ Some i → Found t from n i
 least_is t from zero i h = absurd (let b : ⊥ = cc in b)
 least_is t from (suc n) i h = by (t from) refl h (λ e. least_is t (from + 1) n i e)
   where

@@ -22,3 +22,12 @@ writes_bytes (Kind.Stored x at bs) = true
 writes_bytes (Kind.Added m at was now) = true
 writes_bytes (Kind.Forked p child) = true
 writes_bytes k = false
+
+-- an entry for which the places may take memory: a page, a frame or a table entry may be new
+abbrev pub takes_room : Kind → Bool
+takes_room (Kind.Place p v x) = true
+takes_room (Kind.Take f) = true
+takes_room (Kind.Drop f) = true
+takes_room (Kind.Committed f g) = true
+takes_room (Kind.Set m v f w from) = true
+takes_room k = false

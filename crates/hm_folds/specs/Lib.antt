@@ -10,3 +10,9 @@ pub mod TableMap
 pub mod MirrorTables
 pub mod Numbers
 pub mod Held
+pub mod Shares
+pub mod HeldFrames
+pub mod Commits
+pub mod Fitted
+pub mod Standing
+pub mod Places

@@ -3,17 +3,22 @@
 #![tactic(auto)]
 
 mod been;
+mod commits;
 mod guards;
-pub mod held;
+mod held;
+mod held_frames;
 mod intervals;
 mod memory;
 pub mod mirror_tables;
 mod numbers;
+mod places;
 mod plain;
 mod sequences;
+mod shares;
 mod stored;
-pub mod table_map;
+mod table_map;
 mod windows;
 
+pub use places::PlaceState;
 pub use plain::PlainState;
 pub use sequences::SeqState;

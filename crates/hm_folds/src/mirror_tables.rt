@@ -1,5 +1,6 @@
 // The tables of all mirrors, and the device and the process of each.
-ghost use Rattle.std.specs.Prelude.{◌≡◌, ℕ, IfOk, OnOk, OnErr, Some, None, true, length, option_map};
+ghost use Rattle.std.specs.Prelude.{◌≡◌, ℕ, IfOk, OnOk, OnErr, Some, None, true, false, is_ok, length, option_map};
+ghost use Rattle.hm_folds.specs.Applied.{takes_room};
 ghost use Rattle.hm_history.specs.Words.{with_at};
 ghost use Rattle.hm_history.specs.Places.{with_entry, erased_table};
 ghost use Rattle.hm_base.specs.Pages.{covers};
@@ -42,6 +43,7 @@ impl MirrorTables {
         ensures ok { OnOk result
             (tables_of self.new.tables.items ≡ table_next (tables_of self.old.tables.items) kind.now) }
         ensures err { OnErr result (tables_of self.new.tables.items ≡ tables_of self.old.tables.items) }
+        ensures memory { takes_room kind.now ≡ false → is_ok result ≡ true }
     {
         match kind {
             Kind::Set {

@@ -1,0 +1,23 @@
+-- Which frames are held, of all pools.
+use Rattle.std.specs.Prelude.{ℕ, Bool, false, Option, Some, None, List, slice_get}
+use Rattle.hm_base.specs.declared.Frame.{Frame}
+use Rattle.hm_base.specs.declared.PoolId.{PoolId}
+use Rattle.hm_base.specs.PlaceWords.{pool_index}
+use Rattle.hm_folds.specs.Numbers.{has_number}
+use Rattle.hm_folds.specs.declared.held.Held.{Held}
+
+abbrev pub held_of : ℕ → Option Held → Bool
+held_of n None = false
+held_of n (Some x) = has_number x.held n
+
+-- the frame is held
+abbrev pub held_at : List Held → Frame → Bool
+held_at xs f = held_of f.number (slice_get xs (pool_index f.pool))
+
+abbrev pub frames_of : Option Held → ℕ
+frames_of None = 0
+frames_of (Some x) = x.frames
+
+-- how many frames the pool has
+abbrev pub frames_in : List Held → PoolId → ℕ
+frames_in xs pool = frames_of (slice_get xs (pool_index pool))

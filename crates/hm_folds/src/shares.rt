@@ -1,0 +1,201 @@
+// For each frame, how many pages have to do with it, and how many of them are writable.
+ghost use Rattle.std.specs.Prelude.{◌≡◌, ◌==◌, ◌||◌, ℕ, if◌then◌else◌, nat_le, true, is_some, IfOk, OnOk, OnErr};
+ghost use Rattle.hm_base.specs.declared.Frame.{Frame as AnyFrame};
+ghost use Rattle.hm_base.specs.PlaceWords.{is_frame, with_frame};
+ghost use Rattle.hm_folds.specs.Shares.{no_shares, plus, less, is_alone, shares_in, has_shares, shares_at};
+
+use hm_base::frames::pool_index;
+use hm_base::{Frame, NoMemory};
+use std::alloc::Global;
+use std::collections::BTreeMap;
+
+/// A number of pages, and how many of them are writable.
+#[derive(Clone, Copy)]
+pub struct Shares {
+    pub pages: u64,
+    pub writers: u64,
+}
+
+impl Shares {
+    /// So many more; no history has as many pages as do not fit.
+    fn plus(self, more: Shares) -> Result<Shares, NoMemory>
+        ensures { IfOk result (λ x. x ≡ plus self more) }
+    {
+        let pages = self.pages.checked_add(more.pages);
+        let writers = self.writers.checked_add(more.writers);
+        match (pages, writers) {
+            (Some(pages), Some(writers)) => Ok(Shares { pages, writers }),
+            _ => Err(NoMemory),
+        }
+    }
+
+    /// So many fewer.
+    pub fn less(self, fewer: Shares) -> Shares
+        ensures { result ≡ less self fewer }
+    {
+        Shares {
+            pages: self.pages.saturating_sub(fewer.pages),
+            writers: self.writers.saturating_sub(fewer.writers),
+        }
+    }
+
+    /// Whether, with so many more, none is writable or there is one page at the most.
+    pub fn is_alone_with(self, more: Shares) -> bool
+        ensures { result ≡ is_alone (plus self more) }
+    {
+        let one = match self.pages {
+            0 => more.pages <= 1,
+            1 => more.pages == 0,
+            _ => false,
+        };
+        one || (self.writers == 0 && more.writers == 0)
+    }
+}
+
+/// The shares of a pool's frames, by number.
+#[derive(Drop)]
+pub struct PoolShares {
+    shares: BTreeMap<u64, Shares>,
+}
+
+impl PoolShares {
+    /// No pages. It takes no memory.
+    pub fn new(alloc: Global) -> PoolShares
+        ensures { (n : ℕ) → shares_in result n ≡ no_shares }
+    {
+        PoolShares {
+            shares: BTreeMap::new(alloc),
+        }
+    }
+
+    /// Those of a frame.
+    pub fn get(&self, number: u64) -> Shares
+        ensures { result ≡ shares_in self.now number }
+    {
+        match self.shares.get(&number) {
+            Some(shares) => *shares,
+            None => Shares {
+                pages: 0,
+                writers: 0,
+            },
+        }
+    }
+
+    /// Those of a frame from now on; a failure changes nothing.
+    pub fn set(&mut self, number: u64, shares: Shares) -> Result<(), NoMemory>
+        ensures ok { OnOk result
+            ((n : ℕ) → shares_in self.new n ≡ (if n == number then shares else shares_in self.old n)) }
+        ensures err { OnErr result ((n : ℕ) → shares_in self.new n ≡ shares_in self.old n) }
+    {
+        match self.shares.insert(number, shares) {
+            Ok(_) => Ok(()),
+            Err(_) => Err(NoMemory),
+        }
+    }
+
+    /// The same, of a frame that has a place in the map.
+    fn put(&mut self, number: u64, shares: Shares)
+        requires { has_shares self.old number ≡ true }
+        ensures { (n : ℕ) → shares_in self.new n ≡ (if n == number then shares else shares_in self.old n) }
+    {
+        match self.shares.insert(number, shares) {
+            Ok(_) => (),
+            Err(_) => unreachable!(),
+        }
+    }
+
+    /// So many fewer of a frame.
+    pub fn lower(&mut self, number: u64, fewer: Shares)
+        ensures { (n : ℕ)
+            → shares_in self.new n
+            ≡ (if n == number then less (shares_in self.old number) fewer else shares_in self.old n) }
+    {
+        if self.shares.contains_key(&number) {
+            let left = self.get(number).less(fewer);
+            self.put(number, left);
+        }
+    }
+}
+
+/// The shares of all frames.
+#[derive(Drop)]
+pub struct FrameShares {
+    pools: [PoolShares; 5],
+}
+
+impl FrameShares {
+    /// No pages. It takes no memory.
+    pub fn new(alloc: Global) -> FrameShares
+        ensures { (f : AnyFrame) → shares_at result.pools f ≡ no_shares }
+    {
+        FrameShares {
+            pools: [
+                PoolShares::new(alloc),
+                PoolShares::new(alloc),
+                PoolShares::new(alloc),
+                PoolShares::new(alloc),
+                PoolShares::new(alloc),
+            ],
+        }
+    }
+
+    /// Those of a frame.
+    pub fn get(&self, frame: &Frame) -> Shares
+        ensures { result ≡ shares_at self.now.pools frame.now }
+    {
+        self.pools[pool_index(&frame.pool)].get(u64::from(frame.number))
+    }
+
+    /// So many more of a frame, if there is one; a failure changes nothing.
+    pub fn add(&mut self, frame: &Option<Frame>, more: Shares) -> Result<(), NoMemory>
+        ensures ok { OnOk result
+            ((f : AnyFrame)
+            → shares_at self.new.pools f
+            ≡
+            (if is_frame frame.now f then plus (shares_at self.old.pools f) more else shares_at self.old.pools f)) }
+        ensures err { OnErr result ((f : AnyFrame) → shares_at self.new.pools f ≡ shares_at self.old.pools f) }
+    {
+        match frame {
+            None => Ok(()),
+            Some(frame) => {
+                let shares = self.get(frame).plus(more)?;
+                self.set(frame, shares)
+            }
+        }
+    }
+
+    fn set(&mut self, frame: &Frame, shares: Shares) -> Result<(), NoMemory>
+        ensures ok { OnOk result
+            ((f : AnyFrame)
+            → shares_at self.new.pools f ≡ with_frame (shares_at self.old.pools) frame.now shares f) }
+        ensures err { OnErr result ((f : AnyFrame) → shares_at self.new.pools f ≡ shares_at self.old.pools f) }
+    {
+        let pool = &mut self.pools[pool_index(&frame.pool)];
+        match pool.set(u64::from(frame.number), shares) {
+            Ok(()) => Ok(()),
+            Err(error) => Err(error),
+        }
+    }
+
+    /// So many fewer of a frame, if there is one.
+    pub fn lower(&mut self, frame: &Option<Frame>, fewer: Shares)
+        ensures { (f : AnyFrame)
+            → shares_at self.new.pools f
+            ≡
+            (if is_frame frame.now f then less (shares_at self.old.pools f) fewer else shares_at self.old.pools f) }
+    {
+        match frame {
+            None => (),
+            Some(frame) => self.lower_at(frame, fewer),
+        }
+    }
+
+    fn lower_at(&mut self, frame: &Frame, fewer: Shares)
+        ensures { (f : AnyFrame)
+            → shares_at self.new.pools f
+            ≡ with_frame (shares_at self.old.pools) frame.now (less (shares_at self.old.pools frame.now) fewer) f }
+    {
+        let pool = &mut self.pools[pool_index(&frame.pool)];
+        pool.lower(u64::from(frame.number), fewer);
+    }
+}
