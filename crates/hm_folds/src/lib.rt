@@ -11,6 +11,7 @@ mod intervals;
 mod memory;
 pub mod mirror_tables;
 mod numbers;
+mod place_tests;
 mod places;
 mod plain;
 mod sequences;

@@ -1,11 +1,12 @@
 // For each frame, how many pages have to do with it, and how many of them are writable.
-ghost use Rattle.std.specs.Prelude.{◌≡◌, ◌==◌, ◌||◌, ℕ, if◌then◌else◌, nat_le, true, is_some, IfOk, OnOk, OnErr};
+ghost use Rattle.std.specs.Prelude.{◌≡◌, ◌==◌, ℕ, if◌then◌else◌, true, IfOk, OnOk, OnErr};
 ghost use Rattle.hm_base.specs.declared.Frame.{Frame as AnyFrame};
-ghost use Rattle.hm_base.specs.PlaceWords.{is_frame, with_frame};
+ghost use Rattle.hm_base.specs.PlaceWords.{is_frame, moving_frame, with_frame};
+ghost use Rattle.hm_folds.specs.Standing.{share_of};
 ghost use Rattle.hm_folds.specs.Shares.{no_shares, plus, less, is_alone, shares_in, has_shares, shares_at};
 
 use hm_base::frames::pool_index;
-use hm_base::{Frame, NoMemory};
+use hm_base::{Frame, NoMemory, Place};
 use std::alloc::Global;
 use std::collections::BTreeMap;
 
@@ -17,6 +18,16 @@ pub struct Shares {
 }
 
 impl Shares {
+    /// Those of one page with this place.
+    pub fn of_page(place: &Place) -> Shares
+        ensures { result ≡ share_of place.now }
+    {
+        Shares {
+            pages: 1,
+            writers: if place.writable() { 1 } else { 0 },
+        }
+    }
+
     /// So many more; no history has as many pages as do not fit.
     fn plus(self, more: Shares) -> Result<Shares, NoMemory>
         ensures { IfOk result (λ x. x ≡ plus self more) }
@@ -198,4 +209,71 @@ impl FrameShares {
         let pool = &mut self.pools[pool_index(&frame.pool)];
         pool.lower(u64::from(frame.number), fewer);
     }
+}
+
+fn moving_frame(place: &Place) -> Option<Frame>
+    ensures { result ≡ moving_frame place.now }
+{
+    match place {
+        Place::Moving { frame, writable: _ } => Some(*frame),
+        _ => None,
+    }
+}
+
+/// One page more of this place, which stands for the frame; a failure changes nothing.
+pub fn share_more(
+    standing: &mut FrameShares,
+    moving: &mut FrameShares,
+    to: &Option<Frame>,
+    place: &Place,
+) -> Result<(), NoMemory>
+    ensures standing { OnOk result
+        ((f : AnyFrame)
+        → shares_at standing.new.pools f
+        ≡
+        (if is_frame to.now f then plus (shares_at standing.old.pools f) (share_of place.now)
+        else shares_at standing.old.pools f)) }
+    ensures moving { OnOk result
+        ((f : AnyFrame)
+        → shares_at moving.new.pools f
+        ≡
+        (if is_frame (moving_frame place.now) f then plus (shares_at moving.old.pools f) (share_of place.now)
+        else shares_at moving.old.pools f)) }
+    ensures stands { OnErr result
+        ((f : AnyFrame) → shares_at standing.new.pools f ≡ shares_at standing.old.pools f) }
+    ensures moves { OnErr result
+        ((f : AnyFrame) → shares_at moving.new.pools f ≡ shares_at moving.old.pools f) }
+{
+    let share = Shares::of_page(place);
+    standing.add(to, share)?;
+    match moving.add(&moving_frame(place), share) {
+        Ok(()) => Ok(()),
+        Err(error) => {
+            standing.lower(to, share);
+            Err(error)
+        }
+    }
+}
+
+/// One page of this place fewer.
+pub fn share_less(
+    standing: &mut FrameShares,
+    moving: &mut FrameShares,
+    from: &Option<Frame>,
+    place: &Place,
+)
+    ensures standing { (f : AnyFrame)
+        → shares_at standing.new.pools f
+        ≡
+        (if is_frame from.now f then less (shares_at standing.old.pools f) (share_of place.now)
+        else shares_at standing.old.pools f) }
+    ensures moving { (f : AnyFrame)
+        → shares_at moving.new.pools f
+        ≡
+        (if is_frame (moving_frame place.now) f then less (shares_at moving.old.pools f) (share_of place.now)
+        else shares_at moving.old.pools f) }
+{
+    let share = Shares::of_page(place);
+    standing.lower(from, share);
+    moving.lower(&moving_frame(place), share);
 }

@@ -15,7 +15,7 @@ returns-then-holds-clause-same c = λ p s h.
     let to = committed_at x.commits.pools in
     let old = c.place-old.ensures p s h in
     c.is_alone_after.ensures
-    ∙ same_alone (shares_at x.standing.pools) _ _ _ _ _ _ _ _ c.backing.ensures c.share_of.ensures (c.backing-then-holds.ensures ∙ ap (backing_by to) old) (c.share_of-then-holds.ensures ∙ ap share_of old)
+    ∙ same_alone (shares_at x.standing.pools) _ _ _ _ _ _ _ _ c.backing.ensures c.of_page.ensures (c.backing-then-holds.ensures ∙ ap (backing_by to) old) (c.of_page-then-holds.ensures ∙ ap share_of old)
     ∙ accepts_place p s x h c.args.proc c.args.page y
     ∙ and_then (holds_target s (names y)) (one_writer (places_next s (Kind.Place c.args.proc c.args.page y))) (sym (ap (holds_target s) c.names.ensures) ∙ sym (c.holds.ensures.same p s h) ∙ c.if-holds.true)
 
