@@ -235,7 +235,7 @@ impl<R: SkipRule> Machine<R> {
         Ok(())
     }
 
-    /// Rounds until nothing is left to do. An error where that filled the history and some actor has an entry due. Where
+    /// Rounds until nothing is left to do. An error where that filled the history and an actor has an entry due. Where
     /// memory runs out, what was added before is kept.
     pub fn drain(&mut self) -> Result<(), StepError>
         requires { self.old.halted ≡ None }
