@@ -1,0 +1,3 @@
+pub mod WordsAgain
+pub mod KindsAgain
+pub mod LineAgain

@@ -1,0 +1,5 @@
+pub mod Words
+pub mod KindWords
+pub mod Kinds
+pub mod Fits
+pub mod Entries
