@@ -1,0 +1,160 @@
+// A store comes between a copy and its check.
+ghost use Rattle.std.specs.Prelude.{◌≡◌, ◌<◌, [], length, None, IfOk};
+
+use crate::meeting::Sign;
+use hm_base::{Actor, NoMemory, Proc};
+use hm_machine::Machine;
+use hm_script::parse;
+use hm_turns::{Looks, Pass, Stepped, Turns};
+use seq_copies::{Snapshot, Taken, still, take_copy};
+use skip_rules::SkipRule;
+use std::alloc::Global;
+use std::process::Abort;
+use std::sync::Wait;
+use std::test::Fail;
+use std::thread::{Threads, join_mut};
+
+/// Two stores of a byte. The first is the seventh entry, the second the eighth.
+const STORES: &[u8] =
+    b"hmm 1\nframes 4\nactor 0\nmap 0 16 1 rw\nstore 0 0x10000 41\nstore 0 0x10000 42\n";
+
+/// A driver that passes over multiples. These scripts ask it nothing.
+#[derive(Drop)]
+struct Multiples;
+
+impl SkipRule for Multiples {
+    fn skips(&self, every: u64, page: u64) -> bool {
+        every != 0 && page % every == 0
+    }
+}
+
+/// Makes turns of the first actor.
+fn make_turns<S: Stepped>(turns: &Turns<S>, pass: &mut Pass, count: u32)
+    requires own { pass.old.desk ≡ turns.now }
+    requires actor { 0 < length turns.now.script.actors }
+    ensures own { pass.new.desk ≡ turns.now }
+    ensures shares { pass.new.shares ≡ pass.old.shares }
+{
+    for _ in 0..count {
+        turns.try_turn(pass, Actor::new(0));
+    }
+}
+
+/// What a watcher sees of a copy when it is checked.
+#[derive(Drop)]
+enum Seen {
+    /// There was no copy, or no sign in time.
+    Nothing,
+    /// A copy of this byte holds.
+    Holds(u8),
+    /// A copy of this byte does not hold.
+    IsStale(u8),
+}
+
+/// The byte that the copy has.
+fn byte_of(copy: &Snapshot) -> u8 {
+    copy.bytes.as_slice().first().copied().unwrap_or(0)
+}
+
+/// Takes a copy, signs, waits for the sign that the memory may have changed, and checks the copy.
+fn watch<S: Looks>(
+    alloc: Global,
+    turns: &Turns<S>,
+    pass: &mut Pass,
+    copied: &Sign,
+    changed: &Sign,
+) -> Seen
+    requires own { pass.old.desk ≡ turns.now }
+    ensures own { pass.new.desk ≡ turns.now }
+{
+    let Ok(Taken::Taken(copy)) = take_copy(alloc, turns, pass, Proc::new(0), 0x10000, 1) else {
+        return Seen::Nothing;
+    };
+    copied.show();
+    if !changed.is_seen() {
+        return Seen::Nothing;
+    }
+    if still(turns, pass, &copy).holds {
+        Seen::Holds(byte_of(&copy))
+    } else {
+        Seen::IsStale(byte_of(&copy))
+    }
+}
+
+/// Waits for the sign of a copy, makes one turn, and signs.
+fn store<S: Stepped>(turns: &Turns<S>, pass: &mut Pass, copied: &Sign, changed: &Sign) -> bool
+    requires own { pass.old.desk ≡ turns.now }
+    requires actor { 0 < length turns.now.script.actors }
+    ensures own { pass.new.desk ≡ turns.now }
+{
+    let was_copied = copied.is_seen();
+    make_turns(turns, pass, 1);
+    changed.show();
+    was_copied
+}
+
+/// What a watcher sees of two copies.
+#[derive(Drop)]
+struct Looked {
+    /// Of the first, which another thread's turn comes after.
+    first: Seen,
+    /// Of the second, which nothing comes after.
+    second: Seen,
+    was_copied: bool,
+}
+
+/// Makes so many turns. Then one thread takes a copy, another makes a turn, and the first checks its copy. At last it
+/// takes another and checks that.
+fn meet<R: Threads + Wait + Sync, S: Stepped + Looks + Send>(
+    rt: &R,
+    alloc: Global,
+    stepped: S,
+    count: u32,
+) -> Result<Looked, NoMemory>
+    requires empty { S.history stepped ≡ [] }
+    requires running { S.halt stepped ≡ None }
+    requires actor { 0 < length (S.script stepped).actors }
+{
+    let (turns, mut pass) = Turns::new(alloc, stepped)?;
+    make_turns(&turns, &mut pass, count);
+    let mut watcher = turns.split(&mut pass);
+    let (copied, changed) = (Sign::new(), Sign::new());
+    let (first, was_copied) = join_mut(
+        rt,
+        &mut || watch(alloc, &turns, &mut watcher, &copied, &changed),
+        &mut || store(&turns, &mut pass, &copied, &changed),
+    );
+    let second = watch(alloc, &turns, &mut watcher, &copied, &changed);
+    Ok(Looked {
+        first,
+        second,
+        was_copied,
+    })
+}
+
+/// The machine of the script with the two stores.
+fn machine<R: Abort>(rt: &R, alloc: Global) -> Result<Machine<Multiples>, Fail>
+    ensures { IfOk result (λ m. (m.history ≡ []) × (m.halted ≡ None) × (0 < length m.script.actors)) }
+{
+    let script = parse(alloc, STORES)?;
+    assert!(rt; script.actors.len() > 0);
+    Ok(Machine::new(alloc, script, Multiples)?)
+}
+
+#[test]
+fn a_store_between_copy_and_check(rt: HostRuntime) -> Result<(), Fail> {
+    let looked = meet(&rt, rt.alloc(), machine(&rt, rt.alloc())?, 7)?;
+    assert!(rt; looked.was_copied);
+    assert!(rt; matches!(looked.first, Seen::IsStale(0x41)));
+    assert!(rt; matches!(looked.second, Seen::Holds(0x42)));
+    Ok(())
+}
+
+#[test]
+fn no_store_between_copy_and_check(rt: HostRuntime) -> Result<(), Fail> {
+    let looked = meet(&rt, rt.alloc(), machine(&rt, rt.alloc())?, 8)?;
+    assert!(rt; looked.was_copied);
+    assert!(rt; matches!(looked.first, Seen::Holds(0x42)));
+    assert!(rt; matches!(looked.second, Seen::Holds(0x42)));
+    Ok(())
+}
