@@ -11,7 +11,7 @@ use Rattle.hm_history.specs.Places.{Places, is_page, one_writer, stands_for, is_
 use Rattle.hm_history.proofs.Tests.{true_false}
 use Rattle.hm_history.proofs.Frames.{frame_same, frame_itself}
 use Rattle.hm_tables.specs.Shown.{is_once}
-use Rattle.hm_folds.specs.Shares.{is_alone}
+use Rattle.hm_folds.specs.Shares.{has_one_writer}
 use Rattle.hm_folds.specs.Standing.{pages_where, shares_where, is_backed}
 use Rattle.hm_folds.proofs.Counts.{one_if}
 use Rattle.hm_folds.proofs.PlacedCounts.{count_cons}
@@ -142,22 +142,22 @@ backed_stands s f x h = by (stands_for s x) refl h
 stands_backed : (s : Places) (f : Frame) (x : Place) → stands_for s x ≡ Some (Some f) → is_backed s f x ≡ true
 stands_backed s f x e = ap (λ o. is_frame (unwrap_or o None) f) e ∙ frame_itself f
 
-abbrev pub alone_at : Places → Frame → Bool
-alone_at s f = is_alone (shares_where s (is_backed s f))
+abbrev pub one_writer_at : Places → Frame → Bool
+one_writer_at s f = has_one_writer (shares_where s (is_backed s f))
 
-alone_from : (pages writers : ℕ) → (writers ≡ 0) ⊎ (pages ≤ 1) → (nat_le pages 1 || (writers == 0)) ≡ true
-alone_from pages writers (inl e) = grind (arith, nat_tests)
-alone_from pages writers (inr l) = grind (arith, nat_tests)
+one_writer_from : (pages writers : ℕ) → (writers ≡ 0) ⊎ (pages ≤ 1) → (nat_le pages 1 || (writers == 0)) ≡ true
+one_writer_from pages writers (inl e) = grind (arith, nat_tests)
+one_writer_from pages writers (inr l) = grind (arith, nat_tests)
 
-alone_to : (pages writers : ℕ) → (nat_le pages 1 || (writers == 0)) ≡ true → 1 ≤ writers → pages ≤ 1
-alone_to pages writers h l = grind (arith, nat_tests)
+one_writer_to : (pages writers : ℕ) → (nat_le pages 1 || (writers == 0)) ≡ true → 1 ≤ writers → pages ≤ 1
+one_writer_to pages writers h l = grind (arith, nat_tests)
 
 -- the test of one page against the others
 abbrev others : Places → ℕ × ℕ → ℕ × ℕ → Bool
 others s x y = is_page x.0 x.1 y || not (is_frame_target (stands_for s (s.place x.0 x.1)) (stands_for s (s.place y.0 y.1)))
 
-pub alone_all : (s : Places) → is_once s.placed ≡ true → one_writer s ≡ true → (f : Frame) → alone_at s f ≡ true
-alone_all s once h f = alone_from (pages_where s (is_backed s f)) (pages_where s (λ x. is_backed s f x && writable x)) (by (some_counted (λ y. is_backed s f (s.place y.0 y.1) && writable (s.place y.0 y.1)) s.placed))
+pub one_writer_all : (s : Places) → is_once s.placed ≡ true → one_writer s ≡ true → (f : Frame) → one_writer_at s f ≡ true
+one_writer_all s once h f = one_writer_from (pages_where s (is_backed s f)) (pages_where s (λ x. is_backed s f x && writable x)) (by (some_counted (λ y. is_backed s f (s.place y.0 y.1) && writable (s.place y.0 y.1)) s.placed))
   where
     by : (count_by (λ y. is_backed s f (s.place y.0 y.1) && writable (s.place y.0 y.1)) s.placed ≡ 0) ⊎ ((x : ℕ × ℕ) × (is_in x s.placed ≡ true) × ((is_backed s f (s.place x.0 x.1) && writable (s.place x.0 x.1)) ≡ true)) →
         (pages_where s (λ x. is_backed s f x && writable x) ≡ 0) ⊎ (pages_where s (is_backed s f) ≤ 1)
@@ -188,7 +188,7 @@ alone_all s once h f = alone_from (pages_where s (is_backed s f)) (pages_where s
             same : is_frame_target (stands_for s (s.place z.0.0 z.0.1)) (stands_for s (s.place y.0 y.1)) ≡ true
             same = ap (λ o. is_frame_target o (stands_for s (s.place y.0 y.1))) (backed_stands s f (s.place z.0.0 z.0.1) parts.0) ∙ ap (is_frame_target (Some (Some f))) (backed_stands s f (s.place y.0 y.1) e) ∙ frame_itself f
 
-pub writer_of : (s : Places) → ((f : Frame) → alone_at s f ≡ true) → one_writer s ≡ true
+pub writer_of : (s : Places) → ((f : Frame) → one_writer_at s f ≡ true) → one_writer s ≡ true
 writer_of s h = all_from (λ w. not (writable (s.place w.0 w.1)) || list_all (others s w) s.placed) s.placed (λ x i. at x i (writable (s.place x.0 x.1)) refl)
   where
     apart : (x y : ℕ × ℕ) → is_in x s.placed ≡ true → is_in y s.placed ≡ true → writable (s.place x.0 x.1) ≡ true → is_page x.0 x.1 y ≡ false → (o p : Option (Option Frame)) → stands_for s (s.place x.0 x.1) ≡ o → stands_for s (s.place y.0 y.1) ≡ p → is_frame_target o p ≡ true → ⊥
@@ -208,7 +208,7 @@ writer_of s h = all_from (λ w. not (writable (s.place w.0 w.1)) || list_all (ot
         two = counted_two (λ z. is_backed s f (s.place z.0 z.1)) x y s.placed i j ne first second
 
         few : pages_where s (is_backed s f) ≤ 1
-        few = alone_to (pages_where s (is_backed s f)) (pages_where s (λ z. is_backed s f z && writable z)) (h f) (counted (λ z. is_backed s f (s.place z.0 z.1) && writable (s.place z.0 z.1)) x s.placed i (and_from (is_backed s f (s.place x.0 x.1)) (writable (s.place x.0 x.1)) first w))
+        few = one_writer_to (pages_where s (is_backed s f)) (pages_where s (λ z. is_backed s f z && writable z)) (h f) (counted (λ z. is_backed s f (s.place z.0 z.1) && writable (s.place z.0 z.1)) x s.placed i (and_from (is_backed s f (s.place x.0 x.1)) (writable (s.place x.0 x.1)) first w))
 
     pass : (x y : ℕ × ℕ) → is_in x s.placed ≡ true → is_in y s.placed ≡ true → writable (s.place x.0 x.1) ≡ true → (b d : Bool) → is_page x.0 x.1 y ≡ b → is_frame_target (stands_for s (s.place x.0 x.1)) (stands_for s (s.place y.0 y.1)) ≡ d → (b || not d) ≡ true
     pass x y i j w true d e k = refl
@@ -219,11 +219,11 @@ writer_of s h = all_from (λ w. not (writable (s.place w.0 w.1)) || list_all (ot
     at x i false e = refl
     at x i true e = all_from (others s x) s.placed (λ y j. pass x y i j e (is_page x.0 x.1 y) (is_frame_target (stands_for s (s.place x.0 x.1)) (stands_for s (s.place y.0 y.1))) refl refl)
 
--- where all frames but one are alone, that one decides
-pub one_decides : (s : Places) → is_once s.placed ≡ true → (o : Option Frame) (b : Bool) → ((f : Frame) → is_frame o f ≡ false → alone_at s f ≡ true) → ((f : Frame) → is_frame o f ≡ true → alone_at s f ≡ b) → (o ≡ None → b ≡ true) → b ≡ one_writer s
+-- where all frames but one have one writer, that one decides
+pub one_decides : (s : Places) → is_once s.placed ≡ true → (o : Option Frame) (b : Bool) → ((f : Frame) → is_frame o f ≡ false → one_writer_at s f ≡ true) → ((f : Frame) → is_frame o f ≡ true → one_writer_at s f ≡ b) → (o ≡ None → b ≡ true) → b ≡ one_writer s
 one_decides s once o true h k n = sym (writer_of s (λ f. at f (is_frame o f) refl))
   where
-    at : (f : Frame) (b : Bool) → is_frame o f ≡ b → alone_at s f ≡ true
+    at : (f : Frame) (b : Bool) → is_frame o f ≡ b → one_writer_at s f ≡ true
     at f true e = k f e
     at f false e = h f e
 one_decides s once o false h k n = by o refl (one_writer s) refl
@@ -231,4 +231,4 @@ one_decides s once o false h k n = by o refl (one_writer s) refl
     by : (p : Option Frame) → o ≡ p → (b : Bool) → one_writer s ≡ b → false ≡ b
     by None e b d = absurd (true_false false (n e) refl)
     by (Some f) e false d = refl
-    by (Some f) e true d = absurd (true_false (alone_at s f) (alone_all s once d f) (k f (ap (λ q. is_frame q f) e ∙ frame_itself f)))
+    by (Some f) e true d = absurd (true_false (one_writer_at s f) (one_writer_all s once d f) (k f (ap (λ q. is_frame q f) e ∙ frame_itself f)))

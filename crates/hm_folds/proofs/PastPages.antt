@@ -90,8 +90,8 @@ past_entry s o w x e = subst (λ y. false ≡ by_entry s o y w) e (by o w)
 pub past_table : (c : Program) (s : Places) (x : Tables) (m p v : ℕ) (w : Bool) → TablesShown c s.place s.placed x → 2 ^ 36 ≤ v → false ≡ (if w then table_writes s m p v else table_reads s m p v)
 past_table c s x m p v w h l = past_entry s (s.table m v) w (s.place p v) (past_place c s x p v h l)
 
-past_alone : (a : ℕ) (o : Option TableEntry) (x : Place) → Place.Empty ≡ x → false ≡ entry_passes (λ y. is_sole y.right && is_exclusive_of x a y.target) o
-past_alone a o x e = subst (λ z. false ≡ entry_passes (λ y. is_sole y.right && is_exclusive_of z a y.target) o) e (by o)
+past_sole_entry : (a : ℕ) (o : Option TableEntry) (x : Place) → Place.Empty ≡ x → false ≡ entry_passes (λ y. is_sole y.right && is_exclusive_of x a y.target) o
+past_sole_entry a o x e = subst (λ z. false ≡ entry_passes (λ y. is_sole y.right && is_exclusive_of z a y.target) o) e (by o)
   where
     and_false : (b : Bool) → false ≡ (b && false)
     and_false true = refl
@@ -102,4 +102,4 @@ past_alone a o x e = subst (λ z. false ≡ entry_passes (λ y. is_sole y.right 
     by (Some y) = and_false (is_sole y.right)
 
 pub past_sole : (c : Program) (s : Places) (x : Tables) (a m p v : ℕ) → TablesShown c s.place s.placed x → 2 ^ 36 ≤ v → false ≡ table_sole s a m p v
-past_sole c s x a m p v h l = past_alone a (s.table m v) (s.place p v) (past_place c s x p v h l)
+past_sole c s x a m p v h l = past_sole_entry a (s.table m v) (s.place p v) (past_place c s x p v h l)

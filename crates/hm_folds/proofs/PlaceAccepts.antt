@@ -18,7 +18,7 @@ use Rattle.hm_history.proofs.Frames.{pool_itself}
 use Rattle.hm_folds.specs.HeldFrames.{held_at, frames_in}
 use Rattle.hm_folds.specs.Commits.{committed_at}
 use Rattle.hm_folds.specs.Shares.{shares_at}
-use Rattle.hm_folds.specs.Standing.{share_of, backing_by, alone_after, entry_allows, may_access, accepts_frames, with_mirrors}
+use Rattle.hm_folds.specs.Standing.{share_of, backing_by, one_writer_after, entry_allows, may_access, accepts_frames, with_mirrors}
 use Rattle.hm_folds.specs.Places.{PlacesShown}
 use Rattle.hm_folds.specs.declared.shares.Shares.{Shares}
 use Rattle.hm_folds.specs.declared.places.PlaceState.{PlaceState}
@@ -53,18 +53,18 @@ pub next_is : (f : Frame) (o : Option ℕ) (n : ℕ) → o ≡ Some n → (n == 
 next_is f o n e = ap (λ b. b && (n == f.number)) (sym (pool_itself f.pool)) ∙ ap (λ p. is_frame (lowest_by f.pool false p) f) (sym e)
 
 -- places
-pub same_alone : (F : Frame → Shares) (o p : Option Frame) (m n : Shares) (from to : Option Frame) (k l : Shares) → o ≡ p → m ≡ n → from ≡ to → k ≡ l → alone_after F o m from k ≡ alone_after F p n to l
-same_alone F o p m n from to k l a b d e =
-    ap (λ z. alone_after F z m from k) a ∙ ap (λ z. alone_after F p z from k) b ∙ ap (λ z. alone_after F p n z k) d ∙ ap (alone_after F p n to) e
+pub same_after : (F : Frame → Shares) (o p : Option Frame) (m n : Shares) (from to : Option Frame) (k l : Shares) → o ≡ p → m ≡ n → from ≡ to → k ≡ l → one_writer_after F o m from k ≡ one_writer_after F p n to l
+same_after F o p m n from to k l a b d e =
+    ap (λ z. one_writer_after F z m from k) a ∙ ap (λ z. one_writer_after F p z from k) b ∙ ap (λ z. one_writer_after F p n z k) d ∙ ap (one_writer_after F p n to) e
 
 pub accepts_place : (c : Program) (s : Places) (x : PlaceState) → PlacesShown c s x → (p v : ℕ) (y : Place) → let to = committed_at x.commits.pools in
-    alone_after (shares_at x.standing.pools) (backing_by to y) (share_of y) (backing_by to (s.place p v)) (share_of (s.place p v)) ≡ one_writer (places_next s (Kind.Place p v y))
+    one_writer_after (shares_at x.standing.pools) (backing_by to y) (share_of y) (backing_by to (s.place p v)) (share_of (s.place p v)) ≡ one_writer (places_next s (Kind.Place p v y))
 accepts_place c s x h p v y = place_decided s h.tables.once h.tables.listed h.one (shares_at x.standing.pools) h.standing (committed_at x.commits.pools) h.committed p v y
 
 pub accepts_commit : (c : Program) (s : Places) (x : PlaceState) → PlacesShown c s x → (f g : Frame) (m : Shares) (t : Frame) → m ≡ shares_at x.moving.pools f → t ≡ unwrap_or (committed_at x.commits.pools f) f →
-    alone_after (shares_at x.standing.pools) (Some g) m (Some t) m ≡ one_writer (places_next s (Kind.Committed f g))
+    one_writer_after (shares_at x.standing.pools) (Some g) m (Some t) m ≡ one_writer (places_next s (Kind.Committed f g))
 accepts_commit c s x h f g m t e d =
-    ap (λ z. alone_after (shares_at x.standing.pools) (Some g) m (Some z) m) d
+    ap (λ z. one_writer_after (shares_at x.standing.pools) (Some g) m (Some z) m) d
     ∙ commit_decided s h.tables.once h.one (shares_at x.standing.pools) h.standing (committed_at x.commits.pools f) f g m (h.committed f) (e ∙ h.moving f)
 
 -- the second test decides where the first passes, and the first where it fails

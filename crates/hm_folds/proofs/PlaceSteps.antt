@@ -14,12 +14,12 @@ use Rattle.hm_history.proofs.Tests.{true_false}
 use Rattle.hm_history.proofs.Frames.{frame_same, is_frame_from}
 use Rattle.hm_tables.proofs.Lowest.{IsLowest, lowest_is}
 use Rattle.hm_tables.specs.Shown.{is_once}
-use Rattle.hm_folds.specs.Shares.{plus, less, is_alone}
-use Rattle.hm_folds.specs.Standing.{pages_where, shares_where, is_backed, is_moving_of, backing_by, share_of, alone_after}
+use Rattle.hm_folds.specs.Shares.{plus, less, has_one_writer}
+use Rattle.hm_folds.specs.Standing.{pages_where, shares_where, is_backed, is_moving_of, backing_by, share_of, one_writer_after}
 use Rattle.hm_folds.specs.declared.shares.Shares.{Shares}
 use Rattle.hm_folds.proofs.Counts.{one_if}
 use Rattle.hm_folds.proofs.PlacedCounts.{count_alike, count_placed, count_two, count_and, once_more, count_cons}
-use Rattle.hm_folds.proofs.OneWriter.{alone_at, alone_all, writer_of, one_decides}
+use Rattle.hm_folds.proofs.OneWriter.{one_writer_at, one_writer_all, writer_of, one_decides}
 
 -- only where frames were committed to counts
 pub backed_by : (to : Frame → Option Frame) (s : Places) → ((f : Frame) → to f ≡ s.committed_to f) → (x : Place) → backing_by to x ≡ backing s x
@@ -216,52 +216,52 @@ pub commit_stepped : (s : Places) (f g t : Frame) → let m = shares_where s (is
     after_less (same_frame (target_of s f) t) (after_more (same_frame g t) (shares_where s (is_backed s t)) m) m ≡ shares_where (committed s f g) (is_backed (committed s f g) t)
 commit_stepped s f g t = more_then_less _ _ _ _ _ _ (commit_settled s f g t)
 
--- the frame whose shares rise decides whether each frame's one writer is alone
-alone_less : (a fewer : Shares) (o : Bool) → is_alone a ≡ true → is_alone (after_less o a fewer) ≡ true
-alone_less a fewer false h = h
-alone_less a fewer true h = lower a.pages a.writers fewer.pages fewer.writers h
+-- the frame whose shares rise decides
+one_writer_less : (a fewer : Shares) (o : Bool) → has_one_writer a ≡ true → has_one_writer (after_less o a fewer) ≡ true
+one_writer_less a fewer false h = h
+one_writer_less a fewer true h = lower a.pages a.writers fewer.pages fewer.writers h
   where
     lower : (p w x y : ℕ) → (nat_le p 1 || (w == 0)) ≡ true → (nat_le (p - x) 1 || (w - y == 0)) ≡ true
     lower p w x y h = grind (arith, nat_tests)
 
-alone_here : (F : Frame → Shares) (o : Option Frame) (more : Shares) (from : Option Frame) (fewer : Shares) (f : Frame) → is_frame o f ≡ true →
-    alone_after F o more from fewer ≡ is_alone (plus (after_less (is_frame from f) (F f) fewer) more)
-alone_here F None more from fewer f e = cc
-alone_here F (Some t) more from fewer f e = ap (λ k. is_alone (plus (after_less (is_frame from k) (F k) fewer) more)) (frame_same t f e)
+one_writer_here : (F : Frame → Shares) (o : Option Frame) (more : Shares) (from : Option Frame) (fewer : Shares) (f : Frame) → is_frame o f ≡ true →
+    one_writer_after F o more from fewer ≡ has_one_writer (plus (after_less (is_frame from f) (F f) fewer) more)
+one_writer_here F None more from fewer f e = cc
+one_writer_here F (Some t) more from fewer f e = ap (λ k. has_one_writer (plus (after_less (is_frame from k) (F k) fewer) more)) (frame_same t f e)
 
-decided : (s : Places) → is_once s.placed ≡ true → (F : Frame → Shares) → ((f : Frame) → is_alone (F f) ≡ true) → (o : Option Frame) (more : Shares) (from : Option Frame) (fewer : Shares) →
-    ((f : Frame) → after_more (is_frame o f) (after_less (is_frame from f) (F f) fewer) more ≡ shares_where s (is_backed s f)) → alone_after F o more from fewer ≡ one_writer s
-decided s once F alone o more from fewer h = one_decides s once o (alone_after F o more from fewer) others here none
+decided : (s : Places) → is_once s.placed ≡ true → (F : Frame → Shares) → ((f : Frame) → has_one_writer (F f) ≡ true) → (o : Option Frame) (more : Shares) (from : Option Frame) (fewer : Shares) →
+    ((f : Frame) → after_more (is_frame o f) (after_less (is_frame from f) (F f) fewer) more ≡ shares_where s (is_backed s f)) → one_writer_after F o more from fewer ≡ one_writer s
+decided s once F alone o more from fewer h = one_decides s once o (one_writer_after F o more from fewer) others here none
   where
-    others : (f : Frame) → is_frame o f ≡ false → alone_at s f ≡ true
-    others f e = sym (ap is_alone (h f)) ∙ ap (λ b. is_alone (after_more b (after_less (is_frame from f) (F f) fewer) more)) e ∙ alone_less (F f) fewer (is_frame from f) (alone f)
+    others : (f : Frame) → is_frame o f ≡ false → one_writer_at s f ≡ true
+    others f e = sym (ap has_one_writer (h f)) ∙ ap (λ b. has_one_writer (after_more b (after_less (is_frame from f) (F f) fewer) more)) e ∙ one_writer_less (F f) fewer (is_frame from f) (alone f)
 
-    here : (f : Frame) → is_frame o f ≡ true → alone_at s f ≡ alone_after F o more from fewer
-    here f e = sym (ap is_alone (h f)) ∙ ap (λ b. is_alone (after_more b (after_less (is_frame from f) (F f) fewer) more)) e ∙ sym (alone_here F o more from fewer f e)
+    here : (f : Frame) → is_frame o f ≡ true → one_writer_at s f ≡ one_writer_after F o more from fewer
+    here f e = sym (ap has_one_writer (h f)) ∙ ap (λ b. has_one_writer (after_more b (after_less (is_frame from f) (F f) fewer) more)) e ∙ sym (one_writer_here F o more from fewer f e)
 
-    none : o ≡ None → alone_after F o more from fewer ≡ true
-    none e = ap (λ p. alone_after F p more from fewer) e
+    none : o ≡ None → one_writer_after F o more from fewer ≡ true
+    none e = ap (λ p. one_writer_after F p more from fewer) e
 
 abbrev Kept : Places → (Frame → Shares) → Type 0
 Kept s F = (f : Frame) → F f ≡ shares_where s (is_backed s f)
 
-all_alone : (s : Places) → is_once s.placed ≡ true → one_writer s ≡ true → (F : Frame → Shares) → Kept s F → (f : Frame) → is_alone (F f) ≡ true
-all_alone s once one F k f = ap is_alone (k f) ∙ alone_all s once one f
+all_one_writer : (s : Places) → is_once s.placed ≡ true → one_writer s ≡ true → (F : Frame → Shares) → Kept s F → (f : Frame) → has_one_writer (F f) ≡ true
+all_one_writer s once one F k f = ap has_one_writer (k f) ∙ one_writer_all s once one f
 
 pub place_decided : (s : Places) → is_once s.placed ≡ true → Listed s → one_writer s ≡ true → (F : Frame → Shares) → Kept s F → (to : Frame → Option Frame) → ((f : Frame) → to f ≡ s.committed_to f) → (p v : ℕ) (x : Place) →
-    alone_after F (backing_by to x) (share_of x) (backing_by to (s.place p v)) (share_of (s.place p v)) ≡ one_writer (places_next s (Kind.Place p v x))
+    one_writer_after F (backing_by to x) (share_of x) (backing_by to (s.place p v)) (share_of (s.place p v)) ≡ one_writer (places_next s (Kind.Place p v x))
 place_decided s once listed one F kept to same p v x =
-    ap (λ o. alone_after F o (share_of x) (backing_by to (s.place p v)) (share_of (s.place p v))) (backed_by to s same x)
-    ∙ ap (λ o. alone_after F (backing s x) (share_of x) o (share_of (s.place p v))) (backed_by to s same (s.place p v))
-    ∙ decided (places_next s (Kind.Place p v x)) (once_more p v s.placed once) F (all_alone s once one F kept) (backing s x) (share_of x) (backing s (s.place p v)) (share_of (s.place p v))
+    ap (λ o. one_writer_after F o (share_of x) (backing_by to (s.place p v)) (share_of (s.place p v))) (backed_by to s same x)
+    ∙ ap (λ o. one_writer_after F (backing s x) (share_of x) o (share_of (s.place p v))) (backed_by to s same (s.place p v))
+    ∙ decided (places_next s (Kind.Place p v x)) (once_more p v s.placed once) F (all_one_writer s once one F kept) (backing s x) (share_of x) (backing s (s.place p v)) (share_of (s.place p v))
     (λ f. ap (λ a. after_more (is_backed s f x) (after_less (is_backed s f (s.place p v)) a (share_of (s.place p v))) (share_of x)) (kept f) ∙ less_then_more _ _ _ _ _ _ (place_settled s once listed (is_backed s f) refl p v x))
 
 pub commit_decided : (s : Places) → is_once s.placed ≡ true → one_writer s ≡ true → (F : Frame → Shares) → Kept s F → (to : Option Frame) (f g : Frame) (m : Shares) → to ≡ s.committed_to f → m ≡ shares_where s (is_moving_of f) →
-    alone_after F (Some g) m (Some (unwrap_or to f)) m ≡ one_writer (committed s f g)
+    one_writer_after F (Some g) m (Some (unwrap_or to f)) m ≡ one_writer (committed s f g)
 commit_decided s once one F kept to f g m e same =
-    ap (λ o. alone_after F (Some g) m (Some (unwrap_or o f)) m) e
-    ∙ ap (λ n. alone_after F (Some g) n (Some (target_of s f)) n) same
-    ∙ decided (committed s f g) once F (all_alone s once one F kept) (Some g) (shares_where s (is_moving_of f)) (Some (target_of s f)) (shares_where s (is_moving_of f))
+    ap (λ o. one_writer_after F (Some g) m (Some (unwrap_or o f)) m) e
+    ∙ ap (λ n. one_writer_after F (Some g) n (Some (target_of s f)) n) same
+    ∙ decided (committed s f g) once F (all_one_writer s once one F kept) (Some g) (shares_where s (is_moving_of f)) (Some (target_of s f)) (shares_where s (is_moving_of f))
     (λ t. ap (λ a. after_more (same_frame g t) (after_less (same_frame (target_of s f) t) a (shares_where s (is_moving_of f))) (shares_where s (is_moving_of f))) (kept t) ∙ less_then_more _ _ _ _ _ _ (commit_settled s f g t))
 
 -- a free frame is taken, that no place names
@@ -294,8 +294,8 @@ take_stepped s named f free t = same_shares _ _
     same : (y : ℕ × ℕ) → is_backed (taken s f) t (s.place y.0 y.1) ≡ is_backed s t (s.place y.0 y.1)
     same y = still_backed s f t (s.place y.0 y.1) (not_named s named f free y.0 y.1)
 
-pub take_alone : (s : Places) → Named s → is_once s.placed ≡ true → one_writer s ≡ true → (f : Frame) → s.held f ≡ false → one_writer (taken s f) ≡ true
-take_alone s named once one f free = writer_of (taken s f) (λ t. sym (ap is_alone (take_stepped s named f free t)) ∙ alone_all s once one t)
+pub take_one_writer : (s : Places) → Named s → is_once s.placed ≡ true → one_writer s ≡ true → (f : Frame) → s.held f ≡ false → one_writer (taken s f) ≡ true
+take_one_writer s named once one f free = writer_of (taken s f) (λ t. sym (ap has_one_writer (take_stepped s named f free t)) ∙ one_writer_all s once one t)
 
 -- what is kept of the pages that pass a test, once a page has another place
 pub kept_place : (s : Places) → is_once s.placed ≡ true → Listed s → (test : Place → Bool) → test Empty ≡ false → (p v : ℕ) (x old : Place) (a b d : Shares) (n o : Bool) → old ≡ s.place p v → n ≡ test x → o ≡ test old →

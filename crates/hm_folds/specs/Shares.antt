@@ -17,8 +17,8 @@ abbrev pub less : Shares → Shares → Shares
 less x y = record { pages = x.pages - y.pages; writers = x.writers - y.writers }
 
 -- none is writable, or there is one page at the most
-abbrev pub is_alone : Shares → Bool
-is_alone x = nat_le x.pages 1 || (x.writers == 0)
+abbrev pub has_one_writer : Shares → Bool
+has_one_writer x = nat_le x.pages 1 || (x.writers == 0)
 
 -- the shares of a frame in its pool
 abbrev pub shares_in : PoolShares → ℕ → Shares

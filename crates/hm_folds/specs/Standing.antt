@@ -12,7 +12,7 @@ use Rattle.hm_history.specs.declared.Kind.{Kind}
 use Rattle.hm_history.specs.declared.TableRight.{TableRight}
 use Rattle.hm_history.specs.declared.Who.{Who}
 use Rattle.hm_history.specs.declared.Who.TheVariants.{Cpu, Mirror}
-use Rattle.hm_folds.specs.Shares.{plus, less, is_alone}
+use Rattle.hm_folds.specs.Shares.{plus, less, has_one_writer}
 use Rattle.hm_folds.specs.MirrorTables.{table_next, device_next}
 use Rattle.hm_folds.specs.declared.shares.Shares.{Shares}
 
@@ -40,10 +40,10 @@ backing_by to x = backing (record places_start { committed_to = to }) x
 abbrev pub share_of : Place → Shares
 share_of x = record { pages = 1; writers = if writable x then 1 else 0 }
 
--- with so many pages more of one frame and so many fewer of another, the one is alone
-abbrev pub alone_after : (Frame → Shares) → Option Frame → Shares → Option Frame → Shares → Bool
-alone_after f None more from fewer = true
-alone_after f (Some t) more from fewer = is_alone (plus (if is_frame from t then less (f t) fewer else f t) more)
+-- with so many pages more of the one frame and so many fewer of the other, none shares the one with a writable page
+abbrev pub one_writer_after : (Frame → Shares) → Option Frame → Shares → Option Frame → Shares → Bool
+one_writer_after f None more from fewer = true
+one_writer_after f (Some t) more from fewer = has_one_writer (plus (if is_frame from t then less (f t) fewer else f t) more)
 
 -- the access goes through the place of its page, or through its mirror's table
 abbrev pub may_access : (ℕ → Option ℕ) → Places → Who → ℕ → Bool → Bool

@@ -3,7 +3,7 @@ ghost use Rattle.std.specs.Prelude.{◌≡◌, ◌==◌, ℕ, if◌then◌else�
 ghost use Rattle.hm_base.specs.declared.Frame.{Frame as AnyFrame};
 ghost use Rattle.hm_base.specs.PlaceWords.{is_frame, moving_frame, with_frame};
 ghost use Rattle.hm_folds.specs.Standing.{share_of};
-ghost use Rattle.hm_folds.specs.Shares.{no_shares, plus, less, is_alone, shares_in, has_shares, shares_at};
+ghost use Rattle.hm_folds.specs.Shares.{no_shares, plus, less, has_one_writer, shares_in, has_shares, shares_at};
 
 use hm_base::frames::pool_index;
 use hm_base::{Frame, NoMemory, Place};
@@ -51,8 +51,8 @@ impl Shares {
     }
 
     /// Whether, with so many more, none is writable or there is one page at the most.
-    pub fn is_alone_with(self, more: Shares) -> bool
-        ensures { result ≡ is_alone (plus self more) }
+    pub fn has_one_writer_with(self, more: Shares) -> bool
+        ensures { result ≡ has_one_writer (plus self more) }
     {
         let one = match self.pages {
             0 => more.pages <= 1,

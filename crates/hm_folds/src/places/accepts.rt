@@ -8,7 +8,7 @@ ghost use Rattle.hm_history.specs.declared.Kind.{Kind as AnyKind};
 ghost use Rattle.hm_folds.specs.TableMap.{entry_of};
 ghost use Rattle.hm_folds.specs.HeldFrames.{held_at};
 ghost use Rattle.hm_folds.specs.Shares.{shares_at};
-ghost use Rattle.hm_folds.specs.Standing.{alone_after, may_access, entry_allows, accepts_frames};
+ghost use Rattle.hm_folds.specs.Standing.{one_writer_after, may_access, entry_allows, accepts_frames};
 
 use crate::place_tests::{
     cpu_may, is_exclusive_of, is_for_device, is_sole, place_allows, right_allows,
@@ -173,15 +173,16 @@ impl PlaceState {
         }
     }
 
-    // With so many pages more of one frame and so many fewer of another, the one is alone.
-    fn is_alone_after(
+    // Whether no page of a frame would share with a writable one, with so many pages more of it and so many fewer of
+    // another.
+    fn has_one_writer_after(
         &self,
         to: &Option<Frame>,
         more: Shares,
         from: &Option<Frame>,
         fewer: Shares,
     ) -> bool
-        ensures { result ≡ alone_after (shares_at self.now.standing.pools) to.now more from.now fewer }
+        ensures { result ≡ one_writer_after (shares_at self.now.standing.pools) to.now more from.now fewer }
     {
         match to {
             None => true,
@@ -192,7 +193,7 @@ impl PlaceState {
                 } else {
                     all
                 };
-                rest.is_alone_with(more)
+                rest.has_one_writer_with(more)
             }
         }
     }
@@ -204,7 +205,7 @@ impl PlaceState {
     {
         let old = self.place(proc, page);
         self.holds(&names(place))
-            && self.is_alone_after(
+            && self.has_one_writer_after(
                 &self.backing(place),
                 Shares::of_page(place),
                 &self.backing(&old),
@@ -216,7 +217,7 @@ impl PlaceState {
         ensures { ForShown self.now (λ c s. result ≡ accepts_frames c s (AnyKind.Committed from.now to.now)) }
     {
         let shares = self.moving.get(from);
-        self.is_alone_after(&Some(*to), shares, &Some(self.destination(from)), shares)
+        self.has_one_writer_after(&Some(*to), shares, &Some(self.destination(from)), shares)
     }
 
     fn may_take(&self, frame: &Frame) -> bool

@@ -5,7 +5,7 @@ use Rattle.hm_history.specs.declared.Kind.{Kind}
 use Rattle.hm_folds.specs.Commits.{committed_at}
 use Rattle.hm_folds.specs.Shares.{shares_at}
 use Rattle.hm_folds.specs.Standing.{share_of, backing_by}
-use Rattle.hm_folds.proofs.PlaceAccepts.{same_alone, accepts_place, and_then, and_else}
+use Rattle.hm_folds.proofs.PlaceAccepts.{same_after, accepts_place, and_then, and_else}
 use Rattle.hm_folds.proofs.places.PlaceState.may_place.Goals as goal
 
 pub returns-then-holds-clause-same : goal.returns-then-holds-clause-same
@@ -14,8 +14,8 @@ returns-then-holds-clause-same c = λ p s h.
     let y = c.args.place.now in
     let to = committed_at x.commits.pools in
     let old = c.place-old.ensures p s h in
-    c.is_alone_after.ensures
-    ∙ same_alone (shares_at x.standing.pools) _ _ _ _ _ _ _ _ c.backing.ensures c.of_page.ensures (c.backing-then-holds.ensures ∙ ap (backing_by to) old) (c.of_page-then-holds.ensures ∙ ap share_of old)
+    c.has_one_writer_after.ensures
+    ∙ same_after (shares_at x.standing.pools) _ _ _ _ _ _ _ _ c.backing.ensures c.of_page.ensures (c.backing-then-holds.ensures ∙ ap (backing_by to) old) (c.of_page-then-holds.ensures ∙ ap share_of old)
     ∙ accepts_place p s x h c.args.proc c.args.page y
     ∙ and_then (holds_target s (names y)) (one_writer (places_next s (Kind.Place c.args.proc c.args.page y))) (sym (ap (holds_target s) c.names.ensures) ∙ sym (c.holds.ensures.same p s h) ∙ c.if-holds.true)
 

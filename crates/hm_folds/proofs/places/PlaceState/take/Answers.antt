@@ -3,7 +3,7 @@ use Rattle.std.specs.Prelude.{Option, Bool, if◌then◌else◌}
 use Rattle.hm_base.specs.declared.Frame.{Frame}
 use Rattle.hm_base.specs.PlaceWords.{same_frame}
 use Rattle.hm_folds.proofs.PlaceAccepts.{free_of}
-use Rattle.hm_folds.proofs.PlaceSteps.{take_stepped, take_alone, named_taken}
+use Rattle.hm_folds.proofs.PlaceSteps.{take_stepped, take_one_writer, named_taken}
 use Rattle.hm_folds.proofs.places.PlaceState.take.Goals as goal
 
 pub returns-clause-ok : goal.returns-clause-ok
@@ -19,5 +19,5 @@ returns-clause-ok c = λ p s h e. let f = c.args.frame.now in let free = free_of
   table = h.table;
   device = h.device;
   named = named_taken s h.named f;
-  one = take_alone s h.named h.tables.once h.one f free;
+  one = take_one_writer s h.named h.tables.once h.one f free;
 }
