@@ -1,0 +1,328 @@
+// What actors have been answered since the set-up of a race.
+ghost use Rattle.std.specs.Prelude.{◌≡◌, [], ℕ, true, length, drop, IfOk, OnOk};
+ghost use Rattle.hm_races.specs.Outcomes.{answer_of, answers_next, answers_of};
+ghost use Rattle.hm_race_keys.specs.Trail.{answers_in};
+
+use hm_base::{Bytes, ListOf, NoMemory};
+use hm_history::{Entry, Kind};
+use std::alloc::Global;
+
+/// The answers of each actor, in order.
+#[derive(Drop)]
+pub struct AnswerLists {
+    pub lists: Vec<ListOf<Kind>>,
+    ghost sized: { length lists.items ≡ 16 },
+}
+
+// What an entry answers, if it answers anything; of an `attached` its sequence is left out.
+fn answer_of(alloc: Global, kind: &Kind) -> Result<Option<Kind>, NoMemory>
+    ensures { IfOk result (λ o. o ≡ answer_of kind.now) }
+{
+    let answer = match kind {
+        Kind::Loaded { who, addr, bytes } => Some(Kind::Loaded {
+            who: *who,
+            addr: *addr,
+            bytes: Bytes::from_slice(alloc, bytes.as_slice())?,
+        }),
+        Kind::Stored { who, addr, bytes } => Some(Kind::Stored {
+            who: *who,
+            addr: *addr,
+            bytes: Bytes::from_slice(alloc, bytes.as_slice())?,
+        }),
+        Kind::Failed {
+            who,
+            addr,
+            len,
+            cause,
+        } => Some(Kind::Failed {
+            who: *who,
+            addr: *addr,
+            len: *len,
+            cause: *cause,
+        }),
+        Kind::Mapped { proc, span, rights } => Some(Kind::Mapped {
+            proc: *proc,
+            span: *span,
+            rights: *rights,
+        }),
+        Kind::Unmapped { proc, span } => Some(Kind::Unmapped {
+            proc: *proc,
+            span: *span,
+        }),
+        Kind::Protected { proc, span, rights } => Some(Kind::Protected {
+            proc: *proc,
+            span: *span,
+            rights: *rights,
+        }),
+        Kind::Forked { parent, child } => Some(Kind::Forked {
+            parent: *parent,
+            child: *child,
+        }),
+        Kind::Exited(x) => Some(Kind::Exited(*x)),
+        Kind::Attached {
+            mirror,
+            dev,
+            proc,
+            span,
+            seq: _,
+        } => Some(Kind::Attached {
+            mirror: *mirror,
+            dev: *dev,
+            proc: *proc,
+            span: *span,
+            seq: 0,
+        }),
+        Kind::Detached(x) => Some(Kind::Detached(*x)),
+        Kind::Refused(x) => Some(Kind::Refused(*x)),
+        Kind::Migrated(x) => Some(Kind::Migrated(*x)),
+        Kind::Seen { mirror, page, code } => Some(Kind::Seen {
+            mirror: *mirror,
+            page: *page,
+            code: *code,
+        }),
+        Kind::Evicted(x) => Some(Kind::Evicted(*x)),
+        Kind::Removed(x) => Some(Kind::Removed(*x)),
+        Kind::Excluded { mirror, page } => Some(Kind::Excluded {
+            mirror: *mirror,
+            page: *page,
+        }),
+        Kind::Added {
+            mirror,
+            addr,
+            read,
+            written,
+        } => Some(Kind::Added {
+            mirror: *mirror,
+            addr: *addr,
+            read: *read,
+            written: *written,
+        }),
+        _ => None,
+    };
+    Ok(answer)
+}
+
+// Whether the two answers are the same.
+fn same_kind(one: &Kind, other: &Kind) -> bool
+    ensures { result ≡ true → one.now ≡ other.now }
+{
+    match (one, other) {
+        (
+            Kind::Loaded {
+                who: who1,
+                addr: addr1,
+                bytes: bytes1,
+            },
+            Kind::Loaded {
+                who: who2,
+                addr: addr2,
+                bytes: bytes2,
+            },
+        ) => who1 == who2 && addr1 == addr2 && bytes1.as_slice() == bytes2.as_slice(),
+        (
+            Kind::Stored {
+                who: who1,
+                addr: addr1,
+                bytes: bytes1,
+            },
+            Kind::Stored {
+                who: who2,
+                addr: addr2,
+                bytes: bytes2,
+            },
+        ) => who1 == who2 && addr1 == addr2 && bytes1.as_slice() == bytes2.as_slice(),
+        (
+            Kind::Failed {
+                who: who1,
+                addr: addr1,
+                len: len1,
+                cause: cause1,
+            },
+            Kind::Failed {
+                who: who2,
+                addr: addr2,
+                len: len2,
+                cause: cause2,
+            },
+        ) => who1 == who2 && addr1 == addr2 && len1 == len2 && cause1 == cause2,
+        (
+            Kind::Mapped {
+                proc: proc1,
+                span: span1,
+                rights: rights1,
+            },
+            Kind::Mapped {
+                proc: proc2,
+                span: span2,
+                rights: rights2,
+            },
+        ) => proc1 == proc2 && span1 == span2 && rights1 == rights2,
+        (
+            Kind::Unmapped {
+                proc: proc1,
+                span: span1,
+            },
+            Kind::Unmapped {
+                proc: proc2,
+                span: span2,
+            },
+        ) => proc1 == proc2 && span1 == span2,
+        (
+            Kind::Protected {
+                proc: proc1,
+                span: span1,
+                rights: rights1,
+            },
+            Kind::Protected {
+                proc: proc2,
+                span: span2,
+                rights: rights2,
+            },
+        ) => proc1 == proc2 && span1 == span2 && rights1 == rights2,
+        (
+            Kind::Forked {
+                parent: parent1,
+                child: child1,
+            },
+            Kind::Forked {
+                parent: parent2,
+                child: child2,
+            },
+        ) => parent1 == parent2 && child1 == child2,
+        (Kind::Exited(x), Kind::Exited(y)) => x == y,
+        (
+            Kind::Attached {
+                mirror: mirror1,
+                dev: dev1,
+                proc: proc1,
+                span: span1,
+                seq: seq1,
+            },
+            Kind::Attached {
+                mirror: mirror2,
+                dev: dev2,
+                proc: proc2,
+                span: span2,
+                seq: seq2,
+            },
+        ) => mirror1 == mirror2 && dev1 == dev2 && proc1 == proc2 && span1 == span2 && seq1 == seq2,
+        (Kind::Detached(x), Kind::Detached(y)) => x == y,
+        (Kind::Refused(x), Kind::Refused(y)) => x == y,
+        (Kind::Migrated(x), Kind::Migrated(y)) => x == y,
+        (
+            Kind::Seen {
+                mirror: mirror1,
+                page: page1,
+                code: code1,
+            },
+            Kind::Seen {
+                mirror: mirror2,
+                page: page2,
+                code: code2,
+            },
+        ) => mirror1 == mirror2 && page1 == page2 && code1 == code2,
+        (Kind::Evicted(x), Kind::Evicted(y)) => x == y,
+        (Kind::Removed(x), Kind::Removed(y)) => x == y,
+        (
+            Kind::Excluded {
+                mirror: mirror1,
+                page: page1,
+            },
+            Kind::Excluded {
+                mirror: mirror2,
+                page: page2,
+            },
+        ) => mirror1 == mirror2 && page1 == page2,
+        (
+            Kind::Added {
+                mirror: mirror1,
+                addr: addr1,
+                read: read1,
+                written: written1,
+            },
+            Kind::Added {
+                mirror: mirror2,
+                addr: addr2,
+                read: read2,
+                written: written2,
+            },
+        ) => mirror1 == mirror2 && addr1 == addr2 && read1 == read2 && written1 == written2,
+        _ => false,
+    }
+}
+
+fn same_list(one: &[Kind], other: &[Kind]) -> bool
+    ensures { result ≡ true → one.now ≡ other.now }
+{
+    if one.len() != other.len() {
+        return false;
+    }
+    for at in 0..one.len() {
+        let (x, y) = (&one[at], &other[at]);
+        if !same_kind(x, y) {
+            return false;
+        }
+    }
+    true
+}
+
+impl AnswerLists {
+    /// Nobody has been answered anything.
+    pub fn new(alloc: Global) -> Result<AnswerLists, NoMemory>
+        ensures { IfOk result (λ x. (a : ℕ) → answers_in x.lists.items a ≡ []) }
+    {
+        let mut lists = Vec::with_capacity(alloc, 16)?;
+        for _ in 0..16u32 {
+            lists.push(ListOf::new(alloc))?;
+        }
+        Ok(AnswerLists { lists })
+    }
+
+    /// The answers after an entry.
+    pub fn step(&mut self, alloc: Global, entry: &Entry) -> Result<(), NoMemory>
+        ensures { OnOk result
+            (answers_in self.new.lists.items ≡ answers_next (answers_in self.old.lists.items) entry.now) }
+    {
+        match answer_of(alloc, &entry.kind)? {
+            None => Ok(()),
+            Some(answer) => {
+                let list = &mut self.lists[entry.actor.number() as usize];
+                list.push(answer)
+            }
+        }
+    }
+
+    // The answers of these entries.
+    fn of(alloc: Global, entries: &[Entry]) -> Result<AnswerLists, NoMemory>
+        ensures { IfOk result (λ x. answers_in x.lists.items ≡ answers_of entries.now) }
+    {
+        let mut answers = AnswerLists::new(alloc)?;
+        for entry in entries {
+            answers.step(alloc, entry)?;
+        }
+        Ok(answers)
+    }
+
+    /// The answers since a position of a history.
+    pub fn since(alloc: Global, history: &[Entry], from: u64) -> Result<AnswerLists, NoMemory>
+        ensures { IfOk result (λ x. answers_in x.lists.items ≡ answers_of (drop from history.now)) }
+    {
+        if from >= history.len() as u64 {
+            return AnswerLists::of(alloc, &[]);
+        }
+        AnswerLists::of(alloc, &history[from as usize..])
+    }
+
+    /// Whether both have the same answers.
+    pub fn same(&self, other: &AnswerLists) -> bool
+        ensures { result ≡ true → (a : ℕ) → answers_in self.now.lists.items a ≡ answers_in other.now.lists.items a }
+    {
+        for actor in 0..16usize {
+            let (x, y) = (&self.lists[actor], &other.lists[actor]);
+            if !same_list(x.as_slice(), y.as_slice()) {
+                return false;
+            }
+        }
+        true
+    }
+}
