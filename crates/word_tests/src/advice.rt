@@ -9,7 +9,8 @@ const FIVE_LOADS: &str =
     load 0 0x11000 1\ndload 0 0x11000 1\nturns 0 99\n";
 
 /// Five loads by the CPU.
-const FIVE: &str = "load 0 0x11000 1\nload 0 0x11000 1\nload 0 0x11000 1\nload 0 0x11000 1\nload 0 0x11000 1\n";
+const FIVE: &str =
+    "load 0 0x11000 1\nload 0 0x11000 1\nload 0 0x11000 1\nload 0 0x11000 1\nload 0 0x11000 1\n";
 
 /// Four of them.
 const FOUR: &str = "load 0 0x11000 1\nload 0 0x11000 1\nload 0 0x11000 1\nload 0 0x11000 1\n";
@@ -29,5 +30,11 @@ fn a_page_on_the_edge(rt: HostRuntime) -> Result<(), Fail> {
 
 #[test]
 fn nothing_to_advise(rt: HostRuntime) -> Result<(), Fail> {
-    writes(&rt, rt.alloc(), "advise", "hmm 1\nframes 0\n", (0, "", "end 0 0\n"))
+    writes(
+        &rt,
+        rt.alloc(),
+        "advise",
+        "hmm 1\nframes 0\n",
+        (0, "", "end 0 0\n"),
+    )
 }

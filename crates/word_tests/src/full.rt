@@ -22,15 +22,18 @@ fn back_and_forth(alloc: Global) -> Result<String, AllocError> {
 fn a_full_history(rt: HostRuntime) -> Result<(), Fail> {
     let script = back_and_forth(rt.alloc())?;
     let mut sink = SureSink::new(rt.alloc());
-    let ended = called(rt.alloc(), "replay", script.as_bytes(), &mut sink)?;
+    let ended = called(&rt, rt.alloc(), "replay", script.as_bytes(), &mut sink)?;
     assert_eq!(rt; ended.status.code(), 7);
-    assert_eq!(rt; message(rt.alloc(), &ended.status)?.as_slice(), "history full".as_bytes());
+    assert_eq!(rt;
+        message(rt.alloc(), &ended.status)?.as_slice(),
+        "history full".as_bytes()
+    );
     let report = str::from_utf8(sink.held())?;
     let mut unfinished = 0u64;
     for line in report.lines() {
         if line.starts_with("unfinished ") {
             assert!(rt; line.starts_with("unfinished a0 "));
-            unfinished += 1;
+            unfinished = unfinished.saturating_add(1);
         }
     }
     assert_eq!(rt; unfinished, 1);

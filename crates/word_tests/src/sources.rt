@@ -47,6 +47,12 @@ fn sources_of_loads(rt: HostRuntime) -> Result<(), Fail> {
 #[test]
 fn no_sources_in_what_is_not_legal(rt: HostRuntime) -> Result<(), Fail> {
     let spoiled = ONE_PAGE.replace(rt.alloc(), "4100\n", "4101\n")?;
-    writes(&rt, rt.alloc(), "why", spoiled.as_str(), (1, "not legal", "bad 16\n"))?;
+    writes(
+        &rt,
+        rt.alloc(),
+        "why",
+        spoiled.as_str(),
+        (1, "not legal", "bad 16\n"),
+    )?;
     writes(&rt, rt.alloc(), "why", "", (1, "not legal", "bad 1\n"))
 }
