@@ -15,3 +15,4 @@ pub mod HeldPools
 pub mod PastPages
 pub mod TableSizes
 pub mod PlaceAccepts
+mod SameBytes

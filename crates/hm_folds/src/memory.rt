@@ -1,5 +1,5 @@
 // The bytes that each process has written.
-ghost use Rattle.std.specs.Prelude.{◌≡◌, ℕ, ◌<◌, ◌^◌, ◌+◌, ◌≤◌, length, IfOk, OnOk, OnErr};
+ghost use Rattle.std.specs.Prelude.{◌≡◌, ℕ, ◌<◌, ◌^◌, ◌+◌, ◌≤◌, true, length, IfOk, OnOk, OnErr};
 ghost use Rattle.hm_base.specs.Pages.{IsSpan};
 ghost use Rattle.hm_history.specs.Words.{with_at};
 ghost use Rattle.hm_history.specs.Plain.{with_bytes, with_zeros};
@@ -57,6 +57,19 @@ impl Memory {
         let from = span.first().number() * 4096;
         let of_process = &mut self.processes[proc.number() as usize];
         of_process.clear(from, from + span.count() * 4096);
+    }
+
+    /// Whether both have the same bytes. It may say no where they have.
+    pub fn same(&self, other: &Memory) -> bool
+        ensures { result ≡ true
+            → (p a : ℕ) → bytes_of self.now.processes.items p a ≡ bytes_of other.now.processes.items p a }
+    {
+        for proc in 0..32usize {
+            if !self.processes[proc].same(&other.processes[proc]) {
+                return false;
+            }
+        }
+        true
     }
 
     /// The child has the bytes of its parent; a failure changes none.

@@ -1,5 +1,6 @@
 // Processes, areas, plain bytes and mirrors: what the memory of a process is, wherever its pages lie.
-ghost use Rattle.std.specs.Prelude.{◌≡◌, ◌==◌, ◌&&◌, ◌||◌, ℕ, ◌<◌, ◌≤◌, ◌^◌, ◌+◌, not, true, is_none, is_some, is_ok, false, length, nat_lt, IfOk, OnOk, OnErr, None};
+ghost use Rattle.std.specs.Prelude.{◌≡◌, ◌==◌, ◌&&◌, ◌||◌, ℕ, ◌<◌, ◌≤◌, ◌^◌, ◌+◌, not, true, is_none, is_some, is_ok, false, length, nat_lt, IfOk, OnOk, OnErr, None, []};
+ghost use Rattle.hm_folds.specs.Memory.{bytes_of};
 ghost use Rattle.hm_history.specs.Words.{page_of, same_bytes, bytes_from};
 ghost use Rattle.hm_history.specs.Plain.{plain_start, plain_next, plain_accepts, rights_of, area_refusal, cause_at, outside_cause, is_cause, may_fail, owner, owned, proc_of, is_attached, plain_bytes, written_for};
 ghost use Rattle.hm_history.specs.declared.Kind.{Kind as AnyKind};
@@ -12,7 +13,7 @@ ghost use Rattle.hm_folds.specs.Windows.{mirror_read, mirrors_next};
 use crate::been::{facts_of, step_been};
 use crate::memory::Memory;
 use crate::windows::{self, KeptMirror};
-use hm_base::{Actor, Cause, Dev, MirrorId, NoMemory, Op, Page, Proc, Rights, Script, Span};
+use hm_base::{Actor, Area, Cause, Dev, MirrorId, NoMemory, Op, Page, Proc, Rights, Script, Span};
 use hm_history::{Entry, FoldError, Kind, Who};
 use hm_spaces::Spaces;
 use std::alloc::Global;
@@ -64,6 +65,27 @@ impl PlainState {
         ensures { result ≡ rights_of (plain_of self.now) proc page }
     {
         self.spaces.rights(proc, page)
+    }
+
+    /// The areas of a process, in rising order.
+    pub fn areas(&self, proc: Proc) -> &[Area]
+        ensures { result.now ≡ (plain_of self.now).areas proc }
+    {
+        self.spaces.areas(proc)
+    }
+
+    /// Costs nothing: it hands the prover that nothing is beyond the last process.
+    pub fn facts(&self)
+        ensures { (p : ℕ) → 32 ≤ p → (plain_of self.now).areas p ≡ [] }
+    {
+        let _ = &self.spaces;
+    }
+
+    /// The bytes, and drops the rest.
+    pub fn into_memory(self) -> Memory
+        ensures { bytes_of result.processes.items ≡ (plain_of self).bytes }
+    {
+        self.memory
     }
 
     /// Why a `map`, `unmap` or `protect` is refused now; others never are.

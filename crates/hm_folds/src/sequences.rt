@@ -1,8 +1,8 @@
 // Invalidations, intervals and their sequences, of all processes (mm/mmu_notifier.c).
-ghost use Rattle.std.specs.Prelude.{◌≡◌, ◌==◌, ◌+◌, ◌%◌, ℕ, IfOk, OnErr, is_ok, Ok, Err, true, if◌then◌else◌};
+ghost use Rattle.std.specs.Prelude.{◌≡◌, ◌≤◌, ◌==◌, ◌+◌, ◌%◌, ℕ, IfOk, OnErr, is_ok, Ok, Err, true, if◌then◌else◌};
 ghost use Rattle.hm_history.specs.Sequences.{sequences_start, sequences_next, sequences_accept, interval_seq, interval_proc, insert_deferred, in_tree, next_told, is_odd, is_next_told, is_last_end, interval_inserted, seq_inserted};
 ghost use Rattle.hm_history.specs.declared.Kind.{Kind as AnyKind};
-ghost use Rattle.hm_folds.specs.Kept.{sequences_of, guarded, stage_of, standing};
+ghost use Rattle.hm_folds.specs.Kept.{sequences_of, interval_of, guarded, stage_of, standing};
 
 use crate::guards::{
     KeptGuard, active, all_below, has_some, is_done, is_free, lower_told, same_span, with_told,
@@ -55,6 +55,20 @@ impl SeqState {
         ensures { result ≡ interval_seq (sequences_of self.now) mirror }
     {
         seq_of(&self.intervals[mirror.number() as usize])
+    }
+
+    /// The mirror's interval, if it was ever attached.
+    pub fn interval(&self, mirror: MirrorId) -> Option<KeptInterval>
+        ensures { interval_of result ≡ (sequences_of self.now).interval mirror }
+    {
+        self.intervals[mirror.number() as usize]
+    }
+
+    /// Costs nothing: it hands the prover that no sequence beyond the last process ever changes.
+    pub fn facts(&self)
+        ensures { (p : ℕ) → 32 ≤ p → (sequences_of self.now).seq p ≡ 2 }
+    {
+        let _ = &self.seqs;
     }
 
     fn interval_proc(&self, mirror: MirrorId) -> Proc

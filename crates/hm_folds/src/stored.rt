@@ -117,6 +117,13 @@ impl Stored {
         }
     }
 
+    /// Whether both have the same bytes. It may say no where they have.
+    pub fn same(&self, other: &Stored) -> bool
+        ensures { result ≡ true → (a : ℕ) → byte_in self.now a ≡ byte_in other.now a }
+    {
+        self.bytes == other.bytes
+    }
+
     /// The same bytes once more.
     pub fn copy(&self) -> Result<Stored, NoMemory>
         ensures { IfOk result (λ x. (a : ℕ) → byte_in x a ≡ byte_in self.now a) }
