@@ -1,0 +1,3 @@
+pub mod SmallSeqs
+pub mod GoingsRead
+pub mod Follows
