@@ -1,7 +1,11 @@
-// Checks every report in the folder that it runs in, and says of each what the verdict is.
+// Checks every report in the folder that it runs in, and says of each what the verdict is. The history of a legal one
+// is folded too.
 #![tactic(auto)]
 
-use hm_check::{Verdict, check};
+mod folded;
+
+use folded::fold;
+use hm_check::{Report, Verdict, check};
 use std::{fs, io};
 
 /// The names of the reports, in order.
@@ -22,8 +26,20 @@ fn tell(rt: &HostRuntime, name: &str) -> io::Result<()> {
     let path = format!(in rt.alloc(); "{name}.report")?;
     let bytes = fs::read(rt, path.as_str())?;
     match check(rt.alloc(), bytes.as_slice()) {
-        Ok(Verdict::Yes(report)) => println!(rt; "{name}: legal {}", report.history.len()),
+        Ok(Verdict::Yes(report)) => tell_legal(rt, name, &report),
         Ok(Verdict::No(line)) => println!(rt; "{name}: bad {line}"),
+        Err(_) => println!(rt; "{name}: out of memory"),
+    }
+}
+
+/// Says how many entries a legal report has, how many of them the folds take, and what they come to.
+fn tell_legal(rt: &HostRuntime, name: &str, report: &Report) -> io::Result<()> {
+    let entries = report.history.len();
+    match fold(rt.alloc(), &report.script, &report.history) {
+        Ok(folded) => println!(rt;
+            "{name}: legal {entries}, folded {}, next s{}, {} pages",
+            folded.taken, folded.next, folded.pages
+        ),
         Err(_) => println!(rt; "{name}: out of memory"),
     }
 }
