@@ -7,7 +7,7 @@ ghost use Rattle.hm_races.specs.Numbers.{small_interval, small_sequences, small_
 ghost use Rattle.hm_phases.specs.Items.{phases_of};
 ghost use Rattle.hm_world.specs.WorldValue.{now};
 ghost use Rattle.hm_race_forms.specs.SmallSeqs.{interval_in};
-ghost use Rattle.hm_race_forms.specs.GoingsRead.{noted, blurred_touch, blurred_option, blurred_phase, going_in};
+ghost use Rattle.hm_race_forms.specs.GoingsRead.{noted, blurred_touch, blurred_option, blurred_phase, going_in, goings_in};
 
 use crate::seqs::SeqRows;
 use hm_base::{Actor, MirrorId, NoMemory};
@@ -150,4 +150,19 @@ pub fn going_of(
         items: blurred_items(own, small, world.phases(actor)),
         records: Vec::from_slice(alloc, world.records(actor))?,
     })
+}
+
+/// How far each actor is.
+pub fn goings_of(alloc: Global, world: &World, seqs: &SeqRows) -> Result<Vec<GoingKey>, NoMemory>
+    requires { (m : ℕ) → interval_in seqs.now.rows m
+        ≡ small_interval (now world.now).after.sequences.seq ((now world.now).after.sequences.interval m) }
+    ensures { IfOk result (λ gs. (a : ℕ) → goings_in gs.items a
+        ≡ forget_going (small_going world.now.script (now world.now).after.sequences a ((now world.now).going a))) }
+{
+    world.facts();
+    let mut all = Vec::new(alloc);
+    for actor in 0..world.script().actors.len() as u32 {
+        all.push(going_of(alloc, world, seqs, Actor::new(actor))?)?;
+    }
+    Ok(all)
 }

@@ -1,7 +1,8 @@
 // What of a state is kept entry by entry.
-ghost use Rattle.std.specs.Prelude.{◌≡◌, IfOk, OnOk};
+ghost use Rattle.std.specs.Prelude.{◌≡◌, [], IfOk, OnOk};
 ghost use Rattle.hm_base.specs.Program.{Program as AnyScript};
-ghost use Rattle.hm_history.specs.Going.{State as AnyState, state_start, state_next};
+ghost use Rattle.hm_history.specs.Laws.{DueFrom};
+ghost use Rattle.hm_history.specs.Going.{State as AnyState, state_start, state_next, state_of};
 ghost use Rattle.hm_race_keys.specs.Trail.{AreListed, places_in, entry_old};
 ghost use Rattle.hm_race_forms.specs.Follows.{Follows};
 
@@ -88,4 +89,17 @@ impl Trail {
             _ => Err(NoMemory),
         }
     }
+}
+
+/// The state after a history of entries that were due.
+pub fn follow(alloc: Global, script: &Script, history: &[Entry]) -> Result<Trail, NoMemory>
+    requires { DueFrom script.now [] history.now }
+    ensures { IfOk result (λ x. Follows (state_of script.now history.now) x) }
+{
+    script.facts();
+    let mut trail = Trail::new(alloc, script)?;
+    for entry in history {
+        trail.step(entry)?;
+    }
+    Ok(trail)
 }
