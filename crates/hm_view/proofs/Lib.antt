@@ -1,0 +1,4 @@
+pub mod Texts
+pub mod Dues
+pub mod Told
+pub mod Going

@@ -1,0 +1,4 @@
+pub mod Standing
+pub mod Changes
+pub mod Rows
+pub mod Laws
