@@ -1,4 +1,5 @@
 pub mod Texts
 pub mod Dues
+pub mod Viewing
 pub mod Told
 pub mod Going

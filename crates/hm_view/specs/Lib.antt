@@ -1,4 +1,9 @@
 pub mod Standing
 pub mod Changes
 pub mod Rows
+pub mod Page
+pub mod Asked
+pub mod Messages
 pub mod Laws
+pub mod Reading
+pub mod Views

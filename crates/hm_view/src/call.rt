@@ -1,0 +1,70 @@
+// The top call: reads a report, and draws it.
+ghost use Rattle.std.specs.Prelude.{◌≡◌, length, map, string_bytes};
+ghost use Rattle.hm_check.specs.FirstBad.{IsLegalReport};
+ghost use Rattle.hm_report.specs.SinkState.{sink_state};
+ghost use Rattle.hm_view.specs.Asked.{asked_of};
+ghost use Rattle.hm_view.specs.Reading.{source_state};
+ghost use Rattle.hm_view.specs.Views.{traffic, HasDrawn, WriteFaulted, Draws, Views};
+
+use crate::asked::Asked;
+use crate::draw::write_page;
+use crate::input::judge;
+use crate::status::Status;
+use hm_check::{Report, Verdict};
+use hm_io::{Sink, Source};
+use hm_report::Written;
+use std::alloc::Global;
+
+/// Draws the rows that are asked for.
+fn draw<K: Sink>(alloc: Global, report: Report, asked: Asked, sink: &mut K) -> Status
+    requires { IsLegalReport report.script report.history.entries }
+    ensures drawn { HasDrawn asked report.script report.history.entries
+        (sink_state K.held K.failures K.wanted sink.old) (sink_state K.held K.failures K.wanted sink.new) result }
+    ensures faults { WriteFaulted (K.failures sink.old) (K.failures sink.new) result }
+{
+    let count = report.history.len();
+    if !asked.fits(count) {
+        return Status::NoRows;
+    }
+    match write_page(alloc, report, asked.first(), asked.behind(count), sink) {
+        Written::Done => Status::Done,
+        Written::Fault => Status::WriteFault,
+        Written::NoMemory => Status::NoMemory,
+    }
+}
+
+/// Reads a report, and draws the rows that are asked for.
+fn read_and_draw<S: Source, K: Sink>(
+    alloc: Global,
+    asked: Asked,
+    source: &mut S,
+    sink: &mut K,
+) -> Status
+    ensures { Draws asked
+        (traffic (source_state S.left S.failures) (sink_state K.held K.failures K.wanted) source.old source.new sink.old
+        sink.new) result }
+{
+    match judge(alloc, source) {
+        Ok(Verdict::Yes(report)) => draw(alloc, report, asked, sink),
+        Ok(Verdict::No(line)) => Status::NotLegal(line),
+        Err(status) => status,
+    }
+}
+
+/// Reads a report from the source, and writes the page of the rows that the words after the program's name ask for to
+/// the sink. It waits for nobody.
+pub fn view<S: Source, K: Sink>(
+    alloc: Global,
+    words: &[String],
+    source: &mut S,
+    sink: &mut K,
+) -> Status
+    ensures { Views (asked_of (map string_bytes words.now))
+        (traffic (source_state S.left S.failures) (sink_state K.held K.failures K.wanted) source.old source.new sink.old
+        sink.new) result }
+{
+    match Asked::of(words) {
+        Some(asked) => read_and_draw(alloc, asked, source, sink),
+        None => Status::Usage,
+    }
+}

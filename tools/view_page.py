@@ -1,0 +1,120 @@
+#!/usr/bin/env python3
+"""The page of a report, from the short reference program: what hmmview must write. Slow, and proved by nobody.
+
+    tools/view_page.py [FROM TO] < REPORT        the page
+    tools/view_page.py --lines [FROM TO] < REPORT        its lines alone
+
+For short reports: it replays what came before for each actor at each row.
+"""
+import os, re, sys
+
+TOP = os.path.dirname(os.path.dirname(os.path.abspath(__file__)))
+sys.path.insert(0, os.path.join(TOP, 'tools', 'reference'))
+import report as reports
+import script as scripts
+from due import Wait
+from run import Machine
+from state import RELEASING
+
+FINDINGS = {'failed', 'refused', 'retry', 'kept', 'migrated', 'evicted'}
+
+
+def read(data):
+    """The script of a report, and the actors of its entries in their order."""
+    reports.check(data)
+    lines = data.decode().split('\n')
+    reader = scripts.Reader()
+    start = lines.index('history')
+    for line in lines[:start]:
+        reader.line(line.encode())
+    entries = [line.split(' ') for line in lines[start + 1:] if line[:1].isdigit()]
+    return reader.script, [int(words[1][1:]) for words in entries]
+
+
+def machine_after(script, actors):
+    machine = Machine(script)
+    for actor in actors:
+        machine.step(actor)
+    return machine
+
+
+def standing(script, actors, actor):
+    """What is due to an actor after the entries of these. It asks a machine of its own, since asking moves it on."""
+    machine = machine_after(script, actors)
+    if machine.is_idle(actor):
+        return '-'
+    due, _ = machine.due(actor)
+    if not isinstance(due, Wait):
+        return '+'
+    what = due.what
+    if due.why == 'lock':
+        return f'lock/p{what[0]}/a{due.actors[0]}'
+    if due.why == 'moving':
+        return f'moving/p{what[0]}/{what[1]}'
+    if due.why == 'frame':
+        return f'frame/{what[0]}/a{due.actors[0]}'
+    return f'told/m{what[0]}/{machine.state.mirrors[what[0]].seq}'
+
+
+def standings(script, actors):
+    return ' '.join([':', *(standing(script, actors, a) for a in range(len(script.actors)))])
+
+
+def frames_about(entry, before):
+    if entry[0] in ('take', 'drop', 'done'):
+        return [entry[1]]
+    if entry[0] == 'place':
+        return [f for f in (before, entry[3].frame) if f]
+    return []
+
+
+def changes(state, actor, entry, before):
+    """What an entry changed beside what its words tell; the state is that after it."""
+    words = ['=']
+    if entry[0] in ('rlock', 'wlock'):
+        words.append(f'a{actor}={"reads" if entry[0] == "rlock" else "writes"}/p{entry[1]}')
+    if entry[0] in RELEASING:
+        words.append(f'a{actor}=-')
+    for frame in frames_about(entry, before):
+        locker = state.locker.get(frame)
+        words.append(f'f{frame}=' + ('-' if locker is None else f'a{locker}'))
+    process = {'start': 1, 'end': 1, 'attached': 3}.get(entry[0])
+    if process:
+        words.append(f'p{entry[process]}={state.seq[entry[process]]}')
+    if entry[0] in ('told', 'attached'):
+        words.append(f'm{entry[1]}={state.mirrors[entry[1]].seq}')
+    return ' '.join(words)
+
+
+def page_lines(data, first, behind):
+    script, actors = read(data)
+    behind = len(actors) if behind is None else min(behind, len(actors))
+    whole = machine_after(script, actors)
+    lines = scripts.text(script).split('\n')[:-1] + ['findings']
+    lines += [reports.line(at, *x) for at, x in enumerate(whole.history) if x[1][0] in FINDINGS]
+    lines.append(f'rows {first}')
+    machine = Machine(script)
+    for at, (actor, entry) in enumerate(whole.history[:behind]):
+        if at >= first:
+            lines.append(standings(script, actors[:at]))
+        lines.append(reports.line(at, actor, entry))
+        before = machine.state.place(entry[1], entry[2]).frame if entry[0] == 'place' else None
+        machine.step(actor)
+        lines.append(changes(machine.state, actor, entry, before))
+    lines.append(standings(script, actors[:behind]))
+    return lines + reports.report(whole).split('\nhistory\n', 1)[1].split('\n')[len(actors):-1]
+
+
+def main():
+    words = [word for word in sys.argv[1:] if word != '--lines']
+    first, behind = map(int, words) if words else (0, None)
+    text = ''.join(line + '\n' for line in page_lines(sys.stdin.buffer.read(), first, behind))
+    head, tail = '', ''
+    if '--lines' not in sys.argv:
+        with open(os.path.join(TOP, 'crates', 'hm_view', 'src', 'page.rt')) as source:
+            head, tail = re.findall(r'br##"(.*?)"##', source.read(), re.S)
+    sys.stdout.write(head + text + tail)
+
+
+if __name__ == '__main__':
+    main()
