@@ -1,5 +1,5 @@
--- Reading the words of an entry's line. The line is compared with the entry's text afterwards, so that a reader may pass
--- over what it need not know.
+-- Reading the words of an entry's line. The line is compared with the entry's text afterwards, so that a reader may
+-- pass over what it need not know.
 use Rattle.std.specs.Prelude.{ℕ, Bool, true, false, Option, Some, None, List, Result, Ok, Err}
 use Rattle.hm_history.specs.declared.Entry.{Entry}
 use Rattle.hm_history.specs.declared.Kind.{Kind}

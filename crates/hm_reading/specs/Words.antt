@@ -40,7 +40,8 @@ page_at w = do
 
 -- the span of these pages, if there are such
 abbrev pub checked_span : ℕ → ℕ → Result Pages Reason
-checked_span first count = if nat_le 1 count && nat_le (first + count) (2 ^ 36) then Ok (span first count) else Err Reason.Range
+checked_span first count =
+    if nat_le 1 count && nat_le (first + count) (2 ^ 36) then Ok (span first count) else Err Reason.Range
 
 unfoldable pub span_at : List ℕ → List ℕ → Result Pages Reason
 span_at first count = do
