@@ -53,7 +53,7 @@ def standing(script, actors, actor):
         return f'moving/p{what[0]}/{what[1]}'
     if due.why == 'frame':
         return f'frame/{what[0]}/a{due.actors[0]}'
-    return f'told/m{what[0]}/{machine.state.mirrors[what[0]].seq}'
+    return f'told/m{what[0]}/{what[1]}'
 
 
 def standings(script, actors):

@@ -42,9 +42,11 @@ class Actor:
             yield wait
         yield 'rlock', process
 
-    def invalidating(self, mirror):
+    def invalidating(self, mirror, seq=None):
+        """The wait for an interval: at the sequence that it has, or at that of its own detaching."""
         process = self.s.mirrors[mirror].process
-        return Wait('invalidating', (mirror,), tuple(sorted(b for b, p in self.s.guards.items() if p == process)))
+        seq = self.s.mirrors[mirror].seq if seq is None else seq
+        return Wait('invalidating', (mirror, seq), tuple(sorted(b for b, p in self.s.guards.items() if p == process)))
 
     # ---- the guard: an invalidation, and what is changed under it
     def guard(self, process, span, body):
@@ -408,7 +410,7 @@ class Actor:
         if seq % 2 and s.mirrors[mirror].stage != 'inserting':
             yield 'detaching', mirror, seq
             while s.in_tree(mirror):
-                yield self.invalidating(mirror)
+                yield self.invalidating(mirror, seq)
         return 'detached', mirror
 
     def snap(self, mirror, span):
