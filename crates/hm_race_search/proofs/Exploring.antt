@@ -1,22 +1,28 @@
 -- The steps of a search keep what it knows, and at its end nothing is missing.
-use Rattle.std.proofs.Common.{◌≡◌, ℕ, ◌+◌, ◌<◌, ◌≤◌, ◌⊎◌, inl, inr, suc, zero, Bool, true, false, if◌then◌else◌, Option, Some, None, List, [], ◌∷◌, ◌++◌, refl, sym, ap, ◌∙◌, subst, length, map, get_or, arith}
+use Rattle.std.proofs.Common.{◌≡◌, ℕ, ◌+◌, ◌<◌, ◌≤◌, ◌⊎◌, inl, inr, suc, zero, Bool, true, false, if◌then◌else◌, List, [], ◌∷◌, ◌++◌, refl, sym, ap, ◌∙◌, subst, length, map, drop, get_or, arith}
+use Rattle.std.proofs.lemmas.Bool.{lt-ltb}
+use Rattle.std.proofs.lemmas.List.Folds.{list_all-append}
 use Rattle.std.proofs.lemmas.List.Sums.{fold-append}
-use Rattle.std.specs.Prelude.{Result, Ok, Err, OnOk, option_map}
+use Rattle.std.proofs.lemmas.List.{length-append, length-map, drop-append-le}
+use Rattle.std.proofs.Math.ListN.{drop_of_length-le}
+use Rattle.std.proofs.Math.Seq.{drop-cons}
+use Rattle.std.specs.List.{list_all}
+use Rattle.std.specs.Prelude.{Result, Ok, Err, OnOk, nat_lt, ◌&&◌}
 use Rattle.hm_base.specs.Program.{Program, IsScript}
+use Rattle.hm_history.specs.Due.{due_in}
 use Rattle.hm_history.specs.Laws.{DueFrom}
+use Rattle.hm_history.specs.Run.{is_entry}
 use Rattle.hm_history.specs.declared.Kind.{Kind}
 use Rattle.hm_history.specs.declared.Entry.{Entry}
-use Rattle.hm_history.specs.declared.Progress.{Progress}
-use Rattle.hm_races.specs.Outcomes.{Point, point_next, point_from, point_turned, point_turn, point_at, outcome, ended_in}
+use Rattle.hm_races.specs.Outcomes.{Point, point_from, point_turned, point_turn, point_at, outcome, ended_in}
 use Rattle.hm_races.specs.Closed.{IsListed, Onward, Told, Done, Outcome, Searched}
 use Rattle.hm_races.specs.Blur.{form_of}
 use Rattle.hm_races.specs.Laws.{FormsAreComplete}
 use Rattle.hm_races.proofs.Searching.{listed_left, listed_right, listed_cases, is_actor}
 use Rattle.hm_races.proofs.Turned.{at_reached}
 use Rattle.hm_race_search.specs.declared.known.Known.{Known}
-use Rattle.hm_race_search.specs.declared.known.Open.{Open}
-use Rattle.hm_race_search.specs.Values.{known_of, all_known, open_of, all_open}
-use Rattle.hm_race_search.specs.Known.{KnownValue, OpenValue, IsKnown, forms, turns_of, outcomes_of, GoesOn, GoneOn, GoneOnBelow, Explores, Grown, GoneOnBy, Went, IsAfter, IsComplete, AreReal, AreKnown}
+use Rattle.hm_race_search.specs.Values.{known_of, all_known, todo_from}
+use Rattle.hm_race_search.specs.Known.{KnownValue, AreActors, IsKnown, forms, outcomes_of, GoesOn, GoneOn, GoneOnBelow, Explores, Grown, GoneOnBy, IsComplete, AreReal, AreKnown}
 
 -- an item of a list is listed, and so is what a function makes of it
 pub listed_at : {X Y : Type 0} (f : X → Y) (xs : List X) (i : ℕ) (d : X) → i < length xs → IsListed (map f xs) (f (get_or xs i d))
@@ -52,100 +58,107 @@ goes_more : (c : Program) (fs gs : List Point) (x : Point) (a : ℕ) → ((g : P
 goes_more c fs gs x a more h e d = more _ (h e d)
 
 -- nothing new
-pub grown_same : (c : Program) (h : List Entry) (known : List KnownValue) (todo : List OpenValue) (f : Point) → IsListed (forms known) f → Grown c h known todo known todo f
-grown_same c h known todo f l = record { listed = l; before = λ g k. k; explores = λ o k. k }
+pub grown_same : (c : Program) (h : List Entry) (known : List KnownValue) (todo : List (List ℕ)) (f : Point) → IsListed (forms known) f → Grown c h known todo known todo f
+grown_same c h known todo f l = record { listed = l; before = λ g k. k; explores = λ o k. k; no_fewer = omega arith }
 
 -- a new state
-abbrev pub known_after : Program → List Entry → Point → List ℕ → KnownValue
-known_after c h x turns = record { form = form_of c x; turns = turns; ended = ended_in c x.state }
+abbrev pub known_after : Program → List Entry → List ℕ → KnownValue
+known_after c h turns = record { form = form_of c (point_at c h turns); turns = turns; ended = ended_in c (point_at c h turns).state }
 
-abbrev pub open_after : Point → List ℕ → OpenValue
-open_after x turns = record { point = x; turns = turns }
-
-is_known : (c : Program) (h : List Entry) (x : Point) (turns : List ℕ) → x ≡ point_at c h turns → IsKnown c h (known_after c h x turns)
-is_known c h x turns e = record { form = ap (form_of c) e; ended = ap (λ (z : Point). ended_in c z.state) e }
-
-pub grown_new : (c : Program) (h : List Entry) (known : List KnownValue) (todo : List OpenValue) (x : Point) (turns : List ℕ) → x ≡ point_at c h turns → Grown c h known todo (known ++ known_after c h x turns ∷ []) (todo ++ open_after x turns ∷ []) (form_of c x)
-grown_new c h known todo x turns e = record { listed = listed; before = before; explores = explores }
+pub grown_new : (c : Program) (h : List Entry) (known : List KnownValue) (todo : List (List ℕ)) (turns : List ℕ) → AreActors c turns → (point_at c h turns).state.after.length ≤ 2000000 → Grown c h known todo (known ++ known_after c h turns ∷ []) (todo ++ turns ∷ []) (form_of c (point_at c h turns))
+grown_new c h known todo turns aa room = record { listed = listed; before = before; explores = explores; no_fewer = omega (arith, length-append known (n ∷ [])) }
   where
     n : KnownValue
-    n = known_after c h x turns
+    n = known_after c h turns
 
-    o : OpenValue
-    o = open_after x turns
-
-    formed : forms (known ++ n ∷ []) ≡ forms known ++ form_of c x ∷ []
+    formed : forms (known ++ n ∷ []) ≡ forms known ++ n.form ∷ []
     formed = map-snoc (λ (k : KnownValue). k.form) known n
 
-    listed : IsListed (forms (known ++ n ∷ [])) (form_of c x)
-    listed = subst (λ l. IsListed l (form_of c x)) (sym formed) (listed_right (forms known) (form_of c x ∷ []) (form_of c x) (inl refl))
+    listed : IsListed (forms (known ++ n ∷ [])) n.form
+    listed = subst (λ l. IsListed l n.form) (sym formed) (listed_right (forms known) (n.form ∷ []) n.form (inl refl))
 
     before : (g : Point) → IsListed (forms known) g → IsListed (forms (known ++ n ∷ [])) g
-    before g l = subst (λ l. IsListed l g) (sym formed) (listed_left (forms known) (form_of c x ∷ []) g l)
+    before g l = subst (λ l. IsListed l g) (sym formed) (listed_left (forms known) (n.form ∷ []) g l)
 
-    turned : (p : OpenValue) → turns_of (p ∷ todo ++ o ∷ []) ≡ turns_of (p ∷ todo) ++ turns ∷ []
-    turned p = map-snoc (λ (k : OpenValue). k.turns) (p ∷ todo) o
-
-    explores : (p : OpenValue) → Explores c h known (p ∷ todo) → Explores c h (known ++ n ∷ []) (p ∷ todo ++ o ∷ [])
-    explores p s = record { each = each; from = before _ s.from; onward = onward; led = led }
+    explores : (p : List ℕ) → Explores c h known (p ∷ todo) → Explores c h (known ++ n ∷ []) (p ∷ todo ++ turns ∷ [])
+    explores p s = record { each = each; from = before _ s.from; onward = onward }
       where
         each : (m : KnownValue) → IsListed (known ++ n ∷ []) m → IsKnown c h m
         each m l = by (listed_cases known (n ∷ []) m l)
           where
             by : IsListed known m ⊎ IsListed (n ∷ []) m → IsKnown c h m
             by (inl k) = s.each m k
-            by (inr (inl k)) = subst (IsKnown c h) k (is_known c h x turns e)
+            by (inr (inl k)) = subst (IsKnown c h) k (record { form = refl; ended = refl; actors = aa; room = room })
             by (inr (inr k)) = absurd k
 
-        Goes : KnownValue → Type 0
-        Goes m = IsListed (turns_of (p ∷ todo ++ o ∷ [])) m.turns ⊎ GoneOn c (forms (known ++ n ∷ [])) (point_at c h m.turns)
-
-        onward : (m : KnownValue) → IsListed (known ++ n ∷ []) m → IsListed (turns_of (p ∷ todo ++ o ∷ [])) m.turns ⊎ GoneOn c (forms (known ++ n ∷ [])) (point_at c h m.turns)
+        onward : (m : KnownValue) → IsListed (known ++ n ∷ []) m → IsListed (p ∷ todo ++ turns ∷ []) m.turns ⊎ GoneOn c (forms (known ++ n ∷ [])) (point_at c h m.turns)
         onward m l = by (listed_cases known (n ∷ []) m l)
           where
-            old : IsListed (turns_of (p ∷ todo)) m.turns ⊎ GoneOn c (forms known) (point_at c h m.turns) → IsListed (turns_of (p ∷ todo ++ o ∷ [])) m.turns ⊎ GoneOn c (forms (known ++ n ∷ [])) (point_at c h m.turns)
-            old (inl k) = inl (subst (λ l. IsListed l m.turns) (sym (turned p)) (listed_left (turns_of (p ∷ todo)) (turns ∷ []) m.turns k))
+            old : IsListed (p ∷ todo) m.turns ⊎ GoneOn c (forms known) (point_at c h m.turns) → IsListed (p ∷ todo ++ turns ∷ []) m.turns ⊎ GoneOn c (forms (known ++ n ∷ [])) (point_at c h m.turns)
+            old (inl k) = inl (listed_left (p ∷ todo) (turns ∷ []) m.turns k)
             old (inr k) = inr (λ a. goes_more c (forms known) (forms (known ++ n ∷ [])) (point_at c h m.turns) a before (k a))
 
-            by : IsListed known m ⊎ IsListed (n ∷ []) m → IsListed (turns_of (p ∷ todo ++ o ∷ [])) m.turns ⊎ GoneOn c (forms (known ++ n ∷ [])) (point_at c h m.turns)
+            by : IsListed known m ⊎ IsListed (n ∷ []) m → IsListed (p ∷ todo ++ turns ∷ []) m.turns ⊎ GoneOn c (forms (known ++ n ∷ [])) (point_at c h m.turns)
             by (inl k) = old (s.onward m k)
-            by (inr (inl k)) = inl (subst (λ l. IsListed l m.turns) (sym (turned p)) (listed_right (turns_of (p ∷ todo)) (turns ∷ []) m.turns (inl (ap (λ (z : KnownValue). z.turns) k))))
+            by (inr (inl k)) = inl (listed_right (p ∷ todo) (turns ∷ []) m.turns (inl (ap (λ (z : KnownValue). z.turns) k)))
             by (inr (inr k)) = absurd k
 
-        led : (q : OpenValue) → IsListed (p ∷ todo ++ o ∷ []) q → q.point ≡ point_at c h q.turns
-        led q l = by (listed_cases (p ∷ todo) (o ∷ []) q l)
-          where
-            by : IsListed (p ∷ todo) q ⊎ IsListed (o ∷ []) q → q.point ≡ point_at c h q.turns
-            by (inl k) = s.led q k
-            by (inr (inl k)) = subst (λ (z : OpenValue). z.point ≡ point_at c h z.turns) k e
-            by (inr (inr k)) = absurd k
+-- what is pushed is the last that is left to go on from
+pub todo_pushed : {K : Type 0} (xs : List (Known K)) (x : Known K) (at : ℕ) → at ≤ length xs → todo_from (xs ++ x ∷ []) at ≡ todo_from xs at ++ x.turns.items ∷ []
+todo_pushed xs x at l = ap (map (λ n. n.turns.items)) (drop-append-le at xs (x ∷ []) l) ∙ map-snoc (λ (n : Known _). n.turns.items) (drop at xs) x
 
--- by what was answered
-pub grown_by : {T E : Type 0} (r : Result T E) (c : Program) (h : List Entry) (known more : List KnownValue) (todo left : List OpenValue) (x f : Point) (turns : List ℕ) → x ≡ point_at c h turns → f ≡ form_of c x → OnOk r (more ≡ known ++ record { form = f; turns = turns; ended = ended_in c x.state } ∷ []) → OnOk r (left ≡ todo ++ open_after x turns ∷ []) → OnOk r (Grown c h known todo more left (form_of c x))
-grown_by (Err e) c h known more todo left x f turns at is k o = tt
-grown_by (Ok v) c h known more todo left x f turns at is k o = subst (λ m. Grown c h known todo m left (form_of c x)) (sym (k ∙ ap (λ (g : Point). known ++ record { form = g; turns = turns; ended = ended_in c x.state } ∷ []) is)) (subst (λ l. Grown c h known todo (known ++ known_after c h x turns ∷ []) l (form_of c x)) (sym o) (grown_new c h known todo x turns at))
+abbrev value_of : Point → List ℕ → Bool → KnownValue
+value_of form turns ended = record { form = form; turns = turns; ended = ended }
 
--- a turn of an actor
-pub went_none : (c : Program) (h : List Entry) (known : List KnownValue) (todo : List OpenValue) (x : Point) (a : ℕ) → IsAfter c x a None → GoneOnBy c h known todo known todo x a
-went_none c h known todo x a none = record { on = λ e d. absurd (none e d); before = λ g k. k; explores = λ o k. k }
-
-abbrev entry_of : Entry → Progress → Entry
-entry_of e (Progress.Did d) = d
-entry_of e _ = e
-
-pub went_some : (c : Program) (h : List Entry) (known more : List KnownValue) (todo left : List OpenValue) (x y : Point) (a : ℕ) → Went c x a y → Grown c h known todo more left (form_of c y) → GoneOnBy c h known todo more left x a
-went_some c h known more todo left x y a w g = record { on = on; before = g.before; explores = g.explores }
+-- a state that was opened, and that was not known
+pub grown_pushed : {K : Type 0} (form : K → Point) (c : Program) (h : List Entry) (xs ys : List (Known K)) (x : Known K) (o : Point) → ys ≡ xs ++ x ∷ [] → form x.key ≡ form_of c o → x.ended ≡ ended_in c o.state → o ≡ point_at c h x.turns.items → AreActors c x.turns.items → o.state.after.length ≤ 2000000 → (at : ℕ) → at ≤ length xs → Grown c h (all_known form xs) (todo_from xs at) (all_known form ys) (todo_from ys at) (form_of c (point_at c h x.turns.items))
+grown_pushed form c h xs ys x o is k e p aa room at l =
+    subst (λ m. Grown c h (all_known form xs) (todo_from xs at) m (todo_from ys at) (form_of c (point_at c h turns))) (sym known)
+    (subst (λ m. Grown c h (all_known form xs) (todo_from xs at) (all_known form xs ++ known_after c h turns ∷ []) m (form_of c (point_at c h turns))) (sym left)
+    (grown_new c h (all_known form xs) (todo_from xs at) turns aa (subst (λ (z : Point). z.state.after.length ≤ 2000000) p room)))
   where
+    turns : List ℕ
+    turns = x.turns.items
+
+    value : known_of form x ≡ known_after c h turns
+    value = ap (λ f. value_of f turns x.ended) (k ∙ ap (form_of c) p) ∙ ap (value_of (form_of c (point_at c h turns)) turns) (e ∙ ap (λ (z : Point). ended_in c z.state) p)
+
+    known : all_known form ys ≡ all_known form xs ++ known_after c h turns ∷ []
+    known = ap (all_known form) is ∙ (map-snoc (known_of form) xs x ∙ ap (λ z. all_known form xs ++ z ∷ []) value)
+
+    left : todo_from ys at ≡ todo_from xs at ++ turns ∷ []
+    left = ap (λ z. todo_from z at) is ∙ todo_pushed xs x at l
+
+-- a turn of an actor: nothing is due
+pub gone_none : (c : Program) (h : List Entry) (known : List KnownValue) (todo : List (List ℕ)) (x : Point) (a : ℕ) → is_entry (due_in c x.state a) ≡ false → GoneOnBy c h known todo known todo x a
+gone_none c h known todo x a none = record { on = λ e d. absurd (differ (sym (ap is_entry d) ∙ none)); before = λ g k. k; explores = λ o k. k; no_fewer = omega arith }
+  where
+    differ : true ≡ false → ⊥
+    differ q = cc
+
+-- or the state after it is known
+pub gone_some : (c : Program) (h : List Entry) (known more : List KnownValue) (todo left : List (List ℕ)) (x : Point) (turns : List ℕ) (a : ℕ) → x ≡ point_at c h turns → Grown c h known todo more left (form_of c (point_at c h (turns ++ a ∷ []))) → GoneOnBy c h known todo more left x a
+gone_some c h known more todo left x turns a is g = record { on = on; before = g.before; explores = g.explores; no_fewer = g.no_fewer }
+  where
+    led : point_at c h (turns ++ a ∷ []) ≡ point_turn c x a
+    led = fold-append (point_turn c) (point_from c h) turns (a ∷ []) ∙ ap (λ z. point_turn c z a) (sym is)
+
     on : GoesOn c (forms more) x a
-    on e d = subst (λ z. IsListed (forms more) (form_of c z)) (w.same ∙ ap (point_next c x) (ap (entry_of e) (sym w.due ∙ d))) g.listed
+    on e d = subst (λ z. IsListed (forms more) (form_of c z)) (led ∙ ap (point_turned c x) d) g.listed
 
-pub went_by : {T E S : Type 0} (r : Result T E) (point : S → Point) (c : Program) (h : List Entry) (known more : List KnownValue) (todo left : List OpenValue) (x : Point) (o : Option S) (y : S) (a : ℕ) → IsAfter c x a (option_map point o) → o ≡ Some y → OnOk r (Grown c h known todo more left (form_of c (point y))) → OnOk r (GoneOnBy c h known todo more left x a)
-went_by (Err e) point c h known more todo left x o y a w is g = tt
-went_by (Ok v) point c h known more todo left x o y a w is g = went_some c h known more todo left x (point y) a (subst (λ p. IsAfter c x a (option_map point p)) is w) g
+pub gone_by : {E T K : Type 0} (r : Result T E) (form : K → Point) (c : Program) (h : List Entry) (xs ys : List (Known K)) (x : Point) (turns more : List ℕ) (a : ℕ) → x ≡ point_at c h turns → more ≡ turns ++ a ∷ [] → OnOk r ((at : ℕ) → at ≤ length xs → Grown c h (all_known form xs) (todo_from xs at) (all_known form ys) (todo_from ys at) (form_of c (point_at c h more))) → OnOk r ((at : ℕ) → at ≤ length xs → GoneOnBy c h (all_known form xs) (todo_from xs at) (all_known form ys) (todo_from ys at) x a)
+gone_by (Err e) form c h xs ys x turns more a is m g = tt
+gone_by (Ok v) form c h xs ys x turns more a is m g = λ at l. gone_some c h (all_known form xs) (all_known form ys) (todo_from xs at) (todo_from ys at) x turns a is (subst (λ z. Grown c h (all_known form xs) (todo_from xs at) (all_known form ys) (todo_from ys at) (form_of c (point_at c h z))) m (g at l))
 
--- and its turns are one longer
-pub led_on : (c : Program) (h : List Entry) (x y : Point) (a : ℕ) (turns : List ℕ) → x ≡ point_at c h turns → Went c x a y → y ≡ point_at c h (turns ++ a ∷ [])
-led_on c h x y a turns e w = w.same ∙ (sym (ap (point_turned c x) w.due) ∙ (ap (λ z. point_turn c z a) e ∙ sym (fold-append (point_turn c) (point_from c h) turns (a ∷ []))))
+-- longer turns are of actors too
+pub more_actors : (c : Program) (turns more : List ℕ) (a : ℕ) → AreActors c turns → a < length c.actors → more ≡ turns ++ a ∷ [] → AreActors c more
+more_actors c turns more a all l e = subst (AreActors c) (sym e) (list_all-append is_actor_of turns (a ∷ []) ∙ (ap (λ b. b && list_all is_actor_of (a ∷ [])) all ∙ ap (λ b. b && true) (lt-ltb a (length c.actors) l)))
+  where
+    is_actor_of : ℕ → Bool
+    is_actor_of b = nat_lt b (length c.actors)
+
+pub no_fewer : {K : Type 0} (form : K → Point) (xs ys zs : List (Known K)) → length xs ≤ length ys → length (all_known form ys) ≤ length (all_known form zs) → length xs ≤ length zs
+no_fewer form xs ys zs a b = omega (arith, a, b, length-map ys (known_of form), length-map zs (known_of form))
 
 -- one actor more
 pub below_more : (c : Program) (fs : List Point) (x : Point) (k : ℕ) → GoneOnBelow c fs x k → GoesOn c fs x k → GoneOnBelow c fs x (k + 1)
@@ -181,58 +194,51 @@ below_upto c fs x n k m below a l = below a (omega (arith, l, m))
 pub gone_on : (c : Program) (fs : List Point) (x : Point) → GoneOnBelow c fs x (length c.actors) → GoneOn c fs x
 gone_on c fs x below a e d = below a (is_actor c x.state a e d) e d
 
-pub done_with : (c : Program) (h : List Entry) (known : List KnownValue) (todo : List OpenValue) (o : OpenValue) → Explores c h known (o ∷ todo) → GoneOnBelow c (forms known) o.point (length c.actors) → Explores c h known todo
-done_with c h known todo o s below = record { each = s.each; from = s.from; onward = onward; led = λ p l. s.led p (inr l) }
+pub done_with : (c : Program) (h : List Entry) (known : List KnownValue) (todo : List (List ℕ)) (turns : List ℕ) (x : Point) → x ≡ point_at c h turns → Explores c h known (turns ∷ todo) → GoneOnBelow c (forms known) x (length c.actors) → Explores c h known todo
+done_with c h known todo turns x here s below = record { each = s.each; from = s.from; onward = onward }
   where
-    here : o.point ≡ point_at c h o.turns
-    here = s.led o (inl refl)
-
-    onward : (n : KnownValue) → IsListed known n → IsListed (turns_of todo) n.turns ⊎ GoneOn c (forms known) (point_at c h n.turns)
+    onward : (n : KnownValue) → IsListed known n → IsListed todo n.turns ⊎ GoneOn c (forms known) (point_at c h n.turns)
     onward n l = by (s.onward n l)
       where
-        by : IsListed (turns_of (o ∷ todo)) n.turns ⊎ GoneOn c (forms known) (point_at c h n.turns) → IsListed (turns_of todo) n.turns ⊎ GoneOn c (forms known) (point_at c h n.turns)
-        by (inl (inl e)) = inr (subst (GoneOn c (forms known)) (here ∙ ap (point_at c h) e) (gone_on c (forms known) o.point below))
+        by : IsListed (turns ∷ todo) n.turns ⊎ GoneOn c (forms known) (point_at c h n.turns) → IsListed todo n.turns ⊎ GoneOn c (forms known) (point_at c h n.turns)
+        by (inl (inl e)) = inr (subst (GoneOn c (forms known)) (here ∙ ap (point_at c h) e) (gone_on c (forms known) x below))
         by (inl (inr k)) = inl k
         by (inr k) = inr k
 
--- the last state to go on from is taken
-pub taken : (c : Program) (h : List Entry) (known : List KnownValue) (todo : List OpenValue) (o : OpenValue) → Explores c h known (todo ++ o ∷ []) → Explores c h known (o ∷ todo)
-taken c h known todo o s = record { each = s.each; from = s.from; onward = onward; led = led }
+-- the first that is left to go on from
+pub todo_first : {K : Type 0} (xs : List (Known K)) (at : ℕ) (d : Known K) → at < length xs → todo_from xs at ≡ (get_or xs at d).turns.items ∷ todo_from xs (at + 1)
+todo_first xs at d l = ap (map (λ n. n.turns.items)) (drop-cons xs at d l ∙ ap (λ k. get_or xs at d ∷ drop k xs) next)
   where
-    onward : (n : KnownValue) → IsListed known n → IsListed (turns_of (o ∷ todo)) n.turns ⊎ GoneOn c (forms known) (point_at c h n.turns)
-    onward n l = by (s.onward n l)
-      where
-        moved : IsListed (turns_of todo) n.turns ⊎ IsListed (o.turns ∷ []) n.turns → IsListed (turns_of (o ∷ todo)) n.turns
-        moved (inl k) = inr k
-        moved (inr (inl e)) = inl e
-        moved (inr (inr k)) = absurd k
+    next : suc at ≡ at + 1
+    next = omega arith
 
-        by : IsListed (turns_of (todo ++ o ∷ [])) n.turns ⊎ GoneOn c (forms known) (point_at c h n.turns) → IsListed (turns_of (o ∷ todo)) n.turns ⊎ GoneOn c (forms known) (point_at c h n.turns)
-        by (inl k) = inl (moved (listed_cases (turns_of todo) (o.turns ∷ []) n.turns (subst (λ l. IsListed l n.turns) (map-snoc (λ (p : OpenValue). p.turns) todo o) k)))
-        by (inr k) = inr k
+-- and none is left
+pub todo_none : {K : Type 0} (xs : List (Known K)) (at : ℕ) → length xs ≤ at → todo_from xs at ≡ []
+todo_none xs at l = ap (map (λ n. n.turns.items)) (drop_of_length-le xs l)
 
-    led : (p : OpenValue) → IsListed (o ∷ todo) p → p.point ≡ point_at c h p.turns
-    led p (inl e) = s.led p (listed_right todo (o ∷ []) p (inl e))
-    led p (inr l) = s.led p (listed_left todo (o ∷ []) p l)
+-- its turns are of actors
+pub first_actors : {K : Type 0} (form : K → Point) (c : Program) (h : List Entry) (xs : List (Known K)) (at : ℕ) (d : Known K) → at < length xs → ((n : KnownValue) → IsListed (all_known form xs) n → IsKnown c h n) → AreActors c (get_or xs at d).turns.items
+first_actors form c h xs at d l each = (each _ (listed_at (known_of form) xs at d l)).actors
 
-pub taken_from : {S : Type 0} (point : S → Point) (c : Program) (h : List Entry) (known : List KnownValue) (xs ys : List (Open S)) (o : Open S) → xs ≡ ys ++ o ∷ [] → Explores c h known (all_open point xs) → Explores c h known (open_of point o ∷ all_open point ys)
-taken_from point c h known xs ys o e s = taken c h known (all_open point ys) (open_of point o) (subst (Explores c h known) (ap (all_open point) e ∙ map-snoc (open_of point) ys o) s)
+-- the search has gone on from one more
+pub stepped : {E T K : Type 0} (r : Result T E) (form : K → Point) (c : Program) (h : List Entry) (xs ys : List (Known K)) (d : Known K) (at : ℕ) (turns : List ℕ) → at < length xs → turns ≡ (get_or xs at d).turns.items → Explores c h (all_known form xs) (todo_from xs at) → OnOk r ((i : ℕ) → i ≤ length xs → Explores c h (all_known form xs) (turns ∷ todo_from xs i) → Explores c h (all_known form ys) (todo_from ys i)) → OnOk r (Explores c h (all_known form ys) (todo_from ys (at + 1)))
+stepped (Err e) form c h xs ys d at turns l t x s = tt
+stepped (Ok v) form c h xs ys d at turns l t x s = s (at + 1) (omega (arith, l)) (subst (Explores c h (all_known form xs)) (todo_first xs at d l ∙ ap (λ z. z ∷ todo_from xs (at + 1)) (sym t)) x)
 
 -- the search begins
-pub begun : (c : Program) (h : List Entry) (x : Point) → x ≡ point_from c h → Explores c h (known_after c h x [] ∷ []) (open_after x [] ∷ [])
-begun c h x e = record { each = each; from = inl (ap (form_of c) e); onward = onward; led = led }
+pub begun : {K : Type 0} (form : K → Point) (c : Program) (h : List Entry) (x : Known K) (o : Point) → form x.key ≡ form_of c o → x.ended ≡ ended_in c o.state → o ≡ point_at c h [] → o.state.after.length ≤ 2000000 → x.turns.items ≡ [] → Explores c h (all_known form (x ∷ [])) (todo_from (x ∷ []) 0)
+begun form c h x o k e p room t = record { each = each; from = inl (k ∙ ap (form_of c) p); onward = onward }
   where
-    each : (n : KnownValue) → IsListed (known_after c h x [] ∷ []) n → IsKnown c h n
-    each n (inl k) = subst (IsKnown c h) k (is_known c h x [] e)
-    each n (inr k) = absurd k
+    at : point_at c h x.turns.items ≡ point_at c h []
+    at = ap (point_at c h) t
 
-    onward : (n : KnownValue) → IsListed (known_after c h x [] ∷ []) n → IsListed (turns_of (open_after x [] ∷ [])) n.turns ⊎ GoneOn c (forms (known_after c h x [] ∷ [])) (point_at c h n.turns)
-    onward n (inl k) = inl (inl (ap (λ (z : KnownValue). z.turns) k))
-    onward n (inr k) = absurd k
+    each : (n : KnownValue) → IsListed (all_known form (x ∷ [])) n → IsKnown c h n
+    each n (inl q) = subst (IsKnown c h) q (record { form = k ∙ ap (form_of c) (p ∙ sym at); ended = e ∙ ap (λ (z : Point). ended_in c z.state) (p ∙ sym at); actors = subst (AreActors c) (sym t) refl; room = subst (λ (z : Point). z.state.after.length ≤ 2000000) (p ∙ sym at) room })
+    each n (inr q) = absurd q
 
-    led : (o : OpenValue) → IsListed (open_after x [] ∷ []) o → o.point ≡ point_at c h o.turns
-    led o (inl k) = subst (λ (z : OpenValue). z.point ≡ point_at c h z.turns) k e
-    led o (inr k) = absurd k
+    onward : (n : KnownValue) → IsListed (all_known form (x ∷ [])) n → IsListed (todo_from (x ∷ []) 0) n.turns ⊎ GoneOn c (forms (all_known form (x ∷ []))) (point_at c h n.turns)
+    onward n (inl q) = inl (inl (ap (λ (z : KnownValue). z.turns) q))
+    onward n (inr q) = absurd q
 
 -- each outcome is that of a known state
 record Ends (c : Program) (known : List KnownValue) (x : List (List Kind)) : Type 0 where
@@ -303,8 +309,8 @@ searched c h known s = record { from = listed_left (forms known) [] _ s.from; ea
             told : Told c (outcomes_of c known) x
             told e = subst (λ (g : Point). IsListed (outcomes_of c known) (outcome c g.answers)) k.form (known_ends c known z.item z.listed (k.ended ∙ e))
 
-pub complete : FormsAreComplete → (c : Program) → IsScript c → (h : List Entry) → DueFrom c [] h → {S : Type 0} (point : S → Point) (known : List KnownValue) (todo : List (Open S)) → todo ≡ [] → Explores c h known (all_open point todo) → IsComplete c h known
-complete law c sc h d point known todo e s = none (subst (λ l. Explores c h known (all_open point l)) e s)
+pub complete : FormsAreComplete → (c : Program) → IsScript c → (h : List Entry) → DueFrom c [] h → {K : Type 0} (form : K → Point) (xs : List (Known K)) (at : ℕ) → length xs ≤ at → Explores c h (all_known form xs) (todo_from xs at) → IsComplete c h (all_known form xs)
+complete law c sc h d form xs at l s = none (subst (Explores c h (all_known form xs)) (todo_none xs at l) s)
   where
-    none : Explores c h known [] → IsComplete c h known
-    none t es due en = law c sc h d (forms known) (outcomes_of c known) (searched c h known t) es due en
+    none : Explores c h (all_known form xs) [] → IsComplete c h (all_known form xs)
+    none t es due en = law c sc h d (forms (all_known form xs)) (outcomes_of c (all_known form xs)) (searched c h (all_known form xs) t) es due en

@@ -1,11 +1,14 @@
 -- What a search knows of a race: the states that it has come to, and which of them it has still to go on from.
-use Rattle.std.specs.Prelude.{◌≡◌, ℕ, ◌<◌, ◌⊎◌, Bool, true, if◌then◌else◌, Option, Some, None, List, [], ◌∷◌, ◌++◌, map}
+use Rattle.std.specs.Prelude.{◌≡◌, ℕ, ◌<◌, ◌≤◌, ◌⊎◌, Bool, true, if◌then◌else◌, List, [], ◌∷◌, ◌++◌, length, map, nat_lt, ⊤}
+use Rattle.std.specs.List.{list_all}
 use Rattle.hm_base.specs.Program.{Program}
 use Rattle.hm_history.specs.Due.{due_in}
 use Rattle.hm_history.specs.Laws.{DueFrom}
+use Rattle.hm_history.specs.Run.{is_entry}
 use Rattle.hm_history.specs.declared.Kind.{Kind}
 use Rattle.hm_history.specs.declared.Entry.{Entry}
 use Rattle.hm_history.specs.declared.Progress.{Progress}
+use Rattle.hm_history.specs.declared.StepError.{StepError}
 use Rattle.hm_races.specs.Outcomes.{Point, point_next, point_from, point_at, outcome, ended_in, ended, answers_of}
 use Rattle.hm_races.specs.Closed.{IsListed, Outcome}
 use Rattle.hm_races.specs.Blur.{form_of}
@@ -16,9 +19,16 @@ pub record KnownValue : Type 0 where
   pub turns : List ℕ
   pub ended : Bool
 
+-- turns of actors that the script has
+abbrev pub AreActors : Program → List ℕ → Type 0
+AreActors c turns = list_all (λ a. nat_lt a (length c.actors)) turns ≡ true
+
+-- it is what its turns lead to, and the history had room for them
 pub record IsKnown (c : Program) (h : List Entry) (n : KnownValue) : Type 0 where
   pub form : n.form ≡ form_of c (point_at c h n.turns)
   pub ended : n.ended ≡ ended_in c (point_at c h n.turns).state
+  pub actors : AreActors c n.turns
+  pub room : (point_at c h n.turns).state.after.length ≤ 2000000
 
 abbrev pub forms : List KnownValue → List Point
 forms ns = map (λ n. n.form) ns
@@ -38,45 +48,35 @@ GoneOnBelow c fs x k = (a : ℕ) → a < k → GoesOn c fs x a
 abbrev pub GoneOn : Program → List Point → Point → Type 0
 GoneOn c fs x = (a : ℕ) → GoesOn c fs x a
 
--- a state from which a search has not gone on yet, and turns that lead to it
-pub record OpenValue : Type 0 where
-  pub point : Point
-  pub turns : List ℕ
-
-abbrev pub turns_of : List OpenValue → List (List ℕ)
-turns_of os = map (λ o. o.turns) os
-
--- a search: the states that are known, and those from which it has not gone on yet
-pub record Explores (c : Program) (h : List Entry) (known : List KnownValue) (todo : List OpenValue) : Type 0 where
+-- a search: the states that are known, and the turns to those from which it has not gone on yet
+pub record Explores (c : Program) (h : List Entry) (known : List KnownValue) (todo : List (List ℕ)) : Type 0 where
   pub each : (n : KnownValue) → IsListed known n → IsKnown c h n
   pub from : IsListed (forms known) (form_of c (point_from c h))
   pub onward : (n : KnownValue) → IsListed known n
-      → IsListed (turns_of todo) n.turns ⊎ GoneOn c (forms known) (point_at c h n.turns)
-  pub led : (o : OpenValue) → IsListed todo o → o.point ≡ point_at c h o.turns
+      → IsListed todo n.turns ⊎ GoneOn c (forms known) (point_at c h n.turns)
 
 -- a search that knows more: one form, and all that it knew before
-pub record Grown (c : Program) (h : List Entry) (known : List KnownValue) (todo : List OpenValue)
-    (more : List KnownValue) (left : List OpenValue) (f : Point) : Type 0 where
+pub record Grown (c : Program) (h : List Entry) (known : List KnownValue) (todo : List (List ℕ))
+    (more : List KnownValue) (left : List (List ℕ)) (f : Point) : Type 0 where
   pub listed : IsListed (forms more) f
   pub before : (g : Point) → IsListed (forms known) g → IsListed (forms more) g
-  pub explores : (o : OpenValue) → Explores c h known (o ∷ todo) → Explores c h more (o ∷ left)
+  pub explores : (o : List ℕ) → Explores c h known (o ∷ todo) → Explores c h more (o ∷ left)
+  pub no_fewer : length known ≤ length more
 
 -- and the state after what is due to an actor, if something is
-pub record GoneOnBy (c : Program) (h : List Entry) (known : List KnownValue) (todo : List OpenValue)
-    (more : List KnownValue) (left : List OpenValue) (x : Point) (a : ℕ) : Type 0 where
+pub record GoneOnBy (c : Program) (h : List Entry) (known : List KnownValue) (todo : List (List ℕ))
+    (more : List KnownValue) (left : List (List ℕ)) (x : Point) (a : ℕ) : Type 0 where
   pub on : GoesOn c (forms more) x a
   pub before : (g : Point) → IsListed (forms known) g → IsListed (forms more) g
-  pub explores : (o : OpenValue) → Explores c h known (o ∷ todo) → Explores c h more (o ∷ left)
+  pub explores : (o : List ℕ) → Explores c h known (o ∷ todo) → Explores c h more (o ∷ left)
+  pub no_fewer : length known ≤ length more
 
--- what a turn of an actor makes of a point: the point after what was due, or none where nothing was
-pub record Went (c : Program) (x : Point) (a : ℕ) (y : Point) : Type 0 where
-  pub entry : Entry
-  pub due : due_in c x.state a ≡ Progress.Did entry
-  pub same : y ≡ point_next c x entry
-
-abbrev pub IsAfter : Program → Point → ℕ → Option Point → Type 0
-IsAfter c x a None = (e : Entry) → due_in c x.state a ≡ Progress.Did e → ⊥
-IsAfter c x a (Some y) = Went c x a y
+-- why a race fails: memory; or after some turns the history is full, and an entry is due
+abbrev pub MayFail : Program → List Entry → StepError → Type 0
+MayFail c h StepError.NoMemory = ⊤
+MayFail c h (StepError.Full n) =
+    (n ≡ 2000000) × (turns : List ℕ) × (a : ℕ)
+    × ((point_at c h turns).state.after.length ≡ 2000000) × (is_entry (due_in c (point_at c h turns).state a) ≡ true)
 
 -- after every list of turns after which all operations have ended, the outcome is one of these
 abbrev pub IsComplete : Program → List Entry → List KnownValue → Type 0

@@ -1,9 +1,8 @@
 -- What a search keeps, as its definitions see it.
-use Rattle.std.specs.Prelude.{List, map}
+use Rattle.std.specs.Prelude.{ℕ, List, map, drop}
 use Rattle.hm_races.specs.Outcomes.{Point}
-use Rattle.hm_race_search.specs.Known.{KnownValue, OpenValue}
+use Rattle.hm_race_search.specs.Known.{KnownValue}
 use Rattle.hm_race_search.specs.declared.known.Known.{Known}
-use Rattle.hm_race_search.specs.declared.known.Open.{Open}
 
 abbrev pub known_of : {K : Type 0} → (K → Point) → Known K → KnownValue
 known_of form n = record { form = form n.key; turns = n.turns.items; ended = n.ended }
@@ -11,8 +10,6 @@ known_of form n = record { form = form n.key; turns = n.turns.items; ended = n.e
 abbrev pub all_known : {K : Type 0} → (K → Point) → List (Known K) → List KnownValue
 all_known form ns = map (known_of form) ns
 
-abbrev pub open_of : {S : Type 0} → (S → Point) → Open S → OpenValue
-open_of point o = record { point = point o.state; turns = o.turns.items }
-
-abbrev pub all_open : {S : Type 0} → (S → Point) → List (Open S) → List OpenValue
-all_open point os = map (open_of point) os
+-- the turns to those from this place on
+abbrev pub todo_from : {K : Type 0} → List (Known K) → ℕ → List (List ℕ)
+todo_from ns at = map (λ n. n.turns.items) (drop at ns)

@@ -1,8 +1,7 @@
-// The states that a search knows, and those from which it has still to go on.
+// The states that a search knows, in the order in which it came to them.
 ghost use Rattle.std.specs.Prelude.{◌≡◌, ◌∷◌, ◌++◌, [], true, OnOk};
 ghost use Rattle.hm_races.specs.Closed.{IsListed};
-ghost use Rattle.hm_races.specs.Outcomes.{Point};
-ghost use Rattle.hm_race_search.specs.Values.{all_known, all_open};
+ghost use Rattle.hm_race_search.specs.Values.{all_known};
 ghost use Rattle.hm_race_search.specs.Known.{forms};
 
 use crate::race::RaceKey;
@@ -18,18 +17,10 @@ pub struct Known<K> {
     pub ended: bool,
 }
 
-/// A state from which a search has still to go on.
+/// All states that a search knows.
 #[derive(Drop)]
-pub struct Open<S> {
-    pub state: S,
-    pub turns: Vec<Actor>,
-}
-
-/// All states that a search knows, and of these the ones from which it has still to go on, the next one last.
-#[derive(Drop)]
-pub struct States<K, S> {
+pub struct States<K> {
     pub known: Vec<Known<K>>,
-    pub todo: Vec<Open<S>>,
     // By the bucket of a key, where states with such keys stand among those that are known.
     places: BTreeMap<u64, Vec<usize>>,
 }
@@ -46,15 +37,13 @@ fn any_same<K: RaceKey>(known: &[Known<K>], places: &[usize], key: &K) -> bool
     false
 }
 
-impl<K: RaceKey + Drop, S: Drop> States<K, S> {
+impl<K: RaceKey + Drop> States<K> {
     /// No state.
-    pub fn new(alloc: Global) -> States<K, S>
-        ensures known { result.known.items ≡ [] }
-        ensures todo { result.todo.items ≡ [] }
+    pub fn new(alloc: Global) -> States<K>
+        ensures { result.known.items ≡ [] }
     {
         States {
             known: Vec::new(alloc),
-            todo: Vec::new(alloc),
             places: BTreeMap::new(alloc),
         }
     }
@@ -71,8 +60,7 @@ impl<K: RaceKey + Drop, S: Drop> States<K, S> {
 
     // Notes that the next state that is pushed has this bucket.
     fn note(&mut self, alloc: Global, bucket: u64) -> Result<(), NoMemory>
-        ensures known { self.new.known ≡ self.old.known }
-        ensures todo { self.new.todo ≡ self.old.todo }
+        ensures { self.new.known ≡ self.old.known }
     {
         let at = self.known.len();
         if let Some(places) = self.places.get_mut(&bucket) {
@@ -86,33 +74,20 @@ impl<K: RaceKey + Drop, S: Drop> States<K, S> {
         }
     }
 
-    /// The state is known from now on, and the search has still to go on from it.
+    /// The state is known from now on, as the last.
     pub fn push(
         &mut self,
         alloc: Global,
         key: K,
-        state: S,
         turns: Vec<Actor>,
         ended: bool,
     ) -> Result<(), NoMemory>
-        ensures known { OnOk result
-            (all_known K.form self.new.known.items
-            ≡ all_known K.form self.old.known.items
-            ++ record { form = K.form key; turns = turns.items; ended = ended } ∷ []) }
-        ensures todo { OnOk result
-            ((point : S → Point)
-            → all_open point self.new.todo.items
-            ≡ all_open point self.old.todo.items
-            ++ record { point = point state; turns = turns.items } ∷ []) }
+        ensures { OnOk result
+            (self.new.known.items
+            ≡ self.old.known.items ++ record { key = key; turns = turns; ended = ended } ∷ []) }
     {
         self.note(alloc, key.bucket())?;
-        let copy = Vec::from_slice(alloc, turns.as_slice())?;
-        self.known.push(Known {
-            key,
-            turns: copy,
-            ended,
-        })?;
-        self.todo.push(Open { state, turns })?;
+        self.known.push(Known { key, turns, ended })?;
         Ok(())
     }
 }

@@ -5,6 +5,6 @@ mod known;
 mod race;
 mod search;
 
-pub use known::{Known, Open};
+pub use known::Known;
 pub use race::{Race, RaceKey};
 pub use search::{Explored, explore};

@@ -1,11 +1,13 @@
 // What a search asks of a race.
-ghost use Rattle.std.specs.Prelude.{◌≡◌, [], List, true, length, option_map, IfOk};
+ghost use Rattle.std.specs.Prelude.{◌≡◌, ◌≤◌, [], List, true, length, IfOk, IfErr};
 ghost use Rattle.hm_base.specs.Program.{Program, IsScript};
+ghost use Rattle.hm_history.specs.Due.{due_in};
 ghost use Rattle.hm_history.specs.Laws.{DueFrom};
+ghost use Rattle.hm_history.specs.Run.{is_entry};
 ghost use Rattle.hm_history.specs.declared.Entry.{Entry as AnyEntry};
-ghost use Rattle.hm_races.specs.Outcomes.{Point, point_from, ended_in};
+ghost use Rattle.hm_races.specs.Outcomes.{Point, point_at, ended_in};
 ghost use Rattle.hm_races.specs.Blur.{form_of};
-ghost use Rattle.hm_race_search.specs.Known.{IsAfter};
+ghost use Rattle.hm_race_search.specs.Known.{MayFail};
 
 use hm_base::Actor;
 use hm_history::StepError;
@@ -22,17 +24,20 @@ pub trait RaceKey {
     fn bucket(&self) -> u64;
 }
 
-/// A race after its set-up: its states, and what an actor's turn makes of each.
+/// A race after its set-up. A state of it is kept as the turns that lead there.
 pub trait Race {
     type Key: RaceKey + Drop;
 
-    type State: Drop;
+    /// A state that was gone back to, at which turns can be asked for.
+    type Open: Drop;
 
     ghost script: { Self → Program };
 
     ghost set_up: { Self → List AnyEntry };
 
-    ghost point: { Self.State → Point };
+    ghost opened: { Self.Open → Point };
+
+    ghost Belongs: { Self → Self.Open → Type 0 };
 
     /// Costs nothing: it hands the prover what holds of every race.
     fn facts(&self)
@@ -43,18 +48,26 @@ pub trait Race {
     fn actors(&self) -> u32
         ensures { result ≡ length (script self.now).actors };
 
-    /// The state after the set-up.
-    fn start(&self) -> Result<Self::State, StepError>
-        ensures { IfOk result (λ s. point s ≡ point_from (script self.now) (set_up self.now)) };
+    /// The state after these turns. A turn at which nothing is due changes nothing.
+    fn open(&self, turns: &[Actor]) -> Result<Self::Open, StepError>
+        ensures point { IfOk result (λ o. opened o ≡ point_at (script self.now) (set_up self.now) turns.now) }
+        ensures room { IfOk result (λ o. (opened o).state.after.length ≤ 2000000) }
+        ensures belongs { IfOk result (λ o. Belongs self.now o) }
+        ensures fails { IfErr result (λ e. MayFail (script self.now) (set_up self.now) e) };
 
-    /// The state after a turn of the actor, if the turn adds an entry.
-    fn after(&self, state: &Self::State, actor: Actor) -> Result<Option<Self::State>, StepError>
-        ensures { IfOk result (λ r. IsAfter (script self.now) (point state.now) actor (option_map point r)) };
+    /// Whether a turn of the actor adds an entry there.
+    fn adds(&self, open: &Self::Open, actor: Actor) -> Result<bool, StepError>
+        requires { Belongs self.now open.now }
+        ensures adds { IfOk result (λ b. b ≡ is_entry (due_in (script self.now) (opened open.now).state actor)) }
+        ensures fails { IfErr result (λ e. MayFail (script self.now) (set_up self.now) e) };
 
-    fn key(&self, state: &Self::State) -> Result<Self::Key, StepError>
-        ensures { IfOk result (λ k. Self.Key.form k ≡ form_of (script self.now) (point state.now)) };
+    fn key(&self, open: &Self::Open) -> Result<Self::Key, StepError>
+        requires { Belongs self.now open.now }
+        ensures form { IfOk result (λ k. Self.Key.form k ≡ form_of (script self.now) (opened open.now)) }
+        ensures fails { IfErr result (λ e. MayFail (script self.now) (set_up self.now) e) };
 
-    /// Whether all operations have ended.
-    fn ended(&self, state: &Self::State) -> bool
-        ensures { result ≡ ended_in (script self.now) (point state.now).state };
+    /// Whether all operations have ended there.
+    fn ended(&self, open: &Self::Open) -> bool
+        requires { Belongs self.now open.now }
+        ensures { result ≡ ended_in (script self.now) (opened open.now).state };
 }

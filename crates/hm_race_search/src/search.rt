@@ -1,11 +1,11 @@
 // The search: from each state that is known it goes on by a turn of each actor, until nothing new comes.
-ghost use Rattle.std.specs.Prelude.{◌≡◌, ◌∷◌, ◌++◌, [], true, IfOk, OnOk};
-ghost use Rattle.hm_races.specs.Outcomes.{point_at, ended_in};
+ghost use Rattle.std.specs.Prelude.{◌≡◌, ◌∷◌, ◌++◌, ◌+◌, ◌<◌, ◌≤◌, [], true, false, ℕ, length, IfOk, IfErr, OnOk, OnErr};
+ghost use Rattle.hm_races.specs.Outcomes.{point_at};
 ghost use Rattle.hm_races.specs.Blur.{form_of};
-ghost use Rattle.hm_race_search.specs.Values.{all_known, all_open, open_of};
-ghost use Rattle.hm_race_search.specs.Known.{Explores, Grown, GoneOnBy, IsComplete, AreReal, AreKnown};
+ghost use Rattle.hm_race_search.specs.Values.{all_known, todo_from};
+ghost use Rattle.hm_race_search.specs.Known.{AreActors, Explores, Grown, GoneOnBy, IsComplete, AreReal, AreKnown, MayFail};
 
-use crate::known::{Known, Open, States};
+use crate::known::{Known, States};
 use crate::race::Race;
 use hm_base::{Actor, NoMemory};
 use hm_history::StepError;
@@ -27,135 +27,160 @@ fn longer(alloc: Global, turns: &Vec<Actor>, actor: Actor) -> Result<Vec<Actor>,
     Ok(more)
 }
 
-// The state is known, and the search has still to go on from it.
-fn push<R: Race>(
-    race: &R,
-    alloc: Global,
-    states: &mut States<R::Key, R::State>,
-    key: R::Key,
-    state: R::State,
-    turns: Vec<Actor>,
-) -> Result<(), StepError>
-    ensures known { OnOk result
-        (all_known R.Key.form states.new.known.items
-        ≡ all_known R.Key.form states.old.known.items
-        ++ record {
-          form = R.Key.form key;
-          turns = turns.items;
-          ended = ended_in (R.script race.now) (R.point state).state;
-        } ∷ []) }
-    ensures todo { OnOk result
-        (all_open R.point states.new.todo.items
-        ≡ all_open R.point states.old.todo.items
-        ++ record { point = R.point state; turns = turns.items } ∷ []) }
-{
-    let ended = race.ended(&state);
-    match states.push(alloc, key, state, turns, ended) {
-        Ok(()) => Ok(()),
-        Err(_) => Err(StepError::NoMemory),
-    }
-}
-
 // The state after these turns is known, be it new or not.
 fn add<R: Race>(
     race: &R,
     alloc: Global,
-    states: &mut States<R::Key, R::State>,
-    state: R::State,
+    states: &mut States<R::Key>,
     turns: Vec<Actor>,
 ) -> Result<(), StepError>
-    requires { R.point state ≡ point_at (R.script race.now) (R.set_up race.now) turns.items }
-    ensures { OnOk result
-        (Grown (R.script race.now) (R.set_up race.now) (all_known R.Key.form states.old.known.items)
-        (all_open R.point states.old.todo.items) (all_known R.Key.form states.new.known.items)
-        (all_open R.point states.new.todo.items) (form_of (R.script race.now) (R.point state))) }
+    requires { AreActors (R.script race.now) turns.items }
+    ensures grown { OnOk result
+        ((at : ℕ) → at ≤ length states.old.known.items
+        → Grown (R.script race.now) (R.set_up race.now) (all_known R.Key.form states.old.known.items)
+        (todo_from states.old.known.items at) (all_known R.Key.form states.new.known.items)
+        (todo_from states.new.known.items at)
+        (form_of (R.script race.now) (point_at (R.script race.now) (R.set_up race.now) turns.items))) }
+    ensures fails { IfErr result (λ e. MayFail (R.script race.now) (R.set_up race.now) e) }
 {
-    let key = race.key(&state)?;
+    let open = race.open(turns.as_slice())?;
+    let key = race.key(&open)?;
     if states.has(&key) {
         return Ok(());
     }
-    push(race, alloc, states, key, state, turns)
+    match states.push(alloc, key, turns, race.ended(&open)) {
+        Ok(()) => Ok(()),
+        Err(NoMemory) => Err(StepError::NoMemory),
+    }
 }
 
 // The state after what is due to the actor, if something is, is known.
 fn go<R: Race>(
     race: &R,
     alloc: Global,
-    states: &mut States<R::Key, R::State>,
-    from: &Open<R::State>,
+    states: &mut States<R::Key>,
+    open: &R::Open,
+    turns: &Vec<Actor>,
     actor: Actor,
 ) -> Result<(), StepError>
-    requires { R.point from.now.state ≡ point_at (R.script race.now) (R.set_up race.now) from.now.turns.items }
-    ensures { OnOk result
-        (GoneOnBy (R.script race.now) (R.set_up race.now) (all_known R.Key.form states.old.known.items)
-        (all_open R.point states.old.todo.items) (all_known R.Key.form states.new.known.items)
-        (all_open R.point states.new.todo.items) (R.point from.now.state) actor) }
+    requires belongs { R.Belongs race.now open.now }
+    requires point { R.opened open.now ≡ point_at (R.script race.now) (R.set_up race.now) turns.now.items }
+    requires turns { AreActors (R.script race.now) turns.now.items }
+    requires actor { actor < length (R.script race.now).actors }
+    ensures gone { OnOk result
+        ((at : ℕ) → at ≤ length states.old.known.items
+        → GoneOnBy (R.script race.now) (R.set_up race.now) (all_known R.Key.form states.old.known.items)
+        (todo_from states.old.known.items at) (all_known R.Key.form states.new.known.items)
+        (todo_from states.new.known.items at) (R.opened open.now) actor) }
+    ensures fails { IfErr result (λ e. MayFail (R.script race.now) (R.set_up race.now) e) }
 {
-    match race.after(&from.state, actor)? {
-        None => Ok(()),
-        Some(state) => match longer(alloc, &from.turns, actor) {
-            Ok(turns) => add(race, alloc, states, state, turns),
-            Err(_) => Err(StepError::NoMemory),
-        },
+    if !race.adds(open, actor)? {
+        return Ok(());
+    }
+    match longer(alloc, turns, actor) {
+        Ok(turns) => add(race, alloc, states, turns),
+        Err(NoMemory) => Err(StepError::NoMemory),
     }
 }
 
-// All states to which a turn leads from this one are known.
+// All states to which a turn leads from the state after these turns are known.
 fn expand<R: Race>(
     race: &R,
     alloc: Global,
-    states: &mut States<R::Key, R::State>,
-    from: &Open<R::State>,
+    states: &mut States<R::Key>,
+    turns: &Vec<Actor>,
 ) -> Result<(), StepError>
-    requires { Explores (R.script race.now) (R.set_up race.now) (all_known R.Key.form states.old.known.items)
-        (open_of R.point from.now ∷ all_open R.point states.old.todo.items) }
-    ensures { OnOk result
-        (Explores (R.script race.now) (R.set_up race.now) (all_known R.Key.form states.new.known.items)
-        (all_open R.point states.new.todo.items)) }
+    requires { AreActors (R.script race.now) turns.now.items }
+    ensures explores { OnOk result
+        ((at : ℕ) → at ≤ length states.old.known.items
+        → Explores (R.script race.now) (R.set_up race.now) (all_known R.Key.form states.old.known.items)
+        (turns.now.items ∷ todo_from states.old.known.items at)
+        → Explores (R.script race.now) (R.set_up race.now) (all_known R.Key.form states.new.known.items)
+        (todo_from states.new.known.items at)) }
+    ensures more { OnOk result (length states.old.known.items ≤ length states.new.known.items) }
+    ensures fails { IfErr result (λ e. MayFail (R.script race.now) (R.set_up race.now) e) }
 {
     race.facts();
+    let open = race.open(turns.as_slice())?;
     for number in 0..race.actors() {
-        go(race, alloc, states, from, Actor::new(number))?;
+        go(race, alloc, states, &open, turns, Actor::new(number))?;
     }
     Ok(())
 }
 
-// The search before its first step: it knows the state after the set-up.
-fn begin<R: Race>(race: &R, alloc: Global) -> Result<States<R::Key, R::State>, StepError>
-    ensures { IfOk result (λ s.
-        Explores (R.script race.now) (R.set_up race.now) (all_known R.Key.form s.known.items)
-        (all_open R.point s.todo.items)) }
+// The search goes on from the state at this place.
+fn step<R: Race>(
+    race: &R,
+    alloc: Global,
+    states: &mut States<R::Key>,
+    at: usize,
+) -> Result<(), StepError>
+    requires at { at < length states.old.known.items }
+    requires explores { Explores (R.script race.now) (R.set_up race.now) (all_known R.Key.form states.old.known.items)
+        (todo_from states.old.known.items at) }
+    ensures explores { OnOk result
+        (Explores (R.script race.now) (R.set_up race.now) (all_known R.Key.form states.new.known.items)
+        (todo_from states.new.known.items (at + 1))) }
+    ensures more { OnOk result (length states.old.known.items ≤ length states.new.known.items) }
+    ensures fails { IfErr result (λ e. MayFail (R.script race.now) (R.set_up race.now) e) }
 {
-    let mut states = States::new(alloc);
-    let state = race.start()?;
-    let key = race.key(&state)?;
-    push(race, alloc, &mut states, key, state, Vec::new(alloc))?;
-    Ok(states)
+    let turns = match Vec::from_slice(alloc, states.known[at].turns.as_slice()) {
+        Ok(turns) => turns,
+        Err(_) => return Err(StepError::NoMemory),
+    };
+    expand(race, alloc, states, &turns)
 }
 
-/// All states to which the race can come, where that takes at most so many steps; else some of them.
+// The search before its first step: it knows the state after the set-up.
+fn begin<R: Race>(race: &R, alloc: Global) -> Result<States<R::Key>, StepError>
+    ensures explores { IfOk result (λ s.
+        Explores (R.script race.now) (R.set_up race.now) (all_known R.Key.form s.known.items)
+        (todo_from s.known.items 0)) }
+    ensures fails { IfErr result (λ e. MayFail (R.script race.now) (R.set_up race.now) e) }
+{
+    let mut states = States::new(alloc);
+    let open = race.open(&[])?;
+    let key = race.key(&open)?;
+    match states.push(alloc, key, Vec::new(alloc), race.ended(&open)) {
+        Ok(()) => Ok(states),
+        Err(NoMemory) => Err(StepError::NoMemory),
+    }
+}
+
+/// All states to which the race can come, where these are at most so many; else more than so many of them. It comes
+/// first to the states that are the fewest turns away.
 pub fn explore<R: Race>(race: &R, alloc: Global, most: u64) -> Result<Explored<R::Key>, StepError>
     ensures complete { IfOk result (λ x. x.whole ≡ true
         → IsComplete (R.script race.now) (R.set_up race.now) (all_known R.Key.form x.known.items)) }
+    ensures cut { IfOk result (λ x. x.whole ≡ false → most < length x.known.items) }
     ensures real { IfOk result (λ x.
         AreReal (R.script race.now) (R.set_up race.now) (all_known R.Key.form x.known.items)) }
     ensures known { IfOk result (λ x.
         AreKnown (R.script race.now) (R.set_up race.now) (all_known R.Key.form x.known.items)) }
+    ensures fails { IfErr result (λ e. MayFail (R.script race.now) (R.set_up race.now) e) }
 {
     race.facts();
     hm_races::forms_are_complete();
     let mut states = begin(race, alloc)?;
-    for step in 0..most {
-        match states.todo.pop() {
-            None => return Ok(Explored {
+    for at in 0..most {
+        let found = states.known.len() as u64;
+        if found <= at {
+            return Ok(Explored {
                 known: states.known,
                 whole: true,
-            }),
-            Some(from) => expand(race, alloc, &mut states, &from)?,
+            });
         }
+        if found > most {
+            return Ok(Explored {
+                known: states.known,
+                whole: false,
+            });
+        }
+        step(race, alloc, &mut states, at as usize)?;
     }
+    let whole = states.known.len() as u64 <= most;
     Ok(Explored {
         known: states.known,
-        whole: false,
+        whole,
     })
 }

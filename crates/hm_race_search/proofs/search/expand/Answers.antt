@@ -1,15 +1,22 @@
-use Rattle.std.proofs.Common.{refl, inl, arith}
-use Rattle.hm_race_search.proofs.Exploring.{below_next, below_upto, done_with}
+use Rattle.std.proofs.Common.{arith, ap, ◌∙◌}
+use Rattle.hm_races.specs.Outcomes.{point_at}
+use Rattle.hm_race_search.proofs.Exploring.{below_next, below_upto, done_with, no_fewer}
 use Rattle.hm_race_search.proofs.search.expand.Goals as goal
 
-pub go-requires : goal.go-requires
-go-requires g c = c.loop-number.invariant.explores.led _ (inl refl)
-
 pub loop-number-preserved : goal.loop-number-preserved
-loop-number-preserved g c = record {
-  explores = c.in_ok-go.ensures.explores _ c.loop-number.invariant.explores;
-  below = below_next (g.R.Race.script c.args.race.now) _ _ (g.R.Race.point c.args.from.now.state) c.loop-number.number _ c.in_ok-go.ensures.before c.loop-number.invariant.below c.new.ensures c.in_ok-go.ensures.on;
-}
+loop-number-preserved g c =
+    let now = c.in_ok-go.ensures.gone 0 (omega arith) in
+    let more = c.loop-number.invariant.more in
+    record {
+      explores = λ at l s. (c.in_ok-go.ensures.gone at (omega (arith, l, more))).explores _ (c.loop-number.invariant.explores at l s);
+      below = below_next (g.R.Race.script c.args.race.now) _ _ (g.R.Race.opened c.in_ok-open.open) c.loop-number.number _ now.before c.loop-number.invariant.below c.new.ensures now.on;
+      more = no_fewer g.R.Key.RaceKey.form _ _ _ more now.no_fewer;
+    }
 
-pub returns : goal.returns
-returns g c = done_with (g.R.Race.script c.args.race.now) _ _ _ _ c.loop-number.invariant.explores (below_upto (g.R.Race.script c.args.race.now) _ (g.R.Race.point c.args.from.now.state) _ c.loop-number.number (omega (arith, c.loop-number-test.false, c.actors-number-end.ensures)) c.loop-number.invariant.below)
+pub returns-clause-explores : goal.returns-clause-explores
+returns-clause-explores g c = λ at l s.
+    let script = g.R.Race.script c.args.race.now in
+    let set_up = g.R.Race.set_up c.args.race.now in
+    let state = g.R.Race.opened c.in_ok-open.open in
+    done_with script set_up _ _ c.args.turns.now.items state (c.in_ok-open.ensures.point ∙ ap (point_at script set_up) c.as_slice.ensures.value) (c.loop-number.invariant.explores at l s)
+    (below_upto script _ state _ c.loop-number.number (omega (arith, c.loop-number-test.false, c.actors-number-end.ensures)) c.loop-number.invariant.below)
