@@ -1,3 +1,4 @@
 pub mod Following
+pub mod Formed
 pub mod Histories
 pub mod Nobody

@@ -1,5 +1,5 @@
 // How far the actors are, without positions and absolute sequences.
-ghost use Rattle.std.specs.Prelude.{◌≡◌, ℕ, map, IfOk};
+ghost use Rattle.std.specs.Prelude.{◌≡◌, ℕ, true, map, IfOk};
 ghost use Rattle.hm_history.specs.Sequences.{interval_seq};
 ghost use Rattle.hm_history.specs.Going.{op_at};
 ghost use Rattle.hm_races.specs.Positions.{forget_going};
@@ -10,6 +10,7 @@ ghost use Rattle.hm_race_forms.specs.SmallSeqs.{interval_in};
 ghost use Rattle.hm_race_forms.specs.GoingsRead.{noted, blurred_touch, blurred_option, blurred_phase, going_in, goings_in};
 
 use crate::seqs::SeqRows;
+use crate::stacks::same_items;
 use hm_base::{Actor, MirrorId, NoMemory};
 use hm_history::phases::{Migrating, Phase, Touch};
 use hm_phases::Items;
@@ -165,4 +166,43 @@ pub fn goings_of(alloc: Global, world: &World, seqs: &SeqRows) -> Result<Vec<Goi
         all.push(going_of(alloc, world, seqs, Actor::new(actor))?)?;
     }
     Ok(all)
+}
+
+fn same_records(one: &[Migrating], other: &[Migrating]) -> bool
+    ensures { result ≡ true → one.now ≡ other.now }
+{
+    if one.len() != other.len() {
+        return false;
+    }
+    for at in 0..one.len() {
+        if one[at] != other[at] {
+            return false;
+        }
+    }
+    true
+}
+
+// Whether both are as far.
+fn same_going(one: &GoingKey, other: &GoingKey) -> bool
+    ensures { result ≡ true → going_in one.now ≡ going_in other.now }
+{
+    if one.index != other.index || !same_items(&one.items, &other.items) {
+        return false;
+    }
+    same_records(&one.records, &other.records)
+}
+
+/// Whether all actors of both are as far.
+pub fn same_goings(one: &[GoingKey], other: &[GoingKey]) -> bool
+    ensures { result ≡ true → (a : ℕ) → goings_in one.now a ≡ goings_in other.now a }
+{
+    if one.len() != other.len() {
+        return false;
+    }
+    for actor in 0..one.len() {
+        if !same_going(&one[actor], &other[actor]) {
+            return false;
+        }
+    }
+    true
 }

@@ -1,0 +1,11 @@
+-- The areas of processes that a key keeps.
+use Rattle.std.specs.Prelude.{ℕ, Option, None, Some, List, [], slice_get}
+use Rattle.hm_base.specs.declared.area.Area.{Area}
+use Rattle.hm_race_forms.specs.declared.areas.AreaList.{AreaList}
+
+abbrev pub areas_at : Option AreaList → List Area
+areas_at None = []
+areas_at (Some x) = x.areas.items
+
+abbrev pub areas_in : List AreaList → ℕ → List Area
+areas_in xs p = areas_at (slice_get xs p)
