@@ -56,18 +56,18 @@ pub trait Race {
         ensures fails { IfErr result (λ e. MayFail (script self.now) (set_up self.now) e) };
 
     /// Whether a turn of the actor adds an entry there.
-    fn adds(&self, open: &Self::Open, actor: Actor) -> Result<bool, StepError>
-        requires { Belongs self.now open.now }
-        ensures adds { IfOk result (λ b. b ≡ is_entry (due_in (script self.now) (opened open.now).state actor)) }
+    fn adds(&self, here: &Self::Open, actor: Actor) -> Result<bool, StepError>
+        requires { Belongs self.now here.now }
+        ensures adds { IfOk result (λ b. b ≡ is_entry (due_in (script self.now) (opened here.now).state actor)) }
         ensures fails { IfErr result (λ e. MayFail (script self.now) (set_up self.now) e) };
 
-    fn key(&self, open: &Self::Open) -> Result<Self::Key, StepError>
-        requires { Belongs self.now open.now }
-        ensures form { IfOk result (λ k. Self.Key.form k ≡ form_of (script self.now) (opened open.now)) }
+    fn key(&self, here: &Self::Open) -> Result<Self::Key, StepError>
+        requires { Belongs self.now here.now }
+        ensures form { IfOk result (λ k. Self.Key.form k ≡ form_of (script self.now) (opened here.now)) }
         ensures fails { IfErr result (λ e. MayFail (script self.now) (set_up self.now) e) };
 
     /// Whether all operations have ended there.
-    fn ended(&self, open: &Self::Open) -> bool
-        requires { Belongs self.now open.now }
-        ensures { result ≡ ended_in (script self.now) (opened open.now).state };
+    fn ended(&self, here: &Self::Open) -> bool
+        requires { Belongs self.now here.now }
+        ensures { result ≡ ended_in (script self.now) (opened here.now).state };
 }

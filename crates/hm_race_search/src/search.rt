@@ -59,22 +59,22 @@ fn go<R: Race>(
     race: &R,
     alloc: Global,
     states: &mut States<R::Key>,
-    open: &R::Open,
+    here: &R::Open,
     turns: &Vec<Actor>,
     actor: Actor,
 ) -> Result<(), StepError>
-    requires belongs { R.Belongs race.now open.now }
-    requires point { R.opened open.now ≡ point_at (R.script race.now) (R.set_up race.now) turns.now.items }
+    requires belongs { R.Belongs race.now here.now }
+    requires point { R.opened here.now ≡ point_at (R.script race.now) (R.set_up race.now) turns.now.items }
     requires turns { AreActors (R.script race.now) turns.now.items }
     requires actor { actor < length (R.script race.now).actors }
     ensures gone { OnOk result
         ((at : ℕ) → at ≤ length states.old.known.items
         → GoneOnBy (R.script race.now) (R.set_up race.now) (all_known R.Key.form states.old.known.items)
         (todo_from states.old.known.items at) (all_known R.Key.form states.new.known.items)
-        (todo_from states.new.known.items at) (R.opened open.now) actor) }
+        (todo_from states.new.known.items at) (R.opened here.now) actor) }
     ensures fails { IfErr result (λ e. MayFail (R.script race.now) (R.set_up race.now) e) }
 {
-    if !race.adds(open, actor)? {
+    if !race.adds(here, actor)? {
         return Ok(());
     }
     match longer(alloc, turns, actor) {
