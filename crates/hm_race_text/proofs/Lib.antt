@@ -1,0 +1,4 @@
+mod Schedules
+mod Led
+mod Blocks
+mod Texts

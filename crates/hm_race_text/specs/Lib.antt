@@ -1,0 +1,5 @@
+pub mod Words
+pub mod Answers
+pub mod Schedule
+pub mod Text
+pub mod Laws

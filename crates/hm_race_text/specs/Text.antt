@@ -1,0 +1,59 @@
+-- The text of a search: its outcomes, each with turns that lead to it, and how many states it knows.
+use Rattle.std.specs.Prelude.{ℕ, ◌+◌, Bool, if◌then◌else◌, List, [], ◌∷◌, ◌++◌, fold, codes}
+use Rattle.std.specs.List.{flat_map, list_any}
+use Rattle.std.specs.Str.{bytes_eq}
+use Rattle.std.specs.Fmt.{decimal}
+use Rattle.hm_base.specs.declared.ops.ScheduleLine.{ScheduleLine}
+use Rattle.hm_history.specs.declared.Kind.{Kind}
+use Rattle.hm_script.specs.Spelling.{line, schedule_words}
+use Rattle.hm_race_text.specs.Answers.{answer_lines}
+use Rattle.hm_race_text.specs.Schedule.{packed}
+use Rattle.hm_race_text.specs.declared.block.Block.{Block}
+
+-- the answers of the actors at the end of a race, and turns that lead there
+pub record Way : Type 0 where
+  pub answers : List (List Kind)
+  pub turns : List ℕ
+
+abbrev pub block_of : Way → Block
+block_of w = record { lines = answer_lines w.answers; turns = w.turns }
+
+-- some block has these lines
+abbrev pub has_lines : List ℕ → List Block → Bool
+has_lines lines bs = list_any (λ b. bytes_eq b.lines lines) bs
+
+-- with one more, unless its lines are there already
+abbrev pub with_block : List Block → Block → List Block
+with_block bs b = if has_lines b.lines bs then bs else bs ++ b ∷ []
+
+-- of these ways the first to each outcome
+abbrev pub blocks_of : List Way → List Block
+blocks_of ws = fold (λ bs w. with_block bs (block_of w)) [] ws
+
+-- the lines of a schedule
+abbrev pub lines_text : List ScheduleLine → List ℕ
+lines_text ls = flat_map (λ l. line (schedule_words l)) ls
+
+abbrev pub turns_text : List ℕ → List ℕ
+turns_text turns = lines_text (packed turns)
+
+abbrev pub outcome_line : ℕ → List ℕ
+outcome_line n = line (codes "outcome" ∷ decimal n ∷ [])
+
+abbrev pub block_text : ℕ → Block → List ℕ
+block_text n b = outcome_line n ++ (b.lines ++ turns_text b.turns)
+
+-- the blocks, numbered from one on
+abbrev pub blocks_text : ℕ → List Block → List ℕ
+blocks_text n [] = []
+blocks_text n (b ∷ bs) = block_text n b ++ blocks_text (n + 1) bs
+
+-- whether all states are known to which the race can come
+abbrev pub whole_word : Bool → List ℕ
+whole_word whole = if whole then codes "whole" else codes "cut"
+
+abbrev pub states_line : ℕ → Bool → List ℕ
+states_line states whole = line (codes "states" ∷ decimal states ∷ whole_word whole ∷ [])
+
+unfoldable pub outcomes_text : List Block → ℕ → Bool → List ℕ
+outcomes_text bs states whole = blocks_text 1 bs ++ states_line states whole

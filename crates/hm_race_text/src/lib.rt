@@ -1,0 +1,17 @@
+// The outcomes of a race as a text: for each the answers of the actors, and a schedule that leads to it.
+#![tactic(auto)]
+
+mod answers;
+mod block;
+mod laws;
+mod outcomes;
+mod schedule;
+mod words;
+
+pub use answers::answer_lines;
+pub use block::{Block, add_block};
+pub use laws::{
+    blocks_are_found, none_twice, points_are_led, same_due, same_legal, turns_lead, turns_stand,
+    ways_are_shown,
+};
+pub use outcomes::{outcomes_text, write_outcomes};
