@@ -1,0 +1,81 @@
+-- Where the schedules lead that are told.
+use Rattle.std.proofs.Common.{◌≡◌, ℕ, ◌≤◌, Bool, true, false, List, [], ◌∷◌, ◌++◌, length, refl, sym, ap, ◌∙◌, subst, append_assoc, append-nil}
+use Rattle.hm_base.specs.Program.{Program, IsScript, run_lines, schedule_fits}
+use Rattle.hm_base.specs.declared.ops.ScheduleLine.{ScheduleLine}
+use Rattle.hm_history.specs.Going.{State}
+use Rattle.hm_history.specs.Laws.{DueFrom, RunsAreDue}
+use Rattle.hm_history.specs.Legal.{Legal}
+use Rattle.hm_history.specs.Run.{run}
+use Rattle.hm_history.specs.declared.Entry.{Entry}
+use Rattle.hm_history.specs.declared.Kind.{Kind}
+use Rattle.hm_laws.specs.Laws.{HistoryIsLegal}
+use Rattle.hm_races.specs.Outcomes.{Point, point_at, outcome, answers_of, ended, ended_in, raced}
+use Rattle.hm_race_search.specs.Known.{KnownValue, IsKnown, AreKnown}
+use Rattle.hm_race_text.specs.Laws.{TurnsLead, TurnsStand, SameLegal, LeadsTo, PointsAreLed, BlocksAreFound}
+use Rattle.hm_race_text.specs.Schedule.{with_turns}
+use Rattle.hm_race_text.specs.Text.{Way}
+use Rattle.hm_script.specs.Built.{has_drain}
+use Rattle.hm_race_top.specs.Laws.{DrainIsLast, KnownIsTrue}
+use Rattle.hm_race_top.specs.Ways.{told_turns, way_by, ways_of, EndsSo, IsTrueOf}
+use Rattle.hm_race_top.proofs.WaysKnown.{came_from}
+
+dues_join : (c : Program) (g h es : List Entry) → DueFrom c g h → DueFrom c (g ++ h) es → DueFrom c g (h ++ es)
+dues_join c g [] es d more = subst (λ (l : List Entry). DueFrom c l es) (append-nil g) more
+dues_join c g (e ∷ h) es d more = (d.0, dues_join c (g ++ e ∷ []) h es d.1 (subst (λ (l : List Entry). DueFrom c l es) (sym (append_assoc g (e ∷ []) h)) more))
+
+-- the laws that this rests on
+pub record Rests : Type 0 where
+  pub due : RunsAreDue
+  pub legal : HistoryIsLegal
+  pub lead : TurnsLead
+  pub stand : TurnsStand
+  pub same_legal : SameLegal
+  pub led : PointsAreLed
+  pub drain : DrainIsLast
+
+ends_with : Rests → (c : Program) → IsScript c → (n : KnownValue) → IsKnown c (run c) n → n.ended ≡ true → (turns : List ℕ)
+    → raced c (run c) turns ≡ raced c (run c) n.turns → (run_lines (with_turns c turns).schedule ≤ 100000 → IsScript (with_turns c turns))
+    → EndsSo c (record { answers = outcome c n.form.answers; turns = turns })
+ends_with by c script n k e turns same stands = record {
+  entries = led.entries;
+  run_is = by.lead c turns ∙ same ∙ led.same;
+  due = led.due;
+  legal = (by.same_legal c turns (run c ++ led.entries)).1 (by.legal c script (run c ++ led.entries) (dues_join c [] (run c) led.entries (by.due c) led.due));
+  ended = ap (ended_in c) led.state ∙ sym k.ended ∙ e;
+  answers = ap (outcome c) (led.answers ∙ ap (λ (x : Point). x.answers) (sym k.form));
+  script = stands;
+}
+  where
+    led : LeadsTo c (run c) n.turns (point_at c (run c) n.turns)
+    led = by.led c (run c) n.turns k.room
+
+no_lines : (c : Program) → IsScript c → run_lines (with_turns c []).schedule ≤ 100000 → IsScript (with_turns c [])
+no_lines c s few = record {
+  frames = s.frames;
+  devices = s.devices;
+  few_devices = s.few_devices;
+  skip = s.skip;
+  few_actors = s.few_actors;
+  ops = s.ops;
+  few_ops = s.few_ops;
+  schedule = subst (λ (ls : List ScheduleLine). schedule_fits (length c.actors) ls ≡ true) (sym (append-nil c.schedule)) s.schedule;
+  few_lines = few;
+  version = s.version;
+}
+
+ends_so : Rests → (c : Program) → IsScript c → (n : KnownValue) → IsKnown c (run c) n → n.ended ≡ true → EndsSo c (way_by (length c.actors) (has_drain c.schedule) n)
+ends_so by c script n k e = cases (has_drain c.schedule) refl
+  where
+    cases : (t : Bool) → has_drain c.schedule ≡ t → EndsSo c (record { answers = outcome c n.form.answers; turns = told_turns t n.turns })
+    cases false none = ends_with by c script n k e n.turns refl (λ few. by.stand c n.turns script (record { goes_on = none; actors = k.actors; few_lines = few }))
+    cases true some = ends_with by c script n k e [] (sym (by.drain c script some n.turns)) (no_lines c script)
+
+pub known_is_true : Rests → BlocksAreFound → KnownIsTrue
+known_is_true by found c script ns known b l =
+    let f = found (ways_of c ns) b l in
+    let m = came_from (length c.actors) (has_drain c.schedule) ns f.way f.listed in
+    record {
+      way = f.way;
+      block = f.block;
+      ends = subst (λ (w : Way). EndsSo c w) m.way (ends_so by c script m.known (known m.known m.listed) m.ended);
+    }

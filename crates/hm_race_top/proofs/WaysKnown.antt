@@ -1,0 +1,102 @@
+-- The ways that are told, and the outcomes that a search knows.
+use Rattle.std.proofs.Common.{◌≡◌, ℕ, ◌+◌, ◌<◌, Bool, true, false, inl, inr, List, [], ◌∷◌, ◌++◌, map, length, get_or, take, refl, sym, ap, ◌∙◌, subst, fold}
+use Rattle.std.specs.Prelude.{◌⊎◌, if◌then◌else◌}
+use Rattle.std.proofs.lemmas.List.{take_more, map-append}
+use Rattle.std.proofs.lemmas.List.Sums.{fold-append}
+use Rattle.hm_base.specs.Program.{Program}
+use Rattle.hm_history.specs.declared.Kind.{Kind}
+use Rattle.hm_races.specs.Closed.{IsListed}
+use Rattle.hm_races.specs.Outcomes.{outcome, answers_of}
+use Rattle.hm_race_forms.specs.Form.{form_in}
+use Rattle.hm_race_forms.specs.declared.key.Key.{Key}
+use Rattle.hm_race_search.specs.Known.{KnownValue, outcomes_of}
+use Rattle.hm_race_search.specs.Values.{all_known, known_of}
+use Rattle.hm_race_search.specs.declared.known.Known.{Known}
+use Rattle.hm_race_text.specs.Answers.{answer_lines}
+use Rattle.hm_race_text.specs.Laws.{lines_of, WaysAreShown}
+use Rattle.hm_race_text.specs.Text.{Way, block_of, with_block, blocks_of}
+use Rattle.hm_race_text.specs.declared.block.Block.{Block}
+use Rattle.hm_script.specs.Built.{has_drain}
+use Rattle.hm_race_top.specs.Laws.{WaysAreOutcomes, CompleteIsAll}
+use Rattle.hm_race_top.specs.Ways.{way_by, ways_by, ways_of, blocks_known}
+
+pub ways_are_outcomes : WaysAreOutcomes
+ways_are_outcomes c [] = refl
+ways_are_outcomes c (n ∷ ns) = by (ways_are_outcomes c ns) n.ended
+  where
+    by : map (λ (w : Way). w.answers) (ways_of c ns) ≡ outcomes_of c ns → (t : Bool)
+        → map (λ (w : Way). w.answers) (if t then way_by (length c.actors) (has_drain c.schedule) n ∷ ways_of c ns else ways_of c ns) ≡ (if t then outcome c n.form.answers ∷ outcomes_of c ns else outcomes_of c ns)
+    by rest true = ap (λ (xs : List (List (List Kind))). outcome c n.form.answers ∷ xs) rest
+    by rest false = rest
+
+-- a way with these answers
+pub record With (ws : List Way) (x : List (List Kind)) : Type 0 where
+  pub way : Way
+  pub listed : IsListed ws way
+  pub answers : way.answers ≡ x
+
+listed_with : (ws : List Way) (x : List (List Kind)) → IsListed (map (λ (w : Way). w.answers) ws) x → With ws x
+listed_with [] x l = absurd l
+listed_with (w ∷ ws) x (inl e) = record { way = w; listed = inl refl; answers = e }
+listed_with (w ∷ ws) x (inr l) = let f = listed_with ws x l in record { way = f.way; listed = inr f.listed; answers = f.answers }
+
+pub complete_is_all : WaysAreShown → CompleteIsAll
+complete_is_all shown c ns all es due end =
+    let x : List (List Kind) = outcome c (answers_of es) in
+    let f = listed_with (ways_of c ns) x (subst (λ (xs : List (List (List Kind))). IsListed xs x) (sym (ways_are_outcomes c ns)) (all es due end)) in
+    subst (λ (y : List (List Kind)). IsListed (lines_of (blocks_known c ns)) (answer_lines y)) f.answers (shown (ways_of c ns) f.way f.listed)
+
+-- a state at which all operations have ended, whose way this is
+pub record From (actors : ℕ) (drains : Bool) (ns : List KnownValue) (w : Way) : Type 0 where
+  pub known : KnownValue
+  pub listed : IsListed ns known
+  pub ended : known.ended ≡ true
+  pub way : way_by actors drains known ≡ w
+
+pub came_from : (actors : ℕ) (drains : Bool) (ns : List KnownValue) (w : Way) → IsListed (ways_by actors drains ns) w → From actors drains ns w
+came_from actors drains [] w l = absurd l
+came_from actors drains (n ∷ ns) w l = by (came_from actors drains ns w) n.ended refl l
+  where
+    later : From actors drains ns w → From actors drains (n ∷ ns) w
+    later f = record { known = f.known; listed = inr f.listed; ended = f.ended; way = f.way }
+
+    by : (IsListed (ways_by actors drains ns) w → From actors drains ns w) → (t : Bool) → n.ended ≡ t
+        → IsListed (if t then way_by actors drains n ∷ ways_by actors drains ns else ways_by actors drains ns) w → From actors drains (n ∷ ns) w
+    by rest true e (inl here) = record { known = n; listed = inl refl; ended = e; way = here }
+    by rest true e (inr l) = later (rest l)
+    by rest false e l = later (rest l)
+
+-- ---- one more state
+
+ways_more : (actors : ℕ) (drains : Bool) (ns : List KnownValue) (n : KnownValue) → ways_by actors drains (ns ++ n ∷ []) ≡ ways_by actors drains ns ++ ways_by actors drains (n ∷ [])
+ways_more actors drains [] n = refl
+ways_more actors drains (m ∷ ns) n = by (ways_more actors drains ns n) m.ended
+  where
+    by : ways_by actors drains (ns ++ n ∷ []) ≡ ways_by actors drains ns ++ ways_by actors drains (n ∷ []) → (t : Bool)
+        → (if t then way_by actors drains m ∷ ways_by actors drains (ns ++ n ∷ []) else ways_by actors drains (ns ++ n ∷ []))
+        ≡ (if t then way_by actors drains m ∷ ways_by actors drains ns else ways_by actors drains ns) ++ ways_by actors drains (n ∷ [])
+    by rest true = ap (λ (ws : List Way). way_by actors drains m ∷ ws) rest
+    by rest false = rest
+
+module _ (actors : ℕ) (drains : Bool) (known : List (Known Key)) (i : ℕ) (k : Known Key) (lt : i < length known) (is : k ≡ get_or known i k) where
+  grown : ways_by actors drains (all_known form_in (take (i + 1) known)) ≡ ways_by actors drains (all_known form_in (take i known)) ++ ways_by actors drains (known_of form_in k ∷ [])
+  grown = ap (λ (ks : List (Known Key)). ways_by actors drains (all_known form_in ks)) (take_more known i k lt ∙ ap (λ (x : Known Key). take i known ++ x ∷ []) (sym is))
+      ∙ ap (ways_by actors drains) (map-append (known_of form_in) (take i known) (k ∷ []))
+      ∙ ways_more actors drains (all_known form_in (take i known)) (known_of form_in k)
+
+  pub one_ended : (bs new : List Block) → k.ended ≡ true → bs ≡ blocks_of (ways_by actors drains (all_known form_in (take i known))) → new ≡ with_block bs (block_of (way_by actors drains (known_of form_in k)))
+      → new ≡ blocks_of (ways_by actors drains (all_known form_in (take (i + 1) known)))
+  one_ended bs new e so next =
+      let one : ways_by actors drains (known_of form_in k ∷ []) ≡ way_by actors drains (known_of form_in k) ∷ [] =
+      ap (λ (t : Bool). if t then way_by actors drains (known_of form_in k) ∷ [] else []) e in
+      next ∙ ap (λ (cs : List Block). with_block cs (block_of (way_by actors drains (known_of form_in k)))) so
+      ∙ sym (ap blocks_of (grown ∙ ap (λ (ws : List Way). ways_by actors drains (all_known form_in (take i known)) ++ ws) one)
+      ∙ fold-append (λ (cs : List Block) (w : Way). with_block cs (block_of w)) [] (ways_by actors drains (all_known form_in (take i known))) (way_by actors drains (known_of form_in k) ∷ []))
+
+  pub one_open : (bs : List Block) → k.ended ≡ false → bs ≡ blocks_of (ways_by actors drains (all_known form_in (take i known)))
+      → bs ≡ blocks_of (ways_by actors drains (all_known form_in (take (i + 1) known)))
+  one_open bs e so =
+      let none : ways_by actors drains (known_of form_in k ∷ []) ≡ [] =
+      ap (λ (t : Bool). if t then way_by actors drains (known_of form_in k) ∷ [] else []) e in
+      so ∙ sym (ap blocks_of (grown ∙ ap (λ (ws : List Way). ways_by actors drains (all_known form_in (take i known)) ++ ws) none)
+      ∙ fold-append (λ (cs : List Block) (w : Way). with_block cs (block_of w)) [] (ways_by actors drains (all_known form_in (take i known))) [])

@@ -1,0 +1,28 @@
+use Rattle.std.proofs.Common.{◌≡◌, ◌<◌, length, ◌∙◌, ap, sym, subst}
+use Rattle.std.proofs.lemmas.List.{length-map}
+use Rattle.hm_base.specs.Program.{Program}
+use Rattle.hm_race_forms.specs.Form.{form_in}
+use Rattle.hm_race_search.specs.Values.{all_known, known_of}
+use Rattle.hm_report.specs.SinkState.{sink_state}
+use Rattle.hm_script.specs.Built.{has_drain}
+use Rattle.hm_race_top.specs.Ways.{ways_of}
+use Rattle.hm_race_top.proofs.Finding.{found_of}
+use Rattle.hm_race_top.proofs.call.find.Goals as goal
+
+pub returns-in-Ok-clause-found : goal.returns-in-Ok-clause-found
+returns-in-Ok-clause-found g c =
+    let s = c.args.script in
+    let tells = sink_state g.K.Sink.held g.K.Sink.failures g.K.Sink.wanted in
+    let states = c.in-Ok.found.known.items in
+    let known = all_known form_in states in
+    let all : length states ≡ length known = sym (length-map states (known_of form_in)) in
+    found_of c.args.most s known c.in-Ok.found.whole (record {
+      searched = c.in-Ok.ensures.known;
+      real = c.known_is_true.ensures s c.facts.ensures known c.in-Ok.ensures.known;
+      distinct = c.none_twice.ensures (ways_of s known);
+      complete = λ whole. c.complete_is_all.ensures s known (c.in-Ok.ensures.complete whole);
+      cut = λ whole. subst (λ n. c.args.most < n) all (c.in-Ok.ensures.cut whole);
+    }) (tells c.args.sink.now) (tells c.write_ways.new.sink) c.write_ways.result c.len-actors.result c.has_drain-drains.result (length states)
+    (c.len-actors.ensures ∙ ap (λ (p : Program). length p.actors) c.script.view_is)
+    (c.has_drain-drains.ensures ∙ ap has_drain c.as_slice.ensures ∙ ap (λ (p : Program). has_drain p.schedule) c.script.view_is)
+    all c.write_ways.ensures.written

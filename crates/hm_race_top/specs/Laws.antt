@@ -1,0 +1,27 @@
+-- The laws, as statements.
+use Rattle.std.specs.Prelude.{◌≡◌, ℕ, true, List, map}
+use Rattle.hm_base.specs.Program.{Program, IsScript}
+use Rattle.hm_history.specs.Run.{run}
+use Rattle.hm_races.specs.Outcomes.{raced}
+use Rattle.hm_race_search.specs.Known.{KnownValue, IsComplete, AreKnown, outcomes_of}
+use Rattle.hm_race_text.specs.Text.{Way}
+use Rattle.hm_race_top.specs.Ways.{ways_of, blocks_known, AreTrue, HaveAll}
+use Rattle.hm_script.specs.Built.{has_drain}
+
+-- the answers of the ways are the outcomes that a search knows
+abbrev pub WaysAreOutcomes : Type 0
+WaysAreOutcomes = (c : Program) (ns : List KnownValue) → map (λ (w : Way). w.answers) (ways_of c ns) ≡ outcomes_of c ns
+
+-- after a `drain` no turn adds an entry
+abbrev pub DrainIsLast : Type 0
+DrainIsLast =
+    (c : Program) → IsScript c → has_drain c.schedule ≡ true → (turns : List ℕ) → raced c (run c) turns ≡ run c
+
+-- what is written of states that are known is true
+abbrev pub KnownIsTrue : Type 0
+KnownIsTrue =
+    (c : Program) → IsScript c → (ns : List KnownValue) → AreKnown c (run c) ns → AreTrue c (blocks_known c ns)
+
+-- and it is all, where the states are
+abbrev pub CompleteIsAll : Type 0
+CompleteIsAll = (c : Program) (ns : List KnownValue) → IsComplete c (run c) ns → HaveAll c (blocks_known c ns)

@@ -1,0 +1,66 @@
+-- The ways to the outcomes that a search knows, and what holds of what is written of them.
+use Rattle.std.specs.Prelude.{◌≡◌, ◌≤◌, ℕ, Bool, true, if◌then◌else◌, length, List, [], ◌∷◌, ◌++◌, map}
+use Rattle.hm_base.specs.Program.{Program, IsScript, run_lines}
+use Rattle.hm_history.specs.Laws.{DueFrom}
+use Rattle.hm_history.specs.Legal.{Legal}
+use Rattle.hm_history.specs.Run.{run}
+use Rattle.hm_history.specs.Words.{numbers}
+use Rattle.hm_history.specs.declared.Entry.{Entry}
+use Rattle.hm_races.specs.Closed.{IsListed}
+use Rattle.hm_races.specs.Outcomes.{outcome, answers_of, ended}
+use Rattle.hm_race_search.specs.Known.{KnownValue}
+use Rattle.hm_race_text.specs.Answers.{answer_lines}
+use Rattle.hm_race_text.specs.Laws.{lines_of}
+use Rattle.hm_race_text.specs.Schedule.{with_turns}
+use Rattle.hm_race_text.specs.Text.{Way, block_of, blocks_of}
+use Rattle.hm_race_text.specs.declared.block.Block.{Block}
+use Rattle.hm_script.specs.Built.{has_drain}
+
+-- the turns that are told: none behind a `drain`, which leaves nothing to do
+abbrev pub told_turns : Bool → List ℕ → List ℕ
+told_turns drains turns = if drains then [] else turns
+
+-- the way to a state, of so many actors
+abbrev pub way_by : ℕ → Bool → KnownValue → Way
+way_by actors drains n = record { answers = map n.form.answers (numbers 0 actors); turns = told_turns drains n.turns }
+
+-- the ways to those states at which all operations have ended, in the order in which a search came to them
+abbrev pub ways_by : ℕ → Bool → List KnownValue → List Way
+ways_by actors drains [] = []
+ways_by actors drains (n ∷ ns) =
+    if n.ended then way_by actors drains n ∷ ways_by actors drains ns else ways_by actors drains ns
+
+abbrev pub ways_of : Program → List KnownValue → List Way
+ways_of c ns = ways_by (length c.actors) (has_drain c.schedule) ns
+
+-- what is written of them
+abbrev pub blocks_known : Program → List KnownValue → List Block
+blocks_known c ns = blocks_of (ways_of c ns)
+
+-- The script with these turns after its schedule goes on from its set-up by entries that are due. Its history is legal,
+-- all operations have ended, and the answers since the set-up are these. It is a script, if it has no more lines than
+-- one.
+pub record EndsSo (c : Program) (w : Way) : Type 0 where
+  pub entries : List Entry
+  pub run_is : run (with_turns c w.turns) ≡ run c ++ entries
+  pub due : DueFrom c (run c) entries
+  pub legal : Legal (with_turns c w.turns) (run c ++ entries)
+  pub ended : ended (with_turns c w.turns) (run c ++ entries) ≡ true
+  pub answers : outcome c (answers_of entries) ≡ w.answers
+  pub script : run_lines (with_turns c w.turns).schedule ≤ 100000 → IsScript (with_turns c w.turns)
+
+-- the block is true
+pub record IsTrueOf (c : Program) (b : Block) : Type 0 where
+  pub way : Way
+  pub block : block_of way ≡ b
+  pub ends : EndsSo c way
+
+abbrev pub AreTrue : Program → List Block → Type 0
+AreTrue c bs = (b : Block) → IsListed bs b → IsTrueOf c b
+
+-- after every list of entries that are due one after the other from the set-up on, after which all operations have
+-- ended, the lines of its outcome are those of a block
+abbrev pub HaveAll : Program → List Block → Type 0
+HaveAll c bs =
+    (es : List Entry) → DueFrom c (run c) es → ended c (run c ++ es) ≡ true
+    → IsListed (lines_of bs) (answer_lines (outcome c (answers_of es)))

@@ -1,0 +1,35 @@
+// Laws of what is written of a search: each is the contract of a function that does nothing.
+ghost use Rattle.hm_race_top.specs.Laws.{CompleteIsAll, DrainIsLast, KnownIsTrue, WaysAreOutcomes};
+
+/// The answers of the ways that are told are the outcomes that a search knows.
+pub fn ways_are_outcomes()
+    ensures { WaysAreOutcomes }
+{}
+
+/// After a `drain` no turn adds an entry: such a set-up leaves nothing to race.
+pub fn drain_is_last()
+    ensures { DrainIsLast }
+{
+    hm_laws::never_stuck();
+}
+
+/// What is written of states that are known is true: the schedules lead to the answers.
+pub fn known_is_true()
+    ensures { KnownIsTrue }
+{
+    drain_is_last();
+    hm_history::laws::runs_are_due();
+    hm_laws::every_history_is_legal();
+    hm_race_text::turns_lead();
+    hm_race_text::turns_stand();
+    hm_race_text::same_legal();
+    hm_race_text::points_are_led();
+    hm_race_text::blocks_are_found();
+}
+
+/// Where the states that are known have every outcome, what is written has it.
+pub fn complete_is_all()
+    ensures { CompleteIsAll }
+{
+    hm_race_text::ways_are_shown();
+}
