@@ -14,7 +14,8 @@ use Rattle.hm_folds.specs.Memory.{bytes_of}
 use Rattle.hm_races.specs.Outcomes.{Point}
 use Rattle.hm_race_keys.specs.Rows.{word_of}
 use Rattle.hm_race_keys.specs.declared.rows.Rows.{Rows}
-use Rattle.hm_race_keys.specs.Trail.{places_in, held_in, lockers_in, flags_in, map_in, table_in, active_in, mirrors_in, answers_in}
+use Rattle.hm_race_keys.specs.Trail.{places_in, held_in, lockers_in, flags_in, map_in}
+use Rattle.hm_race_keys.specs.Trail.{table_in, active_in, mirrors_in, answers_in}
 use Rattle.hm_race_forms.specs.SmallSeqs.{seq_in, interval_in}
 use Rattle.hm_race_forms.specs.AreasRead.{areas_in}
 use Rattle.hm_race_forms.specs.GoingsRead.{goings_in}
@@ -23,8 +24,8 @@ use Rattle.hm_race_forms.specs.declared.key.Key.{Key}
 abbrev pub point_by : (there named : ℕ → Bool) (areas : ℕ → List Area) (bytes : ℕ → ℕ → ℕ)
     (mirrors : ℕ → Option MirrorState) (place : ℕ → ℕ → Place) (held : Frame → Bool) (withdrawn removed : ℕ → Bool)
     (table : ℕ → ℕ → Option TableEntry) (seq active : ℕ → ℕ) (interval : ℕ → Option Interval)
-    (map : ℕ → Option MapLock) (frame : Frame → Option ℕ) (going : ℕ → Going) (answers : ℕ → List Kind) → Point
-point_by there named areas bytes mirrors place held withdrawn removed table seq active interval map frame going answers =
+    (map : ℕ → Option MapLock) (frame : Frame → Option ℕ) (going : ℕ → Going) (said : ℕ → List Kind) → Point
+point_by there named areas bytes mirrors place held withdrawn removed table seq active interval map frame going said =
     record {
       state = record {
         after = record {
@@ -53,7 +54,7 @@ point_by there named areas bytes mirrors place held withdrawn removed table seq 
         };
         going = going;
       };
-      answers = answers;
+      answers = said;
     }
 
 abbrev pub form_in : Key → Point
