@@ -11,20 +11,21 @@ pub const PIECE: usize = 4096;
 /// How many bytes a buffer holds: a piece, and what is formatted behind it.
 pub const ROOM: usize = 8192;
 
-/// Bytes that wait until there is a piece of them.
+/// Bytes that wait until there is a piece of them: so many, at the front of a block of this room.
 #[derive(Drop)]
 pub struct Buffer {
     bytes: Vec<u8>,
+    len: usize,
 }
 
 impl Model for Buffer {
-    ghost use Rattle.std.specs.Prelude.{ℕ, List, ◌≤◌, vec_capacity};
+    ghost use Rattle.std.specs.Prelude.{ℕ, List, ◌≡◌, ◌≤◌, length, take};
 
     ghost Value = { List ℕ };
 
-    ghost view = { λ s. s.bytes.items };
+    ghost view = { λ s. take s.len s.bytes.items };
 
-    ghost invariant = { λ s. 8192 ≤ vec_capacity s.bytes };
+    ghost invariant = { λ s. (length s.bytes.items ≡ 8192) × (s.len ≤ 8192) };
 }
 
 impl Buffer {
@@ -32,7 +33,8 @@ impl Buffer {
         ensures { IfOk result (λ buffer. buffer ≡ []) }
     {
         Ok(Buffer {
-            bytes: Vec::with_capacity(alloc, ROOM)?,
+            bytes: vec![in alloc; 0; ROOM]?,
+            len: 0,
         })
     }
 
@@ -40,19 +42,19 @@ impl Buffer {
     pub fn clear(&mut self)
         ensures { self.new ≡ [] }
     {
-        self.bytes.clear();
+        self.len = 0;
     }
 
     pub fn len(&self) -> usize
         ensures { result ≡ length self.now }
     {
-        self.bytes.len()
+        self.len
     }
 
     pub fn as_slice(&self) -> &[u8]
         ensures { result.now ≡ self.now }
     {
-        self.bytes.as_slice()
+        &self.bytes[..self.len]
     }
 
     #[inline(always)]
@@ -60,10 +62,8 @@ impl Buffer {
         requires { length self.old < ROOM }
         ensures { self.new ≡ self.old ++ byte ∷ [] }
     {
-        match self.bytes.push(byte) {
-            Ok(_) => (),
-            Err(_) => unreachable!(),
-        }
+        self.bytes[self.len] = byte;
+        self.len += 1;
     }
 
     #[inline(always)]
@@ -71,10 +71,9 @@ impl Buffer {
         requires { length self.old + length bytes.now ≤ ROOM }
         ensures { self.new ≡ self.old ++ bytes.now }
     {
-        match self.bytes.extend_from_slice(bytes) {
-            Ok(_) => (),
-            Err(_) => unreachable!(),
-        }
+        let end = self.len + bytes.len();
+        self.bytes[self.len..end].copy_from_slice(bytes);
+        self.len = end;
     }
 
     /// The piece at the front.
@@ -91,8 +90,7 @@ impl Buffer {
         requires { PIECE ≤ length self.old }
         ensures { self.new ≡ drop PIECE self.old }
     {
-        let len = self.len();
-        self.bytes.copy_within(PIECE..len, 0);
-        self.bytes.truncate(len - PIECE);
+        self.bytes.copy_within(PIECE..self.len, 0);
+        self.len -= PIECE;
     }
 }

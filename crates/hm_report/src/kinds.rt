@@ -6,7 +6,7 @@ ghost use Rattle.hm_report.specs.Line.{spaced};
 
 use crate::buffer::{Buffer, ROOM};
 use crate::numerals::put_decimal;
-use crate::words::{Word, put_words};
+use crate::words::{Word, put_five, put_four, put_one, put_three, put_two, put_words};
 use hm_base::{Frame, Place, PoolId};
 use hm_history::{Entry, KeptWhy, Kind};
 
@@ -24,7 +24,7 @@ fn put_place(out: &mut Buffer, place: &Place)
                 pool: PoolId::System,
                 number: *number,
             };
-            put_words(out, b" sys", &[Word::Frame(frame), Word::Writes(*writable)]);
+            put_two(out, b" sys", &Word::Frame(frame), &Word::Writes(*writable));
         }
         Place::Own {
             dev,
@@ -35,13 +35,14 @@ fn put_place(out: &mut Buffer, place: &Place)
                 pool: PoolId::Device(*dev),
                 number: *number,
             };
-            put_words(out, b" own", &[Word::Frame(frame), Word::Writes(*writable)]);
+            put_two(out, b" own", &Word::Frame(frame), &Word::Writes(*writable));
         }
         Place::Moving { frame, writable } => {
-            put_words(
+            put_two(
                 out,
                 b" moving",
-                &[Word::Frame(*frame), Word::Writes(*writable)],
+                &Word::Frame(*frame),
+                &Word::Writes(*writable),
             );
         }
         Place::Exclusive { number, actor } => {
@@ -49,7 +50,7 @@ fn put_place(out: &mut Buffer, place: &Place)
                 pool: PoolId::System,
                 number: *number,
             };
-            put_words(out, b" excl", &[Word::Frame(frame), Word::Actor(*actor)]);
+            put_two(out, b" excl", &Word::Frame(frame), &Word::Actor(*actor));
         }
     }
 }
@@ -62,7 +63,7 @@ fn put_why(out: &mut Buffer, why: &KeptWhy)
 {
     match why {
         KeptWhy::NotHere => out.put(b" nothere"),
-        KeptWhy::LockedBy(actor) => put_words(out, b" locked", &[Word::Actor(*actor)]),
+        KeptWhy::LockedBy(actor) => put_one(out, b" locked", &Word::Actor(*actor)),
         KeptWhy::NoFrame => out.put(b" noframe"),
         KeptWhy::Skipped => out.put(b" skipped"),
         KeptWhy::Lost => out.put(b" lost"),
@@ -82,59 +83,55 @@ fn put_head(out: &mut Buffer, kind: &Kind)
             addr: address,
             bytes: _,
         } => {
-            put_words(out, b" loaded", &[Word::Who(*who), Word::Address(*address)]);
+            put_two(out, b" loaded", &Word::Who(*who), &Word::Address(*address));
         }
         Kind::Stored {
             who,
             addr: address,
             bytes: _,
         } => {
-            put_words(out, b" stored", &[Word::Who(*who), Word::Address(*address)]);
+            put_two(out, b" stored", &Word::Who(*who), &Word::Address(*address));
         }
         Kind::Failed {
             who,
             addr: address,
             len,
             cause,
-        } => put_words(
+        } => put_four(
             out,
             b" failed",
-            &[
-                Word::Who(*who),
-                Word::Address(*address),
-                Word::Number(*len),
-                Word::Cause(*cause),
-            ],
+            &Word::Who(*who),
+            &Word::Address(*address),
+            &Word::Number(*len),
+            &Word::Cause(*cause),
         ),
-        Kind::Mapped { proc, span, rights } => put_words(
+        Kind::Mapped { proc, span, rights } => put_four(
             out,
             b" mapped",
-            &[
-                Word::Proc(*proc),
-                Word::First(*span),
-                Word::Count(*span),
-                Word::Rights(*rights),
-            ],
+            &Word::Proc(*proc),
+            &Word::First(*span),
+            &Word::Count(*span),
+            &Word::Rights(*rights),
         ),
-        Kind::Unmapped { proc, span } => put_words(
+        Kind::Unmapped { proc, span } => put_three(
             out,
             b" unmapped",
-            &[Word::Proc(*proc), Word::First(*span), Word::Count(*span)],
+            &Word::Proc(*proc),
+            &Word::First(*span),
+            &Word::Count(*span),
         ),
-        Kind::Protected { proc, span, rights } => put_words(
+        Kind::Protected { proc, span, rights } => put_four(
             out,
             b" protected",
-            &[
-                Word::Proc(*proc),
-                Word::First(*span),
-                Word::Count(*span),
-                Word::Rights(*rights),
-            ],
+            &Word::Proc(*proc),
+            &Word::First(*span),
+            &Word::Count(*span),
+            &Word::Rights(*rights),
         ),
         Kind::Forked { parent, child } => {
-            put_words(out, b" forked", &[Word::Proc(*parent), Word::Proc(*child)]);
+            put_two(out, b" forked", &Word::Proc(*parent), &Word::Proc(*child));
         }
-        Kind::Exited(proc) => put_words(out, b" exited", &[Word::Proc(*proc)]),
+        Kind::Exited(proc) => put_one(out, b" exited", &Word::Proc(*proc)),
         Kind::Attached {
             mirror,
             dev,
@@ -154,107 +151,105 @@ fn put_head(out: &mut Buffer, kind: &Kind)
             ],
         ),
         Kind::Detaching { mirror, seq } => {
-            put_words(
+            put_two(
                 out,
                 b" detaching",
-                &[Word::Mirror(*mirror), Word::Number(*seq)],
+                &Word::Mirror(*mirror),
+                &Word::Number(*seq),
             );
         }
-        Kind::Detached(mirror) => put_words(out, b" detached", &[Word::Mirror(*mirror)]),
-        Kind::Refused(cause) => put_words(out, b" refused", &[Word::Cause(*cause)]),
-        Kind::Migrated(pages) => put_words(out, b" migrated", &[Word::Number(*pages)]),
-        Kind::Seen { mirror, page, code } => put_words(
+        Kind::Detached(mirror) => put_one(out, b" detached", &Word::Mirror(*mirror)),
+        Kind::Refused(cause) => put_one(out, b" refused", &Word::Cause(*cause)),
+        Kind::Migrated(pages) => put_one(out, b" migrated", &Word::Number(*pages)),
+        Kind::Seen { mirror, page, code } => put_three(
             out,
             b" seen",
-            &[Word::Mirror(*mirror), Word::Page(*page), Word::Byte(*code)],
+            &Word::Mirror(*mirror),
+            &Word::Page(*page),
+            &Word::Byte(*code),
         ),
-        Kind::Evicted(frames) => put_words(out, b" evicted", &[Word::Number(*frames)]),
-        Kind::Removed(dev) => put_words(out, b" removed", &[Word::Device(*dev)]),
-        Kind::Rlock(proc) => put_words(out, b" rlock", &[Word::Proc(*proc)]),
-        Kind::Runlock(proc) => put_words(out, b" runlock", &[Word::Proc(*proc)]),
-        Kind::Wlock(proc) => put_words(out, b" wlock", &[Word::Proc(*proc)]),
+        Kind::Evicted(frames) => put_one(out, b" evicted", &Word::Number(*frames)),
+        Kind::Removed(dev) => put_one(out, b" removed", &Word::Device(*dev)),
+        Kind::Rlock(proc) => put_one(out, b" rlock", &Word::Proc(*proc)),
+        Kind::Runlock(proc) => put_one(out, b" runlock", &Word::Proc(*proc)),
+        Kind::Wlock(proc) => put_one(out, b" wlock", &Word::Proc(*proc)),
         Kind::Named { parent, child } => {
-            put_words(out, b" named", &[Word::Proc(*parent), Word::Proc(*child)]);
+            put_two(out, b" named", &Word::Proc(*parent), &Word::Proc(*child));
         }
-        Kind::Take(frame) => put_words(out, b" take", &[Word::Frame(*frame)]),
-        Kind::Drop(frame) => put_words(out, b" drop", &[Word::Frame(*frame)]),
+        Kind::Take(frame) => put_one(out, b" take", &Word::Frame(*frame)),
+        Kind::Drop(frame) => put_one(out, b" drop", &Word::Frame(*frame)),
         Kind::Place { proc, page, place } => {
-            put_words(out, b" place", &[Word::Proc(*proc), Word::Page(*page)]);
+            put_two(out, b" place", &Word::Proc(*proc), &Word::Page(*page));
             put_place(out, place);
         }
-        Kind::Start { proc, span, seq } => put_words(
+        Kind::Start { proc, span, seq } => put_four(
             out,
             b" start",
-            &[
-                Word::Proc(*proc),
-                Word::First(*span),
-                Word::Count(*span),
-                Word::Number(*seq),
-            ],
+            &Word::Proc(*proc),
+            &Word::First(*span),
+            &Word::Count(*span),
+            &Word::Number(*seq),
         ),
-        Kind::Told { mirror, span, seq } => put_words(
+        Kind::Told { mirror, span, seq } => put_four(
             out,
             b" told",
-            &[
-                Word::Mirror(*mirror),
-                Word::First(*span),
-                Word::Count(*span),
-                Word::Number(*seq),
-            ],
+            &Word::Mirror(*mirror),
+            &Word::First(*span),
+            &Word::Count(*span),
+            &Word::Number(*seq),
         ),
-        Kind::End { proc, span, seq } => put_words(
+        Kind::End { proc, span, seq } => put_four(
             out,
             b" end",
-            &[
-                Word::Proc(*proc),
-                Word::First(*span),
-                Word::Count(*span),
-                Word::Number(*seq),
-            ],
+            &Word::Proc(*proc),
+            &Word::First(*span),
+            &Word::Count(*span),
+            &Word::Number(*seq),
         ),
         Kind::Begin { mirror, seq } => {
-            put_words(out, b" begin", &[Word::Mirror(*mirror), Word::Number(*seq)]);
+            put_two(out, b" begin", &Word::Mirror(*mirror), &Word::Number(*seq));
         }
-        Kind::Retry(mirror) => put_words(out, b" retry", &[Word::Mirror(*mirror)]),
+        Kind::Retry(mirror) => put_one(out, b" retry", &Word::Mirror(*mirror)),
         Kind::Set {
             mirror,
             page,
             target,
             right,
             since: from,
-        } => put_words(
+        } => put_five(
             out,
             b" set",
-            &[
-                Word::Mirror(*mirror),
-                Word::Page(*page),
-                Word::Target(*target),
-                Word::TableRight(*right),
-                Word::Number(*from),
-            ],
+            &Word::Mirror(*mirror),
+            &Word::Page(*page),
+            &Word::Target(*target),
+            &Word::TableRight(*right),
+            &Word::Number(*from),
         ),
         Kind::Fresh { proc, page } => {
-            put_words(out, b" fresh", &[Word::Proc(*proc), Word::Page(*page)]);
+            put_two(out, b" fresh", &Word::Proc(*proc), &Word::Page(*page));
         }
-        Kind::Copied { from, to, part } => put_words(
+        Kind::Copied { from, to, part } => put_three(
             out,
             b" copied",
-            &[Word::Frame(*from), Word::Frame(*to), Word::Part(*part)],
+            &Word::Frame(*from),
+            &Word::Frame(*to),
+            &Word::Part(*part),
         ),
         Kind::Committed { from, to } => {
-            put_words(out, b" committed", &[Word::Frame(*from), Word::Frame(*to)]);
+            put_two(out, b" committed", &Word::Frame(*from), &Word::Frame(*to));
         }
         Kind::Kept { at, why } => {
-            put_words(out, b" kept", &[Word::Kept(*at)]);
+            put_one(out, b" kept", &Word::Kept(*at));
             put_why(out, why);
         }
-        Kind::Done(frame) => put_words(out, b" done", &[Word::Frame(*frame)]),
-        Kind::Withdrawn(dev) => put_words(out, b" withdrawn", &[Word::Device(*dev)]),
+        Kind::Done(frame) => put_one(out, b" done", &Word::Frame(*frame)),
+        Kind::Withdrawn(dev) => put_one(out, b" withdrawn", &Word::Device(*dev)),
         Kind::Excluded { mirror, page } => {
-            put_words(
+            put_two(
                 out,
                 b" excluded",
-                &[Word::Mirror(*mirror), Word::Page(*page)],
+                &Word::Mirror(*mirror),
+                &Word::Page(*page),
             );
         }
         Kind::Fetched {
@@ -262,10 +257,11 @@ fn put_head(out: &mut Buffer, kind: &Kind)
             addr: address,
             bytes: _,
         } => {
-            put_words(
+            put_two(
                 out,
                 b" fetched",
-                &[Word::Mirror(*mirror), Word::Address(*address)],
+                &Word::Mirror(*mirror),
+                &Word::Address(*address),
             );
         }
         Kind::Added {
@@ -273,15 +269,13 @@ fn put_head(out: &mut Buffer, kind: &Kind)
             addr: address,
             read: was,
             written: now,
-        } => put_words(
+        } => put_four(
             out,
             b" added",
-            &[
-                Word::Mirror(*mirror),
-                Word::Address(*address),
-                Word::Byte(*was),
-                Word::Byte(*now),
-            ],
+            &Word::Mirror(*mirror),
+            &Word::Address(*address),
+            &Word::Byte(*was),
+            &Word::Byte(*now),
         ),
     }
 }

@@ -1,5 +1,5 @@
 // The words of a line, written into a buffer.
-ghost use Rattle.std.specs.Prelude.{◌≡◌, ◌+◌, ◌*◌, ◌≤◌, ◌∷◌, ◌++◌, length, map};
+ghost use Rattle.std.specs.Prelude.{◌≡◌, ◌+◌, ◌*◌, ◌≤◌, ◌∷◌, ◌++◌, [], length, map};
 ghost use Rattle.hm_report.specs.Words.{frame_text, cause_number};
 ghost use Rattle.hm_report.specs.Line.{word_text, spaced};
 
@@ -73,6 +73,7 @@ fn cause_number(cause: Cause) -> u64
 }
 
 /// Adds a space and the word.
+#[inline(always)]
 fn put_word(out: &mut Buffer, word: &Word)
     requires { length out.old + WORD ≤ ROOM }
     ensures text { out.new ≡ out.old ++ 32 ∷ word_text word.now }
@@ -110,6 +111,95 @@ fn put_word(out: &mut Buffer, word: &Word)
         Word::Kept(KeptAt::Frame(frame)) => put_frame(out, frame),
         Word::Cause(cause) => put_decimal(out, b" ", cause_number(*cause)),
     }
+}
+
+/// Adds a name, and the word behind it.
+#[inline(always)]
+#[tactic(auto, using(std::proofs::Common::append_assoc))]
+pub fn put_one(out: &mut Buffer, name: &[u8], word: &Word)
+    requires { length out.old + length name.now + WORD ≤ ROOM }
+    ensures text { out.new ≡ out.old ++ (name.now ++ spaced (word_text word.now ∷ [])) }
+    ensures room { length out.new ≤ length out.old + length name.now + WORD }
+{
+    out.put(name);
+    put_word(out, word);
+}
+
+/// Adds a name, and the two words behind it.
+#[inline(always)]
+#[tactic(auto, using(std::proofs::Common::append_assoc))]
+pub fn put_two(out: &mut Buffer, name: &[u8], first: &Word, second: &Word)
+    requires { length out.old + length name.now + WORD * 2 ≤ ROOM }
+    ensures text { out.new ≡ out.old ++ (name.now ++ spaced (word_text first.now ∷ word_text second.now ∷ [])) }
+    ensures room { length out.new ≤ length out.old + length name.now + WORD * 2 }
+{
+    put_one(out, name, first);
+    put_word(out, second);
+}
+
+/// Adds a name, and the three words behind it.
+#[inline(always)]
+#[tactic(auto, using(std::proofs::Common::append_assoc))]
+pub fn put_three(out: &mut Buffer, name: &[u8], first: &Word, second: &Word, third: &Word)
+    requires { length out.old + length name.now + WORD * 3 ≤ ROOM }
+    ensures text { out.new
+        ≡ out.old ++ (name.now ++ spaced (word_text first.now ∷ word_text second.now ∷ word_text third.now ∷ [])) }
+    ensures room { length out.new ≤ length out.old + length name.now + WORD * 3 }
+{
+    put_two(out, name, first, second);
+    put_word(out, third);
+}
+
+/// Adds a name, and four words behind it.
+#[inline(always)]
+#[tactic(auto, using(std::proofs::Common::append_assoc))]
+pub fn put_four(
+    out: &mut Buffer,
+    name: &[u8],
+    first: &Word,
+    second: &Word,
+    third: &Word,
+    fourth: &Word,
+)
+    requires { length out.old + length name.now + WORD * 4 ≤ ROOM }
+    ensures text { out.new
+        ≡ out.old
+        ++ (name.now
+        ++ spaced
+        (word_text first.now ∷ word_text second.now ∷ word_text third.now ∷ word_text fourth.now ∷ [])) }
+    ensures room { length out.new ≤ length out.old + length name.now + WORD * 4 }
+{
+    put_three(out, name, first, second, third);
+    put_word(out, fourth);
+}
+
+/// Adds a name, and five words behind it.
+#[inline(always)]
+#[tactic(auto, using(std::proofs::Common::append_assoc))]
+pub fn put_five(
+    out: &mut Buffer,
+    name: &[u8],
+    first: &Word,
+    second: &Word,
+    third: &Word,
+    fourth: &Word,
+    fifth: &Word,
+)
+    requires { length out.old + length name.now + WORD * 5 ≤ ROOM }
+    ensures text { out.new
+        ≡ out.old
+        ++ (name.now
+        ++ spaced
+        (word_text first.now
+        ∷ word_text second.now
+        ∷ word_text third.now
+        ∷ word_text fourth.now
+        ∷ word_text fifth.now
+        ∷ [])) }
+    ensures room { length out.new ≤ length out.old + length name.now + WORD * 5 }
+{
+    put_four(out, name, first, second, third, fourth);
+    put_word(out, fifth);
 }
 
 /// Adds a name, and the words behind it, each with its space.
