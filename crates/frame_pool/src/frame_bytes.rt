@@ -54,11 +54,14 @@ impl FrameBytes {
         bytes::overwrite(&mut self.front, at, from);
     }
 
-    /// Writes zeros over the frame that begins there.
+    /// Writes zeros over the frame that begins there. Where no byte at or past it was written, there is nothing to do.
     pub fn zero_frame(&mut self, at: usize)
         requires { at + 4096 ≤ length self.old }
         ensures { self.new ≡ overwritten self.old at zero_frame }
     {
+        if self.front.len() <= at {
+            return;
+        }
         bytes::grow(&mut self.front, at + FRAME_BYTES);
         bytes::zero_frame(&mut self.front, at);
     }
@@ -74,12 +77,16 @@ impl FrameBytes {
         bytes::copy(&mut self.front, at, to, count);
     }
 
-    /// Copies so many bytes of another row from `at` on over those from `to` on.
+    /// Copies so many bytes of another row from `at` on over those from `to` on. Where neither row has a byte there that
+    /// was written, there is nothing to do.
     pub fn copy_from(&mut self, from: &FrameBytes, at: usize, to: usize, count: usize)
         requires source { at + count ≤ length from.now }
         requires target { to + count ≤ length self.old }
         ensures { self.new ≡ overwritten self.old to (part_of from.now at count) }
     {
+        if from.front.len() <= at && self.front.len() <= to {
+            return;
+        }
         bytes::grow(&mut self.front, to + count);
         bytes::read_over(&mut self.front, to, count, &from.front, at);
     }

@@ -1,8 +1,15 @@
-use Rattle.std.proofs.Common.{◌≤◌, ◌+◌, arith, ap, length}
+use Rattle.std.proofs.Common.{◌≤◌, ◌+◌, sym, arith, ap, length}
 use Rattle.frame_pool.specs.Frames.{zero_frame}
 use Rattle.frame_pool.proofs.Overwrites.{zero_frame_length, length-overwritten}
-use Rattle.frame_pool.proofs.Padded.{grown_least, grown_most, length_padded, written_grown}
+use Rattle.frame_pool.proofs.Padded.{grown_least, grown_most, length_padded, written_grown, zeros_over}
 use Rattle.frame_pool.proofs.frame_bytes.FrameBytes.zero_frame.Goals as goal
+
+pub returns-then-len-at : goal.returns-then-len-at
+unfolding zero_frame
+returns-then-len-at c =
+    let b = c.self.inside in
+    let fits : length c.self.inside.front.items ≤ c.self.inside.size = omega (arith, c.self.invariant.within, b.front.ok.0) in
+    sym (zeros_over b.front.items _ b.size c.args.at 4096 c.self.view_is (omega (arith, c.if-len-at.true, c.len.ensures)) c.requires fits)
 
 pub returns : goal.returns
 returns c =
