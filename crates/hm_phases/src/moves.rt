@@ -92,10 +92,11 @@ pub fn moved(op: &Op, stack: &Items, kind: &Kind, seen: &Seen) -> Items
     requires counted { IsTrue (below_takes_count (phases_of stack.now)) }
     ensures { phases_of result ≡ spec.stack_after op.now (phases_of stack.now) kind.now seen.now }
 {
-    match stack {
-        Items::Zero => Items::Zero,
-        Items::One(top) => after_top(op, top, Items::Zero, kind, seen),
-        Items::Two(top, a) => after_top(op, top, Items::One(*a), kind, seen),
-        Items::Three(top, a, b) => after_top(op, top, Items::Two(*a, *b), kind, seen),
-    }
+    let (top, below) = match stack {
+        Items::Zero => return Items::Zero,
+        Items::One(top) => (top, Items::Zero),
+        Items::Two(top, a) => (top, Items::One(*a)),
+        Items::Three(top, a, b) => (top, Items::Two(*a, *b)),
+    };
+    after_top(op, top, below, kind, seen)
 }
