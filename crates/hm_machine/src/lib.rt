@@ -100,6 +100,7 @@ impl<R: SkipRule> Machine<R> {
     }
 
     /// Adds an entry that is due.
+    #[inline(always)]
     fn add(&mut self, entry: Entry) -> Result<Turn, StepError>
         requires running { self.old.halted ≡ None }
         requires due { due self.old.script self.old.history entry.actor ≡ Progress.Did entry }
@@ -116,6 +117,7 @@ impl<R: SkipRule> Machine<R> {
     }
 
     /// One turn of the actor: what is due to it.
+    #[inline(always)]
     pub fn step(&mut self, actor: Actor) -> Result<Turn, StepError>
         ensures { Turned self.old actor result self.new }
     {

@@ -28,6 +28,7 @@ fn progress_of(actor: Actor, next: Next) -> Progress
 
 /// What is due to the actor in the world: the entry that its next step adds, or why it waits; idle where it has no
 /// operation left. The rule decides which pages a migration skips. Memory is taken for the bytes of an answer alone.
+#[inline(always)]
 pub fn due<W: Reads, R: SkipRule>(
     world: &W,
     rule: &R,

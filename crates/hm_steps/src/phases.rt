@@ -167,6 +167,7 @@ fn due_fault<W: Reads, R: SkipRule>(world: &W, rule: &R, actor: Actor, op: &Op, 
 }
 
 /// The turn at a phase. Only the answers of accesses take memory.
+#[inline(always)]
 pub fn due_phase<W: Reads, R: SkipRule>(
     world: &W,
     rule: &R,

@@ -12,6 +12,7 @@ use hm_history::{Entry, Kind};
 
 impl World {
     /// Adds an entry that is due. Where memory runs out, that is before the first change.
+    #[inline(always)]
     pub fn add(&mut self, actor: Actor, kind: Kind) -> Result<(), NoMemory>
         requires limit { length self.old.history < MOST_ENTRIES }
         requires running { self.old.halted ≡ None }

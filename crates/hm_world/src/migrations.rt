@@ -51,6 +51,7 @@ impl World {
             && self.interval_seq(mirror) != self.process_seq(self.mirror_proc(mirror))
     }
 
+    #[inline(always)]
     pub(crate) fn come_to(
         &self,
         actor: Actor,

@@ -67,6 +67,7 @@ impl World {
     }
 
     /// The frame that the entry leaves unnamed, and that nobody has locked; `old` is the place that it is about.
+    #[inline(always)]
     pub(crate) fn left_behind(&self, kind: &Kind, old: &Place) -> Option<Frame>
         requires { old.now ≡ entry_place (now self.now).after.plain (now self.now).after.places kind.now }
         ensures { result ≡ orphan (now self.now).after.locks (now self.now).after.places kind.now }
@@ -101,6 +102,7 @@ impl World {
         }
     }
 
+    #[inline(always)]
     fn step_place(&self, op: &Op, top: &Phase, kind: &Kind, old: &Place) -> Place
         requires range { IsTrue (op_in_range op.now) }
         requires old { old.now ≡ entry_place (now self.now).after.plain (now self.now).after.places kind.now }
@@ -116,6 +118,7 @@ impl World {
         }
     }
 
+    #[inline(always)]
     fn page_come_to(&self, actor: Actor, op: &Op, top: &Phase) -> Option<Migrating>
         ensures { result ≡ coming_page (coming (now self.now).after op.now ((now self.now).going actor).pages top.now) }
     {
@@ -130,6 +133,7 @@ impl World {
 
     /// What the stack of phases notes of the entry; `old` is the place that it is about, and `left` the frame that it
     /// leaves unnamed.
+    #[inline(always)]
     pub(crate) fn seen(&self, actor: Actor, kind: &Kind, old: &Place, left: &Option<Frame>) -> Seen
         requires old { old.now ≡ entry_place (now self.now).after.plain (now self.now).after.places kind.now }
         requires left { left.now ≡ orphan (now self.now).after.locks (now self.now).after.places kind.now }

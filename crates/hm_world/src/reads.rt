@@ -54,6 +54,7 @@ impl Reads for World {
         self.actors.moved_pages(actor)
     }
 
+    #[inline(always)]
     fn coming(
         &self,
         actor: Actor,
