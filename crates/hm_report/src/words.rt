@@ -40,6 +40,7 @@ pub enum Word {
     Cause(Cause),
 }
 
+#[inline(always)]
 fn put_frame(out: &mut Buffer, frame: &Frame)
     requires { length out.old + WORD ≤ ROOM }
     ensures text { out.new ≡ out.old ++ 32 ∷ frame_text frame.now }
