@@ -4,12 +4,12 @@ use Rattle.std.specs.List.{list_all}
 use Rattle.hm_history.specs.declared.Kind.{Kind}
 use Rattle.hm_report.specs.Words.{kind_words}
 use Rattle.hm_script.specs.Splitting.{word}
-use Rattle.hm_script.proofs.Readers.{numbers, addresses, hexes}
+use Rattle.hm_script.proofs.Readers.{numbers, addresses}
 use Rattle.hm_script.proofs.Steps.{is_plain}
 use Rattle.hm_reading.specs.Fits.{FitsKind}
 use Rattle.hm_reading.specs.KindWords.{kind_named, kind_word}
 use Rattle.hm_reading.specs.Kinds.{kind_at}
-use Rattle.hm_reading.proofs.WordsAgain.{byte_again, byte_plain, bytes_again, cause_again, cause_plain, frame_again, frame_plain, kept_again, kept_plain, mirror_again, mirror_plain, device_again, device_plain, proc_again, proc_plain, page_again, page_plain, part_again, part_plain, place_again, place_plain, right_again, right_plain, span_again, span_plain, table_right_again, table_right_plain, target_again, target_plain, who_again, who_plain, why_again, why_plain}
+use Rattle.hm_reading.proofs.WordsAgain.{byte_again, byte_plain, bytes_again, hex_plain, cause_again, cause_plain, frame_again, frame_plain, kept_again, kept_plain, mirror_again, mirror_plain, device_again, device_plain, proc_again, proc_plain, page_again, page_plain, part_again, part_plain, place_again, place_plain, right_again, right_plain, span_again, span_plain, table_right_again, table_right_plain, target_again, target_plain, who_again, who_plain, why_again, why_plain}
 
 -- the word of each kind names it
 pub named-again : (k : Kind) → kind_named (word 0 (kind_words k)) ≡ Some (kind_word k)
@@ -95,8 +95,8 @@ kind-again pos act (Kind.Fetched m a bs) h = rw (mirror_again m h.0, addresses.a
 kind-again pos act (Kind.Added m a was now) h = rw (mirror_again m h.0, addresses.again a h.1, byte_again was h.2, byte_again now h.3) refl
 
 pub kind-plain : (k : Kind) → FitsKind k → list_all (list_all is_plain) (kind_words k) ≡ true
-kind-plain (Kind.Loaded x a bs) h = rw (who_plain x h.0, addresses.plain a h.1, hexes.plain bs h.2) refl
-kind-plain (Kind.Stored x a bs) h = rw (who_plain x h.0, addresses.plain a h.1, hexes.plain bs h.2) refl
+kind-plain (Kind.Loaded x a bs) h = rw (who_plain x h.0, addresses.plain a h.1, hex_plain bs h.2) refl
+kind-plain (Kind.Stored x a bs) h = rw (who_plain x h.0, addresses.plain a h.1, hex_plain bs h.2) refl
 kind-plain (Kind.Failed x a n why) h = rw (who_plain x h.0, addresses.plain a h.1, numbers.plain n h.2, cause_plain why) refl
 kind-plain (Kind.Mapped p r w) h = rw (proc_plain p h.0, (span_plain r h.1).0, (span_plain r h.1).1, right_plain w) refl
 kind-plain (Kind.Unmapped p r) h = rw (proc_plain p h.0, (span_plain r h.1).0, (span_plain r h.1).1) refl
@@ -131,5 +131,5 @@ kind-plain (Kind.Kept at why) h = rw (kept_plain at h.0, why_plain why h.1) refl
 kind-plain (Kind.Done f) h = rw (frame_plain f h) refl
 kind-plain (Kind.Withdrawn d) h = rw (device_plain d h) refl
 kind-plain (Kind.Excluded m v) h = rw (mirror_plain m h.0, page_plain v h.1) refl
-kind-plain (Kind.Fetched m a bs) h = rw (mirror_plain m h.0, addresses.plain a h.1, hexes.plain bs h.2) refl
+kind-plain (Kind.Fetched m a bs) h = rw (mirror_plain m h.0, addresses.plain a h.1, hex_plain bs h.2) refl
 kind-plain (Kind.Added m a was now) h = rw (mirror_plain m h.0, addresses.plain a h.1, byte_plain was h.2, byte_plain now h.3) refl

@@ -1,3 +1,4 @@
 pub mod WordsAgain
 pub mod KindsAgain
 pub mod LineAgain
+pub mod InRange

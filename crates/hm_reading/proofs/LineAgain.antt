@@ -16,7 +16,8 @@ use Rattle.hm_script.proofs.LinesAgain.{split-join}
 use Rattle.hm_script.proofs.TextTaken.{concat-lines}
 use Rattle.hm_script.proofs.Readers.{numbers}
 use Rattle.hm_script.proofs.Steps.{is_plain, ok_is}
-use Rattle.hm_reading.specs.Entries.{unfinished_text}
+use Rattle.hm_reading.specs.Entries.{FitsUnfinished, unfinished_text}
+use Rattle.hm_reading.specs.declared.reader.Unfinished.{Unfinished}
 use Rattle.hm_reading.specs.Fits.{FitsEntry}
 use Rattle.hm_reading.specs.Kinds.{entry_at}
 use Rattle.hm_reading.specs.Words.{numbered}
@@ -66,6 +67,16 @@ unfinished_actor a index l text few small cut same = ap (λ (ws : List (List ℕ
 
 pub unfinished_index : (a index : ℕ) (l text : List ℕ) → a < 16 → index < 2 ^ 64 → l ≡ text ++ 10 ∷ [] → l ≡ unfinished_text a index → number (word 2 (split text)) ≡ Ok index
 unfinished_index a index l text few small cut same = ap (λ (ws : List (List ℕ)). number (word 2 ws)) (unfinished_cut a index l text few small cut same) ∙ numbers.again index small
+
+pub one_unfinished : (u v : Unfinished) → FitsUnfinished u → FitsUnfinished v → unfinished_text u.actor u.index ≡ unfinished_text v.actor v.index → u ≡ v
+one_unfinished u v h k same =
+    let text = join_with_byte 32 (unfinished_words u.actor u.index) in
+    let actor : u.actor ≡ v.actor = ok_is u.actor v.actor (sym (unfinished_actor u.actor u.index (unfinished_text u.actor u.index) text h.actor h.index refl refl) ∙ unfinished_actor v.actor v.index (unfinished_text u.actor u.index) text k.actor k.index refl same) in
+    let index : u.index ≡ v.index = ok_is u.index v.index (sym (unfinished_index u.actor u.index (unfinished_text u.actor u.index) text h.actor h.index refl refl) ∙ unfinished_index v.actor v.index (unfinished_text u.actor u.index) text k.actor k.index refl same) in
+    ap (λ (a : ℕ). made a u.index) actor ∙ ap (made v.actor) index
+  where
+    made : ℕ → ℕ → Unfinished
+    made a index = record { actor = a; index = index }
 
 pub end_count : (n : ℕ) (l text : List ℕ) → n < 2 ^ 64 → l ≡ text ++ 10 ∷ [] → l ≡ end_line n → number (word 1 (split text)) ≡ Ok n
 end_count n l text small cut same = ap (λ (ws : List (List ℕ)). number (word 1 ws)) (words_cut (codes "end" ∷ decimal n ∷ []) text (omega arith) (rw (numbers.plain n small) refl) (sym cut ∙ same)) ∙ numbers.again n small

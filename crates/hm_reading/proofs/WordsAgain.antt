@@ -91,7 +91,11 @@ span_plain r h = (numbers.plain r.first (omega (arith, h.some, h.ends)), numbers
 -- ---- bytes
 
 one_byte : (b : ℕ) → b < 256 → FitsHex (b ∷ [])
-one_byte b h = (omega arith, rw (lt-ltb b 256 h) refl)
+one_byte b h = rw (lt-ltb b 256 h) refl
+
+pub hex_plain : (bs : List ℕ) → FitsHex bs → list_all is_plain (hex_text bs) ≡ true
+hex_plain [] h = refl
+hex_plain (b ∷ bs) h = hexes.plain (b ∷ bs) (omega arith, h)
 
 glyph_again : (k : ℕ) → k < 16 → nibble (digit_glyph false k) ≡ k
 glyph_again k h = grind (arith, nat_tests, h)
@@ -100,7 +104,7 @@ pub byte_again : (b : ℕ) → b < 256 → byte_at (byte_text b) ≡ b
 byte_again b h = rw (glyph_again (b / 16) (omega arith), glyph_again (b % 16) (omega arith)) (omega arith)
 
 pub bytes_again : (bs : List ℕ) → FitsHex bs → bytes_at (hex_text bs) ≡ bs
-bytes_again bs h = all bs h.1
+bytes_again bs h = all bs h
   where
     all : (xs : List ℕ) → list_all (λ b. ltb b 256) xs ≡ true → bytes_at (hex_text xs) ≡ xs
     all [] e = refl
@@ -118,7 +122,7 @@ right_plain Rights.Read = refl
 right_plain Rights.ReadWrite = refl
 
 pub byte_plain : (b : ℕ) → b < 256 → list_all is_plain (byte_text b) ≡ true
-byte_plain b h = hexes.plain (b ∷ []) (one_byte b h)
+byte_plain b h = hex_plain (b ∷ []) (one_byte b h)
 
 -- ---- frames
 

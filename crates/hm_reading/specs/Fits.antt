@@ -1,5 +1,5 @@
 -- Entries whose numbers are in range: those that a program can have.
-use Rattle.std.specs.Prelude.{◌≡◌, ℕ, ◌^◌, ◌<◌, true, nat_lt, Option, Some, None, List, length}
+use Rattle.std.specs.Prelude.{◌≡◌, ℕ, ◌^◌, ◌<◌, true, nat_lt, Option, Some, None, List}
 use Rattle.std.specs.List.{list_all}
 use Rattle.hm_base.specs.Pages.{IsSpan}
 use Rattle.hm_base.specs.declared.Frame.{Frame}
@@ -14,9 +14,8 @@ use Rattle.hm_history.specs.declared.Who.{Who}
 abbrev pub Fits64 : ℕ → Type 0
 Fits64 n = n < 2 ^ 64
 
--- one byte or more
 abbrev pub FitsHex : List ℕ → Type 0
-FitsHex bytes = (0 < length bytes) × (list_all (λ b. nat_lt b 256) bytes ≡ true)
+FitsHex bytes = list_all (λ b. nat_lt b 256) bytes ≡ true
 
 abbrev pub FitsWho : Who → Type 0
 FitsWho (Who.Cpu p) = p < 32
