@@ -1,42 +1,27 @@
 -- A verdict is right: the report is legal, or the line is the first that no legal report has there.
-use Rattle.std.proofs.Common.{◌≡◌, ℕ, suc, ◌+◌, ◌<◌, ◌≤◌, ◌⊎◌, inl, inr, Option, Some, None, Bor, List, [], ◌∷◌, ◌++◌, length, take, refl, sym, subst, ap, ◌∙◌, arith, append_assoc, append-nil, length-append}
+use Rattle.std.proofs.Common.{◌≡◌, ℕ, suc, ◌+◌, ◌≤◌, List, [], ◌∷◌, ◌++◌, length, take, sym, subst, ap, ◌∙◌, arith, append_assoc, append-nil, length-append}
 use Rattle.std.specs.Prelude.{Result, Ok, Err, IfOk}
-use Rattle.std.proofs.lemmas.Bool.{cases_lt}
-use Rattle.std.proofs.lemmas.List.{take_all, take-take, take-append-le, length-take-le, append_cancel_left}
-use Rattle.std.proofs.Math.Seq.{take-append-add}
 use Rattle.hm_base.specs.Program.{Program, IsScript}
 use Rattle.hm_history.specs.Laws.{DueFrom}
 use Rattle.hm_history.specs.declared.Entry.{Entry}
 use Rattle.hm_history.proofs.RunLemmas.{legal_due}
 use Rattle.hm_laws.specs.Laws.{HistoryIsLegal}
 use Rattle.hm_script.specs.Automaton.{lines}
-use Rattle.hm_script.specs.BadLine as Bad
 use Rattle.hm_script.specs.Spelling.{text}
 use Rattle.hm_report.specs.Report.{entry_line, history_line, report}
-use Rattle.hm_check.specs.FirstBad.{IsLegalReport, SharesLines, IsFirstBad}
+use Rattle.hm_check.specs.FirstBad.{IsLegalReport, IsFirstBad}
 use Rattle.hm_check.specs.declared.verdict.Verdict.{Verdict}
 use Rattle.hm_check.specs.declared.verdict.Verdict.TheVariants.{Yes, No}
 use Rattle.hm_check.specs.Judged.{Judged, IsYes, JudgedBehind}
-use Rattle.hm_check.specs.Parts.{HeadOf, entry_list, tail_of, MayCome, BeginsNoEntry, TakenFrom, Differ}
-use Rattle.hm_check.proofs.Cutting.{joined, joined_lines}
-use Rattle.hm_check.proofs.ReportLines.{report_lines, script_none}
+use Rattle.hm_check.specs.Parts.{tail_of, MayCome, BeginsNoEntry, TakenFrom}
+use Rattle.hm_report_lines.specs.Heads.{IsBadHead, IsHead}
+use Rattle.hm_report_lines.specs.Parts.{entry_list, Differ}
+use Rattle.hm_report_lines.proofs.Scripts.{OneText, same_script, cons_take}
+use Rattle.hm_report_lines.proofs.Shared.{one_lines, shares_behind, cancel}
+use Rattle.hm_report_lines.proofs.TextLines.{entry_list_length}
+use Rattle.hm_check.proofs.ReportLines.{report_lines}
 use Rattle.hm_check.proofs.Naming.{tail_line, no_entry}
-use Rattle.hm_check.proofs.Follow.{OneText, front, front_take, front_before, front_all, same_script, take_whole, cons_take, follow}
-
--- ---- lists of lines
-
-pub one_lines : (xs ys : List ℕ) → lines xs ≡ lines ys → xs ≡ ys
-one_lines xs ys e = sym (joined_lines xs) ∙ ap joined e ∙ joined_lines ys
-
--- what is shared behind the same front
-pub shares_behind : (k n : ℕ) (front xs ys : List (List ℕ)) → take n xs ≡ take n ys → k ≤ length front + n → take k (front ++ xs) ≡ take k (front ++ ys)
-shares_behind k n front xs ys same le =
-    let m = length front + n in
-    let whole : take m (front ++ xs) ≡ take m (front ++ ys) = take-append-add front xs n ∙ ap (λ (z : List (List ℕ)). front ++ z) same ∙ sym (take-append-add front ys n) in
-    sym (take-take k m (front ++ xs) le) ∙ ap (take k) whole ∙ take-take k m (front ++ ys) le
-
-cancel : (n : ℕ) (front xs ys : List (List ℕ)) → take (length front + n) (front ++ xs) ≡ take (length front + n) (front ++ ys) → take n xs ≡ take n ys
-cancel n front xs ys e = append_cancel_left front (take n xs) (take n ys) (sym (take-append-add front xs n) ∙ e ∙ take-append-add front ys n)
+use Rattle.hm_check.proofs.Follow.{follow}
 
 -- ---- no other report goes on so
 
@@ -45,10 +30,6 @@ pub record ReadTo (whole : List ℕ) (c : Program) (h : List Entry) (ls : List (
   pub script : IsScript c
   pub dues : DueFrom c [] h
   pub lines_are : lines whole ≡ lines (text c) ++ history_line ∷ (entry_list 0 h ++ ls)
-
-entry_list_length : (at : ℕ) (h : List Entry) → length (entry_list at h) ≡ length h
-entry_list_length at [] = refl
-entry_list_length at (e ∷ h) = ap suc (entry_list_length (at + 1) h)
 
 -- the first of these lines is no entry's that may come next
 starts : (c : Program) (h : List Entry) (n : ℕ) (e : Entry) (more ls : List (List ℕ)) → BeginsNoEntry c h ls → MayCome c h e → take (suc n) (entry_line (length h) e ∷ more) ≡ take (suc n) ls → ⊥
@@ -121,63 +102,12 @@ is_report whole c h tail read same = one_lines whole (report c h) (read.lines_ar
 no_entries : (c : Program) → IsScript c → IsLegalReport c []
 no_entries c s = record { script = s; legal = tt; few = omega arith }
 
--- a script without `history` behind it
-pub no_history : (whole : List ℕ) (c : Program) → IsScript c → lines whole ≡ lines (text c) → IsFirstBad whole (length (lines (text c)) + 1)
-no_history whole c s is = record {
-  bad = λ d g x. bad d g x.shares;
-  before = λ k lt. (c, [], record { legal = no_entries c s; shares = before k (omega arith) });
+-- a bad line of the script, or no `history`
+pub judged_head : (whole : List ℕ) (n : ℕ) → IsBadHead whole n → IsFirstBad whole n
+judged_head whole n h = record {
+  bad = λ d g x. h.bad d (entry_list 0 g ++ lines (tail_of d g)) x.legal.script (ap (take n) (sym (report_lines d g)) ∙ x.shares);
+  before = λ k lt. let b = h.before k lt in (b.0, [], record { legal = no_entries b.0 b.1; shares = ap (take k) (report_lines b.0 []) ∙ b.2 (lines (tail_of b.0 [])) });
 }
-  where
-    n : ℕ
-    n = length (lines (text c)) + 1
-
-    bad : (d : Program) (g : List Entry) → take n (lines (report d g)) ≡ take n (lines whole) → ⊥
-    bad d g same =
-        let all : take n (lines whole) ≡ lines (text c) = ap (take n) is ∙ take_all n (lines (text c)) (omega arith) in
-        let e : lines (report d g) ≡ lines (text c) = take_whole n (lines (report d g)) (lines (text c)) (same ∙ all) (omega arith) in
-        let f : lines (text d) ++ history_line ∷ (entry_list 0 g ++ lines (tail_of d g)) ≡ lines (text c) = sym (report_lines d g) ∙ e in
-        let script : lines (text d) ≡ lines (text c) = sym (front_before (lines (text d)) (entry_list 0 g ++ lines (tail_of d g)) (script_none d)) ∙ ap front f ∙ front_all (lines (text c)) (script_none c) in
-        omega (arith, ap length f, length-append (lines (text d)) (history_line ∷ (entry_list 0 g ++ lines (tail_of d g))), ap length script)
-
-    before : (k : ℕ) → k ≤ length (lines (text c)) → take k (lines (report c [])) ≡ take k (lines whole)
-    before k le = ap (take k) (report_lines c []) ∙ take-append-le k (lines (text c)) (history_line ∷ (entry_list 0 [] ++ lines (tail_of c []))) le ∙ ap (take k) (sym is)
-
--- what the bytes have behind the script's lines
-behind : (whole script : List ℕ) (rest : Option (Bor (List ℕ))) → HeadOf whole script rest → (others : List (List ℕ)) × (lines whole ≡ lines script ++ others)
-behind whole script None h = ([], h.goes_on ∙ sym (append-nil (lines script)))
-behind whole script (Some rest) h = (history_line ∷ lines rest.now, h.goes_on)
-
-head_front : (whole script : List ℕ) (rest : Option (Bor (List ℕ))) → HeadOf whole script rest → front (lines whole) ≡ lines script
-head_front whole script None h = ap front h.goes_on ∙ front_all (lines script) h.none
-head_front whole script (Some rest) h = ap front h.goes_on ∙ front_before (lines script) (lines rest.now) h.none
-
--- a line of the script that no script has
-pub refused_head : (whole script : List ℕ) (rest : Option (Bor (List ℕ))) (n : ℕ) → HeadOf whole script rest → ((s : Program) → IsScript s → take n (lines (text s)) ≡ take n (lines script) → ⊥)
-    → ((k : ℕ) → k < n → (s : Program) × IsScript s × (take k (lines (text s)) ≡ take k (lines script))) → IsFirstBad whole n
-refused_head whole script rest n h bad before = record {
-  bad = λ d g x. no_other_script d g x.legal.script x.shares;
-  before = λ k lt. let b = before k lt in shared k lt b.0 b.1 b.2 (cases_lt (length (lines script)) k);
-}
-  where
-    no_other_script : (d : Program) (g : List Entry) → IsScript d → take n (lines (report d g)) ≡ take n (lines whole) → ⊥
-    no_other_script d g s same =
-        let mine : front (take n (lines (report d g))) ≡ take n (lines (text d)) = front_take n (lines (report d g)) ∙ ap (λ (z : List (List ℕ)). take n (front z)) (report_lines d g) ∙ ap (take n) (front_before (lines (text d)) (entry_list 0 g ++ lines (tail_of d g)) (script_none d)) in
-        let theirs : front (take n (lines whole)) ≡ take n (lines script) = front_take n (lines whole) ∙ ap (take n) (head_front whole script rest h) in
-        bad d s (sym mine ∙ ap front same ∙ theirs)
-
-    shared : (k : ℕ) → k < n → (s : Program) → IsScript s → take k (lines (text s)) ≡ take k (lines script) → (length (lines script) < k) ⊎ (k ≤ length (lines script)) → (c : Program) × (g : List Entry) × SharesLines whole k c g
-    shared k lt s is e (inl short) =
-        let all : take k (lines script) ≡ lines script = take_all k (lines script) (omega arith) in
-        let same : lines (text s) ≡ lines script = take_whole k (lines (text s)) (lines script) (e ∙ all) short in
-        absurd (bad s is (ap (take n) same))
-    shared k lt s is e (inr long) =
-        let o = behind whole script rest h in
-        let enough : k ≤ length (lines (text s)) = reaches (cases_lt (length (lines (text s))) k) in
-        (s, [], record { legal = no_entries s is; shares = ap (take k) (report_lines s []) ∙ take-append-le k (lines (text s)) (history_line ∷ (entry_list 0 [] ++ lines (tail_of s []))) enough ∙ e ∙ sym (take-append-le k (lines script) o.0 long) ∙ ap (take k) (sym o.1) })
-      where
-        reaches : (length (lines (text s)) < k) ⊎ (k ≤ length (lines (text s))) → k ≤ length (lines (text s))
-        reaches (inl lt) = absurd (omega (arith, ap length (sym (take_all k (lines (text s)) (omega arith)) ∙ e), length-take-le k (lines script) long))
-        reaches (inr le) = le
 
 -- ---- the script and the history are the report's own
 
@@ -245,23 +175,9 @@ judged_good law whole bytes rest tail c d h t is same parts =
 
 -- ---- the verdict
 
-refused_by : (whole script : List ℕ) (rest : Option (Bor (List ℕ))) (n : ℕ) → HeadOf whole script rest → Bad.IsFirstBad script n → IsFirstBad whole n
-refused_by whole script rest n h b =
-    refused_head whole script rest n h (λ s is e. b.bad s (record { script = is; shares = e })) (λ k lt. let s = b.before k lt in (s.0, s.1.script, s.1.shares))
-
--- a bad line of the script
-pub judged_refused : (whole script : List ℕ) (rest : Option (Bor (List ℕ))) (n m : ℕ) → HeadOf whole script rest → Bad.IsFirstBad script n → m ≡ n → IsFirstBad whole m
-judged_refused whole script rest n m h b same = subst (IsFirstBad whole) (sym same) (refused_by whole script rest n h b)
-
--- no `history`
-pub judged_none : (whole script : List ℕ) (c : Program) (n : ℕ) → IsScript c → HeadOf whole script None → text c ≡ script → n ≡ length (lines script) → IsFirstBad whole (n + 1)
-judged_none whole script c n s h is many =
-    subst (λ (k : ℕ). IsFirstBad whole (k + 1)) (ap (λ (z : List ℕ). length (lines z)) is ∙ sym many) (no_history whole c s (h.goes_on ∙ ap lines (sym is)))
-
 -- `history`, and what follows
-pub judged_behind : (whole script : List ℕ) (rest : Bor (List ℕ)) (c : Program) (n : ℕ) (v : Verdict) → HeadOf whole script (Some rest) → text c ≡ script → n ≡ length (lines script) → JudgedBehind c (n + 2) rest.now v → Judged whole v
-judged_behind whole script rest c n v h is many judged =
-    judged whole (h.goes_on ∙ ap (λ (z : List ℕ). lines z ++ history_line ∷ lines rest.now) (sym is)) (ap (λ (k : ℕ). k + 2) (many ∙ ap (λ (z : List ℕ). length (lines z)) (sym is)))
+pub judged_behind : (whole rest : List ℕ) (c : Program) (first : ℕ) (v : Verdict) → IsHead whole c first rest → JudgedBehind c first rest v → Judged whole v
+judged_behind whole rest c first v h judged = judged whole h.lines_are h.number
 
 pub on_ok : {A E : Type 0} (r : Result A E) (P Q : A → Type 0) → ((a : A) → P a → Q a) → IfOk r P → IfOk r Q
 on_ok (Ok a) P Q f h = f a h

@@ -1,8 +1,6 @@
-pub mod Cutting
 pub mod Exact
 pub mod Follow
 pub mod Hex
 pub mod Loops
 pub mod Naming
 pub mod ReportLines
-pub mod Words

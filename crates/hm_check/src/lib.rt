@@ -3,7 +3,6 @@
 
 mod actor;
 mod entries;
-mod head;
 mod lines;
 mod skips;
 mod tail;

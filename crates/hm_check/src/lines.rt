@@ -1,9 +1,5 @@
 // The fronts that texts share.
-ghost use Rattle.std.specs.Prelude.{◌≡◌, ◌≤◌, ◌++◌, ℕ, List, length, MatchOption, IfSome};
-ghost use Rattle.hm_script.specs.Automaton.{lines};
-ghost use Rattle.hm_check.specs.Parts.{Differ};
-
-use hm_script::cut_line;
+ghost use Rattle.std.specs.Prelude.{◌≡◌, ◌++◌, ℕ, List, MatchOption};
 
 /// What follows the front, where the text begins with it.
 pub fn strip_front<'a>(text: &'a [u8], front: &[u8]) -> Option<&'a [u8]>
@@ -11,29 +7,4 @@ pub fn strip_front<'a>(text: &'a [u8], front: &[u8]) -> Option<&'a [u8]>
         (λ rest. text.now ≡ front.now ++ rest.now) }
 {
     text.strip_prefix(front)
-}
-
-/// How many lines the two texts share at the front; none where they are equal.
-pub fn first_difference(text: &[u8], other: &[u8]) -> Option<u64>
-    ensures differ { MatchOption result (text.now ≡ other.now) (Differ (lines text.now) (lines other.now)) }
-    ensures few { IfSome result (λ n. n ≤ length text.now) }
-{
-    let mut rest = text;
-    let mut others = other;
-    let mut same: u64 = 0;
-    while !rest.is_empty() && !others.is_empty() {
-        let (line, after) = cut_line(rest);
-        let (other_line, other_after) = cut_line(others);
-        if line != other_line {
-            return Some(same);
-        }
-        same += 1;
-        rest = after;
-        others = other_after;
-    }
-    if rest.is_empty() && others.is_empty() {
-        None
-    } else {
-        Some(same)
-    }
 }

@@ -10,13 +10,11 @@ ghost use Rattle.hm_check.specs.Judged.{Judged, IsYes, JudgedBehind};
 ghost use Rattle.hm_check.specs.Parts.{TakenFrom};
 
 use crate::entries::take_entries;
-use crate::head::cut_head;
-use crate::lines::first_difference;
 use crate::tail::put_tail;
 use hm_base::{NoMemory, Script};
 use hm_history::History;
 use hm_report::Buffer;
-use hm_script::{ScriptError, parse};
+use hm_report_lines::{first_difference, read_head};
 use hm_world::World;
 use std::alloc::Global;
 
@@ -96,15 +94,8 @@ pub fn check(alloc: Global, bytes: &[u8]) -> Result<Verdict, NoMemory>
         → IfOk result (IsYes c h) }
 {
     hm_script::one_text();
-    let head = cut_head(bytes);
-    let script = match parse(alloc, head.script) {
-        Ok(script) => script,
-        Err(ScriptError::Refused(refused)) => return Ok(Verdict::No(refused.line)),
-        Err(ScriptError::NoMemory) => return Err(NoMemory),
-    };
-    script.facts();
-    match head.rest {
-        Some(rest) => judge(alloc, script, head.lines + 2, rest),
-        None => Ok(Verdict::No(head.lines + 1)),
+    match read_head(alloc, bytes)? {
+        Ok(head) => judge(alloc, head.script, head.first, head.rest),
+        Err(bad) => Ok(Verdict::No(bad.0)),
     }
 }

@@ -16,7 +16,7 @@ use Rattle.hm_history.specs.declared.KeptWhy.{KeptWhy}
 use Rattle.hm_history.specs.declared.Kind.{Kind}
 use Rattle.hm_script.specs.Spelling.{hex_text, right_text}
 use Rattle.hm_report.specs.Words.{who_text, byte_text, frame_in, frame_text, write_text, place_words, target_text, table_right_text, part_text, kept_text, why_words, kind_words, cause_number}
-use Rattle.hm_check.proofs.Cutting.{no_feed}
+use Rattle.hm_report_lines.proofs.Cutting.{no_feed}
 
 abbrev pub is_whole : List ℕ → Bool
 is_whole w = list_all no_feed w

@@ -1,13 +1,13 @@
 // The script at the front of a report.
-ghost use Rattle.std.specs.Prelude.{◌≡◌, ◌≤◌, length};
+ghost use Rattle.std.specs.Prelude.{◌≡◌, ◌+◌, ◌≤◌, length, IfSome};
 ghost use Rattle.hm_script.specs.Automaton.{lines};
-ghost use Rattle.hm_check.specs.Parts.{HeadOf};
+ghost use Rattle.hm_report_lines.specs.Parts.{FrontOf};
 
 use hm_script::cut_line;
 
 /// The lines up to the first line `history`, or all, and how many they are.
 #[derive(Clone, Copy)]
-pub struct Head<'a> {
+pub struct Front<'a> {
     pub script: &'a [u8],
     pub lines: u64,
     /// The lines behind `history`, where there is such a line.
@@ -15,10 +15,11 @@ pub struct Head<'a> {
 }
 
 /// Cuts the bytes at the first line `history`.
-pub fn cut_head(bytes: &[u8]) -> Head<'_>
-    ensures parts { HeadOf bytes.now result.script.now result.rest }
+pub fn cut_front(bytes: &[u8]) -> Front<'_>
+    ensures parts { FrontOf bytes.now result.script.now result.rest }
     ensures count { result.lines ≡ length (lines result.script.now) }
     ensures few { result.lines ≤ length bytes.now }
+    ensures shorter { IfSome result.rest (λ rest. result.lines + length rest.now ≤ length bytes.now) }
 {
     let mut rest = bytes;
     let mut count: u64 = 0;
@@ -26,7 +27,7 @@ pub fn cut_head(bytes: &[u8]) -> Head<'_>
         let (line, after) = cut_line(rest);
         if line == b"history\n".as_slice() {
             let (script, _) = bytes.split_at(bytes.len() - rest.len());
-            return Head {
+            return Front {
                 script,
                 lines: count,
                 rest: Some(after),
@@ -35,7 +36,7 @@ pub fn cut_head(bytes: &[u8]) -> Head<'_>
         count += 1;
         rest = after;
     }
-    Head {
+    Front {
         script: bytes,
         lines: count,
         rest: None,

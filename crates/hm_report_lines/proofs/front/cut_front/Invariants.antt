@@ -1,6 +1,6 @@
 use Rattle.std.proofs.Common.{◌+◌, ◌≤◌, length}
-use Rattle.hm_check.proofs.Loops.{Passed}
-use Rattle.hm_check.proofs.head.cut_head.Given as goal
+use Rattle.hm_report_lines.proofs.Loops.{Passed}
+use Rattle.hm_report_lines.proofs.front.cut_front.Given as goal
 
 abbrev pub invariant-loop-rest : goal.invariant-loop-rest
 invariant-loop-rest l = Passed l.bytes l.rest l.count × (l.count + length l.rest ≤ length l.bytes)

@@ -1,8 +1,8 @@
 use Rattle.std.proofs.Common.{◌≡◌, ◌<◌, length, arith}
 use Rattle.std.proofs.lemmas.Bool.Decides.{nat_tests}
-use Rattle.hm_check.proofs.Loops.{shared_more, differ_here, other_line, one_ends, both_end, unequal, equal}
-use Rattle.hm_check.proofs.lines.first_difference.Goals as goal
-use Rattle.hm_check.proofs.lines.first_difference.Goals.{then-loop-rest-test+else-not-is_empty, else-loop-rest-test, else-is_empty-via-then-is_empty+else-is_empty-2, else-is_empty-via-else-is_empty}
+use Rattle.hm_report_lines.proofs.Loops.{shared_more, differ_here, other_line, one_ends, both_end, unequal, equal}
+use Rattle.hm_report_lines.proofs.lines.first_difference.Goals as goal
+use Rattle.hm_report_lines.proofs.lines.first_difference.Goals.{then-loop-rest-test+else-not-is_empty, else-loop-rest-test, else-is_empty-via-then-is_empty+else-is_empty-2, else-is_empty-via-else-is_empty}
 
 pub returns-then-ne-clause-differ : goal.returns-then-ne-clause-differ
 returns-then-ne-clause-differ c =
