@@ -1,0 +1,4 @@
+pub mod TextLines
+pub mod Following
+pub mod Exact
+pub mod Reports

@@ -1,0 +1,11 @@
+// Reads a whole report back, be its history legal or not.
+#![tactic(auto)]
+
+mod laws;
+mod reading;
+#[cfg(test)]
+mod tests;
+mod unfinished;
+
+pub use laws::{one_report, report_text};
+pub use reading::{WholeReport, read_report};

@@ -1,0 +1,72 @@
+// A whole report, read.
+ghost use Rattle.std.specs.Prelude.{◌≡◌, ◌+◌, ◌^◌, ◌≤◌, IfOk, List, length};
+ghost use Rattle.hm_base.specs.Program.{Program};
+ghost use Rattle.hm_history.specs.declared.Entry.{Entry};
+ghost use Rattle.hm_reading.specs.declared.reader.Unfinished.{Unfinished};
+ghost use Rattle.hm_report_reading.specs.Reports.{IsReadBehind, IsReadOf, IsThis};
+ghost use Rattle.hm_report_reading.specs.Texts.{HasText, text_of};
+
+use crate::unfinished::read_unfinished;
+use hm_base::{NoMemory, Script};
+use hm_history::History;
+use hm_reading::{LineReader, Unfinished, read_entries};
+use hm_report::{Buffer, put_end};
+use hm_report_lines::{BadLine, first_difference, read_head};
+use std::alloc::Global;
+
+/// What a report's text says.
+#[derive(Drop)]
+pub struct WholeReport {
+    pub script: Script,
+    /// It may be of any entries, also where they are no legal history of the script.
+    pub history: History,
+    /// In the order of their lines.
+    pub unfinished: Vec<Unfinished>,
+}
+
+/// Reads the lines behind `history`, of which the first has this number.
+fn read_behind(
+    alloc: Global,
+    script: Script,
+    first: u64,
+    bytes: &[u8],
+) -> Result<Result<WholeReport, BadLine>, NoMemory>
+    requires { first + length bytes.now ≤ 2 ^ 63 + 2 }
+    ensures { IfOk result (IsReadBehind script first bytes.now) }
+{
+    script.facts();
+    hm_script::one_text();
+    let mut reader = LineReader::new(alloc)?;
+    let (history, rest) = read_entries(alloc, &mut reader, bytes)?;
+    let (unfinished, rest) = read_unfinished(alloc, &mut reader, rest)?;
+    let mut end = Buffer::new(alloc)?;
+    put_end(&mut end, history.len());
+    match first_difference(end.as_slice(), rest) {
+        Some(same) => {
+            let before = history.len() + unfinished.len() as u64;
+            Ok(Err(BadLine(first + before + same)))
+        }
+        None => Ok(Ok(WholeReport {
+            script,
+            history,
+            unfinished,
+        })),
+    }
+}
+
+/// Reads a whole report, each line once. Its history need not be legal, nor need the operations that have not ended be
+/// those of the history; that the last line counts the entries is part of the text. A bad line is the first that no
+/// such text has there, and one more than there are lines where a line is missing.
+pub fn read_report(alloc: Global, bytes: &[u8]) -> Result<Result<WholeReport, BadLine>, NoMemory>
+    // The bytes are the text of what is read; a line that is refused is the first bad one.
+    ensures read { IfOk result (IsReadOf bytes.now) }
+    // What has the bytes as its text is read, unless memory runs out.
+    ensures only { (c : Program) (h : List Entry) (us : List Unfinished) → HasText c h us → bytes.now ≡ text_of c h us
+        → IfOk result (IsThis c h us) }
+{
+    hm_script::one_text();
+    match read_head(alloc, bytes)? {
+        Ok(head) => read_behind(alloc, head.script, head.first, head.rest),
+        Err(bad) => Ok(Err(bad)),
+    }
+}
