@@ -68,7 +68,7 @@ fn run_peeked<R: Threads + Wait + Sync, G: Gate + Sync>(
     script.facts();
     hm_laws::never_stuck();
     let actors = script.actors.len() as u32;
-    let machine = Machine::new(alloc, script, *skip)?;
+    let machine = Machine::new(alloc, script, skip)?;
     let (machine, receipt, peeks) = peek_all(
         rt, alloc, machine, actors, gate, asked.proc, asked.addr, asked.len,
     )?;

@@ -27,7 +27,7 @@ pub struct Ran {
 }
 
 /// Makes the schedule's turns, and says whether one found the history full and an entry due.
-fn run_schedule(machine: &mut Machine<Kept>) -> Result<bool, NoMemory>
+fn run_schedule(machine: &mut Machine<&Kept>) -> Result<bool, NoMemory>
     requires { machine.old ≡ opening machine.old.script }
     ensures { IfOk result (Replayed machine.old machine.new) }
 {
@@ -50,7 +50,7 @@ pub fn run_script(alloc: Global, script: Script, skip: &Kept) -> Result<Ran, NoM
     hm_laws::every_run_is_legal();
     hm_laws::never_stuck();
     hm_history::laws::runs_are_due();
-    let mut machine = Machine::new(alloc, script, *skip)?;
+    let mut machine = Machine::new(alloc, script, skip)?;
     let full = run_schedule(&mut machine)?;
     machine.world().facts();
     let (script, history) = machine.into_parts();

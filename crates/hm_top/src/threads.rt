@@ -39,7 +39,7 @@ fn run_threads<R: Threads + Wait + Sync, G: Gate + Sync>(
     script.facts();
     hm_laws::never_stuck();
     let actors = script.actors.len() as u32;
-    let machine = Machine::new(alloc, script, *skip)?;
+    let machine = Machine::new(alloc, script, skip)?;
     let (machine, receipt) = run_all(rt, alloc, machine, actors, gate)?;
     machine.stands();
     let full = match machine.world().halted() {

@@ -5,7 +5,7 @@ use hm_base::{Actor, NoMemory};
 use hm_io::{StreamSink, StreamSource};
 use hm_top::{Status, finish, run};
 use hm_workers::Gate;
-use skip_rules::{Kept, Leans};
+use skip_rules::{BoxedRule, Kept, Leans};
 use std::env;
 use std::process::ExitCode;
 
@@ -30,25 +30,34 @@ fn words(rt: &HostRuntime) -> Result<Vec<String>, NoMemory> {
     Ok(words)
 }
 
+/// Makes the call, with the rules that this driver keeps.
+fn call(rt: &HostRuntime) -> Result<Status, NoMemory> {
+    let words = words(rt)?;
+    let mut source = StreamSource::new(rt.stdin());
+    let mut sink = StreamSink::new(rt.stdout());
+    let alloc = rt.alloc();
+    let skips: BoxedRule = Box::new(
+        alloc,
+        |every: u64, page: u64| every != 0 && page % every == 0,
+    )?;
+    let leans: BoxedRule = Box::new(alloc, |x: u64, y: u64| x >= 4 && x - 4 >= y)?;
+    let (skip, leans) = (Kept::new(skips), Leans::new(leans));
+    let ended = run(
+        rt,
+        alloc,
+        words,
+        &mut source,
+        &mut sink,
+        &Open,
+        &skip,
+        &leans,
+    );
+    Ok(ended.status)
+}
+
 fn main(rt: HostRuntime) -> ExitCode {
-    let status = match words(&rt) {
-        Ok(words) => {
-            let mut source = StreamSource::new(rt.stdin());
-            let mut sink = StreamSink::new(rt.stdout());
-            let skip = Kept::new(|every: u64, page: u64| every != 0 && page % every == 0);
-            let leans = Leans::new(|x: u64, y: u64| x >= 4 && x - 4 >= y);
-            run(
-                &rt,
-                rt.alloc(),
-                words,
-                &mut source,
-                &mut sink,
-                &Open,
-                &skip,
-                &leans,
-            )
-            .status
-        }
+    let status = match call(&rt) {
+        Ok(status) => status,
         Err(NoMemory) => Status::NoMemory,
     };
     let mut errors = StreamSink::new(rt.stderr());

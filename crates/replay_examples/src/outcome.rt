@@ -2,7 +2,7 @@
 use hm_base::NoMemory;
 use hm_io::{MemorySink, MemorySource};
 use hm_top::{Status, message, run_alone};
-use skip_rules::{Kept, Leans};
+use skip_rules::{BoxedRule, Kept, Leans};
 use std::alloc::Global;
 use std::{fs, io};
 
@@ -48,8 +48,12 @@ pub fn replayed(alloc: Global, script: &[u8]) -> io::Result<Outcome> {
     let mut source = MemorySource::new(alloc, script, PIECE, &[]).map_err(no_memory)?;
     let mut sink = MemorySink::new(alloc, ROOM, &[]).map_err(no_memory)?;
     let words = vec![in alloc; String::from_str(alloc, "replay")?]?;
-    let skip = Kept::new(|every: u64, page: u64| every != 0 && page % every == 0);
-    let leans = Leans::new(|x: u64, y: u64| x >= 4 && x - 4 >= y);
+    let skips: BoxedRule = Box::new(
+        alloc,
+        |every: u64, page: u64| every != 0 && page % every == 0,
+    )?;
+    let leans: BoxedRule = Box::new(alloc, |x: u64, y: u64| x >= 4 && x - 4 >= y)?;
+    let (skip, leans) = (Kept::new(skips), Leans::new(leans));
     let ended = run_alone(alloc, words, &mut source, &mut sink, &skip, &leans);
     let message = message(alloc, &ended.status).map_err(no_memory)?;
     Ok(Outcome {

@@ -3,7 +3,7 @@ use crate::gates::{Meets, Open};
 use hm_io::{MemorySink, MemorySource, Sink, Source, SureSink, SureSource};
 use hm_top::{message, run};
 use hm_workers::Gate;
-use skip_rules::{Kept, Leans};
+use skip_rules::{BoxedRule, Kept, Leans};
 use std::alloc::Global;
 use std::process::Abort;
 use std::sync::Wait;
@@ -44,8 +44,12 @@ fn ends<R: Abort + Threads + Wait + Sync, S: Source, K: Sink, G: Gate + Sync>(
     for word in words.split(' ') {
         listed.push(String::from_str(alloc, word)?)?;
     }
-    let skip = Kept::new(|every: u64, page: u64| every != 0 && page % every == 0);
-    let leans = Leans::new(|x: u64, y: u64| x >= 4 && x - 4 >= y);
+    let skips: BoxedRule = Box::new(
+        alloc,
+        |every: u64, page: u64| every != 0 && page % every == 0,
+    )?;
+    let leans: BoxedRule = Box::new(alloc, |x: u64, y: u64| x >= 4 && x - 4 >= y)?;
+    let (skip, leans) = (Kept::new(skips), Leans::new(leans));
     let ended = run(rt, alloc, listed, source, sink, gate, &skip, &leans);
     assert_eq!(rt; ended.status.code(), code);
     assert_eq!(rt; message(alloc, &ended.status)?.as_slice(), text.as_bytes());

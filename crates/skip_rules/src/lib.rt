@@ -1,5 +1,5 @@
-// Rules of a driver that a caller gives as code. Each is a trait whose contract says what every rule answers; `Kept` and
-// `Leans` are types that keep a function beside the fact that it answers so.
+// Rules of a driver that a caller gives as code. Each is a trait whose contract says what every rule answers; `Kept`
+// and `Leans` are types that keep a closure beside the fact that it answers so.
 #![tactic(auto)]
 
 ghost use Rattle.std.specs.Prelude.{◌≡◌};
@@ -26,17 +26,20 @@ pub trait LeanRule: Drop {
         ensures { result ≡ outweighs x y };
 }
 
-/// A function kept as a `SkipRule`. A closure that captures nothing is one too.
-#[derive(Clone, Copy)]
+/// A closure in a box, which the caller makes. It may own what it captures, and may be asked from several threads.
+pub type BoxedRule = Box<dyn Fn(u64, u64) -> bool + Send + Sync>;
+
+/// A closure kept as a `SkipRule`.
+#[derive(Drop)]
 pub struct Kept {
-    rule: fn(u64, u64) -> bool,
+    rule: BoxedRule,
     ghost may: { MayBeAsked (pre rule) },
     ghost says: { AnswersBy divides (post rule) },
 }
 
 impl Kept {
-    /// Keeps the function, which says whether the first number is not 0 and divides the second.
-    pub fn new(rule: fn(u64, u64) -> bool) -> Kept
+    /// Keeps the closure, which says whether the first number is not 0 and divides the second.
+    pub fn new(rule: BoxedRule) -> Kept
         requires may { MayBeAsked (pre rule) }
         requires says { AnswersBy divides (post rule) }
     {
@@ -50,17 +53,24 @@ impl SkipRule for Kept {
     }
 }
 
-/// A function kept as a `LeanRule`. A closure that captures nothing is one too.
-#[derive(Clone, Copy)]
+/// So that a machine, and the threads that share it, ask a rule that stays the caller's.
+impl SkipRule for &Kept {
+    fn skips(&self, every: u64, page: u64) -> bool {
+        (**self).skips(every, page)
+    }
+}
+
+/// A closure kept as a `LeanRule`.
+#[derive(Drop)]
 pub struct Leans {
-    rule: fn(u64, u64) -> bool,
+    rule: BoxedRule,
     ghost may: { MayBeAsked (pre rule) },
     ghost says: { AnswersBy outweighs (post rule) },
 }
 
 impl Leans {
-    /// Keeps the function, which says whether the first number is at least 4 and, less 4, at least the second.
-    pub fn new(rule: fn(u64, u64) -> bool) -> Leans
+    /// Keeps the closure, which says whether the first number is at least 4 and, less 4, at least the second.
+    pub fn new(rule: BoxedRule) -> Leans
         requires may { MayBeAsked (pre rule) }
         requires says { AnswersBy outweighs (post rule) }
     {
@@ -78,20 +88,48 @@ impl LeanRule for Leans {
 #[cfg(test)]
 mod tests {
     use super::*;
+    use std::alloc::AllocError;
+    use std::sync::Arc;
+    use std::sync::atomic::{AtomicU64, Ordering};
 
-    #[test]
-    fn a_closure_skips(rt: HostRuntime) {
-        let rule = Kept::new(|every: u64, page: u64| every != 0 && page % every == 0);
-        assert_eq!(rt; rule.skips(0, 0), false);
-        assert_eq!(rt; rule.skips(8, 16), true);
-        assert_eq!(rt; rule.skips(8, 17), false);
+    /// Asks by the trait.
+    fn asks<R: SkipRule>(rule: &R, every: u64, page: u64) -> bool
+        ensures { result ≡ divides every page }
+    {
+        rule.skips(every, page)
     }
 
+    // The closure captures a counter, which it shares with the caller, and counts how often it is asked.
     #[test]
-    fn a_closure_leans(rt: HostRuntime) {
-        let rule = Leans::new(|x: u64, y: u64| x >= 4 && x - 4 >= y);
+    fn a_closure_skips(rt: HostRuntime) -> Result<(), AllocError> {
+        let asked = Arc::new(rt.alloc(), AtomicU64::new(0))?;
+        let count = asked.clone()?;
+        let rule: BoxedRule = Box::new(rt.alloc(), move |every: u64, page: u64| {
+            count.fetch_add(1, Ordering::SeqCst);
+            every != 0 && page % every == 0
+        })?;
+        let rule = Kept::new(rule);
+        assert_eq!(rt; asks(&rule, 0, 0), false);
+        assert_eq!(rt; asks(&&rule, 8, 16), true);
+        assert_eq!(rt; asks(&&rule, 8, 17), false);
+        assert_eq!(rt; asked.load(Ordering::SeqCst), 3);
+        Ok(())
+    }
+
+    // The closure captures a number of the caller's, and the caller knows which.
+    #[test]
+    fn a_closure_leans(rt: HostRuntime) -> Result<(), AllocError> {
+        let least = 4;
+        let rule: BoxedRule = Box::new(
+            rt.alloc(),
+            move |x: u64, y: u64|
+                requires { least ≡ 4 }
+            { x >= least && x - least >= y },
+        )?;
+        let rule = Leans::new(rule);
         assert_eq!(rt; rule.leans(3, 0), false);
         assert_eq!(rt; rule.leans(4, 0), true);
         assert_eq!(rt; rule.leans(4, 1), false);
+        Ok(())
     }
 }

@@ -4,7 +4,7 @@ ghost use Rattle.hm_top.specs.Commands.{command_of, waits};
 
 use hm_io::{Sink, SureSink, SureSource};
 use hm_top::{Command, Ended, message, run_alone};
-use skip_rules::{Kept, Leans};
+use skip_rules::{BoxedRule, Kept, Leans};
 use std::alloc::Global;
 use std::process::Abort;
 use std::test::Fail;
@@ -34,8 +34,12 @@ pub fn called<R: Abort, K: Sink>(
         listed.push(String::from_str(alloc, word)?)?;
     }
     assert!(rt; !waits(listed.as_slice()));
-    let skip = Kept::new(|every: u64, page: u64| every != 0 && page % every == 0);
-    let leans = Leans::new(|x: u64, y: u64| x >= 4 && x - 4 >= y);
+    let skips: BoxedRule = Box::new(
+        alloc,
+        |every: u64, page: u64| every != 0 && page % every == 0,
+    )?;
+    let leans: BoxedRule = Box::new(alloc, |x: u64, y: u64| x >= 4 && x - 4 >= y)?;
+    let (skip, leans) = (Kept::new(skips), Leans::new(leans));
     Ok(run_alone(alloc, listed, &mut source, sink, &skip, &leans))
 }
 

@@ -11,4 +11,6 @@ mod full;
 #[cfg(test)]
 mod pieces;
 #[cfg(test)]
+mod rules;
+#[cfg(test)]
 mod sources;

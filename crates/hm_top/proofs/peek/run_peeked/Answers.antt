@@ -1,6 +1,6 @@
 use Rattle.std.proofs.Common.{◌≡◌, ◌∙◌, true, false, ap, sym}
 use denote.Param.Send.{sendable}
-use Rattle.std.proofs.Crossing.{crosses}
+use Rattle.std.proofs.Crossing.{crosses, dyn_box_sync}
 use Rattle.hm_turns.specs.Stepping.{is_halted}
 use Rattle.hm_top.proofs.Idle.{ended_so}
 use Rattle.hm_top.proofs.Peeking.{saw_so}
@@ -9,7 +9,7 @@ use Rattle.hm_top.proofs.peek.run_peeked.Goals.{in-None, in-Some-Full}
 use Rattle.hm_top.proofs.peek.run_peeked.Goals as goal
 
 pub peek_all-requires-send-S : goal.peek_all-requires-send-S
-peek_all-requires-send-S g c κs within = search (world, sendable, crosses) depth 40 fits 4000
+peek_all-requires-send-S g c κs within = search (world, g.dyn-1.3, dyn_box_sync, sendable, crosses) depth 40 fits 4000
 
 pub returns-clause-ended : goal.returns-clause-ended
 returns-clause-ended g c =

@@ -1,13 +1,13 @@
 use Rattle.std.proofs.Common.{◌≡◌, ◌∙◌, true, false, ap, sym}
 use denote.Param.Send.{sendable}
-use Rattle.std.proofs.Crossing.{crosses}
+use Rattle.std.proofs.Crossing.{crosses, dyn_box_sync}
 use Rattle.hm_top.proofs.Idle.{ended_so}
 use Rattle.hm_top.proofs.Sent.{world}
 use Rattle.hm_top.proofs.threads.run_threads.Goals.{in-None, in-Some-Full}
 use Rattle.hm_top.proofs.threads.run_threads.Goals as goal
 
 pub run_all-requires-send-S : goal.run_all-requires-send-S
-run_all-requires-send-S g c κs within = search (world, sendable, crosses) depth 40 fits 4000
+run_all-requires-send-S g c κs within = search (world, g.dyn-1.3, dyn_box_sync, sendable, crosses) depth 40 fits 4000
 
 pub returns-clause-ended : goal.returns-clause-ended
 returns-clause-ended g c =
