@@ -6,7 +6,7 @@ use hm_base::NoMemory;
 use hm_io::{MemorySink, MemorySource};
 use hm_race_top::races;
 use hm_top::Status;
-use skip_rules::Kept;
+use skip_rules::{BoxedRule, Kept};
 use std::{fs, io};
 
 /// So few bytes come at a time that no script of a few lines is read at once.
@@ -38,11 +38,14 @@ fn agrees(rt: &HostRuntime, stem: &str) -> io::Result<bool> {
     let script = fs::read(rt, path.as_str())?;
     let path = format!(in rt.alloc(); "{stem}.outcomes")?;
     let wanted = fs::read(rt, path.as_str())?;
-    let mut source =
-        MemorySource::new(rt.alloc(), script.as_slice(), PIECE, &[]).map_err(no_memory)?;
+    let mut source = MemorySource::new(rt.alloc(), script.as_slice(), PIECE, &[]).map_err(
+        no_memory,
+    )?;
     let mut sink = MemorySink::new(rt.alloc(), ROOM, &[]).map_err(no_memory)?;
-    let skip = Kept::new(|every: u64, page: u64| every != 0 && page % every == 0);
-    let status = races(rt.alloc(), &[], &mut source, &mut sink, skip);
+    let skips: BoxedRule = Box::new(rt.alloc(), |every: u64, page: u64| {
+        every != 0 && page % every == 0
+    })?;
+    let status = races(rt.alloc(), &[], &mut source, &mut sink, Kept::new(skips));
     Ok(matches!(&status, Status::Done) && sink.held() == wanted.as_slice())
 }
 
