@@ -1,0 +1,1 @@
+hmmrun.sh
