@@ -5,7 +5,7 @@ use hm_base::NoMemory;
 use hm_io::{StreamSink, StreamSource};
 use hm_race_top::{finish, races};
 use hm_top::Status;
-use skip_rules::Kept;
+use skip_rules::{BoxedRule, Kept};
 use std::env;
 use std::process::ExitCode;
 
@@ -21,14 +21,21 @@ fn words(rt: &HostRuntime) -> Result<Vec<String>, NoMemory> {
     Ok(words)
 }
 
+/// Makes the call, with the rule that this driver keeps.
+fn call(rt: &HostRuntime) -> Result<Status, NoMemory> {
+    let words = words(rt)?;
+    let mut source = StreamSource::new(rt.stdin());
+    let mut sink = StreamSink::new(rt.stdout());
+    let skips: BoxedRule = Box::new(rt.alloc(), |every: u64, page: u64| {
+        every != 0 && page % every == 0
+    })?;
+    let skip = Kept::new(skips);
+    Ok(races(rt.alloc(), words.as_slice(), &mut source, &mut sink, skip))
+}
+
 fn main(rt: HostRuntime) -> ExitCode {
-    let status = match words(&rt) {
-        Ok(words) => {
-            let mut source = StreamSource::new(rt.stdin());
-            let mut sink = StreamSink::new(rt.stdout());
-            let skip = Kept::new(|every: u64, page: u64| every != 0 && page % every == 0);
-            races(rt.alloc(), words.as_slice(), &mut source, &mut sink, skip)
-        }
+    let status = match call(&rt) {
+        Ok(status) => status,
         Err(NoMemory) => Status::NoMemory,
     };
     let mut errors = StreamSink::new(rt.stderr());
