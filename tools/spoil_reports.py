@@ -76,9 +76,10 @@ def spoiled(pick, data):
 
 
 def verdicts(room):
-    """What the proved program says of each report in the folder."""
+    """What the proved program says of each report in the folder, without what the folds say of a legal one."""
     done = subprocess.run([PROGRAM], cwd=room, capture_output=True, text=True, check=True)
-    return dict(line.split(': ') for line in done.stdout.splitlines())
+    said = dict(line.split(': ') for line in done.stdout.splitlines())
+    return {name: verdict.split(',')[0] for name, verdict in said.items()}
 
 
 def main():
