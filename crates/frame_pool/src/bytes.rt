@@ -75,5 +75,30 @@ pub fn copy(bytes: &mut Vec<u8>, at: usize, to: usize, count: usize)
     ensures items { bytes.new.items ≡ overwritten bytes.old.items to (part_of bytes.old.items at count) }
     ensures capacity { vec_capacity bytes.new ≡ vec_capacity bytes.old }
 {
-    bytes.copy_within(at..at + count, to);
+    if at + count <= to {
+        copy_up(bytes, at, to, count);
+    } else if to + count <= at {
+        copy_down(bytes, at, to, count);
+    } else {
+        bytes.copy_within(at..at + count, to);
+    }
+}
+
+// The bytes lie apart, so that they are copied as a block and not one by one.
+fn copy_up(bytes: &mut [u8], at: usize, to: usize, count: usize)
+    requires apart { at + count ≤ to }
+    requires target { to + count ≤ length bytes.old }
+    ensures { bytes.new ≡ overwritten bytes.old to (part_of bytes.old at count) }
+{
+    let (low, high) = bytes.split_at_mut(to);
+    high[..count].copy_from_slice(&low[at..at + count]);
+}
+
+fn copy_down(bytes: &mut [u8], at: usize, to: usize, count: usize)
+    requires apart { to + count ≤ at }
+    requires source { at + count ≤ length bytes.old }
+    ensures { bytes.new ≡ overwritten bytes.old to (part_of bytes.old at count) }
+{
+    let (low, high) = bytes.split_at_mut(at);
+    low[to..to + count].copy_from_slice(&high[..count]);
 }
