@@ -6,7 +6,9 @@ pub mod Ends
 pub mod Faults
 pub mod Fits
 pub mod Fronts
+pub mod Heads
 pub mod Joins
 pub mod Lines
+pub mod Numbers
 pub mod Sending
 pub mod Whole

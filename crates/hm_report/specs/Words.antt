@@ -1,5 +1,5 @@
 -- The words of the lines of entries.
-use Rattle.std.specs.Prelude.{ℕ, ◌/◌, ◌%◌, Bool, false, if◌then◌else◌, Option, Some, None, List, [], ◌∷◌, ◌++◌, codes}
+use Rattle.std.specs.Prelude.{ℕ, ◌+◌, ◌/◌, ◌%◌, Bool, false, if◌then◌else◌, Option, Some, None, List, [], ◌∷◌, ◌++◌, codes}
 use Rattle.std.specs.Fmt.{decimal, digit_glyph}
 use Rattle.hm_base.specs.PlaceWords.{sys_frame, dev_frame}
 use Rattle.hm_base.specs.declared.PoolId.{PoolId}
@@ -32,6 +32,10 @@ who_text (Who.Mirror m) = mirror_text m
 -- two hexadecimal digits
 abbrev pub byte_text : ℕ → List ℕ
 byte_text b = digit_glyph false (b / 16) ∷ digit_glyph false (b % 16) ∷ []
+
+-- the two digits of a number below 100
+abbrev pub pair_text : ℕ → List ℕ
+pair_text n = (48 + n / 10) ∷ (48 + n % 10) ∷ []
 
 abbrev pub frame_in : PoolId → ℕ → List ℕ
 frame_in PoolId.System n = codes "s" ++ decimal n

@@ -2,7 +2,7 @@
 ghost use Rattle.std.specs.Prelude.{◌≡◌, ◌+◌, ◌≤◌, ◌<◌, ◌∷◌, ◌++◌, [], false, length, drop};
 ghost use Rattle.std.specs.Fmt.{decimal, digit_glyph, digits};
 ghost use Rattle.hm_script.specs.Spelling.{address_text};
-ghost use Rattle.hm_report.specs.Words.{byte_text};
+ghost use Rattle.hm_report.specs.Words.{byte_text, pair_text};
 
 use crate::buffer::{Buffer, ROOM};
 
@@ -43,30 +43,41 @@ fn digits_at_end(base: u64, number: u64, into: &mut [u8; DIGITS]) -> usize
     0
 }
 
-/// Adds a few bytes and the number. Most numbers of a report have one digit.
+/// Adds a few bytes and the number.
 #[inline(always)]
-#[tactic(auto, using(std::proofs::lemmas::Fmt::decimal_digit, std::proofs::Common::append_assoc))]
+#[tactic(auto, using(std::proofs::Common::append_assoc))]
 pub fn put_decimal(out: &mut Buffer, lead: &[u8], number: u64)
     requires { length out.old + length lead.now + DIGITS ≤ ROOM }
     ensures text { out.new ≡ out.old ++ (lead.now ++ decimal number) }
     ensures room { length out.new ≤ length out.old + length lead.now + DIGITS }
 {
     out.put(lead);
-    if number < 10 {
-        out.push(b'0' + number as u8);
+    put_digits(out, number);
+}
+
+/// Adds the number's decimal digits, two at a time. Most numbers of a report have one or two.
+fn put_digits(out: &mut Buffer, number: u64)
+    requires { length out.old + length (decimal number) ≤ ROOM }
+    ensures { out.new ≡ out.old ++ decimal number }
+{
+    if number >= 100 {
+        put_digits(out, number / 100);
+        put_pair(out, (number % 100) as u8);
+    } else if number >= 10 {
+        put_pair(out, number as u8);
     } else {
-        put_digits(out, number);
+        out.push(b'0' + number as u8);
     }
 }
 
-/// Adds the number's decimal digits.
-fn put_digits(out: &mut Buffer, number: u64)
-    requires { length out.old + DIGITS ≤ ROOM }
-    ensures text { out.new ≡ out.old ++ decimal number }
-    ensures room { length out.new ≤ length out.old + DIGITS }
+#[inline(always)]
+fn put_pair(out: &mut Buffer, number: u8)
+    requires few { number < 100 }
+    requires room { length out.old + 2 ≤ ROOM }
+    ensures { out.new ≡ out.old ++ pair_text number }
 {
-    let mut digits = itoa::Buffer::new();
-    out.put(digits.format(number).as_bytes());
+    out.push(b'0' + number / 10);
+    out.push(b'0' + number % 10);
 }
 
 /// Adds a space and the address.

@@ -1,47 +1,93 @@
-// The words of a line, written into a buffer.
-ghost use Rattle.std.specs.Prelude.{◌≡◌, ◌+◌, ◌*◌, ◌≤◌, ◌∷◌, ◌++◌, [], length, map};
-ghost use Rattle.hm_report.specs.Words.{frame_text, cause_number};
-ghost use Rattle.hm_report.specs.Line.{word_text, spaced};
+// The words of a line, each with a space before it, written into a buffer.
+ghost use Rattle.std.specs.Prelude.{◌≡◌, ◌+◌, ◌≤◌, ◌∷◌, ◌++◌, [], length};
+ghost use Rattle.std.specs.Fmt.{decimal};
+ghost use Rattle.hm_script.specs.Spelling.{right_text};
+ghost use Rattle.hm_report.specs.Words.{proc_text, mirror_text, device_text, actor_text, who_text, byte_text, frame_text, write_text, target_text, table_right_text, part_text, kept_text, cause_number};
+ghost use Rattle.hm_report.specs.Line.{spaced};
 
 use crate::buffer::{Buffer, ROOM};
-use crate::numerals::{put_address, put_byte, put_decimal};
-use hm_base::{Actor, Cause, Dev, Frame, MirrorId, Page, PoolId, Proc, Rights, Span};
+use crate::numerals::{put_byte, put_decimal};
+use hm_base::{Actor, Cause, Dev, Frame, MirrorId, PoolId, Proc, Rights, Span};
 use hm_history::{KeptAt, TableRight, Who};
 
 /// The most bytes that a word has, with its space.
 pub const WORD: usize = 132;
 
-/// A word of a line, by what it tells.
-#[derive(Drop)]
-pub enum Word {
-    Number(u64),
-    Address(u64),
-    Byte(u8),
-    Proc(Proc),
-    Mirror(MirrorId),
-    Device(Dev),
-    Actor(Actor),
-    Who(Who),
-    Page(Page),
-    /// A span's first page.
-    First(Span),
-    /// A span's number of pages.
-    Count(Span),
-    Rights(Rights),
-    Frame(Frame),
-    /// Whether writes are allowed.
-    Writes(bool),
-    /// What a table entry names.
-    Target(Option<Frame>),
-    TableRight(TableRight),
-    /// An eighth of a frame, or all of it.
-    Part(Option<u8>),
-    Kept(KeptAt),
-    Cause(Cause),
+pub fn put_number(out: &mut Buffer, number: u64)
+    requires { length out.old + WORD ≤ ROOM }
+    ensures text { out.new ≡ out.old ++ 32 ∷ decimal number }
+    ensures room { length out.new ≤ length out.old + WORD }
+{
+    put_decimal(out, b" ", number);
 }
 
-#[inline(always)]
-fn put_frame(out: &mut Buffer, frame: &Frame)
+/// The first page of a span, and how many pages it has.
+#[tactic(auto, using(std::proofs::Common::append_assoc))]
+pub fn put_span(out: &mut Buffer, span: Span)
+    requires { length out.old + WORD + WORD ≤ ROOM }
+    ensures text { out.new ≡ out.old ++ spaced (decimal span.first ∷ decimal span.count ∷ []) }
+    ensures room { length out.new ≤ length out.old + WORD + WORD }
+{
+    put_number(out, span.first().number());
+    put_number(out, span.count());
+}
+
+pub fn put_proc(out: &mut Buffer, proc: Proc)
+    requires { length out.old + WORD ≤ ROOM }
+    ensures text { out.new ≡ out.old ++ 32 ∷ proc_text proc }
+    ensures room { length out.new ≤ length out.old + WORD }
+{
+    put_decimal(out, b" p", u64::from(proc.number()));
+}
+
+pub fn put_mirror(out: &mut Buffer, mirror: MirrorId)
+    requires { length out.old + WORD ≤ ROOM }
+    ensures text { out.new ≡ out.old ++ 32 ∷ mirror_text mirror }
+    ensures room { length out.new ≤ length out.old + WORD }
+{
+    put_decimal(out, b" m", u64::from(mirror.number()));
+}
+
+pub fn put_device(out: &mut Buffer, dev: Dev)
+    requires { length out.old + WORD ≤ ROOM }
+    ensures text { out.new ≡ out.old ++ 32 ∷ device_text dev }
+    ensures room { length out.new ≤ length out.old + WORD }
+{
+    put_decimal(out, b" d", u64::from(dev.number()));
+}
+
+pub fn put_actor(out: &mut Buffer, actor: Actor)
+    requires { length out.old + WORD ≤ ROOM }
+    ensures text { out.new ≡ out.old ++ 32 ∷ actor_text actor }
+    ensures room { length out.new ≤ length out.old + WORD }
+{
+    put_decimal(out, b" a", u64::from(actor.number()));
+}
+
+pub fn put_who(out: &mut Buffer, who: Who)
+    requires { length out.old + WORD ≤ ROOM }
+    ensures text { out.new ≡ out.old ++ 32 ∷ who_text who }
+    ensures room { length out.new ≤ length out.old + WORD }
+{
+    match who {
+        Who::Cpu(proc) => put_proc(out, proc),
+        Who::Mirror(mirror) => put_mirror(out, mirror),
+    }
+}
+
+/// The two digits of a byte.
+#[tactic(auto, using(std::proofs::Common::append_assoc))]
+pub fn put_hex(out: &mut Buffer, byte: u8)
+    requires { length out.old + WORD ≤ ROOM }
+    ensures text { out.new ≡ out.old ++ 32 ∷ byte_text byte }
+    ensures room { length out.new ≤ length out.old + WORD }
+{
+    out.put(b" ");
+    put_byte(out, byte);
+}
+
+#[tactic(auto, using(std::proofs::Common::append_assoc))]
+pub fn put_frame(out: &mut Buffer, frame: &Frame)
     requires { length out.old + WORD ≤ ROOM }
     ensures text { out.new ≡ out.old ++ 32 ∷ frame_text frame.now }
     ensures room { length out.new ≤ length out.old + WORD }
@@ -53,6 +99,85 @@ fn put_frame(out: &mut Buffer, frame: &Frame)
             put_decimal(out, b".", u64::from(frame.number));
         }
     }
+}
+
+pub fn put_rights(out: &mut Buffer, rights: Rights)
+    requires { length out.old + WORD ≤ ROOM }
+    ensures text { out.new ≡ out.old ++ 32 ∷ right_text rights }
+    ensures room { length out.new ≤ length out.old + WORD }
+{
+    match rights {
+        Rights::Read => out.put(b" r"),
+        Rights::ReadWrite => out.put(b" rw"),
+    }
+}
+
+/// Whether writes are allowed.
+pub fn put_writes(out: &mut Buffer, writes: bool)
+    requires { length out.old + WORD ≤ ROOM }
+    ensures text { out.new ≡ out.old ++ 32 ∷ write_text writes }
+    ensures room { length out.new ≤ length out.old + WORD }
+{
+    if writes {
+        out.put(b" w");
+    } else {
+        out.put(b" r");
+    }
+}
+
+/// What a table entry names.
+pub fn put_target(out: &mut Buffer, target: &Option<Frame>)
+    requires { length out.old + WORD ≤ ROOM }
+    ensures text { out.new ≡ out.old ++ 32 ∷ target_text target.now }
+    ensures room { length out.new ≤ length out.old + WORD }
+{
+    match target {
+        None => out.put(b" zero"),
+        Some(frame) => put_frame(out, frame),
+    }
+}
+
+pub fn put_table_right(out: &mut Buffer, right: TableRight)
+    requires { length out.old + WORD ≤ ROOM }
+    ensures text { out.new ≡ out.old ++ 32 ∷ table_right_text right }
+    ensures room { length out.new ≤ length out.old + WORD }
+{
+    match right {
+        TableRight::Read => out.put(b" r"),
+        TableRight::Write => out.put(b" w"),
+        TableRight::Sole => out.put(b" x"),
+    }
+}
+
+/// An eighth of a frame, or all of it.
+pub fn put_part(out: &mut Buffer, part: Option<u8>)
+    requires { length out.old + WORD ≤ ROOM }
+    ensures text { out.new ≡ out.old ++ 32 ∷ part_text part }
+    ensures room { length out.new ≤ length out.old + WORD }
+{
+    match part {
+        None => out.put(b" all"),
+        Some(part) => put_number(out, u64::from(part)),
+    }
+}
+
+pub fn put_kept(out: &mut Buffer, at: &KeptAt)
+    requires { length out.old + WORD ≤ ROOM }
+    ensures text { out.new ≡ out.old ++ 32 ∷ kept_text at.now }
+    ensures room { length out.new ≤ length out.old + WORD }
+{
+    match at {
+        KeptAt::Page(page) => put_number(out, page.number()),
+        KeptAt::Frame(frame) => put_frame(out, frame),
+    }
+}
+
+pub fn put_cause(out: &mut Buffer, cause: Cause)
+    requires { length out.old + WORD ≤ ROOM }
+    ensures text { out.new ≡ out.old ++ 32 ∷ decimal (cause_number cause) }
+    ensures room { length out.new ≤ length out.old + WORD }
+{
+    put_number(out, cause_number(cause));
 }
 
 fn cause_number(cause: Cause) -> u64
@@ -70,147 +195,5 @@ fn cause_number(cause: Cause) -> u64
         Cause::NoProcess => 8,
         Cause::MirrorTaken => 9,
         Cause::Removed => 10,
-    }
-}
-
-/// Adds a space and the word.
-#[inline(always)]
-fn put_word(out: &mut Buffer, word: &Word)
-    requires { length out.old + WORD ≤ ROOM }
-    ensures text { out.new ≡ out.old ++ 32 ∷ word_text word.now }
-    ensures room { length out.new ≤ length out.old + WORD }
-{
-    match word {
-        Word::Number(number) => put_decimal(out, b" ", *number),
-        Word::Address(address) => put_address(out, *address),
-        Word::Byte(byte) => {
-            out.put(b" ");
-            put_byte(out, *byte);
-        }
-        Word::Proc(proc) => put_decimal(out, b" p", u64::from(proc.number())),
-        Word::Mirror(mirror) => put_decimal(out, b" m", u64::from(mirror.number())),
-        Word::Device(dev) => put_decimal(out, b" d", u64::from(dev.number())),
-        Word::Actor(actor) => put_decimal(out, b" a", u64::from(actor.number())),
-        Word::Who(Who::Cpu(proc)) => put_decimal(out, b" p", u64::from(proc.number())),
-        Word::Who(Who::Mirror(mirror)) => put_decimal(out, b" m", u64::from(mirror.number())),
-        Word::Page(page) => put_decimal(out, b" ", page.number()),
-        Word::First(span) => put_decimal(out, b" ", span.first().number()),
-        Word::Count(span) => put_decimal(out, b" ", span.count()),
-        Word::Rights(Rights::Read) => out.put(b" r"),
-        Word::Rights(Rights::ReadWrite) => out.put(b" rw"),
-        Word::Frame(frame) => put_frame(out, frame),
-        Word::Writes(true) => out.put(b" w"),
-        Word::Writes(false) => out.put(b" r"),
-        Word::Target(None) => out.put(b" zero"),
-        Word::Target(Some(frame)) => put_frame(out, frame),
-        Word::TableRight(TableRight::Read) => out.put(b" r"),
-        Word::TableRight(TableRight::Write) => out.put(b" w"),
-        Word::TableRight(TableRight::Sole) => out.put(b" x"),
-        Word::Part(None) => out.put(b" all"),
-        Word::Part(Some(part)) => put_decimal(out, b" ", u64::from(*part)),
-        Word::Kept(KeptAt::Page(page)) => put_decimal(out, b" ", page.number()),
-        Word::Kept(KeptAt::Frame(frame)) => put_frame(out, frame),
-        Word::Cause(cause) => put_decimal(out, b" ", cause_number(*cause)),
-    }
-}
-
-/// Adds a name, and the word behind it.
-#[inline(always)]
-#[tactic(auto, using(std::proofs::Common::append_assoc))]
-pub fn put_one(out: &mut Buffer, name: &[u8], word: &Word)
-    requires { length out.old + length name.now + WORD ≤ ROOM }
-    ensures text { out.new ≡ out.old ++ (name.now ++ spaced (word_text word.now ∷ [])) }
-    ensures room { length out.new ≤ length out.old + length name.now + WORD }
-{
-    out.put(name);
-    put_word(out, word);
-}
-
-/// Adds a name, and the two words behind it.
-#[inline(always)]
-#[tactic(auto, using(std::proofs::Common::append_assoc))]
-pub fn put_two(out: &mut Buffer, name: &[u8], first: &Word, second: &Word)
-    requires { length out.old + length name.now + WORD * 2 ≤ ROOM }
-    ensures text { out.new ≡ out.old ++ (name.now ++ spaced (word_text first.now ∷ word_text second.now ∷ [])) }
-    ensures room { length out.new ≤ length out.old + length name.now + WORD * 2 }
-{
-    put_one(out, name, first);
-    put_word(out, second);
-}
-
-/// Adds a name, and the three words behind it.
-#[inline(always)]
-#[tactic(auto, using(std::proofs::Common::append_assoc))]
-pub fn put_three(out: &mut Buffer, name: &[u8], first: &Word, second: &Word, third: &Word)
-    requires { length out.old + length name.now + WORD * 3 ≤ ROOM }
-    ensures text { out.new
-        ≡ out.old ++ (name.now ++ spaced (word_text first.now ∷ word_text second.now ∷ word_text third.now ∷ [])) }
-    ensures room { length out.new ≤ length out.old + length name.now + WORD * 3 }
-{
-    put_two(out, name, first, second);
-    put_word(out, third);
-}
-
-/// Adds a name, and four words behind it.
-#[inline(always)]
-#[tactic(auto, using(std::proofs::Common::append_assoc))]
-pub fn put_four(
-    out: &mut Buffer,
-    name: &[u8],
-    first: &Word,
-    second: &Word,
-    third: &Word,
-    fourth: &Word,
-)
-    requires { length out.old + length name.now + WORD * 4 ≤ ROOM }
-    ensures text { out.new
-        ≡ out.old
-        ++ (name.now
-        ++ spaced
-        (word_text first.now ∷ word_text second.now ∷ word_text third.now ∷ word_text fourth.now ∷ [])) }
-    ensures room { length out.new ≤ length out.old + length name.now + WORD * 4 }
-{
-    put_three(out, name, first, second, third);
-    put_word(out, fourth);
-}
-
-/// Adds a name, and five words behind it.
-#[inline(always)]
-#[tactic(auto, using(std::proofs::Common::append_assoc))]
-pub fn put_five(
-    out: &mut Buffer,
-    name: &[u8],
-    first: &Word,
-    second: &Word,
-    third: &Word,
-    fourth: &Word,
-    fifth: &Word,
-)
-    requires { length out.old + length name.now + WORD * 5 ≤ ROOM }
-    ensures text { out.new
-        ≡ out.old
-        ++ (name.now
-        ++ spaced
-        (word_text first.now
-        ∷ word_text second.now
-        ∷ word_text third.now
-        ∷ word_text fourth.now
-        ∷ word_text fifth.now
-        ∷ [])) }
-    ensures room { length out.new ≤ length out.old + length name.now + WORD * 5 }
-{
-    put_four(out, name, first, second, third, fourth);
-    put_word(out, fifth);
-}
-
-/// Adds a name, and the words behind it, each with its space.
-pub fn put_words(out: &mut Buffer, name: &[u8], words: &[Word])
-    requires { length out.old + length name.now + WORD * length words.now ≤ ROOM }
-    ensures text { out.new ≡ out.old ++ (name.now ++ spaced (map word_text words.now)) }
-    ensures room { length out.new ≤ length out.old + length name.now + WORD * length words.now }
-{
-    out.put(name);
-    for word in words {
-        put_word(out, word);
     }
 }
