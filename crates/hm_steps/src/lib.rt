@@ -17,15 +17,6 @@ use phases::due_phase;
 use skip_rules::SkipRule;
 use std::alloc::Global;
 
-fn progress_of(actor: Actor, next: Next) -> Progress
-    ensures { result ≡ spec.progress actor next }
-{
-    match next {
-        Next::Do(kind) => Progress::Did(Entry { actor, kind }),
-        Next::Wait(why) => Progress::Waiting(why),
-    }
-}
-
 /// What is due to the actor in the world: the entry that its next step adds, or why it waits; idle where it has no
 /// operation left. The rule decides which pages a migration skips. Memory is taken for the bytes of an answer alone.
 #[inline(always)]
@@ -42,10 +33,11 @@ pub fn due<W: Reads, R: SkipRule>(
         None => Ok(Progress::Idle),
         Some(op) => match world.phase(actor) {
             None => Ok(Progress::Idle),
-            Some(top) => {
-                let next = due_phase(world, rule, alloc, actor, op, top)?;
-                Ok(progress_of(actor, next))
-            }
+            Some(top) => match due_phase(world, rule, alloc, actor, op, top) {
+                Ok(Next::Do(kind)) => Ok(Progress::Did(Entry { actor, kind })),
+                Ok(Next::Wait(why)) => Ok(Progress::Waiting(why)),
+                Err(error) => Err(error),
+            },
         },
     }
 }

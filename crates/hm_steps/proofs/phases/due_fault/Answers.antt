@@ -2,4 +2,4 @@ use Rattle.std.proofs.Common.{refl}
 use Rattle.hm_steps.proofs.phases.due_fault.Goals as goal
 
 pub returns-in-Armed : goal.returns-in-Armed
-returns-in-Armed g c = rw (c.due_armed.ensures, c.in-Armed.is) refl
+returns-in-Armed g c = rw (c.armed_turn.ensures, c.in-Armed.is) refl
