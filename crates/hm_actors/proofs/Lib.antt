@@ -1,3 +1,4 @@
 pub mod ActorsKept
 pub mod Comings
+pub mod KeysKept
 pub mod TaskKept

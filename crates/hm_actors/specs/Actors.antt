@@ -52,12 +52,7 @@ first_tasks c (suc n) = first_tasks c n ++ (task_start c n ∷ [])
 abbrev pub actors_start : Program → List TaskValue
 actors_start c = first_tasks c (length c.actors)
 
--- an entry that can add a record to a migration, and that does
-abbrev pub is_found : Kind → Bool
-is_found (Kind.Fresh p v) = true
-is_found (Kind.Place p v x) = true
-is_found k = false
-
+-- an entry that adds a record to a migration
 abbrev pub adds_to : Body → Kind → Bool
 adds_to (Body.Select v) (Kind.Fresh p u) = true
 adds_to (Body.Select v) (Kind.Place p u x) = true
@@ -74,10 +69,18 @@ adds_record (top ∷ below) k = adds_at top k
 abbrev pub spare_next : Phase → Kind → ℕ → ℕ
 spare_next top k n = if adds_at top k then n - 1 else n
 
+-- the room goes with the operation
+abbrev pub spare_on : List Phase → ℕ → ℕ
+spare_on [] n = 0
+spare_on (top ∷ below) n = n
+
 -- an actor after its entry
 abbrev pub task_seen : Program → ℕ → TaskValue → Op → Phase → Kind → Seen → TaskValue
 task_seen c a d o top k seen =
-    record { going = going_seen c a d.going o top k seen; spare = spare_next top k d.spare }
+    record {
+      going = going_seen c a d.going o top k seen;
+      spare = spare_on (stack_after o d.going.stack k seen) (spare_next top k d.spare);
+    }
 
 abbrev pub task_top : Program → ℕ → TaskValue → Op → List Phase → Kind → Seen → TaskValue
 task_top c a d o [] k seen = d
@@ -104,5 +107,8 @@ abbrev pub ActorsFit : Program → ℕ → Going → Kind → Seen → Type 0
 ActorsFit c a g k seen = (o : Op) → op_at c a g.index ≡ Some o → StackFits o g.stack k seen
 
 -- room for the entry's record
+abbrev pub HasRoom : Kind → TaskValue → Type 0
+HasRoom k d = adds_record d.going.stack k ≡ true → 1 ≤ d.spare
+
 abbrev pub ActorsRoom : ℕ → Kind → List TaskValue → Type 0
-ActorsRoom a k x = adds_record (going_of x a).stack k ≡ true → 1 ≤ (task_of x a).spare
+ActorsRoom a k x = HasRoom k (task_of x a)

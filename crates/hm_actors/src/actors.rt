@@ -2,13 +2,16 @@
 ghost use Rattle.std.specs.Prelude.{◌≡◌, ◌<◌, ◌≤◌, [], true, is_none, count_by, length, OnOk, OnErr, IfOk, option_copied, slice_get};
 ghost use Rattle.hm_history.specs.Going.{op_at};
 ghost use Rattle.hm_phases.specs.Items.{phases_of};
-ghost use Rattle.hm_actors.specs.Actors.{actors_start, actors_next, going_of, goings, is_found, ActorsFit, ActorsRoom};
+ghost use Rattle.hm_actors.specs.Actors.{actors_start, actors_next, going_of, goings, ActorsFit, ActorsRoom};
 
+use crate::records::Records;
 use crate::tasks::{Task, op_at};
+use crate::under_way::records_at;
 use hm_base::{Actor, NoMemory, Op, Script};
 use hm_history::Kind;
 use hm_history::phases::{Migrating, Phase, Seen};
 use hm_phases::Items;
+use slab::Slab;
 use std::alloc::Global;
 use std::marker::Model;
 
@@ -16,15 +19,20 @@ use std::marker::Model;
 #[derive(Drop)]
 pub struct Actors {
     tasks: Vec<Task>,
+    migrations: Slab<Records>,
+    alloc: Global,
 }
 
 impl Model for Actors {
-    ghost use Rattle.std.specs.Prelude.{List};
+    ghost use Rattle.std.specs.Prelude.{List, map};
     ghost use Rattle.hm_actors.specs.Actors.{TaskValue};
+    ghost use Rattle.hm_actors.specs.Migrations.{task_shown, KeysFit};
 
     ghost Value = { List TaskValue };
 
-    ghost view = { λ x. x.tasks.items };
+    ghost view = { λ x. map (task_shown x.migrations) x.tasks.items };
+
+    ghost invariant = { λ x. KeysFit x.tasks.items x.migrations };
 }
 
 impl Actors {
@@ -38,7 +46,11 @@ impl Actors {
         for at in 0..count {
             tasks.push(Task::start(alloc, script, Actor::new(at))?)?;
         }
-        Ok(Actors { tasks })
+        Ok(Actors {
+            tasks,
+            migrations: Slab::new(alloc),
+            alloc,
+        })
     }
 
     /// Makes room for the record that the actor's entry adds, if it adds one; all else stays.
@@ -48,14 +60,11 @@ impl Actors {
         ensures err { OnErr result (self.new ≡ self.old) }
     {
         let at = actor.number() as usize;
-        if !is_found(kind) {
-            return Ok(());
-        }
         if self.tasks.len() <= at {
             return Ok(());
         }
         let task = &mut self.tasks[at];
-        task.reserve()
+        task.reserve(&mut self.migrations, self.alloc, kind)
     }
 
     /// The actors after an entry of one of them, with what the state showed just before it.
@@ -67,7 +76,7 @@ impl Actors {
         let at = actor.number() as usize;
         if at < self.tasks.len() {
             let task = &mut self.tasks[at];
-            task.step(script, actor, kind, seen);
+            task.step(&mut self.migrations, script, actor, kind, seen);
         }
     }
 
@@ -76,7 +85,7 @@ impl Actors {
         ensures { result ≡ (going_of self.now actor).index }
     {
         match self.tasks.get(actor.number() as usize) {
-            Some(task) => task.index(),
+            Some(task) => task.index,
             None => 0,
         }
     }
@@ -93,7 +102,7 @@ impl Actors {
         ensures { option_copied result ≡ slice_get (going_of self.now actor).stack 0 }
     {
         match self.tasks.get(actor.number() as usize) {
-            Some(task) => task.top(),
+            Some(task) => task.stack.top(),
             None => None,
         }
     }
@@ -103,7 +112,7 @@ impl Actors {
         ensures { phases_of result ≡ (going_of self.now actor).stack }
     {
         match self.tasks.get(actor.number() as usize) {
-            Some(task) => task.phases(),
+            Some(task) => task.stack.items(),
             None => Items::Zero,
         }
     }
@@ -113,7 +122,7 @@ impl Actors {
         ensures { result.now ≡ (going_of self.now actor).pages }
     {
         match self.tasks.get(actor.number() as usize) {
-            Some(task) => task.records(),
+            Some(task) => records_at(&self.migrations, task.migration),
             None => &[],
         }
     }
@@ -130,14 +139,4 @@ fn moved_count(records: &[Migrating]) -> u64
     ensures { result ≡ count_by (λ x. x.moved) records.now }
 {
     records.iter().filter(|x| x.moved).count() as u64
-}
-
-// Whether an entry can add a record.
-fn is_found(kind: &Kind) -> bool
-    ensures { result ≡ is_found kind.now }
-{
-    match kind {
-        Kind::Fresh { .. } | Kind::Place { .. } => true,
-        _ => false,
-    }
 }

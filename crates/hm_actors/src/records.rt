@@ -1,5 +1,5 @@
 // The records of a migration, with room kept ahead.
-ghost use Rattle.std.specs.Prelude.{◌≡◌, ℕ, ◌+◌, ◌-◌, ◌≤◌, [], ◌∷◌, ◌++◌, ◌==◌, true, false, None, length, map, OnOk, OnErr, if◌then◌else◌};
+ghost use Rattle.std.specs.Prelude.{◌≡◌, ℕ, ◌+◌, ◌-◌, ◌≤◌, [], ◌∷◌, ◌++◌, ◌==◌, true, false, None, length, map, OnOk, OnErr, IfOk, if◌then◌else◌};
 ghost use Rattle.hm_history.specs.Going.{with_record, recorded_at, recorded_body, recorded};
 ghost use Rattle.hm_base.specs.PlaceWords.{moving_frame};
 ghost use Rattle.hm_actors.specs.Actors.{adds_to, adds_at, spare_next};
@@ -55,25 +55,19 @@ fn put(records: &mut [Migrating], migrating: &Migrating)
 }
 
 impl Records {
-    pub fn new(alloc: Global) -> Records
-        ensures { result ≡ record { items = []; spare = 0 } }
+    /// No record, and room for one.
+    pub fn with_room(alloc: Global) -> Result<Records, NoMemory>
+        ensures { IfOk result (λ x. x ≡ record { items = []; spare = 1 }) }
     {
-        Records {
-            items: Vec::new(alloc),
-            room: 0,
-        }
+        let mut items = Vec::new(alloc);
+        items.try_reserve(1)?;
+        Ok(Records { items, room: 1 })
     }
 
     pub fn as_slice(&self) -> &[Migrating]
         ensures { result.now ≡ self.now.items }
     {
         self.items.as_slice()
-    }
-
-    pub fn clear(&mut self)
-        ensures { self.new ≡ record { items = []; spare = self.old.spare } }
-    {
-        self.items.clear();
     }
 
     /// Makes room for one record more; a failure leaves the room as it was.

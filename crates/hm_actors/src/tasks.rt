@@ -1,33 +1,25 @@
-// One actor: the number of its operation, the phases there, and the records of a migration.
-ghost use Rattle.std.specs.Prelude.{◌≡◌, ◌+◌, ◌<◌, ◌≤◌, ◌^◌, [], true, Some, OnOk, OnErr, OnSome, IfOk, is_none, option_copied, slice_get};
-ghost use Rattle.hm_history.specs.Going.{going_from, op_at};
+// One actor: the number of its operation, the phases there, and the key of its migration.
+ghost use Rattle.std.specs.Prelude.{◌≡◌, ◌+◌, ◌<◌, ◌≤◌, ◌^◌, [], true, None, Some, OnOk, OnErr, OnSome, IfOk, is_none, option_copied, slice_get};
+ghost use Rattle.hm_history.specs.Going.{first_stack, op_at};
 ghost use Rattle.hm_phases.specs.Items.{phases_of};
-ghost use Rattle.hm_actors.specs.Actors.{task_start, task_next, task_top, adds_record, ActorsFit, StackFits};
+ghost use Rattle.hm_actors.specs.Actors.{task_next, task_top, adds_at, adds_record, ActorsFit, HasRoom, StackFits};
+ghost use Rattle.hm_actors.specs.Migrations.{task_shown, HasItem, Changes};
 
 use crate::records::Records;
+use crate::under_way;
 use hm_base::{Actor, NoMemory, Op, Script};
 use hm_history::Kind;
-use hm_history::phases::{Migrating, Phase, Seen};
+use hm_history::phases::{Body, Phase, Seen};
 use hm_phases::{Items, Stack};
+use slab::Slab;
 use std::alloc::Global;
-use std::marker::Model;
 
+/// `migration` is the key of the records, from the first one on.
 #[derive(Drop)]
 pub struct Task {
-    index: u64,
-    stack: Stack,
-    records: Records,
-}
-
-impl Model for Task {
-    ghost use Rattle.hm_actors.specs.Actors.{TaskValue};
-
-    ghost Value = { TaskValue };
-
-    ghost view = { λ t. record {
-      going = record { index = t.index; stack = t.stack; pages = t.records.items };
-      spare = t.records.spare;
-    } };
+    pub index: u64,
+    pub stack: Stack,
+    pub migration: Option<usize>,
 }
 
 /// The actor's operation of that number.
@@ -48,74 +40,111 @@ fn is_over(stack: &Stack) -> bool
     stack.top().is_none()
 }
 
+// Whether an entry at this phase adds a record.
+fn adds_at(top: &Phase, kind: &Kind) -> bool
+    ensures { result ≡ adds_at top.now kind.now }
+{
+    match (top, kind) {
+        (
+            Phase::Guard {
+                body: Body::Select { .. },
+                ..
+            },
+            Kind::Fresh { .. } | Kind::Place { .. },
+        ) => true,
+        _ => false,
+    }
+}
+
 impl Task {
     pub fn start(alloc: Global, script: &Script, actor: Actor) -> Result<Task, NoMemory>
-        ensures { IfOk result (λ t. t ≡ task_start script.now actor) }
+        ensures { IfOk result
+            (λ t. t ≡ record { index = 0; stack = first_stack (op_at script.now actor 0); migration = None }) }
     {
         let mut task = Task {
             index: 0,
             stack: Stack::new(alloc)?,
-            records: Records::new(alloc),
+            migration: None,
         };
         task.begin(script, actor);
         Ok(task)
     }
 
-    pub fn index(&self) -> u64
-        ensures { result ≡ self.now.going.index }
+    /// Makes room for the record that the entry adds, if it adds one.
+    pub fn reserve(
+        &mut self,
+        migrations: &mut Slab<Records>,
+        alloc: Global,
+        kind: &Kind,
+    ) -> Result<(), NoMemory>
+        requires held { HasItem migrations.old self.old.migration }
+        ensures room { OnOk result
+            (adds_record self.new.stack kind.now ≡ true → 1 ≤ (task_shown migrations.new self.new).spare) }
+        ensures same { (task_shown migrations.new self.new).going ≡ (task_shown migrations.old self.old).going }
+        ensures changes { Changes migrations.old migrations.new self.old.migration self.new.migration }
+        ensures err { OnErr result (task_shown migrations.new self.new ≡ task_shown migrations.old self.old) }
     {
-        self.index
-    }
-
-    pub fn top(&self) -> Option<&Phase>
-        ensures { option_copied result ≡ slice_get self.now.going.stack 0 }
-    {
-        self.stack.top()
-    }
-
-    pub fn phases(&self) -> Items
-        ensures { phases_of result ≡ self.now.going.stack }
-    {
-        self.stack.items()
-    }
-
-    pub fn records(&self) -> &[Migrating]
-        ensures { result.now ≡ self.now.going.pages }
-    {
-        self.records.as_slice()
-    }
-
-    pub fn reserve(&mut self) -> Result<(), NoMemory>
-        ensures room { OnOk result (1 ≤ self.new.spare) }
-        ensures same { self.new.going ≡ self.old.going }
-        ensures err { OnErr result (self.new ≡ self.old) }
-    {
-        self.records.reserve()
-    }
-
-    /// The task after its entry.
-    pub fn step(&mut self, script: &Script, actor: Actor, kind: &Kind, seen: &Seen)
-        requires fits { ActorsFit script.now actor self.old.going kind.now seen.now }
-        requires room { adds_record self.old.going.stack kind.now ≡ true → 1 ≤ self.old.spare }
-        ensures { self.new ≡ task_next script.now actor self.old kind.now seen.now }
-    {
-        if let Some(op) = op_at(script, actor, self.index) {
-            self.step_op(script, actor, op, kind, seen);
+        let Some(top) = self.stack.top() else {
+            return Ok(());
+        };
+        if !adds_at(top, kind) {
+            return Ok(());
+        }
+        match self.migration {
+            Some(key) => migrations[key].reserve(),
+            None => {
+                self.migration = Some(under_way::begin(migrations, alloc)?);
+                Ok(())
+            }
         }
     }
 
-    fn step_op(&mut self, script: &Script, actor: Actor, op: &Op, kind: &Kind, seen: &Seen)
-        requires below { self.old.going.index + 1 < 2 ^ 64 }
-        requires fits { StackFits op.now self.old.going.stack kind.now seen.now }
-        requires room { adds_record self.old.going.stack kind.now ≡ true → 1 ≤ self.old.spare }
-        ensures { self.new ≡ task_top script.now actor self.old op.now self.old.going.stack kind.now seen.now }
+    /// The task after its entry.
+    pub fn step(
+        &mut self,
+        migrations: &mut Slab<Records>,
+        script: &Script,
+        actor: Actor,
+        kind: &Kind,
+        seen: &Seen,
+    )
+        requires held { HasItem migrations.old self.old.migration }
+        requires fits { ActorsFit script.now actor (task_shown migrations.old self.old).going kind.now seen.now }
+        requires room { HasRoom kind.now (task_shown migrations.old self.old) }
+        ensures changes { Changes migrations.old migrations.new self.old.migration self.new.migration }
+        ensures next { task_shown migrations.new self.new
+            ≡ task_next script.now actor (task_shown migrations.old self.old) kind.now seen.now }
+    {
+        if let Some(op) = op_at(script, actor, self.index) {
+            self.step_op(migrations, script, actor, op, kind, seen);
+        }
+    }
+
+    fn step_op(
+        &mut self,
+        migrations: &mut Slab<Records>,
+        script: &Script,
+        actor: Actor,
+        op: &Op,
+        kind: &Kind,
+        seen: &Seen,
+    )
+        requires held { HasItem migrations.old self.old.migration }
+        requires below { self.old.index + 1 < 2 ^ 64 }
+        requires fits { StackFits op.now self.old.stack kind.now seen.now }
+        requires room { HasRoom kind.now (task_shown migrations.old self.old) }
+        ensures changes { Changes migrations.old migrations.new self.old.migration self.new.migration }
+        ensures next { task_shown migrations.new self.new
+            ≡ task_top script.now actor (task_shown migrations.old self.old) op.now self.old.stack kind.now seen.now }
     {
         let Some(top) = self.stack.top() else {
             return;
         };
-        self.records.step(top, seen.page, kind);
+        under_way::step(migrations, self.migration, top, seen.page, kind);
         self.stack.moved(op, kind, seen);
         if is_over(&self.stack) {
+            under_way::end(migrations, self.migration);
+            self.migration = None;
             self.index += 1;
             self.begin(script, actor);
         }
@@ -123,11 +152,9 @@ impl Task {
 
     // The operation of this number, from its first phase on.
     fn begin(&mut self, script: &Script, actor: Actor)
-        requires { self.old.going.stack ≡ [] }
-        ensures { self.new
-            ≡ record { going = going_from script.now actor self.old.going.index; spare = self.old.spare } }
+        requires { self.old.stack ≡ [] }
+        ensures { self.new ≡ record self.old { stack = first_stack (op_at script.now actor self.old.index) } }
     {
-        self.records.clear();
         if let Some(op) = op_at(script, actor, self.index) {
             self.stack.begin(op);
         }

@@ -330,10 +330,10 @@ pub records : IsSend Records.the_row
 records = search (migrating, sendable, crosses) depth 60 fits 8000
 
 pub task : IsSend Task.the_row
-task = search (stack, records, sendable, crosses) depth 60 fits 8000
+task = search (stack, sendable, crosses) depth 60 fits 8000
 
 pub actors : IsSend Actors.the_row
-actors = search (task, sendable, crosses) depth 60 fits 8000
+actors = search (task, records, sendable, crosses) depth 60 fits 8000
 
 pub mirror_entry : IsSend MirrorEntry.the_row
 mirror_entry = search (sendable, crosses) depth 60 fits 8000
