@@ -26,6 +26,11 @@ pub came_not : (test : MoveStep → Migrating → Bool) (xs : List Migrating) (s
     first_from (test step) next xs ≡ None → come_by test xs (step ∷ steps) next ≡ come_by test xs steps 0
 came_not test xs step steps next e = rw (e, come_by) refl
 
+-- there is no step where there is no record
+pub come_nowhere : (test : MoveStep → Migrating → Bool) (steps : List MoveStep) (next : ℕ) → come_by test [] steps next ≡ None
+come_nowhere test [] next = refl
+come_nowhere test (step ∷ steps) next = come_nowhere test steps 0
+
 -- tests that agree
 find_same : (p q : Migrating → Bool) (xs : List Migrating) → ((x : Migrating) → p x ≡ q x) → find p xs ≡ find q xs
 find_same p q [] e = refl

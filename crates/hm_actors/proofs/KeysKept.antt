@@ -20,6 +20,9 @@ task_here xs a t e l = grind (arith, elements)
 pub shown_is : (m : Slab RecordsValue) (xs : List Task) (ys : List TaskValue) → map (task_shown m) xs ≡ ys → (i a : ℕ) → i ≡ a → (t : Task) → t ≡ slice_index_or xs i t → i < length xs → task_shown m t ≡ task_of ys a
 shown_is m xs ys e i a p t q l = ap (task_shown m) (sym (task_here xs i t q l)) ∙ sym (shown_at m xs i) ∙ ap (λ (n : ℕ). task_of (map (task_shown m) xs) n) p ∙ ap (λ (z : List TaskValue). task_of z a) e
 
+pub pages_at : (m : Slab RecordsValue) (xs : List Task) (ys : List TaskValue) → map (task_shown m) xs ≡ ys → (a : ℕ) → (kept_at m (key_of xs a)).items ≡ (task_of ys a).going.pages
+pages_at m xs ys e a = ap (λ (d : TaskValue). d.going.pages) (sym (shown_at m xs a)) ∙ ap (λ (z : List TaskValue). (task_of z a).going.pages) e
+
 set_here : (xs : List Task) (a b : ℕ) (u : Task) → a < length xs → b ≡ a → slice_index_or (slice_set xs a u) b idle ≡ u
 set_here xs a b u l e = grind (arith, elements)
 

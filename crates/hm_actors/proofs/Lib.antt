@@ -1,4 +1,5 @@
 pub mod ActorsKept
 pub mod Comings
 pub mod KeysKept
+pub mod RisingKept
 pub mod TaskKept

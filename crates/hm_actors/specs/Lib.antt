@@ -1,3 +1,4 @@
 pub mod Actors
 pub mod Coming
 pub mod Migrations
+pub mod Rising

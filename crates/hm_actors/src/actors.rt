@@ -1,15 +1,17 @@
 // All actors of a script.
 ghost use Rattle.std.specs.Prelude.{◌≡◌, ◌<◌, ◌≤◌, [], true, is_none, count_by, length, OnOk, OnErr, IfOk, option_copied, slice_get};
-ghost use Rattle.hm_history.specs.Going.{op_at};
+ghost use Rattle.hm_history.specs.Going.{op_at, steps_from};
+ghost use Rattle.hm_actors.specs.Coming.{come_by};
 ghost use Rattle.hm_phases.specs.Items.{phases_of};
 ghost use Rattle.hm_actors.specs.Actors.{actors_start, actors_next, going_of, goings, ActorsFit, ActorsRoom};
 
+use crate::coming::Concerns;
 use crate::records::Records;
-use crate::tasks::{Task, op_at};
-use crate::under_way::records_at;
+use crate::tasks::{Task, key_of, op_at};
+use crate::under_way;
 use hm_base::{Actor, NoMemory, Op, Script};
 use hm_history::Kind;
-use hm_history::phases::{Migrating, Phase, Seen};
+use hm_history::phases::{Migrating, MoveStep, Phase, Seen};
 use hm_phases::Items;
 use slab::Slab;
 use std::alloc::Global;
@@ -122,9 +124,30 @@ impl Actors {
         ensures { result.now ≡ (going_of self.now actor).pages }
     {
         match self.tasks.get(actor.number() as usize) {
-            Some(task) => records_at(&self.migrations, task.migration),
+            Some(task) => under_way::records_at(&self.migrations, task.migration),
             None => &[],
         }
+    }
+
+    /// The step, from this one on, and the record that the actor's migration has come to; none at its end.
+    #[inline(always)]
+    pub fn come_to<C: Concerns>(
+        &self,
+        actor: Actor,
+        concerns: &C,
+        step: MoveStep,
+        next: u64,
+    ) -> Option<(MoveStep, Migrating)>
+        ensures { result
+            ≡ come_by (C.concerns concerns.now) (going_of self.now actor).pages (steps_from step) next }
+    {
+        under_way::come_to(
+            &self.migrations,
+            key_of(&self.tasks, actor),
+            concerns,
+            step,
+            next,
+        )
     }
 
     /// How many pages the actor's migration has moved.

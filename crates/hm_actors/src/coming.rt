@@ -5,6 +5,7 @@ ghost use Rattle.hm_history.specs.declared.phases.Migrating.{Migrating as Record
 ghost use Rattle.hm_history.specs.declared.phases.MoveStep.{MoveStep as Step};
 ghost use Rattle.hm_actors.specs.Coming.{first_from, come_by};
 
+use crate::records::Records;
 use hm_history::phases::{Migrating, MoveStep};
 
 /// What tells whether a step of a migration has an entry for a record now.
@@ -58,16 +59,16 @@ fn steps_from(step: MoveStep) -> &'static [MoveStep]
 
 /// The step, from this one on, and the record that the migration has come to; none at its end.
 pub fn come_to<C: Concerns>(
-    records: &[Migrating],
+    records: &Records,
     concerns: &C,
     step: MoveStep,
     next: u64,
 ) -> Option<(MoveStep, Migrating)>
-    ensures { result ≡ come_by (C.concerns concerns.now) records.now (steps_from step) next }
+    ensures { result ≡ come_by (C.concerns concerns.now) records.now.items (steps_from step) next }
 {
     let mut from = next;
     for at in steps_from(step) {
-        match first_from(records, concerns, *at, from) {
+        match first_from(records.from_page(from), concerns, *at, from) {
             Some(migrating) => return Some((*at, migrating)),
             None => from = 0,
         }

@@ -5,9 +5,10 @@
 
 mod actors;
 mod coming;
+mod places;
 mod records;
 mod tasks;
 mod under_way;
 
 pub use actors::Actors;
-pub use coming::{Concerns, come_to};
+pub use coming::Concerns;

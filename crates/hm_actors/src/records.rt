@@ -1,31 +1,37 @@
 // The records of a migration, with room kept ahead.
-ghost use Rattle.std.specs.Prelude.{◌≡◌, ℕ, ◌+◌, ◌-◌, ◌≤◌, [], ◌∷◌, ◌++◌, ◌==◌, true, false, None, length, map, OnOk, OnErr, IfOk, if◌then◌else◌};
+ghost use Rattle.std.specs.Prelude.{◌≡◌, ℕ, Bool, ◌+◌, ◌-◌, ◌≤◌, [], ◌∷◌, ◌++◌, ◌==◌, true, false, None, length, map, OnOk, OnErr, IfOk, if◌then◌else◌};
 ghost use Rattle.hm_history.specs.Going.{with_record, recorded_at, recorded_body, recorded};
 ghost use Rattle.hm_base.specs.PlaceWords.{moving_frame};
+ghost use Rattle.hm_history.specs.declared.phases.Migrating.{Migrating as Record};
+ghost use Rattle.hm_actors.specs.Coming.{first_from};
 ghost use Rattle.hm_actors.specs.Actors.{adds_to, adds_at, spare_next};
 
+use crate::places::{from_page, put, rises_by};
 use hm_base::{Frame, NoMemory, Page, Place};
 use hm_history::Kind;
 use hm_history::phases::{Body, Migrating, Phase};
 use std::alloc::Global;
 use std::marker::Model;
 
-/// The pages that a migration has found so far.
+/// The pages that a migration has found so far. `rising` tells that each is known to be above those before it.
 #[derive(Drop)]
 pub struct Records {
     items: Vec<Migrating>,
     room: u64,
+    rising: bool,
 }
 
 impl Model for Records {
-    ghost use Rattle.std.specs.Prelude.{◌+◌, ◌≤◌, vec_len, vec_capacity};
+    ghost use Rattle.std.specs.Prelude.{◌≡◌, ◌+◌, ◌≤◌, true, vec_len, vec_capacity};
     ghost use Rattle.hm_actors.specs.Actors.{RecordsValue};
+    ghost use Rattle.hm_actors.specs.Rising.{Rises};
 
     ghost Value = { RecordsValue };
 
     ghost view = { λ x. record { items = x.items.items; spare = x.room } };
 
-    ghost invariant = { λ x. x.room + vec_len x.items ≤ vec_capacity x.items };
+    ghost invariant = { λ x.
+        (x.room + vec_len x.items ≤ vec_capacity x.items) × (x.rising ≡ true → Rises x.items.items) };
 }
 
 fn frame_found(place: &Place) -> Option<Frame>
@@ -37,23 +43,6 @@ fn frame_found(place: &Place) -> Option<Frame>
     }
 }
 
-// The new record takes the place of one of the same page.
-fn renew(old: &mut Migrating, by: &Migrating)
-    ensures { old.new ≡ (if old.old.page == by.now.page then by.now else old.old) }
-{
-    if old.page == by.page {
-        *old = *by;
-    }
-}
-
-fn put(records: &mut [Migrating], migrating: &Migrating)
-    ensures { records.new ≡ with_record migrating.now records.old }
-{
-    for at in 0..records.len() {
-        renew(&mut records[at], migrating);
-    }
-}
-
 impl Records {
     /// No record, and room for one.
     pub fn with_room(alloc: Global) -> Result<Records, NoMemory>
@@ -61,13 +50,28 @@ impl Records {
     {
         let mut items = Vec::new(alloc);
         items.try_reserve(1)?;
-        Ok(Records { items, room: 1 })
+        Ok(Records {
+            items,
+            room: 1,
+            rising: true,
+        })
     }
 
     pub fn as_slice(&self) -> &[Migrating]
         ensures { result.now ≡ self.now.items }
     {
         self.items.as_slice()
+    }
+
+    /// The records from the page on; those before it are among them where the order is not known.
+    pub fn from_page(&self, page: u64) -> &[Migrating]
+        ensures { (test : Record → Bool) → first_from test page result.now ≡ first_from test page self.now.items }
+    {
+        if self.rising {
+            from_page(&self.items, page)
+        } else {
+            &self.items
+        }
     }
 
     /// Makes room for one record more; a failure leaves the room as it was.
@@ -93,6 +97,7 @@ impl Records {
             } }
     {
         self.room -= 1;
+        self.rising = rises_by(&self.items, self.rising, page);
         match self.items.push(Migrating {
             page,
             source,
@@ -108,7 +113,7 @@ impl Records {
     fn put(&mut self, migrating: Migrating)
         ensures { self.new ≡ record { items = with_record migrating self.old.items; spare = self.old.spare } }
     {
-        put(&mut self.items, &migrating);
+        put(&mut self.items, self.rising, &migrating);
     }
 
     fn step_moves(&mut self, page: Option<Migrating>, kind: &Kind)

@@ -3,7 +3,7 @@ ghost use Rattle.std.specs.Prelude.{◌≡◌, ◌+◌, ◌<◌, ◌≤◌, ◌^
 ghost use Rattle.hm_history.specs.Going.{first_stack, op_at};
 ghost use Rattle.hm_phases.specs.Items.{phases_of};
 ghost use Rattle.hm_actors.specs.Actors.{task_next, task_top, adds_at, adds_record, ActorsFit, HasRoom, StackFits};
-ghost use Rattle.hm_actors.specs.Migrations.{task_shown, HasItem, Changes};
+ghost use Rattle.hm_actors.specs.Migrations.{key_of, task_shown, HasItem, Changes};
 
 use crate::records::Records;
 use crate::under_way;
@@ -30,6 +30,16 @@ pub fn op_at(script: &Script, actor: Actor, index: u64) -> Option<&Op>
     match script.actors.get(u64::from(actor.number())) {
         Some(ops) if index < ops.len() => ops.get(index),
         _ => None,
+    }
+}
+
+/// The key of the actor's migration.
+pub fn key_of(tasks: &[Task], actor: Actor) -> Option<usize>
+    ensures { result ≡ key_of tasks.now actor }
+{
+    match tasks.get(actor.number() as usize) {
+        Some(task) => task.migration,
+        None => None,
     }
 }
 

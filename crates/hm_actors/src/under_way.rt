@@ -1,14 +1,17 @@
 // The migrations under way: the records of each stand in a slab, under the key that the actor's task holds.
 ghost use Rattle.std.specs.Prelude.{◌≡◌, ◌≤◌, ℕ, [], true, None, Some, OnErr, IfOk};
 ghost use Rattle.slab.specs.Slab.{get, Updates, SameValues};
-ghost use Rattle.hm_history.specs.Going.{recorded};
+ghost use Rattle.hm_history.specs.Going.{recorded, steps_from};
+ghost use Rattle.hm_actors.specs.Coming.{come_by};
 ghost use Rattle.hm_actors.specs.Actors.{adds_at, spare_next};
 ghost use Rattle.hm_actors.specs.Migrations.{kept_at, HasItem, Changes};
 
+use crate::coming;
+use crate::coming::Concerns;
 use crate::records::Records;
 use hm_base::NoMemory;
 use hm_history::Kind;
-use hm_history::phases::{Migrating, Phase};
+use hm_history::phases::{Migrating, MoveStep, Phase};
 use slab::Slab;
 use std::alloc::Global;
 
@@ -22,6 +25,26 @@ pub fn records_at(migrations: &Slab<Records>, key: Option<usize>) -> &[Migrating
     match migrations.get(key) {
         Some(records) => records.as_slice(),
         None => &[],
+    }
+}
+
+/// The step, from this one on, and the record that the migration under a key has come to.
+pub fn come_to<C: Concerns>(
+    migrations: &Slab<Records>,
+    key: Option<usize>,
+    concerns: &C,
+    step: MoveStep,
+    next: u64,
+) -> Option<(MoveStep, Migrating)>
+    ensures { result
+        ≡ come_by (C.concerns concerns.now) (kept_at migrations.now key).items (steps_from step) next }
+{
+    let Some(key) = key else {
+        return None;
+    };
+    match migrations.get(key) {
+        Some(records) => coming::come_to(records, concerns, step, next),
+        None => None,
     }
 }
 

@@ -5,7 +5,7 @@ ghost use Rattle.hm_history.specs.declared.phases.Phase as phase;
 ghost use Rattle.hm_world.specs.WorldValue.{now};
 
 use crate::World;
-use hm_actors::{Concerns, come_to};
+use hm_actors::Concerns;
 use hm_base::{Actor, Frame, MirrorId, Op};
 use hm_history::phases::{Migrating, MoveStep};
 use hm_reads::Reads;
@@ -63,6 +63,6 @@ impl World {
             ≡ coming (now self.now).after op.now ((now self.now).going actor).pages (phase.Phase.Moves step next) }
     {
         let asking = Asking { world: self, op };
-        come_to(self.actors.records(actor), &asking, step, next)
+        self.actors.come_to(actor, &asking, step, next)
     }
 }
