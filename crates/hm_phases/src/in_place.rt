@@ -4,13 +4,14 @@ ghost use Rattle.hm_base.specs.Pages.{Pages};
 ghost use Rattle.hm_base.specs.declared.ops.Op.{Op};
 ghost use Rattle.hm_history.specs.Stacks as spec;
 ghost use Rattle.hm_history.specs.declared.phases.Phase.{Phase as AnyPhase};
-ghost use Rattle.hm_phases.specs.Items.{phases_of, catches};
+ghost use Rattle.hm_history.specs.declared.phases.Seen.{Seen as AnySeen};
+ghost use Rattle.hm_phases.specs.Items.{phases_of, catches, keeps_only};
 
 use crate::guards::{body_next, is_end, told_mirror};
 use crate::items::Items;
 use hm_base::{MirrorId, Proc};
-use hm_history::Kind;
 use hm_history::phases::{Body, MoveStep, Phase, Seen};
+use hm_history::{KeptAt, KeptWhy, Kind};
 
 fn catches(body: &Body) -> bool
     ensures { result ≡ catches body.now }
@@ -66,7 +67,24 @@ fn top_goes_on(top: &mut Phase, kind: &Kind, seen: &Seen) -> bool
             *part += 1;
             true
         }
+        Phase::Finish { to, .. } => match (kind, *to) {
+            (Kind::Place { .. }, _) => true,
+            (Kind::Drop(_), Some(frame)) => {
+                *top = Phase::Settle { frame };
+                true
+            }
+            _ => false,
+        },
         _ => false,
+    }
+}
+
+fn keeps_only(why: KeptWhy) -> bool
+    ensures { result ≡ keeps_only why }
+{
+    match why {
+        KeptWhy::Lost => false,
+        _ => true,
     }
 }
 
@@ -83,9 +101,41 @@ fn move_goes_on(step: &mut MoveStep, next: &mut u64, kind: &Kind, seen: &Seen) -
     match kind {
         Kind::Committed { .. } => *step = MoveStep::Commit,
         Kind::Set { .. } => *step = MoveStep::SetOwnTable,
+        Kind::Take(_) if page.source.is_none() => *step = MoveStep::TakeAndCopy,
+        Kind::Kept { at: _, why } if keeps_only(*why) => *step = MoveStep::TakeAndCopy,
         _ => return false,
     }
     *next = page.page.number() + 1;
+    true
+}
+
+/// Changes the phase of an eviction that goes past a frame, and tells whether it does.
+fn frames_go_on(next: &mut u64, kind: &Kind) -> bool
+    ensures on { result ≡ true → (n : ℕ) (seen : AnySeen)
+        → spec.after_frames next.old n kind.now seen ≡ AnyPhase.Frames next.new n ∷ [] }
+    ensures same { result ≡ false → next.new ≡ next.old }
+{
+    match kind {
+        Kind::Kept {
+            at: KeptAt::Frame(frame),
+            why: _,
+        } => *next = u64::from(frame.number) + 1,
+        Kind::Drop(frame) => *next = u64::from(frame.number) + 1,
+        Kind::Withdrawn(_) => (),
+        _ => return false,
+    }
+    true
+}
+
+/// Changes the phase of a snapshot that goes on to its next page, and tells whether it does.
+fn pages_go_on(next: &mut u64, kind: &Kind) -> bool
+    ensures on { result ≡ true → spec.after_pages kind.now ≡ AnyPhase.Pages next.new ∷ [] }
+    ensures same { result ≡ false → next.new ≡ next.old }
+{
+    match kind {
+        Kind::Seen { page, .. } => *next = page.number() + 1,
+        _ => return false,
+    }
     true
 }
 
@@ -96,6 +146,8 @@ fn only_goes_on(top: &mut Phase, kind: &Kind, seen: &Seen) -> bool
 {
     match top {
         Phase::Moves { step, next } => move_goes_on(step, next, kind, seen),
+        Phase::Frames { next, .. } => frames_go_on(next, kind),
+        Phase::Pages { next } => pages_go_on(next, kind),
         _ => top_goes_on(top, kind, seen),
     }
 }

@@ -20,6 +20,7 @@ mod items;
 mod migrations;
 mod moves;
 mod operations;
+mod tops;
 
 pub use hm_history::phases::{Body, Migrating, Phase, Seen, Touch};
 pub use items::Items;
@@ -85,7 +86,10 @@ impl Stack {
         requires counted { IsTrue (below_takes_count self.old) }
         ensures { self.new ≡ stack_after op.now self.old kind.now seen.now }
     {
-        if in_place::goes_on(&mut self.items, kind, seen) {
+        if in_place::goes_on(&mut self.items, kind, seen)
+            || tops::leaves(&mut self.items, kind)
+            || tops::begins(&mut self.items, kind, seen)
+        {
             return;
         }
         self.items = moves::moved(op, &self.items, kind, seen);
