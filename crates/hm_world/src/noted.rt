@@ -12,11 +12,12 @@ ghost use Rattle.hm_frames.specs.Shown.{entry_place};
 ghost use Rattle.hm_actors.specs.Actors.{IsSeen};
 ghost use Rattle.hm_base.specs.PlaceWords.{names};
 ghost use Rattle.hm_base.specs.declared.Frame.{Frame as AnyFrame};
+ghost use Rattle.hm_history.specs.declared.phases.Phase.{Phase as AnyPhase};
 ghost use Rattle.hm_world.specs.WorldValue.{now};
 
 use crate::World;
 use hm_base::{Actor, Frame, Op, Page, Place, Proc, Span};
-use hm_history::phases::{Migrating, Phase, Seen};
+use hm_history::phases::{Migrating, MoveStep, Phase, Seen};
 use hm_history::{Kind, Who};
 use hm_reads::Reads;
 use hm_reads::operations::{page_of, touch_page, touch_proc};
@@ -123,11 +124,21 @@ impl World {
         ensures { result ≡ coming_page (coming (now self.now).after op.now ((now self.now).going actor).pages top.now) }
     {
         match top {
-            Phase::Moves { step, next } => match self.coming(actor, op, *step, *next) {
-                Some((_, page)) => Some(page),
-                None => None,
-            },
+            Phase::Moves { step, next } => self.page_at_step(actor, op, *step, *next),
             _ => None,
+        }
+    }
+
+    // Apart from the rest, so that the entries of other phases do not pay for it.
+    #[inline(never)]
+    fn page_at_step(&self, actor: Actor, op: &Op, step: MoveStep, next: u64) -> Option<Migrating>
+        ensures { result
+            ≡ coming_page
+            (coming (now self.now).after op.now ((now self.now).going actor).pages (AnyPhase.Moves step next)) }
+    {
+        match self.coming(actor, op, step, next) {
+            Some((_, page)) => Some(page),
+            None => None,
         }
     }
 
