@@ -6,7 +6,7 @@ use hm_base::Bytes;
 use hm_history::Kind;
 use hm_history::phases::{Body, Phase};
 use hm_phases::Items;
-use hm_race_keys::rows::Rows;
+use hm_race_keys::rows::{Rows, Word};
 
 fn mixed(sum: u64, word: u64) -> u64 {
     (sum ^ word)
@@ -15,24 +15,16 @@ fn mixed(sum: u64, word: u64) -> u64 {
         .rotate_left(29)
 }
 
-// The words of a row, in rising order of their numbers.
-fn with_row(sum: u64, rows: &Rows, row: usize) -> u64 {
-    let mut sum = mixed(sum, row as u64);
-    let mut at = 0;
-    while let Some(number) = rows.first(row, at) {
-        sum = mixed(mixed(sum, number), rows.get(row, number));
-        if number == u64::MAX {
-            return sum;
-        }
-        at = number + 1;
-    }
-    sum
+fn with_word(sum: u64, word: &Word) -> u64 {
+    mixed(mixed(mixed(sum, word.row as u64), word.number), word.word)
 }
 
-fn with_rows(sum: u64, rows: &Rows, count: usize) -> u64 {
-    let mut sum = sum;
-    for row in 0..count {
-        sum = with_row(sum, rows, row);
+// The words that are not 0, and how many there are.
+fn with_rows(sum: u64, rows: &Rows) -> u64 {
+    let words = rows.words();
+    let mut sum = mixed(sum, words.len() as u64);
+    for word in words {
+        sum = with_word(sum, word);
     }
     sum
 }
@@ -123,21 +115,21 @@ fn with_answers(sum: u64, key: &Key) -> u64 {
 
 // The rows of places, frames, tables and locks.
 fn with_places(sum: u64, key: &Key) -> u64 {
-    let sum = with_rows(sum, &key.places.rows, 32);
-    let sum = with_rows(sum, &key.held.rows, 5);
-    let sum = with_rows(sum, &key.flags.rows, 2);
-    let sum = with_rows(sum, &key.tables.rights, 32);
-    let sum = with_rows(sum, &key.tables.numbers, 32);
-    let sum = with_rows(sum, &key.locks.rows, 5);
-    with_rows(sum, &key.maps.rows, 2)
+    let sum = with_rows(sum, &key.places.rows);
+    let sum = with_rows(sum, &key.held.rows);
+    let sum = with_rows(sum, &key.flags.rows);
+    let sum = with_rows(sum, &key.tables.rights);
+    let sum = with_rows(sum, &key.tables.numbers);
+    let sum = with_rows(sum, &key.locks.rows);
+    with_rows(sum, &key.maps.rows)
 }
 
 /// The number of a key. The bytes of processes do not count.
 pub fn bucket_of(key: &Key) -> u64 {
     let sum = with_answers(with_goings(1, &key.goings), key);
     let sum = with_places(sum, key);
-    let sum = with_rows(sum, &key.processes.rows, 2);
-    let sum = with_rows(sum, &key.mirrors.rows, 5);
-    let sum = with_rows(sum, &key.active.rows, 1);
-    with_rows(sum, &key.seqs.rows, 6)
+    let sum = with_rows(sum, &key.processes.rows);
+    let sum = with_rows(sum, &key.mirrors.rows);
+    let sum = with_rows(sum, &key.active.rows);
+    with_rows(sum, &key.seqs.rows)
 }

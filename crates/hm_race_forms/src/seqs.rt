@@ -1,5 +1,5 @@
 // Small sequences: of a process's it is kept whether it is odd, of an interval's whether it is its process's.
-ghost use Rattle.std.specs.Prelude.{◌≡◌, ◌==◌, ◌<◌, ◌≤◌, ℕ, Option, None, Some, length, if◌then◌else◌, IfOk, OnOk};
+ghost use Rattle.std.specs.Prelude.{◌≡◌, ◌==◌, ◌<◌, ◌≤◌, ℕ, Option, None, Some, if◌then◌else◌, IfOk, OnOk};
 ghost use Rattle.hm_history.specs.Sequences.{sequences_start, interval_seq, Interval as AnyInterval};
 ghost use Rattle.hm_folds.specs.Kept.{sequences_of, stage_of};
 ghost use Rattle.hm_races.specs.Numbers.{small, small_of, small_interval};
@@ -15,7 +15,6 @@ use std::alloc::Global;
 #[derive(Drop)]
 pub struct SeqRows {
     pub rows: Rows,
-    ghost sized: { length rows.rows.items ≡ 6 },
 }
 
 fn stage_word(stage: KeptStage) -> u64
@@ -53,7 +52,7 @@ impl SeqRows {
     {
         seqs.facts();
         let mut all = SeqRows {
-            rows: Rows::new(alloc, 6)?,
+            rows: Rows::new(alloc),
         };
         for proc in 0..32u32 {
             all.note_process(seqs, Proc::new(proc))?;

@@ -40,14 +40,14 @@ impl Trail {
         Ok(Trail {
             processes: ProcessRows::new(alloc)?,
             plain: PlainState::start(alloc, script)?,
-            mirrors: MirrorRows::new(alloc)?,
-            places: PlaceRows::new(alloc)?,
-            held: HeldRows::new(alloc)?,
-            flags: FlagRows::new(alloc)?,
-            tables: TableRows::new(alloc)?,
-            locks: LockRows::new(alloc)?,
-            maps: MapRows::new(alloc)?,
-            active: ActiveRows::new(alloc)?,
+            mirrors: MirrorRows::new(alloc),
+            places: PlaceRows::new(alloc),
+            held: HeldRows::new(alloc),
+            flags: FlagRows::new(alloc),
+            tables: TableRows::new(alloc),
+            locks: LockRows::new(alloc),
+            maps: MapRows::new(alloc),
+            active: ActiveRows::new(alloc),
             sequences: SeqState::start(alloc, script)?,
         })
     }

@@ -1,4 +1,4 @@
-pub mod Changes
 pub mod Named
+pub mod Rising
 pub mod Stands
 pub mod Words

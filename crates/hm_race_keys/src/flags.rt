@@ -1,5 +1,5 @@
 // Which devices are withdrawn or removed, and who has mmap locks, after a history.
-ghost use Rattle.std.specs.Prelude.{◌≡◌, ◌==◌, ℕ, None, Some, true, false, length, IfOk, OnOk};
+ghost use Rattle.std.specs.Prelude.{◌≡◌, ◌==◌, ℕ, None, Some, true, false, OnOk};
 ghost use Rattle.hm_history.specs.Words.{with_at};
 ghost use Rattle.hm_history.specs.Locks.{releases, locks_start, map_next};
 ghost use Rattle.hm_race_keys.specs.Trail.{flags_in, withdrawn_next, removed_next, map_in};
@@ -13,17 +13,16 @@ use std::alloc::Global;
 #[derive(Drop)]
 pub struct FlagRows {
     pub rows: Rows,
-    ghost sized: { length rows.rows.items ≡ 2 },
 }
 
 impl FlagRows {
     /// None.
-    pub fn new(alloc: Global) -> Result<FlagRows, NoMemory>
-        ensures { IfOk result (λ x. (r d : ℕ) → flags_in x.rows r d ≡ false) }
+    pub fn new(alloc: Global) -> FlagRows
+        ensures { (r d : ℕ) → flags_in result.rows r d ≡ false }
     {
-        Ok(FlagRows {
-            rows: Rows::new(alloc, 2)?,
-        })
+        FlagRows {
+            rows: Rows::new(alloc),
+        }
     }
 
     /// The devices after an entry.
@@ -57,7 +56,6 @@ impl FlagRows {
 #[derive(Drop)]
 pub struct MapRows {
     pub rows: Rows,
-    ghost sized: { length rows.rows.items ≡ 2 },
 }
 
 fn releases(kind: &Kind) -> bool
@@ -83,12 +81,12 @@ fn releases(kind: &Kind) -> bool
 
 impl MapRows {
     /// Nobody has one.
-    pub fn new(alloc: Global) -> Result<MapRows, NoMemory>
-        ensures { IfOk result (λ x. (a : ℕ) → map_in x.rows a ≡ None) }
+    pub fn new(alloc: Global) -> MapRows
+        ensures { (a : ℕ) → map_in result.rows a ≡ None }
     {
-        Ok(MapRows {
-            rows: Rows::new(alloc, 2)?,
-        })
+        MapRows {
+            rows: Rows::new(alloc),
+        }
     }
 
     /// The locks after an entry of the actor.

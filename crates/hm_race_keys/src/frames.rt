@@ -1,5 +1,5 @@
 // Which frames are held, and who has them locked, after a history.
-ghost use Rattle.std.specs.Prelude.{◌≡◌, ◌==◌, ℕ, None, false, length, IfOk, OnOk};
+ghost use Rattle.std.specs.Prelude.{◌≡◌, ◌==◌, ℕ, None, false, OnOk};
 ghost use Rattle.hm_base.specs.declared.Frame.{Frame as AnyFrame};
 ghost use Rattle.hm_history.specs.Words.{with_frame, names};
 ghost use Rattle.hm_history.specs.Places.{Places};
@@ -17,17 +17,16 @@ use std::alloc::Global;
 #[derive(Drop)]
 pub struct HeldRows {
     pub rows: Rows,
-    ghost sized: { length rows.rows.items ≡ 5 },
 }
 
 impl HeldRows {
     /// No frame is held.
-    pub fn new(alloc: Global) -> Result<HeldRows, NoMemory>
-        ensures { IfOk result (λ x. (f : AnyFrame) → held_in x.rows f ≡ false) }
+    pub fn new(alloc: Global) -> HeldRows
+        ensures { (f : AnyFrame) → held_in result.rows f ≡ false }
     {
-        Ok(HeldRows {
-            rows: Rows::new(alloc, 5)?,
-        })
+        HeldRows {
+            rows: Rows::new(alloc),
+        }
     }
 
     /// The held frames after an entry.
@@ -53,17 +52,16 @@ impl HeldRows {
 #[derive(Drop)]
 pub struct LockRows {
     pub rows: Rows,
-    ghost sized: { length rows.rows.items ≡ 5 },
 }
 
 impl LockRows {
     /// Nobody has one.
-    pub fn new(alloc: Global) -> Result<LockRows, NoMemory>
-        ensures { IfOk result (λ x. (f : AnyFrame) → lockers_in x.rows f ≡ None) }
+    pub fn new(alloc: Global) -> LockRows
+        ensures { (f : AnyFrame) → lockers_in result.rows f ≡ None }
     {
-        Ok(LockRows {
-            rows: Rows::new(alloc, 5)?,
-        })
+        LockRows {
+            rows: Rows::new(alloc),
+        }
     }
 
     fn locker(&self, frame: &Frame) -> u64

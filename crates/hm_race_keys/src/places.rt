@@ -1,5 +1,5 @@
 // The places of pages after a history.
-ghost use Rattle.std.specs.Prelude.{◌≡◌, ◌≤◌, ◌^◌, ℕ, true, false, is_some, length, IfOk, OnOk};
+ghost use Rattle.std.specs.Prelude.{◌≡◌, ◌≤◌, ◌^◌, ℕ, true, false, is_some, OnOk};
 ghost use Rattle.hm_base.specs.PlaceWords.{is_frame, names};
 ghost use Rattle.hm_race_keys.specs.Rows.{word_of};
 ghost use Rattle.hm_base.specs.declared.Place.{Place as AnyPlace};
@@ -17,8 +17,8 @@ use std::alloc::Global;
 #[derive(Drop)]
 pub struct PlaceRows {
     pub rows: Rows,
-    ghost sized: { length rows.rows.items ≡ 32 },
-    ghost within: { (p v : ℕ) → 2 ^ 36 ≤ v → word_of rows p v ≡ 0 },
+    ghost pages: { (p v : ℕ) → 2 ^ 36 ≤ v → word_of rows p v ≡ 0 },
+    ghost processes: { (p v : ℕ) → 32 ≤ p → word_of rows p v ≡ 0 },
 }
 
 #[tactic(auto, unfolding(crate::specs::Trail::place_of_word))]
@@ -34,12 +34,12 @@ fn place_of(word: u64) -> Place
 impl PlaceRows {
     /// No page has a place.
     #[tactic(auto, unfolding(crate::specs::Trail::place_of_word))]
-    pub fn new(alloc: Global) -> Result<PlaceRows, NoMemory>
-        ensures { IfOk result (λ x. (p v : ℕ) → places_in x.rows p v ≡ AnyPlace.Empty) }
+    pub fn new(alloc: Global) -> PlaceRows
+        ensures { (p v : ℕ) → places_in result.rows p v ≡ AnyPlace.Empty }
     {
-        Ok(PlaceRows {
-            rows: Rows::new(alloc, 32)?,
-        })
+        PlaceRows {
+            rows: Rows::new(alloc),
+        }
     }
 
     /// The places after an entry.

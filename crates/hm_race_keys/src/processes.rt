@@ -1,5 +1,5 @@
 // The processes and mirrors after a history.
-ghost use Rattle.std.specs.Prelude.{◌≡◌, ◌==◌, ◌<◌, ℕ, None, Some, true, false, length, IfOk, OnOk};
+ghost use Rattle.std.specs.Prelude.{◌≡◌, ◌==◌, ◌<◌, ℕ, None, Some, true, false, IfOk, OnOk};
 ghost use Rattle.hm_history.specs.Words.{with_at};
 ghost use Rattle.hm_history.specs.Plain.{with_attachment};
 ghost use Rattle.hm_history.specs.Plain as plain;
@@ -14,7 +14,6 @@ use std::alloc::Global;
 #[derive(Drop)]
 pub struct ProcessRows {
     pub rows: Rows,
-    ghost sized: { length rows.rows.items ≡ 2 },
 }
 
 impl ProcessRows {
@@ -23,7 +22,7 @@ impl ProcessRows {
         ensures there { IfOk result (λ x. (p : ℕ) → flags_in x.rows 0 p ≡ (p == 0)) }
         ensures named { IfOk result (λ x. (p : ℕ) → flags_in x.rows 1 p ≡ false) }
     {
-        let mut rows = Rows::new(alloc, 2)?;
+        let mut rows = Rows::new(alloc);
         rows.set(0, 0, 1)?;
         Ok(ProcessRows { rows })
     }
@@ -60,17 +59,16 @@ impl ProcessRows {
 #[derive(Drop)]
 pub struct ActiveRows {
     pub rows: Rows,
-    ghost sized: { length rows.rows.items ≡ 1 },
 }
 
 impl ActiveRows {
     /// None.
-    pub fn new(alloc: Global) -> Result<ActiveRows, NoMemory>
-        ensures { IfOk result (λ x. (p : ℕ) → active_in x.rows p ≡ 0) }
+    pub fn new(alloc: Global) -> ActiveRows
+        ensures { (p : ℕ) → active_in result.rows p ≡ 0 }
     {
-        Ok(ActiveRows {
-            rows: Rows::new(alloc, 1)?,
-        })
+        ActiveRows {
+            rows: Rows::new(alloc),
+        }
     }
 
     /// The numbers after an entry.
@@ -104,17 +102,16 @@ impl ActiveRows {
 #[derive(Drop)]
 pub struct MirrorRows {
     pub rows: Rows,
-    ghost sized: { length rows.rows.items ≡ 5 },
 }
 
 impl MirrorRows {
     /// None.
-    pub fn new(alloc: Global) -> Result<MirrorRows, NoMemory>
-        ensures { IfOk result (λ x. (m : ℕ) → mirrors_in x.rows m ≡ None) }
+    pub fn new(alloc: Global) -> MirrorRows
+        ensures { (m : ℕ) → mirrors_in result.rows m ≡ None }
     {
-        Ok(MirrorRows {
-            rows: Rows::new(alloc, 5)?,
-        })
+        MirrorRows {
+            rows: Rows::new(alloc),
+        }
     }
 
     /// The mirrors after an entry.

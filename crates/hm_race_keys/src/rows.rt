@@ -1,125 +1,120 @@
 // Functions of two numbers that are 0 nearly everywhere.
-ghost use Rattle.std.specs.Prelude.{◌≡◌, ◌==◌, ◌&&◌, ℕ, ◌≤◌, ◌<◌, nat_le, nat_lt, true, length, if◌then◌else◌, IfOk, OnOk, OnErr};
-ghost use Rattle.hm_race_keys.specs.Rows.{word_in, word_of, IsFirst, IsFirstIn};
+ghost use Rattle.std.specs.Prelude.{◌≡◌, ◌==◌, ◌&&◌, ℕ, ◌<◌, ◌≤◌, nat_le, nat_lt, true, length, slice_get, if◌then◌else◌, OnOk, OnErr};
+ghost use Rattle.hm_race_keys.specs.Words as sorted;
+ghost use Rattle.hm_race_keys.specs.Words.{stands_at, stands_before, rising_from, is_found, IsFirstIn};
 
 use hm_base::NoMemory;
 use std::alloc::Global;
-use std::collections::BTreeMap;
 
-/// Words by number; each that is not there is 0.
-#[derive(Drop)]
-pub struct Row {
-    words: BTreeMap<u64, u64>,
+/// A word that is not 0, with its row and its number there.
+#[derive(Clone, Copy, PartialEq, Eq)]
+pub struct Word {
+    pub row: usize,
+    pub number: u64,
+    pub word: u64,
 }
 
-impl Row {
-    /// All words are 0. It takes no memory.
-    pub fn new(alloc: Global) -> Row
-        ensures { (k : ℕ) → word_in result k ≡ 0 }
+impl Word {
+    fn stands_at(&self, row: usize, number: u64) -> bool
+        ensures { result ≡ stands_at row number self.now }
     {
-        Row {
-            words: BTreeMap::new(alloc),
-        }
+        row == self.row && number == self.number
     }
 
-    /// The word of a number.
-    pub fn get(&self, number: u64) -> u64
-        ensures { result ≡ word_in self.now number }
+    fn stands_before(&self, row: usize, number: u64) -> bool
+        ensures { result ≡ stands_before row number self.now }
     {
-        match self.words.get(&number) {
-            Some(word) => *word,
-            None => 0,
-        }
+        self.row < row || (row == self.row && self.number < number)
     }
 
-    /// The number has this word from now on; a failure changes nothing.
-    pub fn set(&mut self, number: u64, word: u64) -> Result<(), NoMemory>
-        ensures ok { OnOk result ((k : ℕ) → word_in self.new k ≡ (if k == number then word else word_in self.old k)) }
-        ensures err { OnErr result ((k : ℕ) → word_in self.new k ≡ word_in self.old k) }
+    fn stands_within(&self, row: usize, from: u64, end: u64) -> bool
+        ensures { result ≡ ((self.now.row == row) && (nat_le from self.now.number && nat_lt self.now.number end)) }
     {
-        if word == 0 {
-            let _ = self.words.remove(&number);
-            return Ok(());
-        }
-        match self.words.insert(number, word) {
-            Ok(_) => Ok(()),
-            Err(_) => Err(NoMemory),
-        }
-    }
-
-    /// The first number from there on that has a word.
-    pub fn first(&self, from: u64) -> Option<u64>
-        ensures { IsFirst self.now from result }
-    {
-        match self.words.range(from..).next() {
-            Some((number, _)) => Some(*number),
-            None => None,
-        }
-    }
-
-    fn erase_at(&mut self, number: u64)
-        ensures { (k : ℕ) → word_in self.new k ≡ (if k == number then 0 else word_in self.old k) }
-    {
-        let _ = self.words.remove(&number);
-    }
-
-    /// The words from a number up to another are 0.
-    pub fn erase(&mut self, from: u64, end: u64)
-        requires { from ≤ end }
-        ensures { (k : ℕ)
-            → word_in self.new k ≡ (if nat_le from k && nat_lt k end then 0 else word_in self.old k) }
-    {
-        let mut at = from;
-        while let Some(next) = self.first(at) {
-            if next >= end {
-                return;
-            }
-            self.erase_at(next);
-            at = next + 1;
-        }
-    }
-
-    /// All words are 0.
-    pub fn clear(&mut self)
-        ensures { (k : ℕ) → word_in self.new k ≡ 0 }
-    {
-        self.words.clear();
-    }
-
-    /// Whether both have the same words.
-    pub fn same(&self, other: &Row) -> bool
-        ensures { result ≡ true → (k : ℕ) → word_in self.now k ≡ word_in other.now k }
-    {
-        self.words == other.words
+        self.row == row && from <= self.number && self.number < end
     }
 }
 
-/// So many rows, by number.
+// How many words stand before a number of a row.
+fn place_of(words: &[Word], row: usize, number: u64) -> usize
+    requires { rising_from 0 0 words.now ≡ true }
+    ensures place { result ≡ sorted.place_of row number words.now }
+    ensures within { result ≤ length words.now }
+{
+    words.partition_point(|word| word.stands_before(row, number))
+}
+
+// The first word that does not stand before a number of a row.
+fn next_at(words: &[Word], row: usize, number: u64) -> Option<Word>
+    requires { rising_from 0 0 words.now ≡ true }
+    ensures { result ≡ slice_get words.now (sorted.place_of row number words.now) }
+{
+    words.get(place_of(words, row, number)).copied()
+}
+
+// Whether the word at this place is that of a number of a row.
+fn has_at(words: &[Word], place: usize, row: usize, number: u64) -> bool
+    ensures has { result ≡ is_found row number (slice_get words.now place) }
+    ensures within { result ≡ true → place < length words.now }
+{
+    match words.get(place) {
+        Some(word) => word.stands_at(row, number),
+        None => false,
+    }
+}
+
+fn same_words(one: &[Word], other: &[Word]) -> bool
+    ensures { result ≡ true → one.now ≡ other.now }
+{
+    if one.len() != other.len() {
+        return false;
+    }
+    for at in 0..one.len() {
+        if one[at] != other[at] {
+            return false;
+        }
+    }
+    true
+}
+
+/// Rows of words by number; each word that is not kept is 0.
 #[derive(Drop)]
 pub struct Rows {
-    rows: Vec<Row>,
+    words: Vec<Word>,
+    ghost rising: { rising_from 0 0 words.items ≡ true },
 }
 
 impl Rows {
-    /// So many rows of words that are 0.
-    pub fn new(alloc: Global, count: usize) -> Result<Rows, NoMemory>
-        ensures count { IfOk result (λ x. length x.rows.items ≡ count) }
-        ensures zero { IfOk result (λ x. (r k : ℕ) → word_of x r k ≡ 0) }
+    ghost use Rattle.hm_race_keys.specs.Rows.{word_of};
+
+    /// All words are 0. It takes no memory.
+    pub fn new(alloc: Global) -> Rows
+        ensures { (r k : ℕ) → word_of result r k ≡ 0 }
     {
-        let mut rows = Vec::with_capacity(alloc, count)?;
-        for _ in 0..count {
-            rows.push(Row::new(alloc))?;
+        Rows {
+            words: Vec::new(alloc),
         }
-        Ok(Rows { rows })
     }
 
-    /// The word of a number of a row; 0 where there is no such row.
+    /// The words that are not 0, in rising order of their rows and numbers.
+    pub fn words(&self) -> &[Word]
+        ensures { result.now ≡ self.now.words.items }
+    {
+        self.words.as_slice()
+    }
+
+    /// The word of a number of a row.
     pub fn get(&self, row: usize, number: u64) -> u64
         ensures { result ≡ word_of self.now row number }
     {
-        match self.rows.get(row) {
-            Some(words) => words.get(number),
+        match next_at(self.words.as_slice(), row, number) {
             None => 0,
+            Some(word) => {
+                if word.stands_at(row, number) {
+                    word.word
+                } else {
+                    0
+                }
+            }
         }
     }
 
@@ -127,59 +122,83 @@ impl Rows {
     pub fn first(&self, row: usize, from: u64) -> Option<u64>
         ensures { IsFirstIn (word_of self.now row) from result }
     {
-        match self.rows.get(row) {
-            Some(words) => words.first(from),
+        match next_at(self.words.as_slice(), row, from) {
             None => None,
+            Some(word) => {
+                if word.row == row {
+                    Some(word.number)
+                } else {
+                    None
+                }
+            }
         }
+    }
+
+    // The word stands at its place from now on; a failure changes nothing.
+    fn put(&mut self, word: Word) -> Result<(), NoMemory>
+        ensures ok { OnOk result (self.new.words.items ≡ sorted.put word self.old.words.items) }
+        ensures err { OnErr result (self.new.words.items ≡ self.old.words.items) }
+    {
+        let place = place_of(self.words.as_slice(), word.row, word.number);
+        if has_at(self.words.as_slice(), place, word.row, word.number) {
+            self.words[place] = word;
+            return Ok(());
+        }
+        match self.words.insert(place, word) {
+            Ok(()) => Ok(()),
+            Err(_) => Err(NoMemory),
+        }
+    }
+
+    fn erase_at(&mut self, row: usize, number: u64)
+        ensures { (r k : ℕ)
+            → word_of self.new r k ≡ (if (r == row) && (k == number) then 0 else word_of self.old r k) }
+    {
+        self.words
+            .retain(|word| !(word.row == row && word.number == number));
     }
 
     /// A number of a row has this word from now on; a failure changes nothing.
     pub fn set(&mut self, row: usize, number: u64, word: u64) -> Result<(), NoMemory>
-        requires { row < length self.old.rows.items }
-        ensures count { length self.new.rows.items ≡ length self.old.rows.items }
         ensures ok { OnOk result
             ((r k : ℕ) → word_of self.new r k ≡ (if (r == row) && (k == number) then word else word_of self.old r k)) }
         ensures err { OnErr result ((r k : ℕ) → word_of self.new r k ≡ word_of self.old r k) }
     {
-        let words = &mut self.rows[row];
-        words.set(number, word)
+        if word == 0 {
+            self.erase_at(row, number);
+            return Ok(());
+        }
+        self.put(Word { row, number, word })
     }
 
     /// The words of a row from a number up to another are 0.
     pub fn erase(&mut self, row: usize, from: u64, end: u64)
-        requires row { row < length self.old.rows.items }
-        requires span { from ≤ end }
-        ensures count { length self.new.rows.items ≡ length self.old.rows.items }
-        ensures words { (r k : ℕ)
+        ensures { (r k : ℕ)
             → word_of self.new r k
             ≡ (if (r == row) && (nat_le from k && nat_lt k end) then 0 else word_of self.old r k) }
     {
-        let words = &mut self.rows[row];
-        words.erase(from, end);
+        self.words
+            .retain(|word| !word.stands_within(row, from, end));
     }
 
     /// The words of a row are 0.
     pub fn clear(&mut self, row: usize)
-        requires { row < length self.old.rows.items }
-        ensures count { length self.new.rows.items ≡ length self.old.rows.items }
-        ensures words { (r k : ℕ) → word_of self.new r k ≡ (if r == row then 0 else word_of self.old r k) }
+        ensures { (r k : ℕ) → word_of self.new r k ≡ (if r == row then 0 else word_of self.old r k) }
     {
-        let words = &mut self.rows[row];
-        words.clear();
+        self.words.retain(|word| word.row != row);
+    }
+
+    /// Gives back what memory the words do not need.
+    pub fn trim(&mut self)
+        ensures { (r k : ℕ) → word_of self.new r k ≡ word_of self.old r k }
+    {
+        self.words.shrink_to_fit();
     }
 
     /// Whether both have the same words.
     pub fn same(&self, other: &Rows) -> bool
         ensures { result ≡ true → (r k : ℕ) → word_of self.now r k ≡ word_of other.now r k }
     {
-        if self.rows.len() != other.rows.len() {
-            return false;
-        }
-        for row in 0..self.rows.len() {
-            if !self.rows[row].same(&other.rows[row]) {
-                return false;
-            }
-        }
-        true
+        same_words(self.words.as_slice(), other.words.as_slice())
     }
 }

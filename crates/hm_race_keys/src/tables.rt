@@ -1,5 +1,5 @@
 // The tables of mirrors after a history, without positions.
-ghost use Rattle.std.specs.Prelude.{◌≡◌, ℕ, None, Some, true, length, IfOk, OnOk};
+ghost use Rattle.std.specs.Prelude.{◌≡◌, ℕ, None, Some, true, OnOk};
 ghost use Rattle.hm_base.specs.Pages.{covers};
 ghost use Rattle.hm_history.specs.Places.{with_entry, erased_table};
 ghost use Rattle.hm_race_keys.specs.Trail.{table_in, table_next, entry_of_words, target_of_words};
@@ -16,9 +16,6 @@ pub struct TableRows {
     pub rights: Rows,
     pub pools: Rows,
     pub numbers: Rows,
-    ghost rights_sized: { length rights.rows.items ≡ 32 },
-    ghost pools_sized: { length pools.rows.items ≡ 32 },
-    ghost numbers_sized: { length numbers.rows.items ≡ 32 },
 }
 
 fn right_word(right: TableRight) -> u64
@@ -44,14 +41,14 @@ fn target_words(target: &Option<Frame>) -> (u64, u64)
 
 impl TableRows {
     /// No entry.
-    pub fn new(alloc: Global) -> Result<TableRows, NoMemory>
-        ensures { IfOk result (λ x. (m v : ℕ) → table_in x.rights x.pools x.numbers m v ≡ None) }
+    pub fn new(alloc: Global) -> TableRows
+        ensures { (m v : ℕ) → table_in result.rights result.pools result.numbers m v ≡ None }
     {
-        Ok(TableRows {
-            rights: Rows::new(alloc, 32)?,
-            pools: Rows::new(alloc, 32)?,
-            numbers: Rows::new(alloc, 32)?,
-        })
+        TableRows {
+            rights: Rows::new(alloc),
+            pools: Rows::new(alloc),
+            numbers: Rows::new(alloc),
+        }
     }
 
     /// The tables after an entry.
