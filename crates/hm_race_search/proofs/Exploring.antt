@@ -21,8 +21,8 @@ use Rattle.hm_races.specs.Laws.{FormsAreComplete}
 use Rattle.hm_races.proofs.Searching.{listed_left, listed_right, listed_cases, is_actor}
 use Rattle.hm_races.proofs.Turned.{at_reached}
 use Rattle.hm_race_search.specs.declared.known.Known.{Known}
-use Rattle.hm_race_search.specs.Values.{known_of, all_known, todo_from}
-use Rattle.hm_race_search.specs.Known.{KnownValue, AreActors, IsKnown, forms, outcomes_of, GoesOn, GoneOn, GoneOnBelow, Explores, Grown, GoneOnBy, IsComplete, AreReal, AreKnown}
+use Rattle.hm_race_search.specs.Values.{known_of, all_known, todo_from, AreNoted}
+use Rattle.hm_race_search.specs.Known.{KnownValue, AreActors, IsKnown, HaveLeft, forms, outcomes_of, GoesOn, GoneOn, GoneOnBelow, Explores, Grown, GoneOnBy, IsComplete, AreReal, AreKnown}
 
 -- an item of a list is listed, and so is what a function makes of it
 pub listed_at : {X Y : Type 0} (f : X → Y) (xs : List X) (i : ℕ) (d : X) → i < length xs → IsListed (map f xs) (f (get_or xs i d))
@@ -204,6 +204,23 @@ done_with c h known todo turns x here s below = record { each = s.each; from = s
         by (inl (inl e)) = inr (subst (GoneOn c (forms known)) (here ∙ ap (point_at c h) e) (gone_on c (forms known) x below))
         by (inl (inr k)) = inl k
         by (inr k) = inr k
+
+-- one more of which it is noted to which actors nothing is due
+pub noted_more : {K : Type 0} (c : Program) (h : List Entry) (xs ys : List (Known K)) (x : Known K) (o : Point) → ys ≡ xs ++ x ∷ [] → o ≡ point_at c h x.turns.items → HaveLeft c o x.adds → AreNoted c h xs → AreNoted c h ys
+noted_more c h xs ys x o is p left all m l = by (listed_cases xs (x ∷ []) m (subst (λ z. IsListed z m) is l))
+  where
+    by : IsListed xs m ⊎ IsListed (x ∷ []) m → HaveLeft c (point_at c h m.turns.items) m.adds
+    by (inl k) = all m k
+    by (inr (inl k)) = subst (λ (n : Known _). HaveLeft c (point_at c h n.turns.items) n.adds) k (subst (λ z. HaveLeft c z x.adds) p left)
+    by (inr (inr k)) = absurd k
+
+listed_item : {X : Type 0} (xs : List X) (i : ℕ) (d : X) → i < length xs → IsListed xs (get_or xs i d)
+listed_item [] i d l = absurd (omega (arith, l))
+listed_item (x ∷ xs) zero d l = inl refl
+listed_item (x ∷ xs) (suc i) d l = inr (listed_item xs i d (omega (arith, l)))
+
+pub first_noted : {K : Type 0} (c : Program) (h : List Entry) (xs : List (Known K)) (at : ℕ) (d : Known K) (turns : List ℕ) (adds : List Bool) → at < length xs → turns ≡ (get_or xs at d).turns.items → adds ≡ (get_or xs at d).adds → AreNoted c h xs → HaveLeft c (point_at c h turns) adds
+first_noted c h xs at d turns adds l t a all = subst (HaveLeft c (point_at c h turns)) (sym a) (subst (λ z. HaveLeft c (point_at c h z) (get_or xs at d).adds) (sym t) (all (get_or xs at d) (listed_item xs at d l)))
 
 -- the first that is left to go on from
 pub todo_first : {K : Type 0} (xs : List (Known K)) (at : ℕ) (d : Known K) → at < length xs → todo_from xs at ≡ (get_or xs at d).turns.items ∷ todo_from xs (at + 1)

@@ -1,5 +1,5 @@
 -- What a search knows of a race: the states that it has come to, and which of them it has still to go on from.
-use Rattle.std.specs.Prelude.{◌≡◌, ℕ, ◌<◌, ◌≤◌, ◌⊎◌, Bool, true, if◌then◌else◌, List, [], ◌∷◌, ◌++◌, length, map, nat_lt, ⊤}
+use Rattle.std.specs.Prelude.{◌≡◌, ℕ, ◌<◌, ◌≤◌, ◌⊎◌, Bool, true, false, if◌then◌else◌, List, [], ◌∷◌, ◌++◌, length, map, nat_lt, slice_index_or, ⊤}
 use Rattle.std.specs.List.{list_all}
 use Rattle.hm_base.specs.Program.{Program}
 use Rattle.hm_history.specs.Due.{due_in}
@@ -47,6 +47,10 @@ GoneOnBelow c fs x k = (a : ℕ) → a < k → GoesOn c fs x a
 
 abbrev pub GoneOn : Program → List Point → Point → Type 0
 GoneOn c fs x = (a : ℕ) → GoesOn c fs x a
+
+-- where an actor is left out nothing is due to it
+abbrev pub HaveLeft : Program → Point → List Bool → Type 0
+HaveLeft c x adds = (a : ℕ) → a < length c.actors → slice_index_or adds a true ≡ false → is_entry (due_in c x.state a) ≡ false
 
 -- a search: the states that are known, and the turns to those from which it has not gone on yet
 pub record Explores (c : Program) (h : List Entry) (known : List KnownValue) (todo : List (List ℕ)) : Type 0 where

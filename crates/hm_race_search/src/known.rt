@@ -9,12 +9,14 @@ use hm_base::{Actor, NoMemory};
 use std::alloc::Global;
 use std::collections::BTreeMap;
 
-/// A state that a search knows: its key, turns that lead to it from the set-up, and whether all operations have ended.
+/// A state that a search knows: its key, turns that lead to it from the set-up, whether all operations have ended, and
+/// by actor whether something is due.
 #[derive(Drop)]
 pub struct Known<K> {
     pub key: K,
     pub turns: Vec<Actor>,
     pub ended: bool,
+    pub adds: [bool; 16],
 }
 
 /// All states that a search knows.
@@ -48,11 +50,11 @@ impl<K: RaceKey + Drop> States<K> {
         }
     }
 
-    /// Whether a state with this key is known. It may say no of one that is.
-    pub fn has(&self, key: &K) -> bool
+    /// Whether a state with this key, whose bucket this is, is known. It may say no of one that is.
+    pub fn has(&self, bucket: u64, key: &K) -> bool
         ensures { result ≡ true → IsListed (forms (all_known K.form self.now.known.items)) (K.form key.now) }
     {
-        match self.places.get(&key.bucket()) {
+        match self.places.get(&bucket) {
             Some(places) => any_same(&self.known, places, key),
             None => false,
         }
@@ -74,20 +76,12 @@ impl<K: RaceKey + Drop> States<K> {
         }
     }
 
-    /// The state is known from now on, as the last.
-    pub fn push(
-        &mut self,
-        alloc: Global,
-        key: K,
-        turns: Vec<Actor>,
-        ended: bool,
-    ) -> Result<(), NoMemory>
-        ensures { OnOk result
-            (self.new.known.items
-            ≡ self.old.known.items ++ record { key = key; turns = turns; ended = ended } ∷ []) }
+    /// The state, whose key has this bucket, is known from now on, as the last.
+    pub fn push(&mut self, alloc: Global, bucket: u64, state: Known<K>) -> Result<(), NoMemory>
+        ensures { OnOk result (self.new.known.items ≡ self.old.known.items ++ state ∷ []) }
     {
-        self.note(alloc, key.bucket())?;
-        self.known.push(Known { key, turns, ended })?;
+        self.note(alloc, bucket)?;
+        self.known.push(state)?;
         Ok(())
     }
 }

@@ -1,12 +1,14 @@
 // The search: from each state that is known it goes on by a turn of each actor, until nothing new comes.
 ghost use Rattle.std.specs.Prelude.{◌≡◌, ◌∷◌, ◌++◌, ◌+◌, ◌<◌, ◌≤◌, [], true, false, ℕ, length, IfOk, IfErr, OnOk, OnErr};
+ghost use Rattle.hm_history.specs.Due.{due_in};
+ghost use Rattle.hm_history.specs.Run.{is_entry};
 ghost use Rattle.hm_races.specs.Outcomes.{point_at};
 ghost use Rattle.hm_races.specs.Blur.{form_of};
-ghost use Rattle.hm_race_search.specs.Values.{all_known, todo_from};
-ghost use Rattle.hm_race_search.specs.Known.{AreActors, Explores, Grown, GoneOnBy, IsComplete, AreReal, AreKnown, MayFail};
+ghost use Rattle.hm_race_search.specs.Values.{all_known, todo_from, AreNoted};
+ghost use Rattle.hm_race_search.specs.Known.{AreActors, HaveLeft, Explores, Grown, GoneOnBy, IsComplete, AreReal, AreKnown, MayFail};
 
 use crate::known::{Known, States};
-use crate::race::Race;
+use crate::race::{Race, RaceKey};
 use hm_base::{Actor, NoMemory};
 use hm_history::StepError;
 use std::alloc::Global;
@@ -22,9 +24,24 @@ pub struct Explored<K> {
 fn longer(alloc: Global, turns: &Vec<Actor>, actor: Actor) -> Result<Vec<Actor>, NoMemory>
     ensures { IfOk result (λ v. v.items ≡ turns.now.items ++ actor ∷ []) }
 {
-    let mut more = Vec::from_slice(alloc, turns.as_slice())?;
+    let mut more = Vec::with_capacity(alloc, turns.len() + 1)?;
+    more.extend_from_slice(turns.as_slice())?;
     more.push(actor)?;
     Ok(more)
+}
+
+// Whether something is due there, by actor.
+fn adds_at<R: Race>(race: &R, here: &R::Open) -> Result<[bool; 16], StepError>
+    requires { R.Belongs race.now here.now }
+    ensures adds { IfOk result (λ xs. HaveLeft (R.script race.now) (R.opened here.now) xs) }
+    ensures fails { IfErr result (λ e. MayFail (R.script race.now) (R.set_up race.now) e) }
+{
+    race.facts();
+    let mut adds = [false; 16];
+    for number in 0..race.actors() {
+        adds[number as usize] = race.adds(here, Actor::new(number))?;
+    }
+    Ok(adds)
 }
 
 // The state after these turns is known, be it new or not.
@@ -41,40 +58,57 @@ fn add<R: Race>(
         (todo_from states.old.known.items at) (all_known R.Key.form states.new.known.items)
         (todo_from states.new.known.items at)
         (form_of (R.script race.now) (point_at (R.script race.now) (R.set_up race.now) turns.items))) }
+    ensures noted { OnOk result
+        (AreNoted (R.script race.now) (R.set_up race.now) states.old.known.items
+        → AreNoted (R.script race.now) (R.set_up race.now) states.new.known.items) }
     ensures fails { IfErr result (λ e. MayFail (R.script race.now) (R.set_up race.now) e) }
 {
     let open = race.open(turns.as_slice())?;
     let key = race.key(&open)?;
-    if states.has(&key) {
+    let bucket = key.bucket();
+    if states.has(bucket, &key) {
         return Ok(());
     }
-    match states.push(alloc, key, turns, race.ended(&open)) {
+    let adds = adds_at(race, &open)?;
+    let ended = race.ended(&open);
+    let state = Known {
+        key,
+        turns,
+        ended,
+        adds,
+    };
+    match states.push(alloc, bucket, state) {
         Ok(()) => Ok(()),
         Err(NoMemory) => Err(StepError::NoMemory),
     }
 }
 
-// The state after what is due to the actor, if something is, is known.
+// The state after what is due to the actor, if something may be, is known.
 fn go<R: Race>(
     race: &R,
     alloc: Global,
     states: &mut States<R::Key>,
-    here: &R::Open,
     turns: &Vec<Actor>,
     actor: Actor,
+    adds: bool,
 ) -> Result<(), StepError>
-    requires belongs { R.Belongs race.now here.now }
-    requires point { R.opened here.now ≡ point_at (R.script race.now) (R.set_up race.now) turns.now.items }
     requires turns { AreActors (R.script race.now) turns.now.items }
     requires actor { actor < length (R.script race.now).actors }
+    requires adds { adds ≡ false
+        → is_entry (due_in (R.script race.now)
+        (point_at (R.script race.now) (R.set_up race.now) turns.now.items).state actor) ≡ false }
     ensures gone { OnOk result
         ((at : ℕ) → at ≤ length states.old.known.items
         → GoneOnBy (R.script race.now) (R.set_up race.now) (all_known R.Key.form states.old.known.items)
         (todo_from states.old.known.items at) (all_known R.Key.form states.new.known.items)
-        (todo_from states.new.known.items at) (R.opened here.now) actor) }
+        (todo_from states.new.known.items at)
+        (point_at (R.script race.now) (R.set_up race.now) turns.now.items) actor) }
+    ensures noted { OnOk result
+        (AreNoted (R.script race.now) (R.set_up race.now) states.old.known.items
+        → AreNoted (R.script race.now) (R.set_up race.now) states.new.known.items) }
     ensures fails { IfErr result (λ e. MayFail (R.script race.now) (R.set_up race.now) e) }
 {
-    if !race.adds(here, actor)? {
+    if !adds {
         return Ok(());
     }
     match longer(alloc, turns, actor) {
@@ -89,21 +123,27 @@ fn expand<R: Race>(
     alloc: Global,
     states: &mut States<R::Key>,
     turns: &Vec<Actor>,
+    adds: [bool; 16],
 ) -> Result<(), StepError>
-    requires { AreActors (R.script race.now) turns.now.items }
+    requires turns { AreActors (R.script race.now) turns.now.items }
+    requires adds { HaveLeft (R.script race.now)
+        (point_at (R.script race.now) (R.set_up race.now) turns.now.items) adds }
     ensures explores { OnOk result
         ((at : ℕ) → at ≤ length states.old.known.items
         → Explores (R.script race.now) (R.set_up race.now) (all_known R.Key.form states.old.known.items)
         (turns.now.items ∷ todo_from states.old.known.items at)
         → Explores (R.script race.now) (R.set_up race.now) (all_known R.Key.form states.new.known.items)
         (todo_from states.new.known.items at)) }
+    ensures noted { OnOk result
+        (AreNoted (R.script race.now) (R.set_up race.now) states.old.known.items
+        → AreNoted (R.script race.now) (R.set_up race.now) states.new.known.items) }
     ensures more { OnOk result (length states.old.known.items ≤ length states.new.known.items) }
     ensures fails { IfErr result (λ e. MayFail (R.script race.now) (R.set_up race.now) e) }
 {
     race.facts();
-    let open = race.open(turns.as_slice())?;
     for number in 0..race.actors() {
-        go(race, alloc, states, &open, turns, Actor::new(number))?;
+        let adds = adds[number as usize];
+        go(race, alloc, states, turns, Actor::new(number), adds)?;
     }
     Ok(())
 }
@@ -118,9 +158,11 @@ fn step<R: Race>(
     requires at { at < length states.old.known.items }
     requires explores { Explores (R.script race.now) (R.set_up race.now) (all_known R.Key.form states.old.known.items)
         (todo_from states.old.known.items at) }
+    requires noted { AreNoted (R.script race.now) (R.set_up race.now) states.old.known.items }
     ensures explores { OnOk result
         (Explores (R.script race.now) (R.set_up race.now) (all_known R.Key.form states.new.known.items)
         (todo_from states.new.known.items (at + 1))) }
+    ensures noted { OnOk result (AreNoted (R.script race.now) (R.set_up race.now) states.new.known.items) }
     ensures more { OnOk result (length states.old.known.items ≤ length states.new.known.items) }
     ensures fails { IfErr result (λ e. MayFail (R.script race.now) (R.set_up race.now) e) }
 {
@@ -128,7 +170,8 @@ fn step<R: Race>(
         Ok(turns) => turns,
         Err(_) => return Err(StepError::NoMemory),
     };
-    expand(race, alloc, states, &turns)
+    let adds = states.known[at].adds;
+    expand(race, alloc, states, &turns, adds)
 }
 
 // The search before its first step: it knows the state after the set-up.
@@ -136,12 +179,20 @@ fn begin<R: Race>(race: &R, alloc: Global) -> Result<States<R::Key>, StepError>
     ensures explores { IfOk result (λ s.
         Explores (R.script race.now) (R.set_up race.now) (all_known R.Key.form s.known.items)
         (todo_from s.known.items 0)) }
+    ensures noted { IfOk result (λ s. AreNoted (R.script race.now) (R.set_up race.now) s.known.items) }
     ensures fails { IfErr result (λ e. MayFail (R.script race.now) (R.set_up race.now) e) }
 {
     let mut states = States::new(alloc);
     let open = race.open(&[])?;
     let key = race.key(&open)?;
-    match states.push(alloc, key, Vec::new(alloc), race.ended(&open)) {
+    let bucket = key.bucket();
+    let state = Known {
+        key,
+        turns: Vec::new(alloc),
+        ended: race.ended(&open),
+        adds: adds_at(race, &open)?,
+    };
+    match states.push(alloc, bucket, state) {
         Ok(()) => Ok(states),
         Err(NoMemory) => Err(StepError::NoMemory),
     }

@@ -1,5 +1,6 @@
 use Rattle.std.proofs.Common.{ℕ, ◌∷◌, ◌≤◌, length}
-use Rattle.hm_race_search.specs.Values.{all_known, todo_from}
+use Rattle.hm_races.specs.Outcomes.{point_at}
+use Rattle.hm_race_search.specs.Values.{all_known, todo_from, AreNoted}
 use Rattle.hm_race_search.specs.Known.{forms, Explores, GoneOnBelow}
 use Rattle.hm_race_search.proofs.search.expand.Given as goal
 
@@ -13,6 +14,7 @@ invariant-loop-number g l =
       explores : (at : ℕ) → at ≤ length before
           → Explores c h (all_known g.R.Key.RaceKey.form before) (l.turns.items ∷ todo_from before at)
           → Explores c h (all_known g.R.Key.RaceKey.form known) (l.turns.items ∷ todo_from known at);
-      below : GoneOnBelow c (forms (all_known g.R.Key.RaceKey.form known)) (g.R.Race.opened l.open) l.number;
+      below : GoneOnBelow c (forms (all_known g.R.Key.RaceKey.form known)) (point_at c h l.turns.items) l.number;
+      noted : AreNoted c h before → AreNoted c h known;
       more : length before ≤ length known;
     }
