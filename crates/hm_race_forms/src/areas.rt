@@ -1,5 +1,5 @@
 // The areas of each process.
-ghost use Rattle.std.specs.Prelude.{◌≡◌, ℕ, true, IfOk};
+ghost use Rattle.std.specs.Prelude.{◌≡◌, ◌≤◌, [], ℕ, true, IfOk};
 ghost use Rattle.hm_folds.specs.Plain.{plain_of};
 ghost use Rattle.hm_race_forms.specs.AreasRead.{areas_in};
 
@@ -13,13 +13,26 @@ pub struct AreaList {
     pub areas: Vec<Area>,
 }
 
-/// The areas of each process.
+// One more than the last process that has an area.
+fn with_areas(plain: &PlainState) -> u32
+    ensures few { result ≤ 32 }
+    ensures none { (p : ℕ) → result ≤ p → (plain_of plain.now).areas p ≡ [] }
+{
+    plain.facts();
+    let mut count = 32;
+    while count > 0 && plain.areas(Proc::new(count - 1)).is_empty() {
+        count -= 1;
+    }
+    count
+}
+
+/// The areas of each process, up to the last that has one.
 pub fn areas_of(alloc: Global, plain: &PlainState) -> Result<Vec<AreaList>, NoMemory>
     ensures { IfOk result (λ xs. (p : ℕ) → areas_in xs.items p ≡ (plain_of plain.now).areas p) }
 {
-    plain.facts();
-    let mut all = Vec::with_capacity(alloc, 32)?;
-    for proc in 0..32u32 {
+    let count = with_areas(plain);
+    let mut all = Vec::with_capacity(alloc, count as usize)?;
+    for proc in 0..count {
         all.push(AreaList {
             areas: Vec::from_slice(alloc, plain.areas(Proc::new(proc)))?,
         })?;

@@ -161,7 +161,7 @@ pub fn goings_of(alloc: Global, world: &World, seqs: &SeqRows) -> Result<Vec<Goi
         ≡ forget_going (small_going world.now.script (now world.now).after.sequences a ((now world.now).going a))) }
 {
     world.facts();
-    let mut all = Vec::new(alloc);
+    let mut all = Vec::with_capacity(alloc, world.script().actors.len() as usize)?;
     for actor in 0..world.script().actors.len() as u32 {
         all.push(going_of(alloc, world, seqs, Actor::new(actor))?)?;
     }
