@@ -11,7 +11,7 @@ use Rattle.hm_history.specs.declared.Kind.{Kind}
 use Rattle.notifier_seq.specs.declared.interval.Interval.{Interval as Kept}
 use Rattle.notifier_seq.specs.declared.interval.Stage.{Stage as Position}
 use Rattle.notifier_seq.specs.Sequences as one
-use Rattle.hm_notifiers.specs.NotifiersValue.{NotifiersValue, of_proc, of_mirror, proc_of, with_proc, with_interval, without_interval, notifiers_next, InRange}
+use Rattle.hm_notifiers.specs.NotifiersValue.{NotifiersValue, of_proc, of_mirror, proc_of, with_proc, with_interval, without_interval, notifiers_next, SameNotifiers, InRange}
 use Rattle.hm_notifiers.specs.Shown.{position_of, kept_of, interval_of, NotifiersValueShown, leaves_later, leaves_now, NotifiersValueFit}
 use Rattle.hm_notifiers.proofs.Intervals.{mine, not_mine, settled_mine, settled_else}
 use Rattle.hm_notifiers.proofs.Changes.{changed, with_kept, interval_changed, bounded_same, bounded_with, bounded_seq, in_range_of, unseen}
@@ -30,6 +30,20 @@ longer n seq active interval x h = record {
   in_range = h.in_range;
   intervals = h.intervals;
   bounded = bounded_same n seq active h.bounded;
+}
+
+-- other room is not shown
+pub same_kept : (n : ℕ) (seq active : ℕ → ℕ) (interval : ℕ → Option Interval) (x y : NotifiersValue) → SameNotifiers x y → NotifiersValueShown n seq active interval x → NotifiersValueShown n seq active interval y
+same_kept n seq active interval x y s h = record {
+  processes = s.count ∙ h.processes;
+  mirrors = ap length s.procs ∙ h.mirrors;
+  numbers = λ p l. ap length (s.intervals p) ∙ h.numbers p l;
+  seqs = λ p l. s.seqs p ∙ h.seqs p l;
+  actives = λ p l. s.actives p ∙ h.actives p l;
+  procs = λ m l. ap (λ zs. slice_index_or zs m None) s.procs ∙ h.procs m l;
+  in_range = h.in_range;
+  intervals = λ p m l k. ap (λ zs. slice_index_or zs m None) (s.intervals p) ∙ h.intervals p m l k;
+  bounded = h.bounded;
 }
 
 -- one more where a test passes

@@ -1,5 +1,5 @@
 -- The notifiers of each process, and the process that each mirror's interval belongs to, as contracts see them.
-use Rattle.std.specs.Prelude.{◌≡◌, ℕ, ◌^◌, ◌<◌, ◌≤◌, Bool, false, if◌then◌else◌, Option, Some, None, IsSome, unwrap_or, List, [], replicate, slice_index_or, slice_set, ⊤}
+use Rattle.std.specs.Prelude.{◌≡◌, ℕ, ◌^◌, ◌<◌, ◌≤◌, Bool, true, false, if◌then◌else◌, Option, Some, None, IsSome, unwrap_or, List, [], length, replicate, slice_index_or, slice_set, ⊤}
 use Rattle.hm_base.specs.Pages.{Pages}
 use Rattle.hm_history.specs.declared.Kind.{Kind}
 use Rattle.notifier_seq.specs.Sequences as one
@@ -16,7 +16,7 @@ abbrev pub notifiers_start : NotifiersValue
 notifiers_start = record { of_process = all_start; procs = replicate 32 None }
 
 abbrev pub nothing : one.Sequences
-nothing = record { seq = 0; active = 0; intervals = [] }
+nothing = record { seq = 0; active = 0; intervals = []; room = false }
 
 abbrev pub of_proc : NotifiersValue → ℕ → one.Sequences
 of_proc x p = slice_index_or x.of_process p nothing
@@ -97,6 +97,19 @@ CanStep (Kind.Attached m d p r q) x = m < 32 → p < 32 → one.interval_at (of_
 CanStep (Kind.Detaching m q) x = one.is_leaving (of_mirror x m) m ≡ false
 CanStep (Kind.Detached m) x = one.is_leaving (of_mirror x m) m ≡ false
 CanStep k x = ⊤
+
+-- the same but for the room
+pub record SameNotifiers (x y : NotifiersValue) : Type 0 where
+  pub procs : y.procs ≡ x.procs
+  pub count : length y.of_process ≡ length x.of_process
+  pub seqs : (p : ℕ) → (of_proc y p).seq ≡ (of_proc x p).seq
+  pub actives : (p : ℕ) → (of_proc y p).active ≡ (of_proc x p).active
+  pub intervals : (p : ℕ) → (of_proc y p).intervals ≡ (of_proc x p).intervals
+
+-- there is room for what an entry of this kind changes
+abbrev pub NotifiersRoom : Kind → NotifiersValue → Type 0
+NotifiersRoom (Kind.Attached m d p r q) x = p < 32 → (of_proc x p).room ≡ true
+NotifiersRoom k x = ⊤
 
 -- the numbers of a mirror that comes
 abbrev pub InRange : Kind → Type 0

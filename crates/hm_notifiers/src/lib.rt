@@ -2,8 +2,8 @@
 // is. It keeps step with a history, entry by entry.
 #![tactic(auto)]
 
-ghost use Rattle.std.specs.Prelude.{◌≡◌, ◌<◌, ◌≤◌, ◌^◌, IfOk, IsSome, None, Some, false};
-ghost use Rattle.hm_notifiers.specs.NotifiersValue.{all_start, notifiers_start, notifiers_next, CanStep, InRange, of_proc, of_mirror, proc_of, seq_of, active_of, interval_seq_of, in_tree_of, insert_deferred_of, next_told_of, some_overlap_of, seq_started_of, seq_ended_of, interval_inserted_of, with_proc, with_interval, without_interval};
+ghost use Rattle.std.specs.Prelude.{◌≡◌, ◌<◌, ◌≤◌, ◌^◌, IfOk, OnOk, IsSome, None, Some, true, false};
+ghost use Rattle.hm_notifiers.specs.NotifiersValue.{all_start, notifiers_start, notifiers_next, CanStep, NotifiersRoom, SameNotifiers, InRange, of_proc, of_mirror, proc_of, seq_of, active_of, interval_seq_of, in_tree_of, insert_deferred_of, next_told_of, some_overlap_of, seq_started_of, seq_ended_of, interval_inserted_of, with_proc, with_interval, without_interval};
 ghost use Rattle.notifier_seq.specs.Sequences as one;
 
 use hm_base::{MirrorId, NoMemory, Proc, Span};
@@ -18,6 +18,7 @@ use std::marker::Model;
 pub struct AllNotifiers {
     of_process: Vec<Notifiers>,
     procs: [Option<Proc>; 32],
+    alloc: Global,
 }
 
 impl Model for AllNotifiers {
@@ -32,7 +33,7 @@ impl Model for AllNotifiers {
 }
 
 impl AllNotifiers {
-    /// No invalidation and no interval. It takes all the memory that it will need.
+    /// No invalidation and no interval.
     pub fn new(alloc: Global) -> Result<AllNotifiers, NoMemory>
         ensures { IfOk result (λ x. x ≡ notifiers_start) }
     {
@@ -40,12 +41,40 @@ impl AllNotifiers {
         Ok(AllNotifiers {
             of_process,
             procs: [None; 32],
+            alloc,
         })
     }
 
-    /// The state after an entry.
+    /// Makes room for what an entry of this kind changes: a process takes memory with its first mirror. A failure may
+    /// leave some of it.
+    pub fn reserve(&mut self, kind: &Kind) -> Result<(), NoMemory>
+        ensures same { SameNotifiers self.old self.new }
+        ensures ok { OnOk result (NotifiersRoom kind.now self.new) }
+    {
+        match kind {
+            Kind::Attached {
+                mirror: _,
+                dev: _,
+                proc,
+                span: _,
+                seq: _,
+            } => self.reserve_insert(*proc),
+            _ => Ok(()),
+        }
+    }
+
+    fn reserve_insert(&mut self, proc: Proc) -> Result<(), NoMemory>
+        ensures same { SameNotifiers self.old self.new }
+        ensures ok { OnOk result (proc < 32 → (of_proc self.new proc).room ≡ true) }
+    {
+        let notifiers = &mut self.of_process[proc.number() as usize];
+        notifiers.reserve(self.alloc)
+    }
+
+    /// The state after an entry, for which there is room.
     pub fn step(&mut self, kind: &Kind)
-        requires { CanStep kind.now self.old }
+        requires fits { CanStep kind.now self.old }
+        requires room { NotifiersRoom kind.now self.old }
         ensures next { self.new ≡ notifiers_next kind.now self.old }
         ensures range { InRange kind.now }
     {
@@ -102,7 +131,8 @@ impl AllNotifiers {
     }
 
     fn attach(&mut self, mirror: MirrorId, proc: Proc, window: Span)
-        requires { mirror < 32 → proc < 32 → one.interval_at (of_proc self.old proc) mirror ≡ None }
+        requires absent { mirror < 32 → proc < 32 → one.interval_at (of_proc self.old proc) mirror ≡ None }
+        requires room { proc < 32 → (of_proc self.old proc).room ≡ true }
         ensures next { self.new ≡ with_interval self.old mirror proc window }
         ensures mirror { mirror < 32 }
         ensures proc { proc < 32 }
@@ -241,10 +271,9 @@ impl AllNotifiers {
 fn all_notifiers(alloc: Global) -> Result<Vec<Notifiers>, NoMemory>
     ensures { IfOk result (λ v. v.items ≡ all_start) }
 {
-    let mut all = Vec::new(alloc);
+    let mut all = Vec::with_capacity(alloc, 32)?;
     for _process in 0..32u32 {
-        let notifiers = Notifiers::new(alloc)?;
-        all.push(notifiers)?;
+        all.push(Notifiers::new())?;
     }
     Ok(all)
 }

@@ -25,6 +25,7 @@ impl World {
         self.tables.reserve(&kind)?;
         self.mirrors.reserve(&kind)?;
         self.actors.reserve(actor, &kind)?;
+        self.notifiers.reserve(&kind)?;
         let before = self.place_before(&kind);
         let orphan = self.left_behind(&kind, &before);
         let seen = self.seen(actor, &kind, &before, &orphan);

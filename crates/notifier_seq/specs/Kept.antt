@@ -1,5 +1,6 @@
--- How the tree and its room stand to the intervals.
-use Rattle.std.specs.Prelude.{◌≡◌, ℕ, ◌≤◌, Bool, true, false, if◌then◌else◌, Option, Some, None, List, length, map, count_by}
+-- How the tree and its room stand to the intervals, and what a process has before its first mirror.
+use Rattle.std.specs.Prelude.{◌≡◌, ℕ, ◌+◌, ◌≤◌, Bool, false, if◌then◌else◌, Option, Some, None, List, Box, length, map, count_by, replicate, slice_index_or, slice_set}
+use Rattle.std.specs.declared.alloc.Global.{Global}
 use Rattle.hm_base.specs.Pages.{Pages}
 use Rattle.notifier_seq.specs.declared.interval.Due.{Due}
 use Rattle.notifier_seq.specs.declared.interval.Due.TheVariants.{Insert, Remove, Nothing}
@@ -28,20 +29,43 @@ abbrev pub due : Option Interval → Due
 due None = Nothing
 due (Some x) = due_in x.stage x.window
 
--- the number may still be inserted into the tree
-abbrev pub wants_room : Option Interval → Bool
-wants_room None = true
-wants_room (Some x) = deferred_state x.stage
+-- the interval is still to come into the tree
+abbrev pub is_coming : Option Interval → Bool
+is_coming None = false
+is_coming (Some x) = deferred_state x.stage
 
--- the tree has the intervals that are in it, and room for all that may come
-pub record HasTree (xs : List (Option Interval)) (windows : List (Option Pages)) (spare : ℕ) : Type 0 where
-  pub len : length xs ≡ 32
-  pub tree : windows ≡ map tree_window xs
-  pub room : count_by wants_room xs ≤ spare
+-- the intervals, and whether there is room for one more insert
+pub record Listed : Type 0 where
+  pub intervals : List (Option Interval)
+  pub room : Bool
 
--- where no deferral is noted there is none
-pub record IsKept (seq : ℕ) (xs : List (Option Interval)) (windows : List (Option Pages)) (spare : ℕ)
-    (noted : Bool) : Type 0 where
-  pub least : 2 ≤ seq
-  pub has_tree : HasTree xs windows spare
-  pub quiet : noted ≡ false → map settled xs ≡ xs
+abbrev pub nothing_listed : Listed
+nothing_listed = record { intervals = replicate 32 None; room = false }
+
+abbrev pub listed_at : Listed → ℕ → Option Interval
+listed_at x m = slice_index_or x.intervals m None
+
+abbrev pub with_listed : Listed → ℕ → Option Interval → Listed
+with_listed x m v = record x { intervals = slice_set x.intervals m v }
+
+-- an interval more, in the room that there was
+abbrev pub listed_with : Listed → ℕ → Interval → Listed
+listed_with x m y = record { intervals = slice_set x.intervals m (Some y); room = false }
+
+-- the tree has the intervals that are in it, and room for those that are to come, and for one more where that is said
+pub record IsKept (xs : List (Option Interval)) (windows : List (Option Pages)) (spare : ℕ) (noted room : Bool) : Type 0
+  where
+    pub len : length xs ≡ 32
+    pub tree : windows ≡ map tree_window xs
+    pub enough : count_by is_coming xs + (if room then 1 else 0) ≤ spare
+    -- where no deferral is noted there is none
+    pub quiet : noted ≡ false → map settled xs ≡ xs
+
+-- a process has none of it before room for its first insert was made
+abbrev pub intervals_in : Option (Box Listed Global) → List (Option Interval)
+intervals_in None = replicate 32 None
+intervals_in (Some b) = b.value.intervals
+
+abbrev pub room_in : Option (Box Listed Global) → Bool
+room_in None = false
+room_in (Some b) = b.value.room

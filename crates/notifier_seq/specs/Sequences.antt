@@ -11,14 +11,19 @@ use Rattle.notifier_seq.specs.declared.interval.Interval.{Interval}
 use Rattle.notifier_seq.specs.declared.interval.Stage.{Stage}
 use Rattle.notifier_seq.specs.declared.interval.Stage.TheVariants.{InTree, InsertDeferred, RemoveDeferred, Out}
 
--- the process's sequence, its active invalidations, and its intervals by number, below 32
+-- the process's sequence, its active invalidations, its intervals by number, below 32, and whether there is room for
+-- one more insert
 pub record Sequences : Type 0 where
   pub seq : ℕ
   pub active : ℕ
   pub intervals : List (Option Interval)
+  pub room : Bool
 
 abbrev pub sequences_start : Sequences
-sequences_start = record { seq = 2; active = 0; intervals = replicate 32 None }
+sequences_start = record { seq = 2; active = 0; intervals = replicate 32 None; room = false }
+
+abbrev pub reserved : Sequences → Sequences
+reserved s = record s { room = true }
 
 abbrev pub is_odd : ℕ → Bool
 is_odd n = n % 2 == 1
@@ -126,6 +131,7 @@ ended s =
       seq = seq_ended s;
       active = s.active - 1;
       intervals = if moves_on s then map settled s.intervals else s.intervals;
+      room = s.room;
     }
 
 abbrev pub inserted : Sequences → ℕ → Pages → Sequences
@@ -138,6 +144,7 @@ inserted s m r = record s {
         seq = interval_inserted s;
         stage = if is_odd s.seq then InsertDeferred else InTree;
       }));
+  room = false;
 }
 
 abbrev pub at_stage : Sequences → ℕ → Stage → Sequences

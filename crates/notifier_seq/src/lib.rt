@@ -21,20 +21,19 @@
 // an entry is set only by a look-up that was compared. hm_laws proves from these rules that no told entry is ever used.
 #![tactic(auto)]
 
-ghost use Rattle.std.specs.Prelude.{◌≡◌, ◌==◌, ◌&&◌, ◌+◌, ◌^◌, ◌<◌, ◌≤◌, ◌-◌, nat_lt, not, IfOk, IsTrue, IsSome, None, false, option_map, if◌then◌else◌};
-ghost use Rattle.notifier_seq.specs.Sequences.{sequences_start, is_odd, in_tree, insert_deferred, is_leaving, is_present, interval_at, interval_seq, next_told, some_overlap, seq_started, started, seq_ended, ended, interval_inserted, inserted, told, removal_of, removed, begin_of};
+ghost use Rattle.std.specs.Prelude.{◌≡◌, ◌==◌, ◌&&◌, ◌+◌, ◌^◌, ◌<◌, ◌≤◌, ◌-◌, nat_lt, not, OnOk, OnErr, IsTrue, IsSome, None, true, false, option_map, if◌then◌else◌};
+ghost use Rattle.notifier_seq.specs.Sequences.{sequences_start, reserved, is_odd, in_tree, insert_deferred, is_leaving, is_present, interval_at, interval_seq, next_told, some_overlap, seq_started, started, seq_ended, ended, interval_inserted, inserted, told, removal_of, removed, begin_of};
 ghost use Rattle.notifier_seq.specs.declared.interval.Interval.{Interval as AnyInterval};
 
 use hm_base::{MirrorId, NoMemory, Span};
-use interval::{seq_of, stage_of, with_seq, with_stage};
+use interval::{seq_of, stage_of};
 pub use interval::{Interval, Stage};
-use interval_tree::IntervalTree;
-use settling::settle_all;
 use std::alloc::Global;
 use std::marker::Model;
+use subscriptions::Subscriptions;
 
 mod interval;
-mod settling;
+mod subscriptions;
 #[cfg(test)]
 mod tests;
 
@@ -61,45 +60,56 @@ pub enum Removal {
     WaitFor(u64),
 }
 
-/// The notifiers of one process (`mmu_notifier_subscriptions` of mm/mmu_notifier.c), with the interval
-/// of each mirror by its number. The sequence is odd while an invalidation that met an interval is
-/// under way.
+/// The notifiers of one process, with the interval of each mirror by its number. The sequence is odd while an
+/// invalidation that met an interval is under way. They take no memory before the first room for an insert is made,
+/// as in Linux, where a process has no `mmu_notifier_subscriptions` before its first mirror.
 #[derive(Drop)]
 pub struct Notifiers {
     seq: u64,
     active: u64,
-    intervals: [Option<Interval>; 32],
-    tree: IntervalTree,
-    // Whether an insert or a remove may be deferred.
-    deferred: bool,
+    subscriptions: Option<Box<Subscriptions>>,
 }
 
 impl Model for Notifiers {
+    ghost use Rattle.std.specs.Prelude.{◌≤◌};
     ghost use Rattle.notifier_seq.specs.Sequences.{Sequences};
-    ghost use Rattle.notifier_seq.specs.Kept.{IsKept};
+    ghost use Rattle.notifier_seq.specs.Kept.{intervals_in, room_in};
 
     ghost Value = { Sequences };
 
-    ghost view = { λ n. record { seq = n.seq; active = n.active; intervals = n.intervals } };
+    ghost view = { λ n. record {
+      seq = n.seq;
+      active = n.active;
+      intervals = intervals_in n.subscriptions;
+      room = room_in n.subscriptions;
+    } };
 
-    ghost invariant = { λ n. IsKept n.seq n.intervals n.tree.spans n.tree.spare n.deferred };
+    ghost invariant = { λ n. 2 ≤ n.seq };
 }
 
 impl Notifiers {
-    /// The sequence 2, no invalidation, no interval, and room for 32.
-    pub fn new(alloc: Global) -> Result<Notifiers, NoMemory>
-        ensures { IfOk result (λ notifiers. notifiers ≡ sequences_start) }
+    /// The sequence 2, no invalidation and no interval.
+    pub fn new() -> Notifiers
+        ensures { result ≡ sequences_start }
     {
-        let mut tree = IntervalTree::new(alloc);
-        match tree.reserve(32) {
-            Ok(()) => Ok(Notifiers {
-                seq: 2,
-                active: 0,
-                intervals: [None; 32],
-                tree,
-                deferred: false,
-            }),
-            Err(error) => Err(error),
+        Notifiers {
+            seq: 2,
+            active: 0,
+            subscriptions: None,
+        }
+    }
+
+    /// Makes room for one insert more; a failure changes nothing.
+    pub fn reserve(&mut self, alloc: Global) -> Result<(), NoMemory>
+        ensures ok { OnOk result (self.new ≡ reserved self.old) }
+        ensures err { OnErr result (self.new ≡ self.old) }
+    {
+        if self.subscriptions.is_none() {
+            self.subscriptions = Some(Box::new(alloc, Subscriptions::new(alloc))?);
+        }
+        match &mut self.subscriptions {
+            Some(subscriptions) => subscriptions.reserve(),
+            None => Ok(()),
         }
     }
 
@@ -123,7 +133,10 @@ impl Notifiers {
     pub fn next_overlapping(&self, span: Span, after: Option<MirrorId>) -> Option<MirrorId>
         ensures { result ≡ next_told self.now span after }
     {
-        self.tree.next_overlapping(span, after)
+        match &self.subscriptions {
+            Some(subscriptions) => subscriptions.next_overlapping(span, after),
+            None => None,
+        }
     }
 
     /// The interval was told: it gets this sequence (`mmu_interval_set_seq`).
@@ -131,8 +144,10 @@ impl Notifiers {
         requires { IsSome (interval_at self.old id) }
         ensures { self.new ≡ told self.old id seq }
     {
-        let at = id.number() as usize;
-        self.intervals[at] = with_seq(&self.intervals[at], seq);
+        let Some(subscriptions) = &mut self.subscriptions else {
+            unreachable!()
+        };
+        subscriptions.set_seq(id, seq);
     }
 
     /// An invalidation ends, and the last one makes the deferred inserts and removes
@@ -147,9 +162,8 @@ impl Notifiers {
         self.active -= 1;
         if moves_on {
             self.seq += 1;
-            if self.deferred {
-                settle_all(&mut self.intervals, &mut self.tree);
-                self.deferred = false;
+            if let Some(subscriptions) = &mut self.subscriptions {
+                subscriptions.settle();
             }
         }
         self.seq
@@ -160,7 +174,7 @@ impl Notifiers {
         requires { IsSome (interval_at self.now id) }
         ensures { result ≡ begin_of self.now id }
     {
-        let seq = seq_of(&self.intervals[id.number() as usize]);
+        let seq = seq_of(&self.interval(id));
         if seq == self.seq {
             Begin::Invalidating(seq)
         } else {
@@ -173,34 +187,27 @@ impl Notifiers {
         requires { IsSome (interval_at self.now id) }
         ensures { result ≡ not (interval_seq self.now id == seq) }
     {
-        seq_of(&self.intervals[id.number() as usize]) != seq
+        seq_of(&self.interval(id)) != seq
     }
 
     /// A mirror's interval comes, at once or deferred (`mmu_interval_notifier_insert`). It gives the
     /// interval's sequence.
     pub fn insert(&mut self, id: MirrorId, span: Span) -> u64
-        requires { interval_at self.old id ≡ None }
+        requires absent { interval_at self.old id ≡ None }
+        requires room { self.old.room ≡ true }
         ensures result { result ≡ interval_inserted self.old }
         ensures state { self.new ≡ inserted self.old id span }
     {
-        let at = id.number() as usize;
+        let Some(subscriptions) = &mut self.subscriptions else {
+            unreachable!()
+        };
         if is_odd(self.seq) {
-            self.deferred = true;
-            self.intervals[at] = Some(Interval {
-                window: span,
-                seq: self.seq,
-                stage: Stage::InsertDeferred,
-            });
+            subscriptions.defer_insert(id, span, self.seq);
             return self.seq;
         }
         let seq = seq_for_insert(self.seq, self.active);
         self.seq += u64::from(self.active > 0);
-        self.tree.insert_reserved(id, span);
-        self.intervals[at] = Some(Interval {
-            window: span,
-            seq,
-            stage: Stage::InTree,
-        });
+        subscriptions.insert(id, span, seq);
         seq
     }
 
@@ -212,21 +219,21 @@ impl Notifiers {
         ensures result { result ≡ removal_of self.old id }
         ensures state { self.new ≡ removed self.old id }
     {
-        let at = id.number() as usize;
-        match stage_of(&self.intervals[at]) {
+        let Some(subscriptions) = &mut self.subscriptions else {
+            unreachable!()
+        };
+        match stage_of(subscriptions.interval(id)) {
             Stage::InTree => {
                 if is_odd(self.seq) {
-                    self.deferred = true;
-                    self.intervals[at] = with_stage(&self.intervals[at], Stage::RemoveDeferred);
+                    subscriptions.defer_remove(id);
                     Removal::WaitFor(self.seq)
                 } else {
-                    self.tree.remove(id);
-                    self.intervals[at] = with_stage(&self.intervals[at], Stage::Out);
+                    subscriptions.remove(id);
                     Removal::Removed
                 }
             }
             _ => {
-                self.intervals[at] = with_stage(&self.intervals[at], Stage::Out);
+                subscriptions.cancel(id);
                 Removal::Removed
             }
         }
@@ -236,7 +243,7 @@ impl Notifiers {
     pub fn present(&self, id: MirrorId) -> bool
         ensures { result ≡ is_present self.now id }
     {
-        match &self.intervals[id.number() as usize] {
+        match self.interval(id) {
             Some(interval) => !matches!(interval.stage, Stage::Out),
             None => false,
         }
@@ -256,11 +263,21 @@ impl Notifiers {
         self.active
     }
 
+    // The interval of a mirror, where it ever had one.
+    fn interval(&self, id: MirrorId) -> Option<Interval>
+        ensures { result ≡ interval_at self.now id }
+    {
+        match &self.subscriptions {
+            Some(subscriptions) => *subscriptions.interval(id),
+            None => None,
+        }
+    }
+
     /// The sequence of the mirror's interval, which is kept after its removal.
     pub fn interval_seq(&self, id: MirrorId) -> Option<u64>
         ensures { result ≡ option_map (λ (x : AnyInterval). x.seq) (interval_at self.now id) }
     {
-        match &self.intervals[id.number() as usize] {
+        match self.interval(id) {
             Some(interval) => Some(interval.seq),
             None => None,
         }
@@ -270,7 +287,7 @@ impl Notifiers {
     pub fn in_tree(&self, id: MirrorId) -> bool
         ensures { result ≡ in_tree self.now id }
     {
-        match &self.intervals[id.number() as usize] {
+        match self.interval(id) {
             Some(interval) => matches!(interval.stage, Stage::InTree | Stage::RemoveDeferred),
             None => false,
         }
@@ -280,7 +297,7 @@ impl Notifiers {
     pub fn deferred(&self, id: MirrorId) -> bool
         ensures { result ≡ insert_deferred self.now id }
     {
-        match &self.intervals[id.number() as usize] {
+        match self.interval(id) {
             Some(interval) => matches!(interval.stage, Stage::InsertDeferred),
             None => false,
         }

@@ -7,6 +7,7 @@ ghost use Rattle.notifier_seq.specs.Sequences.{is_leaving};
 use crate::{Begin, Notifiers, Removal, Stage, Started};
 use hm_base::{MirrorId, Page, Span};
 use plain::Plain;
+use std::alloc::Global;
 use std::test::Fail;
 
 mod plain;
@@ -33,9 +34,12 @@ fn end(notifiers: &mut Notifiers) -> Option<u64> {
     }
 }
 
-fn insert(notifiers: &mut Notifiers, id: MirrorId, span: Span) -> Option<u64> {
+fn insert(alloc: Global, notifiers: &mut Notifiers, id: MirrorId, span: Span) -> Option<u64> {
     match notifiers.interval_seq(id) {
-        None => Some(notifiers.insert(id, span)),
+        None => match notifiers.reserve(alloc) {
+            Ok(()) => Some(notifiers.insert(id, span)),
+            Err(_) => None,
+        },
         Some(_) => None,
     }
 }
@@ -43,7 +47,7 @@ fn insert(notifiers: &mut Notifiers, id: MirrorId, span: Span) -> Option<u64> {
 fn is_leaving(notifiers: &Notifiers, id: MirrorId) -> bool
     ensures { result ≡ is_leaving notifiers.now id }
 {
-    match &notifiers.intervals[id.number() as usize] {
+    match notifiers.interval(id) {
         Some(interval) => matches!(interval.stage, Stage::RemoveDeferred),
         None => false,
     }
@@ -80,17 +84,23 @@ fn retry(notifiers: &Notifiers, id: MirrorId, seq: u64) -> Option<bool> {
 
 #[test]
 fn the_first_end_leaves_the_odd_sequence(rt: HostRuntime) -> Result<(), Fail> {
-    let mut notifiers = Notifiers::new(rt.alloc()).ok().ok_or("memory")?;
+    let mut notifiers = Notifiers::new();
     let (old, new) = (MirrorId::new(0), MirrorId::new(7));
     let told = Some(Started {
         seq: 3,
         overlapped: true,
     });
-    assert_eq!(rt; insert(&mut notifiers, old, span(16, 2)), Some(1));
+    assert_eq!(rt;
+        insert(rt.alloc(), &mut notifiers, old, span(16, 2)),
+        Some(1)
+    );
     assert_eq!(rt; start(&mut notifiers, span(16, 1)), told);
     assert_eq!(rt; start(&mut notifiers, span(17, 1)), told);
     tell(&mut notifiers, old, 3);
-    assert_eq!(rt; insert(&mut notifiers, new, span(16, 2)), Some(3));
+    assert_eq!(rt;
+        insert(rt.alloc(), &mut notifiers, new, span(16, 2)),
+        Some(3)
+    );
     assert!(rt; notifiers.deferred(new) && !notifiers.in_tree(new) && notifiers.present(new));
     assert_eq!(rt; end(&mut notifiers), Some(3));
     assert_eq!(rt; begin(&notifiers, old), Some(Begin::Invalidating(3)));
@@ -102,14 +112,14 @@ fn the_first_end_leaves_the_odd_sequence(rt: HostRuntime) -> Result<(), Fail> {
 
 #[test]
 fn an_insert_makes_an_even_sequence_odd(rt: HostRuntime) -> Result<(), Fail> {
-    let mut notifiers = Notifiers::new(rt.alloc()).ok().ok_or("memory")?;
+    let mut notifiers = Notifiers::new();
     let alone = Some(Started {
         seq: 2,
         overlapped: false,
     });
     assert_eq!(rt; start(&mut notifiers, span(16, 1)), alone);
     assert_eq!(rt;
-        insert(&mut notifiers, MirrorId::new(0), span(16, 2)),
+        insert(rt.alloc(), &mut notifiers, MirrorId::new(0), span(16, 2)),
         Some(3)
     );
     assert_eq!(rt;
@@ -153,7 +163,7 @@ fn tell_next(notifiers: &mut Notifiers, plain: &mut Plain, after: MirrorId, page
 }
 
 // A drawn call, by both; whether they answer the same.
-fn turn(notifiers: &mut Notifiers, plain: &mut Plain, x: u64) -> Result<bool, Fail> {
+fn turn(alloc: Global, notifiers: &mut Notifiers, plain: &mut Plain, x: u64) -> Result<bool, Fail> {
     let number = (x >> 33 & 15) as u32;
     let id = MirrorId::new(number);
     let (first, count) = (x >> 37 & 31, 1 + (x >> 42 & 7));
@@ -162,7 +172,7 @@ fn turn(notifiers: &mut Notifiers, plain: &mut Plain, x: u64) -> Result<bool, Fa
     match x >> 50 & 7 {
         0 | 1 => Ok(start(notifiers, pages) == Some(plain.start(first, last))),
         2 | 3 => Ok(end(notifiers) == plain.end()),
-        4 => Ok(insert(notifiers, id, pages) == plain.insert(number, first, last)?),
+        4 => Ok(insert(alloc, notifiers, id, pages) == plain.insert(number, first, last)?),
         5 => Ok(remove(notifiers, id) == plain.remove(number)),
         6 => Ok(tell_next(notifiers, plain, id, pages)),
         _ => Ok(retry(notifiers, id, count) == plain.line(number).map(|line| line.seq != count)),
@@ -171,18 +181,18 @@ fn turn(notifiers: &mut Notifiers, plain: &mut Plain, x: u64) -> Result<bool, Fa
 
 #[test]
 fn the_calls_agree_with_the_rules(rt: HostRuntime) -> Result<(), Fail> {
-    let mut notifiers = Notifiers::new(rt.alloc()).ok().ok_or("memory")?;
+    let mut notifiers = Notifiers::new();
     let mut plain = Plain::new(rt.alloc());
     let mut x: u64 = 1;
     for step in 0..4_000u64 {
         if step % 80 == 0 {
-            notifiers = Notifiers::new(rt.alloc()).ok().ok_or("memory")?;
+            notifiers = Notifiers::new();
             plain = Plain::new(rt.alloc());
         }
         x = x
             .wrapping_mul(6364136223846793005)
             .wrapping_add(1442695040888963407);
-        assert_eq!(rt; turn(&mut notifiers, &mut plain, x)?, true);
+        assert_eq!(rt; turn(rt.alloc(), &mut notifiers, &mut plain, x)?, true);
         assert!(rt; agree(&notifiers, &plain));
     }
     Ok(())

@@ -1,9 +1,9 @@
-use Rattle.std.proofs.Common.{◌<◌, arith}
-use Rattle.notifier_seq.proofs.Changed.{read_at, kept_told}
+use Rattle.std.proofs.Common.{ap}
+use Rattle.notifier_seq.specs.Sequences.{Sequences, interval_at}
+use Rattle.notifier_seq.proofs.Unsubscribed.{no_interval_at, no_interval_told}
 use Rattle.notifier_seq.proofs.Notifiers.set_seq.Goals as goal
 
-pub invariant_of-self : goal.invariant_of-self
-invariant_of-self c =
-    let below : c.args.id < 32 = omega (arith, c.number-at.ensures.same, c.number-at.ensures.below) in
-    let here = read_at c.self.inside.intervals c.args.id c.number-at.result c.index-self-at.result c.self.invariant.has_tree.len c.number-at.ensures.same below in
-    rw (c.with_seq.ensures, here, c.number-at.ensures.same) (kept_told c.self.inside.seq c.self.inside.intervals c.self.inside.tree.spans c.self.inside.tree.spare c.self.inside.deferred c.args.id c.args.seq c.self.invariant below)
+pub unreachable-requires : goal.unreachable-requires
+unreachable-requires c =
+    let none = no_interval_at c.args.self.now c.self.inside.subscriptions c.args.id (ap (λ (s : Sequences). s.intervals) c.self.view_is) c.in_default.is in
+    no_interval_told (interval_at c.args.self.now c.args.id) c.requires none

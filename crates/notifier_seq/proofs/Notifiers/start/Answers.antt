@@ -17,4 +17,5 @@ returns-clause-state c =
     let seq : c.seq_after_start-self-inside.result ≡ seq_started c.args.self.now c.args.span = c.seq_after_start-self-inside.ensures ∙ rw (met, was) refl in
     let active = ap (λ (s : Sequences). s.active) c.self.view_is in
     let intervals = ap (λ (s : Sequences). s.intervals) c.self.view_is in
-    rw (seq, active, intervals) refl
+    let room = ap (λ (s : Sequences). s.room) c.self.view_is in
+    rw (seq, active, intervals, room) refl

@@ -1,0 +1,13 @@
+use Rattle.std.proofs.Common.{◌≡◌, ◌<◌, None, ap, ◌∙◌, arith}
+use Rattle.std.specs.Prelude.{slice_index_or}
+use Rattle.notifier_seq.specs.declared.interval.Stage.TheVariants.{InTree}
+use Rattle.notifier_seq.specs.Kept.{Listed, listed_at, stage_of}
+use Rattle.notifier_seq.proofs.Changed.{read_at, kept_leaving}
+use Rattle.notifier_seq.proofs.subscriptions.Subscriptions.defer_remove.Goals as goal
+
+pub invariant_of-self : goal.invariant_of-self
+invariant_of-self c =
+    let below : c.args.id < 32 = omega (arith, c.number-at.ensures.same, c.number-at.ensures.below) in
+    let here = read_at c.self.inside.intervals c.args.id c.number-at.result c.index-self-at.result c.self.invariant.len c.number-at.ensures.same below in
+    let stands : stage_of (slice_index_or c.self.inside.intervals c.args.id None) ≡ InTree = ap (λ (x : Listed). stage_of (listed_at x c.args.id)) c.self.view_is ∙ c.requires in
+    rw (c.with_stage.ensures, here, c.number-at.ensures.same) (kept_leaving c.self.inside.intervals c.self.inside.tree.spans c.self.inside.tree.spare c.self.inside.deferred c.self.inside.room c.args.id c.self.invariant below stands)
