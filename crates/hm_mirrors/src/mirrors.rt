@@ -36,7 +36,7 @@ impl Mirrors {
     pub fn new(alloc: Global) -> Result<Mirrors, NoMemory>
         ensures { IfOk result (λ x. x ≡ mirrors_start) }
     {
-        let mut mirrors = Vec::new(alloc);
+        let mut mirrors = Vec::with_capacity(alloc, 32)?;
         for _mirror in 0..32u32 {
             mirrors.push(None)?;
         }

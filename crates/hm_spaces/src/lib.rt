@@ -25,7 +25,7 @@ pub struct Spaces {
     there: [bool; 32],
     named: [bool; 32],
     areas: Vec<Areas>,
-    // Room for a child's areas: what it had before stays here.
+    // Room for areas that are made anew: a child's, and those that a cut leaves. What was there before stays here.
     spare: Areas,
     map_locks: [Option<MapLock>; 16],
 }

@@ -15,7 +15,7 @@ use vm_areas::{AreaRefusal, Areas};
 pub fn nothing_mapped(alloc: Global) -> Result<Vec<Areas>, NoMemory>
     ensures { IfOk result (λ x. x.items ≡ replicate 32 []) }
 {
-    let mut areas = Vec::new(alloc);
+    let mut areas = Vec::with_capacity(alloc, 32)?;
     for _at in 0..32u32 {
         areas.push(Areas::new(alloc)?)?;
     }
@@ -35,11 +35,11 @@ pub fn step(areas: &mut Vec<Areas>, spare: &mut Areas, kind: &Kind)
         }
         Kind::Unmapped { proc, span } => {
             let of_proc = &mut areas[proc.number() as usize];
-            let _ = of_proc.remove(*span);
+            let _ = of_proc.remove(*span, spare);
         }
         Kind::Protected { proc, span, rights } => {
             let of_proc = &mut areas[proc.number() as usize];
-            let _ = of_proc.protect(*span, *rights);
+            let _ = of_proc.protect(*span, *rights, spare);
         }
         Kind::Forked { parent, child } => {
             spare.copy_from(&areas[parent.number() as usize]);

@@ -36,6 +36,7 @@ fn give(rights: &mut [Option<Rights>; PAGES], first: usize, count: usize, right:
 #[test]
 fn areas_agree_with_rights_of_pages(rt: HostRuntime) -> Result<(), Fail> {
     let mut areas = Areas::new(rt.alloc()).ok().ok_or("memory")?;
+    let mut spare = Areas::new(rt.alloc()).ok().ok_or("memory")?;
     let mut rights = [None; PAGES];
     let mut x: u64 = 1;
     for _ in 0..4_000u64 {
@@ -53,12 +54,12 @@ fn areas_agree_with_rights_of_pages(rt: HostRuntime) -> Result<(), Fail> {
         assert_eq!(rt; areas.meets(span), !free);
         match x >> 50 & 3 {
             0 => {
-                assert_eq!(rt; areas.remove(span), Ok(()));
+                assert_eq!(rt; areas.remove(span, &mut spare), Ok(()));
                 give(&mut rights, at, pages, None);
             }
             1 => {
                 let mapped = all_have(&rights, at, pages, true);
-                assert_eq!(rt; areas.protect(span, right).is_ok(), mapped);
+                assert_eq!(rt; areas.protect(span, right, &mut spare).is_ok(), mapped);
                 if mapped {
                     give(&mut rights, at, pages, Some(right));
                 }
@@ -78,6 +79,7 @@ fn areas_agree_with_rights_of_pages(rt: HostRuntime) -> Result<(), Fail> {
 #[test]
 fn a_full_list_refuses_cuts(rt: HostRuntime) -> Result<(), Fail> {
     let mut areas = Areas::new(rt.alloc()).ok().ok_or("memory")?;
+    let mut spare = Areas::new(rt.alloc()).ok().ok_or("memory")?;
     for k in 0..64u64 {
         assert_eq!(rt;
             areas.insert(Span::new(Page::new(4 * k), 3), Rights::ReadWrite),
@@ -93,18 +95,18 @@ fn a_full_list_refuses_cuts(rt: HostRuntime) -> Result<(), Fail> {
         Err(AreaRefusal::Overlap)
     );
     assert_eq!(rt; areas.insert(far, Rights::Read), Err(AreaRefusal::TooMany));
-    assert_eq!(rt; areas.remove(inside), Err(AreaRefusal::TooMany));
+    assert_eq!(rt; areas.remove(inside, &mut spare), Err(AreaRefusal::TooMany));
     assert_eq!(rt;
-        areas.protect(inside, Rights::Read),
+        areas.protect(inside, Rights::Read, &mut spare),
         Err(AreaRefusal::TooMany)
     );
     assert_eq!(rt;
-        areas.protect(across, Rights::Read),
+        areas.protect(across, Rights::Read, &mut spare),
         Err(AreaRefusal::Unmapped)
     );
-    assert_eq!(rt; areas.protect(whole, Rights::Read), Ok(()));
+    assert_eq!(rt; areas.protect(whole, Rights::Read, &mut spare), Ok(()));
     assert_eq!(rt; areas.find(Page::new(22)), Some(Rights::Read));
-    assert_eq!(rt; areas.remove(across), Ok(()));
+    assert_eq!(rt; areas.remove(across, &mut spare), Ok(()));
     assert_eq!(rt; areas.find(Page::new(20)), Some(Rights::Read));
     assert_eq!(rt; areas.find(Page::new(21)), None);
 

@@ -12,11 +12,10 @@ pub record IsAreas (as_ : List Area) : Type 0 where
   pub few : length as_ ≤ 64
   pub rising : IsRising 0 as_
 
--- the areas, with the room of their own list and of the one that is made next
-pub record HaveRoom (as_ : List Area) (here spare : ℕ) : Type 0 where
+-- the areas, with the room of their list
+pub record HaveRoom (as_ : List Area) (room : ℕ) : Type 0 where
   pub areas : IsAreas as_
-  pub here_fit : 64 ≤ here
-  pub spare_fit : 64 ≤ spare
+  pub fit : 64 ≤ room
 
 -- how many areas at the front end at or below a page
 abbrev pub place_of : ℕ → List Area → ℕ

@@ -35,8 +35,6 @@ pub enum AreaRefusal {
 #[derive(Drop)]
 pub struct Areas {
     areas: Vec<Area>,
-    // Empty, or what was there before the last cut: the room for the next one.
-    next: Vec<Area>,
 }
 
 impl Model for Areas {
@@ -48,7 +46,7 @@ impl Model for Areas {
 
     ghost view = { λ a. a.areas.items };
 
-    ghost invariant = { λ a. HaveRoom a.areas.items (vec_capacity a.areas) (vec_capacity a.next) };
+    ghost invariant = { λ a. HaveRoom a.areas.items (vec_capacity a.areas) };
 }
 
 impl Areas {
@@ -56,13 +54,8 @@ impl Areas {
     pub fn new(alloc: Global) -> Result<Areas, NoMemory>
         ensures { IfOk result (λ areas. areas ≡ []) }
     {
-        match (
-            Vec::with_capacity(alloc, MOST),
-            Vec::with_capacity(alloc, MOST),
-        ) {
-            (Ok(areas), Ok(next)) => Ok(Areas { areas, next }),
-            _ => Err(NoMemory),
-        }
+        let areas = Vec::with_capacity(alloc, MOST)?;
+        Ok(Areas { areas })
     }
 
     /// Costs nothing: it hands the prover the invariant.
@@ -150,27 +143,34 @@ impl Areas {
         Ok(())
     }
 
-    /// The span loses its areas, as by `munmap`; an area is cut at the span's ends.
-    pub fn remove(&mut self, span: Span) -> Result<(), AreaRefusal>
+    /// The span loses its areas, as by `munmap`; an area is cut at the span's ends. The areas that are left are made in
+    /// the room of `spare`, whose own are lost.
+    pub fn remove(&mut self, span: Span, spare: &mut Areas) -> Result<(), AreaRefusal>
         ensures refusal { result_err result ≡ remove_refusal span self.old }
         ensures areas { self.new ≡ (if is_ok result then without span self.old else self.old) }
     {
         if let Some(refusal) = self.remove_refusal(span) {
             return Err(refusal);
         }
-        self.cut(span, None);
+        self.cut(span, None, spare);
         Ok(())
     }
 
-    /// The pages of the span get the right, as by `mprotect`; an area is cut at the span's ends.
-    pub fn protect(&mut self, span: Span, rights: Rights) -> Result<(), AreaRefusal>
+    /// The pages of the span get the right, as by `mprotect`; an area is cut at the span's ends. The areas are then made
+    /// in the room of `spare`, whose own are lost.
+    pub fn protect(
+        &mut self,
+        span: Span,
+        rights: Rights,
+        spare: &mut Areas,
+    ) -> Result<(), AreaRefusal>
         ensures refusal { result_err result ≡ protect_refusal span rights self.old }
         ensures areas { self.new ≡ (if is_ok result then with_rights span rights self.old else self.old) }
     {
         if let Some(refusal) = self.protect_refusal(span) {
             return Err(refusal);
         }
-        self.cut(span, Some(rights));
+        self.cut(span, Some(rights), spare);
         Ok(())
     }
 
@@ -204,13 +204,13 @@ impl Areas {
     }
 
     // What is inside the span gets the right, or goes where there is none.
-    fn cut(&mut self, span: Span, inside: Option<Rights>)
+    fn cut(&mut self, span: Span, inside: Option<Rights>, spare: &mut Areas)
         requires { length (cut span inside self.old) ≤ 64 }
         ensures { self.new ≡ cut span inside self.old }
     {
-        self.next.clear();
-        push_cut(&self.areas, span, inside, &mut self.next);
-        mem::swap(&mut self.areas, &mut self.next);
+        spare.areas.clear();
+        push_cut(&self.areas, span, inside, &mut spare.areas);
+        mem::swap(&mut self.areas, &mut spare.areas);
     }
 }
 

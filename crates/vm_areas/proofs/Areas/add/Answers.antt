@@ -20,8 +20,7 @@ invariant_of-self c =
         few = rw (items, length-with_area) (omega arith);
         rising = rw items (rising_added area 0 areas c.self.invariant.areas.rising (omega arith) c.first.ensures.span.some free);
       };
-      here_fit = omega (arith, c.in-Ok.ensures.capacity, c.self.invariant.here_fit);
-      spare_fit = c.self.invariant.spare_fit;
+      fit = omega (arith, c.in-Ok.ensures.capacity, c.self.invariant.fit);
     }
 
 pub returns : goal.returns

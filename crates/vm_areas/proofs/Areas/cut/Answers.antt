@@ -11,6 +11,5 @@ invariant_of-self c =
         few = rw (items, c.self.view_is) c.requires;
         rising = rw items (rising_cut c.args.span c.args.inside 0 c.self.inside.areas.items c.self.invariant.areas.rising);
       };
-      here_fit = rw c.swap.ensures.x_after (omega (arith, c.push_cut.ensures.room, c.clear.ensures.capacity, c.self.invariant.spare_fit));
-      spare_fit = rw c.swap.ensures.y_after c.self.invariant.here_fit;
+      fit = rw c.swap.ensures.x_after (omega (arith, c.push_cut.ensures.room, c.clear.ensures.capacity, c.spare.invariant.fit));
     }
