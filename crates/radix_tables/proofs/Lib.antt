@@ -1,6 +1,7 @@
 pub mod Tables
 pub mod TableBits
 pub mod Lasts
+pub mod Steps
 pub mod Made
 pub mod Pairs
 pub mod Reserved

@@ -196,7 +196,7 @@ page_below : (p : ℕ) → p < 2 ^ 36 → p < page_count
 unfolding page_count
 page_below p l = l
 
-block_below : (b : ℕ) → b < 2 ^ 27 → b < block_count
+block_below : (b : ℕ) → b < 2 ^ 30 → b < block_count
 unfolding block_count
 block_below b l = l
 
@@ -252,25 +252,25 @@ some_test x e z = absurd (no (sym e ∙ rw (same_test x 0 z) refl))
     no : true ≡ false → ⊥
     no e = cc
 
-pub reserved_is : (f t : ℕ → ℕ) (p : ℕ) → is_reserved (map_of f t) p ≡ true → t (p / 512) ≢ 0
-reserved_is f t p e = by (cases_lt (p / 512) block_count)
+pub reserved_is : (f t : ℕ → ℕ) (p : ℕ) → is_reserved (map_of f t) p ≡ true → t (p / 64) ≢ 0
+reserved_is f t p e = by (cases_lt (p / 64) block_count)
   where
-    by : (p / 512 < block_count) ⊎ (block_count ≤ p / 512) → t (p / 512) ≢ 0
-    by (inl l) = some_test (t (p / 512)) (sym (any_in (λ b. not (eqb (t b) 0)) (p / 512) 0 block_count (omega arith) (omega arith)) ∙ e)
-    by (inr l) = cc (any_past (λ b. not (eqb (t b) 0)) (p / 512) 0 block_count (omega arith), e)
+    by : (p / 64 < block_count) ⊎ (block_count ≤ p / 64) → t (p / 64) ≢ 0
+    by (inl l) = some_test (t (p / 64)) (sym (any_in (λ b. not (eqb (t b) 0)) (p / 64) 0 block_count (omega arith) (omega arith)) ∙ e)
+    by (inr l) = cc (any_past (λ b. not (eqb (t b) 0)) (p / 64) 0 block_count (omega arith), e)
 
-is_reserved_where : (f t : ℕ → ℕ) (p : ℕ) → p / 512 < block_count → t (p / 512) ≢ 0 → is_reserved (map_of f t) p ≡ true
-is_reserved_where f t p l d = any_in (λ b. not (eqb (t b) 0)) (p / 512) 0 block_count (omega arith) (omega arith) ∙ rw (other_test (t (p / 512)) 0 d) refl
+is_reserved_where : (f t : ℕ → ℕ) (p : ℕ) → p / 64 < block_count → t (p / 64) ≢ 0 → is_reserved (map_of f t) p ≡ true
+is_reserved_where f t p l d = any_in (λ b. not (eqb (t b) 0)) (p / 64) 0 block_count (omega arith) (omega arith) ∙ rw (other_test (t (p / 64)) 0 d) refl
 
-pub reserved_made : (f t : ℕ → ℕ) (p : ℕ) → p < 2 ^ 36 → t (p / 512) ≢ 0 → is_reserved (map_of f t) p ≡ true
-reserved_made f t p l d = is_reserved_where f t p (block_below (p / 512) (omega arith)) d
+pub reserved_made : (f t : ℕ → ℕ) (p : ℕ) → p < 2 ^ 36 → t (p / 64) ≢ 0 → is_reserved (map_of f t) p ≡ true
+reserved_made f t p l d = is_reserved_where f t p (block_below (p / 64) (omega arith)) d
 
 pub reserved_kept : (f g t u : ℕ → ℕ) (p : ℕ) → ((b : ℕ) → t b ≢ 0 → u b ≢ 0) → is_reserved (map_of f t) p ≡ true → is_reserved (map_of g u) p ≡ true
-reserved_kept f g t u p h e = by (cases_lt (p / 512) block_count)
+reserved_kept f g t u p h e = by (cases_lt (p / 64) block_count)
   where
-    by : (p / 512 < block_count) ⊎ (block_count ≤ p / 512) → is_reserved (map_of g u) p ≡ true
-    by (inl l) = is_reserved_where g u p l (h (p / 512) (reserved_is f t p e))
-    by (inr l) = cc (any_past (λ b. not (eqb (t b) 0)) (p / 512) 0 block_count (omega arith), e)
+    by : (p / 64 < block_count) ⊎ (block_count ≤ p / 64) → is_reserved (map_of g u) p ≡ true
+    by (inl l) = is_reserved_where g u p l (h (p / 64) (reserved_is f t p e))
+    by (inr l) = cc (any_past (λ b. not (eqb (t b) 0)) (p / 64) 0 block_count (omega arith), e)
 
 pub blocks_same : (t u : ℕ → ℕ) → ((b : ℕ) → u b ≡ t b) → filter (λ b. not (eqb (u b) 0)) blocks ≡ filter (λ b. not (eqb (t b) 0)) blocks
 blocks_same t u h = filter_same (λ b. not (eqb (u b) 0)) (λ b. not (eqb (t b) 0)) blocks (λ b. ap (λ k. not (eqb k 0)) (h b))

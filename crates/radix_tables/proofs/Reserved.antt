@@ -17,7 +17,7 @@ pub made_kept : {T E : Type 0} (l m : Levels) (block : ℕ) (r : Result T E) (ma
 made_kept l m block (Ok x) map e h v t = reserved_kept (word_of l) (word_of m) (table_of l) (table_of m) v h.kept (ap (λ (k : Map). is_reserved k v) e ∙ t)
 made_kept l m block (Err x) map e h v t = reserved_kept (word_of l) (word_of m) (table_of l) (table_of m) v (λ b d z. d (sym (h.tables b) ∙ z)) (ap (λ (k : Map). is_reserved k v) e ∙ t)
 
-pub made_ok : {T E : Type 0} (l m : Levels) (page : ℕ) (r : Result T E) → page < 2 ^ 36 → Made l m (page / 512) r → OnOk r (is_reserved (map_of (word_of m) (table_of m)) page ≡ true)
+pub made_ok : {T E : Type 0} (l m : Levels) (page : ℕ) (r : Result T E) → page < 2 ^ 36 → Made l m (page / 64) r → OnOk r (is_reserved (map_of (word_of m) (table_of m)) page ≡ true)
 made_ok l m page (Ok x) b h = reserved_made (word_of m) (table_of m) page b h.made
 made_ok l m page (Err x) b h = tt
 

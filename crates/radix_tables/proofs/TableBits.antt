@@ -1,14 +1,15 @@
 -- Bits that say of each word whether it passes a test.
-use Rattle.std.proofs.Common.{◌≡◌, ◌≢◌, ℕ, ◌+◌, ◌-◌, ◌*◌, ◌/◌, ◌%◌, ◌^◌, ◌<◌, ◌≤◌, Bool, true, false, eqb, cond, Option, Some, None, List, [], length, get_or, set, drop, refl, sym, ap, ◌∙◌, arith, ◌⊎◌, inl, inr}
-use Rattle.std.specs.Prelude.{slice_range}
+use Rattle.std.proofs.Common.{◌≡◌, ◌≢◌, ℕ, ◌+◌, ◌*◌, ◌/◌, ◌%◌, ◌^◌, ◌<◌, ◌≤◌, Bool, true, false, eqb, cond, Option, Some, None, List, [], length, get_or, set, refl, sym, ap, ◌∙◌, arith, ◌⊎◌, inl, inr}
 use Rattle.std.specs.Option.{MatchOption}
-use Rattle.std.proofs.lemmas.Bool.{cases_eq, cases_lt}
+use Rattle.std.specs.Int.{bit_at}
+use Rattle.std.proofs.lemmas.Bool.{cases_eq}
 use Rattle.std.proofs.lemmas.Bool.Decides.{nat_tests}
-use Rattle.std.proofs.lemmas.List.{get_or-set_same, get_or-set_other, length-set, length-take, get_or-take, get_or-drop, get_or_past}
+use Rattle.std.proofs.lemmas.List.{get_or-set_same, get_or-set_other, length-set, get_or_past}
 use Rattle.std.proofs.lemmas.Nat.Bits.{bit_at-zero}
-use Rattle.frame_pool.specs.Bits.{bit, IsNext}
+use Rattle.frame_pool.specs.Bits.{bit}
 use Rattle.radix_tables.specs.Maps.{is_marked, marked}
-use Rattle.radix_tables.specs.Levels.{AreBits, IsLonger, IsChild, is_used, table_of, word_of}
+use Rattle.radix_tables.specs.Walks.{table_in, IsLonger, IsChild}
+use Rattle.radix_tables.specs.Levels.{AreBits, is_used, from_second, word_of}
 use Rattle.radix_tables.specs.declared.levels.Levels.{Levels}
 use Rattle.radix_tables.proofs.Tables.{longer}
 
@@ -43,70 +44,60 @@ bits_longer test h l c = record { covers = c; each = λ k. h.each k ∙ ap test 
 pub bits_grown : (test : ℕ → Bool) {words bits now : List ℕ} → AreBits test words bits → ((k : ℕ) → bit now k ≡ bit bits k) → length bits ≤ length now → AreBits test words now
 bits_grown test h b l = record { covers = omega (arith, h.covers); each = λ k. b k ∙ h.each k }
 
-pub bits_child : (test : ℕ → Bool) {words bits now : List ℕ} (xs ys : List ℕ) (at t : ℕ) → AreBits test words bits → IsChild xs ys words now at t → length now ≤ 64 * length bits → AreBits test now bits
-bits_child test {words} {bits} {now} xs ys at t h c l = by c.step
+pub bits_child : (test : ℕ → Bool) {words bits now : List ℕ} (xs ys : List ℕ) (at : ℕ) → AreBits test words bits → IsChild xs ys words now at → length now ≤ 64 * length bits → AreBits test now bits
+bits_child test {words} {bits} {now} xs ys at h c l = by c.step
   where
-    by : ((get_or xs at 0 ≢ 0) × (ys ≡ xs) × (now ≡ words)) ⊎ ((get_or xs at 0 ≡ 0) × (ys ≡ set xs at t) × (length words ≤ t * 512) × (length now ≡ t * 512 + 512) × IsLonger words now) → AreBits test now bits
+    t : ℕ
+    t = get_or ys at 0
+
+    by : ((get_or xs at 0 ≢ 0) × (ys ≡ xs) × (now ≡ words)) ⊎ ((get_or xs at 0 ≡ 0) × (ys ≡ set xs at t) × (2 ≤ t) × (length words ≤ t * 64) × (length now ≡ t * 64 + 64) × IsLonger words now) → AreBits test now bits
     by (inl s) = rw s.2 h
-    by (inr s) = bits_longer test h s.4 l
+    by (inr s) = bits_longer test h s.5 l
 
 -- the bits of a table
-slice_bit : (bits : List ℕ) (first k : ℕ) → k < 512 → bit (slice_range bits first (first + 8)) k ≡ bit bits (first * 64 + k)
-slice_bit bits first k l = ap (λ w. eqb (w / 2 ^ (k % 64) % 2) 1) read ∙ ap (λ i. eqb (get_or bits (first + k / 64) 0 / 2 ^ i % 2) 1) low ∙ ap (λ i. eqb (get_or bits i 0 / 2 ^ ((first * 64 + k) % 64) % 2) 1) high
+table_bit : (bits : List ℕ) (t k : ℕ) → bit bits (t * 64 + k % 64) ≡ eqb (bit_at (get_or bits t 0) (k % 64)) 1
+table_bit bits t k = ap (λ i. eqb (bit_at (get_or bits i 0) ((t * 64 + k % 64) % 64)) 1) high ∙ ap (λ i. eqb (bit_at (get_or bits t 0) i) 1) low
   where
-    read : get_or (slice_range bits first (first + 8)) (k / 64) 0 ≡ get_or bits (first + k / 64) 0
-    read = get_or-take (first + 8 - first) (drop first bits) (k / 64) 0 (omega arith) ∙ get_or-drop first bits (k / 64) 0
-
-    low : k % 64 ≡ (first * 64 + k) % 64
-    low = omega arith
-
-    high : first + k / 64 ≡ (first * 64 + k) / 64
+    high : (t * 64 + k % 64) / 64 ≡ t
     high = omega arith
 
-slice_bit_past : (bits : List ℕ) (first k : ℕ) → 512 ≤ k → bit (slice_range bits first (first + 8)) k ≡ false
-slice_bit_past bits first k l = bit_past (slice_range bits first (first + 8)) k (omega (arith, length-take (first + 8 - first) (drop first bits)))
-
-table_bit : (bits : List ℕ) (t k : ℕ) → bit (slice_range bits (t * 8) (t * 8 + 8)) (k % 512) ≡ bit bits (t * 512 + k % 512)
-table_bit bits t k = let at : t * 8 * 64 + k % 512 ≡ t * 512 + k % 512 = omega arith in slice_bit bits (t * 8) (k % 512) (omega arith) ∙ ap (bit bits) at
+    low : (t * 64 + k % 64) % 64 ≡ k % 64
+    low = omega arith
 
 -- the numbers of a table's entries whose bits are not set
 abbrev pub NoBit : List ℕ → ℕ → ℕ → ℕ → Type 0
-NoBit bits t from upto = (k : ℕ) → from ≤ k → k < upto → bit bits (t * 512 + k % 512) ≡ false
+NoBit bits t from upto = (k : ℕ) → from ≤ k → k < upto → bit bits (t * 64 + k % 64) ≡ false
 
-pub none_next : (bits : List ℕ) (t n : ℕ) → ((k : ℕ) → n % 512 ≤ k → bit (slice_range bits (t * 8) (t * 8 + 8)) k ≡ false) → NoBit bits t n ((n / 512 + 1) * 512)
-none_next bits t n z k a b = sym (table_bit bits t k) ∙ z (k % 512) (omega arith)
+pub none_next : (bits : List ℕ) (t n : ℕ) → ((k : ℕ) → n % 64 ≤ k → k < 64 → bit_at (get_or bits t 0) k ≡ 0) → NoBit bits t n ((n / 64 + 1) * 64)
+none_next bits t n z k a b = table_bit bits t k ∙ ap (λ x. eqb x 1) (z (k % 64) (omega arith) (omega arith))
 
-pub some_next : (bits : List ℕ) (t n q found : ℕ) → IsNext (bit (slice_range bits (t * 8) (t * 8 + 8))) (n % 512) (Some q) → found ≡ n / 512 * 512 + q →
-    (n ≤ found) × (found < (n / 512 + 1) * 512) × (bit bits (t * 512 + found % 512) ≡ true) × NoBit bits t n found
-some_next bits t n q found h e = (omega (arith, h.0), omega (arith, few), sym (table_bit bits t found) ∙ (ap (bit (slice_range bits (t * 8) (t * 8 + 8))) within ∙ h.1), before)
+pub some_next : (bits : List ℕ) (t n q found : ℕ) → (n % 64 ≤ q) × (q < 64) × (bit_at (get_or bits t 0) q ≡ 1) × ((k : ℕ) → n % 64 ≤ k → k < q → bit_at (get_or bits t 0) k ≡ 0) → found ≡ n / 64 * 64 + q →
+    (n ≤ found) × (found < (n / 64 + 1) * 64) × (bit bits (t * 64 + found % 64) ≡ true) × NoBit bits t n found
+some_next bits t n q found h e = (omega (arith, h.0), omega (arith, h.1), table_bit bits t found ∙ (ap (λ k. eqb (bit_at (get_or bits t 0) k) 1) within ∙ ap (λ x. eqb x 1) h.2), before)
   where
-    few : q < 512
-    few = by (cases_lt q 512)
-      where
-        by : (q < 512) ⊎ (512 ≤ q) → q < 512
-        by (inl k) = k
-        by (inr k) = cc (slice_bit_past bits (t * 8) q k, h.1)
+    few : q < 64
+    few = h.1
 
-    within : found % 512 ≡ q
+    within : found % 64 ≡ q
     within = omega (arith, few)
 
     before : NoBit bits t n found
-    before k a b = let same : k / 512 ≡ n / 512 = omega (arith, few) in sym (table_bit bits t k) ∙ h.2 (k % 512) (omega (arith, same)) (omega (arith, few, same))
+    before k a b = let same : k / 64 ≡ n / 64 = omega (arith, few) in table_bit bits t k ∙ ap (λ x. eqb x 1) (h.3 (k % 64) (omega (arith, same)) (omega (arith, few, same)))
 
 pub found_none : {X : Type 0} {r : Option X} {N : Type 0} (P : X → Type 0) → r ≡ None → N → MatchOption r N P
 found_none {r = None} P e h = h
 found_none {r = Some x} P e h = cc
 
 -- the words of the pages that a table is for
-entry_bit : (test : ℕ → Bool) (l : Levels) (bits : List ℕ) (t page v : ℕ) → AreBits test l.pte.items bits → t ≡ table_of l (page / 512) → v / 512 ≡ page / 512 → bit bits (t * 512 + v % 512) ≡ test (word_of l v)
-entry_bit test l bits t page v h e f = h.each (t * 512 + v % 512) ∙ ap (λ b. test (get_or l.pte.items (b * 512 + v % 512) 0)) (e ∙ ap (table_of l) (sym f))
+entry_bit : (test : ℕ → Bool) (l : Levels) (bits : List ℕ) (t page v : ℕ) → AreBits test l.words.items bits → t ≡ table_in (from_second l) (page / 64) → v / 64 ≡ page / 64 → bit bits (t * 64 + v % 64) ≡ test (word_of l v)
+entry_bit test l bits t page v h e f = h.each (t * 64 + v % 64) ∙ ap (λ b. test (get_or l.words.items (b * 64 + v % 64) 0)) (e ∙ ap (table_in (from_second l)) (sym f))
 
-pub none_word : (test : ℕ → Bool) (g : ℕ → ℕ) (l : Levels) (bits : List ℕ) (t page : ℕ) → AreBits test l.pte.items bits → t ≡ table_of l (page / 512) → NoBit bits t page ((page / 512 + 1) * 512) →
-    ((w : ℕ) → test w ≡ false → g w ≡ 0) → (v : ℕ) → page ≤ v → v < (page / 512 + 1) * 512 → g (word_of l v) ≡ 0
+pub none_word : (test : ℕ → Bool) (g : ℕ → ℕ) (l : Levels) (bits : List ℕ) (t page : ℕ) → AreBits test l.words.items bits → t ≡ table_in (from_second l) (page / 64) → NoBit bits t page ((page / 64 + 1) * 64) →
+    ((w : ℕ) → test w ≡ false → g w ≡ 0) → (v : ℕ) → page ≤ v → v < (page / 64 + 1) * 64 → g (word_of l v) ≡ 0
 none_word test g l bits t page h e z none v a b = none (word_of l v) (sym (entry_bit test l bits t page v h e (omega arith)) ∙ z v a b)
 
-pub some_word : (test : ℕ → Bool) (g : ℕ → ℕ) (l : Levels) (bits : List ℕ) (t page found w : ℕ) → AreBits test l.pte.items bits → t ≡ table_of l (page / 512) → page < 2 ^ 36 →
-    (page ≤ found) × (found < (page / 512 + 1) * 512) × (bit bits (t * 512 + found % 512) ≡ true) × NoBit bits t page found → w ≡ get_or l.pte.items (t * 512 + found % 512) 0 →
+pub some_word : (test : ℕ → Bool) (g : ℕ → ℕ) (l : Levels) (bits : List ℕ) (t page found w : ℕ) → AreBits test l.words.items bits → t ≡ table_in (from_second l) (page / 64) → page < 2 ^ 36 →
+    (page ≤ found) × (found < (page / 64 + 1) * 64) × (bit bits (t * 64 + found % 64) ≡ true) × NoBit bits t page found → w ≡ get_or l.words.items (t * 64 + found % 64) 0 →
     ((w : ℕ) → test w ≡ false → g w ≡ 0) → ((w : ℕ) → test w ≡ true → (g w ≡ w) × (w ≢ 0)) →
     (page ≤ found) × (found < 2 ^ 36) × (g (word_of l found) ≡ w) × (w ≢ 0) × ((v : ℕ) → page ≤ v → v < found → g (word_of l v) ≡ 0)
 some_word test g l bits t page found w h e p n s none some = (
@@ -117,11 +108,11 @@ some_word test g l bits t page found w h e p n s none some = (
   λ v a b. none (word_of l v) (sym (entry_bit test l bits t page v h e (omega (arith, n.0, n.1))) ∙ n.3 v a b),
 )
   where
-    block : found / 512 ≡ page / 512
+    block : found / 64 ≡ page / 64
     block = omega (arith, n.0, n.1)
 
     word : word_of l found ≡ w
-    word = ap (λ b. get_or l.pte.items (b * 512 + found % 512) 0) (ap (table_of l) block ∙ sym e) ∙ sym s
+    word = ap (λ b. get_or l.words.items (b * 64 + found % 64) 0) (ap (table_in (from_second l)) block ∙ sym e) ∙ sym s
 
     is : test (word_of l found) ≡ true
     is = sym (entry_bit test l bits t page found h e block) ∙ n.2
@@ -144,3 +135,6 @@ with_mark w e = (ap (λ b. cond b w 0) e, λ z. cc (sym e ∙ ap is_marked z))
 
 pub marked_some : (w : ℕ) → marked w ≢ 0 → w ≢ 0
 marked_some w d e = d (ap marked e)
+
+pub marked_none : {w : ℕ} → w ≡ 0 → marked w ≡ 0
+marked_none e = ap marked e

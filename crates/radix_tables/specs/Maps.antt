@@ -4,7 +4,7 @@ use Rattle.std.specs.List.{filter, flat_map, list_any, range_with_len}
 use Rattle.std.specs.Ordering.{nat_cmp}
 use Rattle.std.specs.FinMap.Entries as sorted
 
--- the words that are not 0, by page, and the blocks of 512 pages for whose words there is room
+-- the words that are not 0, by page, and the blocks of 64 pages for whose words there is room
 pub record Map : Type 0 where
   pub words : List (ℕ × ℕ)
   pub blocks : List ℕ
@@ -14,7 +14,7 @@ abbrev pub word_at : Map → ℕ → ℕ
 word_at m page = unwrap_or (sorted.find nat_cmp page m.words) 0
 
 abbrev pub is_reserved : Map → ℕ → Bool
-is_reserved m page = list_any (λ b. b == page / 512) m.blocks
+is_reserved m page = list_any (λ b. b == page / 64) m.blocks
 
 abbrev pub with_word : Map → ℕ → ℕ → Map
 with_word m page word = record m { words = sorted.put nat_cmp page word m.words }
@@ -47,7 +47,7 @@ unfoldable pub page_count : ℕ
 page_count = 2 ^ 36
 
 unfoldable pub block_count : ℕ
-block_count = 2 ^ 27
+block_count = 2 ^ 30
 
 abbrev pub pages : List ℕ
 pages = range_with_len 0 page_count

@@ -1,46 +1,40 @@
-// The four levels, named as the kernel names them: page global directory, page upper directory, page
-// middle directory, and page table entries.
-ghost use Rattle.std.specs.Prelude.{◌≡◌, ◌≢◌, ℕ, ◌+◌, ◌*◌, ◌/◌, ◌%◌, ◌^◌, ◌<◌, ◌≤◌, ◌==◌, if◌then◌else◌, [], ◌++◌, length, replicate, slice_index, slice_set, is_ok, MatchOption, MatchResult, OnOk, OnErr, IfOk, true, false};
+// Six levels of tables of 64 entries. The kernel has five, of 512 entries each, a page of memory a table, since a
+// processor reads them. Here a table is small, because a process of a history uses few pages, and because one word of
+// bits can say which entries of a table are used.
+ghost use Rattle.std.specs.Prelude.{◌≡◌, ◌≢◌, ℕ, ◌+◌, ◌*◌, ◌/◌, ◌%◌, ◌^◌, ◌<◌, ◌≤◌, ◌==◌, if◌then◌else◌, length, slice_index, MatchOption, MatchResult, OnOk, true, false};
 ghost use Rattle.frame_pool.specs.Bits.{bit};
 ghost use Rattle.radix_tables.specs.Maps.{is_marked};
-ghost use Rattle.radix_tables.specs.Levels.{IsLevels, IsLonger, IsChild, IsStep, IsLeast, IsSame, IsMade, is_used, upper_of, middle_of, table_of, word_of, marked_of};
+ghost use Rattle.radix_tables.specs.Walks.{HasTable, table_in};
+ghost use Rattle.radix_tables.specs.Levels.{IsLevels, IsStep, IsStepIn, IsLeast, IsSame, IsMade, is_used, table_of, word_of, marked_of, from_second, from_third, from_fourth, from_fifth, from_sixth};
 
+use crate::level_tables::{FIRST, Step, child, entry, first_table, place, step_down};
 use frame_pool::bits;
 use hm_base::NoMemory;
 use std::alloc::Global;
 
 /// Entries of a table.
-const ENTRIES: u64 = 512;
+const ENTRIES: u64 = 64;
 
 /// One more than the highest page.
 const PAGES: u64 = 1 << 36;
 
-/// Words of 64 bits, for the entries of a table.
-const BIT_WORDS: usize = 8;
-
 /// The lowest four bits of a marked word are at least this.
 const LEAST_MARKED: u64 = 5;
 
-/// The table of the highest level.
-const ROOT: u64 = 1;
-
-/// The tables of each level in a row, 512 entries each. An entry is the number of a table of the next
-/// level, and one of the last level is a word; 0 is none. Table 0 of a level stays empty. For each entry
-/// of the last level there is a bit that says whether it is a word, and one that says whether it is marked.
+/// The tables of each level in a row. An entry is the number of a table of the level before, and one of the first
+/// level is a word; 0 is none. Table 0 of a level stays empty, and table 1 is that of the lowest pages, which no entry
+/// names. For each entry of the first level there is a bit that says whether it is a word, and one that says
+/// whether it is marked.
 #[derive(Drop)]
 pub struct Levels {
-    pgd: Vec<u64>,
-    pud: Vec<u64>,
-    pmd: Vec<u64>,
-    pte: Vec<u64>,
+    words: Vec<u64>,
+    second: Vec<u64>,
+    third: Vec<u64>,
+    fourth: Vec<u64>,
+    fifth: Vec<u64>,
+    sixth: Vec<u64>,
     used: Vec<u64>,
     marks: Vec<u64>,
-}
-
-/// What a walk to a page came to: its lowest table, or a gap that ends before this page.
-pub enum Step {
-    Table(u64),
-    Gap(u64),
 }
 
 impl Levels {
@@ -50,39 +44,72 @@ impl Levels {
         ensures words { (v : ℕ) → word_of result v ≡ 0 }
     {
         Levels {
-            pgd: Vec::new(alloc),
-            pud: Vec::new(alloc),
-            pmd: Vec::new(alloc),
-            pte: Vec::new(alloc),
+            words: Vec::new(alloc),
+            second: Vec::new(alloc),
+            third: Vec::new(alloc),
+            fourth: Vec::new(alloc),
+            fifth: Vec::new(alloc),
+            sixth: Vec::new(alloc),
             used: Vec::new(alloc),
             marks: Vec::new(alloc),
         }
     }
 
-    /// The lowest table for a block of 512 pages.
+    /// The table of the first level for a block of 64 pages.
     fn table(&self, block: u64) -> u64
         requires levels { IsLevels self.now }
-        requires block { block < 2 ^ 27 }
-        ensures { result ≡ table_of self.now block }
+        requires block { block < 2 ^ 30 }
+        ensures { result ≡ table_in (from_second self.now) block }
     {
-        entry(&self.pmd, self.middle(block >> 9), block)
+        if block == 0 {
+            return FIRST;
+        }
+        entry(&self.second, self.second_table(block / ENTRIES), block)
     }
 
-    /// The table of the second level for a number of 9 bits.
-    fn upper(&self, number: u64) -> u64
-        requires { number < 512 }
-        ensures { result ≡ upper_of self.now number }
+    /// The table of the second level for a number of that level, as the ones below are of theirs.
+    fn second_table(&self, number: u64) -> u64
+        requires levels { IsLevels self.now }
+        requires number { number < 2 ^ 24 }
+        ensures { result ≡ table_in (from_third self.now) number }
     {
-        entry(&self.pgd, ROOT, number)
+        if number == 0 {
+            return FIRST;
+        }
+        entry(&self.third, self.third_table(number / ENTRIES), number)
     }
 
-    /// The table of the third level for a number of 18 bits.
-    fn middle(&self, number: u64) -> u64
+    fn third_table(&self, number: u64) -> u64
         requires levels { IsLevels self.now }
         requires number { number < 2 ^ 18 }
-        ensures { result ≡ middle_of self.now number }
+        ensures { result ≡ table_in (from_fourth self.now) number }
     {
-        entry(&self.pud, self.upper(number >> 9), number)
+        if number == 0 {
+            return FIRST;
+        }
+        entry(&self.fourth, self.fourth_table(number / ENTRIES), number)
+    }
+
+    fn fourth_table(&self, number: u64) -> u64
+        requires levels { IsLevels self.now }
+        requires number { number < 2 ^ 12 }
+        ensures { result ≡ table_in (from_fifth self.now) number }
+    {
+        if number == 0 {
+            return FIRST;
+        }
+        entry(&self.fifth, self.fifth_table(number / ENTRIES), number)
+    }
+
+    fn fifth_table(&self, number: u64) -> u64
+        requires levels { IsLevels self.now }
+        requires number { number < 2 ^ 6 }
+        ensures { result ≡ table_in (from_sixth self.now) number }
+    {
+        if number == 0 {
+            return FIRST;
+        }
+        entry(&self.sixth, FIRST, number)
     }
 
     pub fn word(&self, page: u64) -> u64
@@ -90,82 +117,134 @@ impl Levels {
         requires page { page < 2 ^ 36 }
         ensures { result ≡ word_of self.now page }
     {
-        entry(&self.pte, self.table(page / ENTRIES), page)
+        entry(&self.words, self.table(page / ENTRIES), page)
     }
 
     /// Makes the tables down to the page.
     pub fn make_tables(&mut self, page: u64) -> Result<(), NoMemory>
         requires levels { IsLevels self.old }
         requires page { page < 2 ^ 36 }
-        ensures { MatchResult result (λ _. IsMade self.old self.new (page / 512)) (λ _. IsSame self.old self.new) }
+        ensures { MatchResult result (λ _. IsMade self.old self.new (page / 64)) (λ _. IsSame self.old self.new) }
     {
-        if self.table(page / ENTRIES) != 0 {
+        let block = page / ENTRIES;
+        if !self.words.is_empty() && self.table(block) != 0 {
             return Ok(());
         }
-        self.make_root()?;
-        self.make_upper(page >> 27)?;
-        self.make_middle(page >> 18)?;
-        self.make_lowest(page >> 9)
+        grow_bits(&mut self.used, self.words.len())?;
+        grow_bits(&mut self.marks, self.words.len())?;
+        self.make_first(block)
     }
 
-    fn make_root(&mut self) -> Result<(), NoMemory>
-        requires { IsLevels self.old }
-        ensures same { IsSame self.old self.new }
-        ensures ok { OnOk result (1024 ≤ length self.new.pgd.items) }
-    {
-        if self.pgd.is_empty() {
-            add_table(&mut self.pgd)?;
-        }
-        Ok(())
-    }
-
-    fn make_upper(&mut self, number: u64) -> Result<(), NoMemory>
+    /// Makes the table of the first level for a block, and those above it.
+    fn make_first(&mut self, block: u64) -> Result<(), NoMemory>
         requires levels { IsLevels self.old }
-        requires root { 1024 ≤ length self.old.pgd.items }
-        requires number { number < 512 }
-        ensures same { IsSame self.old self.new }
-        ensures ok { OnOk result (upper_of self.new number ≢ 0) }
+        requires block { block < 2 ^ 30 }
+        requires used { length self.old.words.items + 192 ≤ 64 * length self.old.used.items }
+        requires marks { length self.old.words.items + 192 ≤ 64 * length self.old.marks.items }
+        ensures { MatchResult result (λ _. IsMade self.old self.new block) (λ _. IsSame self.old self.new) }
     {
-        child(&mut self.pgd, place(ROOT, number), &mut self.pud)?;
+        if block == 0 {
+            return first_table(&mut self.words);
+        }
+        self.make_second(block / ENTRIES)?;
+        let table = self.second_table(block / ENTRIES);
+        child(&mut self.second, place(table, block), &mut self.words)?;
         Ok(())
     }
 
-    fn make_middle(&mut self, number: u64) -> Result<(), NoMemory>
+    fn make_second(&mut self, number: u64) -> Result<(), NoMemory>
+        requires levels { IsLevels self.old }
+        requires number { number < 2 ^ 24 }
+        ensures same { IsSame self.old self.new }
+        ensures ok { OnOk result (HasTable self.new.second.items (from_third self.new) number) }
+        ensures others { (length self.new.words.items ≡ length self.old.words.items)
+            × (length self.new.used.items ≡ length self.old.used.items)
+            × (length self.new.marks.items ≡ length self.old.marks.items) }
+    {
+        if number == 0 {
+            return first_table(&mut self.second);
+        }
+        self.make_third(number / ENTRIES)?;
+        let table = self.third_table(number / ENTRIES);
+        child(&mut self.third, place(table, number), &mut self.second)?;
+        Ok(())
+    }
+
+    fn make_third(&mut self, number: u64) -> Result<(), NoMemory>
         requires levels { IsLevels self.old }
         requires number { number < 2 ^ 18 }
-        requires upper { upper_of self.old (number / 512) ≢ 0 }
         ensures same { IsSame self.old self.new }
-        ensures ok { OnOk result (middle_of self.new number ≢ 0) }
+        ensures ok { OnOk result (HasTable self.new.third.items (from_fourth self.new) number) }
+        ensures others { (length self.new.words.items ≡ length self.old.words.items)
+            × (length self.new.used.items ≡ length self.old.used.items)
+            × (length self.new.marks.items ≡ length self.old.marks.items) }
     {
-        let upper = self.upper(number >> 9);
-        child(&mut self.pud, place(upper, number), &mut self.pmd)?;
+        if number == 0 {
+            return first_table(&mut self.third);
+        }
+        self.make_fourth(number / ENTRIES)?;
+        let table = self.fourth_table(number / ENTRIES);
+        child(&mut self.fourth, place(table, number), &mut self.third)?;
         Ok(())
     }
 
-    fn make_lowest(&mut self, number: u64) -> Result<(), NoMemory>
+    fn make_fourth(&mut self, number: u64) -> Result<(), NoMemory>
         requires levels { IsLevels self.old }
-        requires number { number < 2 ^ 27 }
-        requires middle { middle_of self.old (number / 512) ≢ 0 }
-        ensures { MatchResult result (λ _. IsMade self.old self.new number) (λ _. IsSame self.old self.new) }
+        requires number { number < 2 ^ 12 }
+        ensures same { IsSame self.old self.new }
+        ensures ok { OnOk result (HasTable self.new.fourth.items (from_fifth self.new) number) }
+        ensures others { (length self.new.words.items ≡ length self.old.words.items)
+            × (length self.new.used.items ≡ length self.old.used.items)
+            × (length self.new.marks.items ≡ length self.old.marks.items) }
     {
-        let middle = self.middle(number >> 9);
-        grow_bits(&mut self.used, self.pte.len())?;
-        grow_bits(&mut self.marks, self.pte.len())?;
-        child(&mut self.pmd, place(middle, number), &mut self.pte)?;
+        if number == 0 {
+            return first_table(&mut self.fourth);
+        }
+        self.make_fifth(number / ENTRIES)?;
+        let table = self.fifth_table(number / ENTRIES);
+        child(&mut self.fifth, place(table, number), &mut self.fourth)?;
         Ok(())
+    }
+
+    fn make_fifth(&mut self, number: u64) -> Result<(), NoMemory>
+        requires levels { IsLevels self.old }
+        requires number { number < 2 ^ 6 }
+        ensures same { IsSame self.old self.new }
+        ensures ok { OnOk result (HasTable self.new.fifth.items (from_sixth self.new) number) }
+        ensures others { (length self.new.words.items ≡ length self.old.words.items)
+            × (length self.new.used.items ≡ length self.old.used.items)
+            × (length self.new.marks.items ≡ length self.old.marks.items) }
+    {
+        if number == 0 {
+            return first_table(&mut self.fifth);
+        }
+        self.make_sixth()?;
+        child(&mut self.sixth, place(FIRST, number), &mut self.fifth)?;
+        Ok(())
+    }
+
+    fn make_sixth(&mut self) -> Result<(), NoMemory>
+        requires levels { IsLevels self.old }
+        ensures same { IsSame self.old self.new }
+        ensures ok { OnOk result (128 ≤ length self.new.sixth.items) }
+        ensures others { (length self.new.words.items ≡ length self.old.words.items)
+            × (length self.new.used.items ≡ length self.old.used.items)
+            × (length self.new.marks.items ≡ length self.old.marks.items) }
+    {
+        first_table(&mut self.sixth)
     }
 
     /// Sets the word of a page whose tables are there.
     pub fn set(&mut self, page: u64, word: u64)
         requires levels { IsLevels self.old }
         requires page { page < 2 ^ 36 }
-        requires table { table_of self.old (page / 512) ≢ 0 }
+        requires table { table_of self.old (page / 64) ≢ 0 }
         ensures levels { IsLevels self.new }
         ensures words { (v : ℕ) → word_of self.new v ≡ (if v == page then word else word_of self.old v) }
         ensures tables { (b : ℕ) → table_of self.new b ≡ table_of self.old b }
     {
         let at = place(self.table(page / ENTRIES), page);
-        self.pte[at] = word;
+        self.words[at] = word;
         put_bit(&mut self.used, at, is_used(word));
         put_bit(&mut self.marks, at, is_marked(word));
     }
@@ -218,19 +297,51 @@ impl Levels {
         requires page { page < 2 ^ 36 }
         ensures { IsStep self.now page result }
     {
-        let upper = entry(&self.pgd, ROOT, page >> 27);
-        if upper == 0 {
-            return Step::Gap(gap_end(&self.pgd, ROOT, page >> 27) << 27);
+        match self.step_first(page / ENTRIES) {
+            Step::Gap(block) => Step::Gap(block.saturating_mul(ENTRIES)),
+            Step::Table(table) => Step::Table(table),
         }
-        let middle = entry(&self.pud, upper, page >> 18);
-        if middle == 0 {
-            return Step::Gap(gap_end(&self.pud, upper, page >> 18) << 18);
-        }
-        let table = entry(&self.pmd, middle, page >> 9);
-        if table == 0 {
-            return Step::Gap(gap_end(&self.pmd, middle, page >> 9) << 9);
-        }
-        Step::Table(table)
+    }
+
+    /// Goes down towards the table of the first level for a block.
+    fn step_first(&self, block: u64) -> Step
+        requires levels { IsLevels self.now }
+        requires block { block < 2 ^ 30 }
+        ensures { IsStepIn (from_second self.now) block result }
+    {
+        step_down(&self.second, self.step_second(block / ENTRIES), block)
+    }
+
+    fn step_second(&self, number: u64) -> Step
+        requires levels { IsLevels self.now }
+        requires number { number < 2 ^ 24 }
+        ensures { IsStepIn (from_third self.now) number result }
+    {
+        step_down(&self.third, self.step_third(number / ENTRIES), number)
+    }
+
+    fn step_third(&self, number: u64) -> Step
+        requires levels { IsLevels self.now }
+        requires number { number < 2 ^ 18 }
+        ensures { IsStepIn (from_fourth self.now) number result }
+    {
+        step_down(&self.fourth, self.step_fourth(number / ENTRIES), number)
+    }
+
+    fn step_fourth(&self, number: u64) -> Step
+        requires levels { IsLevels self.now }
+        requires number { number < 2 ^ 12 }
+        ensures { IsStepIn (from_fifth self.now) number result }
+    {
+        step_down(&self.fifth, self.step_fifth(number / ENTRIES), number)
+    }
+
+    fn step_fifth(&self, number: u64) -> Step
+        requires levels { IsLevels self.now }
+        requires number { number < 2 ^ 6 }
+        ensures { IsStepIn (from_sixth self.now) number result }
+    {
+        step_down(&self.sixth, Step::Table(FIRST), number)
     }
 
     /// The least page of the table from `page` on that has a word, and that word.
@@ -238,12 +349,12 @@ impl Levels {
         requires levels { IsLevels self.now }
         requires page { page < 2 ^ 36 }
         requires table { IsStep self.now page (Step.Table table) }
-        ensures { MatchOption result ((v : ℕ) → page ≤ v → v < (page / 512 + 1) * 512 → word_of self.now v ≡ 0)
+        ensures { MatchOption result ((v : ℕ) → page ≤ v → v < (page / 64 + 1) * 64 → word_of self.now v ≡ 0)
             (λ e. (page ≤ e.0) × (e.0 < 2 ^ 36) × (word_of self.now e.0 ≡ e.1) × (e.1 ≢ 0)
             × ((v : ℕ) → page ≤ v → v < e.0 → word_of self.now v ≡ 0)) }
     {
         let found = next_entry(&self.used, table, page)?;
-        Some((found, entry(&self.pte, table, found)))
+        Some((found, entry(&self.words, table, found)))
     }
 
     /// The least page of the table from `page` on whose word is marked, and that word.
@@ -251,106 +362,39 @@ impl Levels {
         requires levels { IsLevels self.now }
         requires page { page < 2 ^ 36 }
         requires table { IsStep self.now page (Step.Table table) }
-        ensures { MatchOption result ((v : ℕ) → page ≤ v → v < (page / 512 + 1) * 512 → marked_of self.now v ≡ 0)
+        ensures { MatchOption result ((v : ℕ) → page ≤ v → v < (page / 64 + 1) * 64 → marked_of self.now v ≡ 0)
             (λ e. (page ≤ e.0) × (e.0 < 2 ^ 36) × (marked_of self.now e.0 ≡ e.1) × (e.1 ≢ 0)
             × ((v : ℕ) → page ≤ v → v < e.0 → marked_of self.now v ≡ 0)) }
     {
         let found = next_entry(&self.marks, table, page)?;
-        Some((found, entry(&self.pte, table, found)))
+        Some((found, entry(&self.words, table, found)))
     }
-}
-
-/// Where in a level the entry of a table for a number stands.
-fn place(table: u64, number: u64) -> usize
-    requires { table < 2 ^ 54 }
-    ensures { result ≡ table * 512 + number % 512 }
-{
-    (table * ENTRIES + number % ENTRIES) as usize
-}
-
-/// The entry of a table for a number.
-fn entry(entries: &[u64], table: u64, number: u64) -> u64
-    requires { table < 2 ^ 54 }
-    ensures { result ≡ slice_index entries.now (table * 512 + number % 512) }
-{
-    match entries.get(place(table, number)) {
-        Some(entry) => *entry,
-        None => 0,
-    }
-}
-
-/// Where the empty entries of a table from this one on end.
-fn gap_end(entries: &[u64], table: u64, number: u64) -> u64
-    requires table { table < 2 ^ 54 }
-    requires number { number < 2 ^ 27 }
-    requires empty { slice_index entries.now (table * 512 + number % 512) ≡ 0 }
-    ensures further { number < result }
-    ensures inside { result ≤ (number / 512 + 1) * 512 }
-    ensures gap { (n : ℕ) → number ≤ n → n < result → slice_index entries.now (table * 512 + n % 512) ≡ 0 }
-{
-    let end = (number / ENTRIES + 1) * ENTRIES;
-    for at in number + 1..end {
-        if entry(entries, table, at) != 0 {
-            return at;
-        }
-    }
-    end
-}
-
-/// Adds an empty table, and gives its number, which is not 0.
-fn add_table(entries: &mut Vec<u64>) -> Result<u64, NoMemory>
-    requires { length entries.old.items % 512 ≡ 0 }
-    ensures entries { MatchResult result (λ table. IsLonger entries.old.items entries.new.items)
-        (λ _. entries.new.items ≡ entries.old.items) }
-    ensures number { IfOk result
-        (λ table. (table ≢ 0) × (length entries.old.items ≤ table * 512)
-        × (length entries.new.items ≡ table * 512 + 512)) }
-    ensures grown { length entries.new.items ≤ length entries.old.items + 1024 }
-{
-    let tables = (entries.len() / ENTRIES as usize).max(1);
-    entries.resize((tables + 1) * ENTRIES as usize, 0)?;
-    Ok(tables as u64)
-}
-
-/// The table that an entry names, which is made where it names none.
-fn child(entries: &mut Vec<u64>, at: usize, below: &mut Vec<u64>) -> Result<u64, NoMemory>
-    requires at { at < length entries.old.items }
-    requires below { length below.old.items % 512 ≡ 0 }
-    ensures child { MatchResult result
-        (λ table. IsChild entries.old.items entries.new.items below.old.items below.new.items at table)
-        (λ _. (entries.new.items ≡ entries.old.items) × (below.new.items ≡ below.old.items)) }
-    ensures grown { length below.new.items ≤ length below.old.items + 1024 }
-{
-    if entries[at] == 0 {
-        entries[at] = add_table(below)?;
-    }
-    Ok(entries[at])
 }
 
 /// The number of the first entry of the table from that of `number` on whose bit is set.
 fn next_entry(bits: &[u64], table: u64, number: u64) -> Option<u64>
-    requires table { table * 8 + 8 ≤ length bits.now }
-    requires number { number < 2 ^ 36 }
-    requires few { length bits.now < 2 ^ 60 }
+    requires { number < 2 ^ 36 }
     ensures { MatchOption result
-        ((k : ℕ) → number ≤ k → k < (number / 512 + 1) * 512 → bit bits.now (table * 512 + k % 512) ≡ false)
-        (λ q. (number ≤ q) × (q < (number / 512 + 1) * 512) × (bit bits.now (table * 512 + q % 512) ≡ true)
-        × ((k : ℕ) → number ≤ k → k < q → bit bits.now (table * 512 + k % 512) ≡ false)) }
+        ((k : ℕ) → number ≤ k → k < (number / 64 + 1) * 64 → bit bits.now (table * 64 + k % 64) ≡ false)
+        (λ q. (number ≤ q) × (q < (number / 64 + 1) * 64) × (bit bits.now (table * 64 + q % 64) ≡ true)
+        × ((k : ℕ) → number ≤ k → k < q → bit bits.now (table * 64 + k % 64) ≡ false)) }
 {
-    let first = table as usize * BIT_WORDS;
-    let of_table = &bits[first..first + BIT_WORDS];
-    let next = bits::next_bit(of_table, (number % ENTRIES) as usize)?;
+    let word = match bits.get(table as usize) {
+        Some(word) => *word,
+        None => 0,
+    };
+    let next = bits::next_in_word(word, (number % ENTRIES) as u32)?;
     Some(number / ENTRIES * ENTRIES + next as u64)
 }
 
-/// Makes room for the bits of so many entries and of two more tables.
+/// Makes room for the bits of so many entries and of three more tables.
 fn grow_bits(bits: &mut Vec<u64>, entries: usize) -> Result<(), NoMemory>
     requires { entries < 2 ^ 63 }
     ensures same { (k : ℕ) → bit bits.new.items k ≡ bit bits.old.items k }
     ensures more { length bits.old.items ≤ length bits.new.items }
-    ensures ok { OnOk result (entries + 1024 ≤ 64 * length bits.new.items) }
+    ensures ok { OnOk result (entries + 192 ≤ 64 * length bits.new.items) }
 {
-    let words = entries / 64 + 1 + 2 * BIT_WORDS;
+    let words = entries / 64 + 4;
     if bits.len() < words {
         bits.resize(words, 0)?;
     }

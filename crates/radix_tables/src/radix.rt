@@ -7,8 +7,8 @@ use hm_base::{NoMemory, Page};
 use std::alloc::Global;
 use std::marker::Model;
 
-/// A map from pages to words that are not 0, in four levels of tables of 512 entries of 64 bits, as
-/// x86-64 has its page tables (arch/x86/include/asm/pgtable_types.h).
+/// A map from pages to words that are not 0, in levels of tables as the kernel's page tables are
+/// (include/linux/pgtable.h), but in six levels of 64 entries and not in five of 512.
 #[derive(Drop)]
 pub struct Radix {
     levels: Levels,

@@ -8,10 +8,10 @@ use Rattle.radix_tables.proofs.levels.Levels.next_mark.Goals as goal
 pub returns-in_err-found : goal.returns-in_err-found
 returns-in_err-found c =
     found_none _ c.from_residual.ensures (none_word is_marked marked c.args.self.now c.deref.result.now c.args.table c.args.page
-    (subst (AreBits is_marked c.args.self.now.pte.items) (sym c.deref.ensures.value) c.requires.levels.marks) c.requires.table.0 c.in_err-found.ensures unmarked)
+    (subst (AreBits is_marked c.args.self.now.words.items) (sym c.deref.ensures.value) c.requires.levels.marks) c.requires.table.0 c.in_err-found.ensures unmarked)
 
 pub returns : goal.returns
 returns c =
     some_word is_marked marked c.args.self.now c.deref.result.now c.args.table c.args.page c.in_ok-found.found _
-    (subst (AreBits is_marked c.args.self.now.pte.items) (sym c.deref.ensures.value) c.requires.levels.marks) c.requires.table.0 c.requires.page c.in_ok-found.ensures
-    (c.entry.ensures ∙ ap (λ (xs : List ℕ). slice_index xs (c.args.table * 512 + c.in_ok-found.found % 512)) c.deref-2.ensures.value) unmarked with_mark
+    (subst (AreBits is_marked c.args.self.now.words.items) (sym c.deref.ensures.value) c.requires.levels.marks) c.requires.table.0 c.requires.page c.in_ok-found.ensures
+    (c.entry.ensures ∙ ap (λ (xs : List ℕ). slice_index xs (c.args.table * 64 + c.in_ok-found.found % 64)) c.deref-2.ensures.value) unmarked with_mark

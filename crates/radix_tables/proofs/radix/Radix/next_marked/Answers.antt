@@ -1,4 +1,4 @@
-use Rattle.std.proofs.Common.{ap, ◌∙◌, None, Some}
+use Rattle.std.proofs.Common.{sym, ap, ◌∙◌, None, Some}
 use Rattle.radix_tables.specs.Levels.{table_of, word_of}
 use Rattle.radix_tables.specs.Maps.{map_of, next_marked}
 use Rattle.radix_tables.proofs.Made.{word_below}
@@ -18,3 +18,9 @@ returns c =
     ap (λ k. Some (k, c.in_ok-found.word)) c.new.ensures
     ∙ (least_marked (word_of l) (table_of l) c.number.result (Some (c.in_ok-found.found, c.in_ok-found.word)) c.in_ok-found.ensures (λ v d. word_below l c.self.invariant v (marked_some (word_of l v) d))
     ∙ (ap (λ v. next_marked (map_of (word_of l) (table_of l)) v) c.number.ensures.same ∙ ap (λ m. next_marked m c.args.page) c.self.view_is))
+
+pub new-requires : goal.new-requires
+new-requires c =
+    let l = c.self.inside.levels in
+    let e = c.in_ok-found.ensures in
+    word_below l c.self.invariant c.in_ok-found.found (marked_some (word_of l c.in_ok-found.found) (λ z. e.2 (sym e.1 ∙ z)))

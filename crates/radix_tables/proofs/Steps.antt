@@ -1,0 +1,43 @@
+-- Steps down the levels.
+use Rattle.std.proofs.Common.{◌≡◌, ◌≢◌, ℕ, ◌/◌, ◌^◌, ◌<◌, List, [], ◌∷◌, subst, sym, arith, ◌⊎◌, inl, inr}
+use Rattle.std.proofs.lemmas.Bool.{cases_eq}
+use Rattle.std.proofs.lemmas.Bool.Decides.{nat_tests}
+use Rattle.radix_tables.specs.Walks.{table_in, entry_in, IsWhole, AreTables}
+use Rattle.radix_tables.specs.Levels.{IsStepIn}
+use Rattle.radix_tables.specs.declared.level_tables.Step.{Step}
+use Rattle.radix_tables.specs.declared.level_tables.Step.TheVariants.{Table}
+use Rattle.radix_tables.proofs.Tables.{table_first, table_entry}
+
+-- how far a table reaches
+table_small : (a : List (List ℕ)) (n m : ℕ) → AreTables m a → m < 2 ^ 63 → table_in a n < 2 ^ 57
+table_small a n m h l = by a h (cases_eq n 0)
+  where
+    first : (a : List (List ℕ)) → n ≡ 0 → table_in a n < 2 ^ 57
+    first a z = omega (arith, table_first a n z)
+
+    none : n ≢ 0 → table_in [] n ≡ 0
+    none z = grind (arith, nat_tests)
+
+    by : (a : List (List ℕ)) → AreTables m a → (n ≡ 0) ⊎ (n ≢ 0) → table_in a n < 2 ^ 57
+    by a h (inl z) = first a z
+    by [] h (inr z) = omega (arith, none z)
+    by (xs ∷ b) h (inr z) = there (cases_eq (entry_in xs b n) 0)
+      where
+        there : (entry_in xs b n ≡ 0) ⊎ (entry_in xs b n ≢ 0) → table_in (xs ∷ b) n < 2 ^ 57
+        there (inl e) = omega (arith, table_entry xs b n z, e)
+        there (inr e) = omega (arith, table_entry xs b n z, h.0.inside _ e)
+
+pub step_small : (a : List (List ℕ)) (n m : ℕ) (r : Step) → AreTables m a → m < 2 ^ 63 → IsStepIn a n r → (t : ℕ) → r ≡ Table t → t < 2 ^ 57
+step_small a n m r h l s t e = let f : IsStepIn a n (Table t) = subst (IsStepIn a n) e s in omega (arith, f.0, table_small a n m h l)
+
+-- a step goes down a level
+pub step_on : (xs ys : List ℕ) (a : List (List ℕ)) (n : ℕ) (above r : Step) → ys ≡ xs → IsWhole xs → IsStepIn a (n / 64) above →
+    ((levels : List (List ℕ)) → IsWhole ys → IsStepIn levels (n / 64) above → IsStepIn (ys ∷ levels) n r) → IsStepIn (xs ∷ a) n r
+step_on xs ys a n above r e w s f = subst (λ (zs : List ℕ). IsStepIn (zs ∷ a) n r) e (f a (subst IsWhole (sym e) w) s)
+
+-- the table of the highest level
+pub step_root : (n : ℕ) → n ≡ 0 → IsStepIn [] n (Table 1)
+step_root n e = (sym (table_first [] n e), some 1 (omega arith))
+  where
+    some : (t : ℕ) → 0 < t → t ≢ 0
+    some t l e = absurd (omega arith)
