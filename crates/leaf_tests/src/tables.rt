@@ -1,4 +1,4 @@
-// The map of words in four levels of tables, against a plain list.
+// The map of words in levels of tables, against a plain list.
 ghost use Rattle.std.specs.Prelude.{◌≢◌, ◌^◌, ◌<◌};
 
 use crate::drawn::after;
@@ -27,7 +27,7 @@ fn page_of(choice: u64) -> u64
     ensures { result < 2 ^ 36 }
 {
     let (a, b, c) = (choice % 4, choice / 4 % 4, choice / 16);
-    a * 170 + b * 512 * 130 + c * (1 << 33)
+    (a + b * (1 << 12) + c * (1 << 24)) * 45
 }
 
 fn next_in(plain: &[u64], from: u64) -> Option<u64> {
