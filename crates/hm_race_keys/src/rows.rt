@@ -188,13 +188,6 @@ impl Rows {
         self.words.retain(|word| word.row != row);
     }
 
-    /// Gives back what memory the words do not need.
-    pub fn trim(&mut self)
-        ensures { (r k : ℕ) → word_of self.new r k ≡ word_of self.old r k }
-    {
-        self.words.shrink_to_fit();
-    }
-
     /// Whether both have the same words.
     pub fn same(&self, other: &Rows) -> bool
         ensures { result ≡ true → (r k : ℕ) → word_of self.now r k ≡ word_of other.now r k }
