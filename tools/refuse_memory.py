@@ -16,32 +16,31 @@ import argparse, os, subprocess, sys, tempfile
 TOP = os.path.dirname(os.path.dirname(os.path.abspath(__file__)))
 PROGRAM = os.environ.get('HMMRUN', os.path.join(TOP, 'crates/hmmrun/out/hmmrun'))
 
-# Loaded before the C library: refuses request REFUSE_AT, and those behind it where REFUSE_ALL is set; writes how many
-# requests there were to the file COUNT_TO.
+# Loaded before the C library: refuses request REFUSE_AT, and those behind it where REFUSE_ALL is set; keeps how many
+# requests there were in the file COUNT_TO, as 8 bytes, since a program may end without a call of destructors.
 REFUSER = r'''
-#include <stdio.h>
+#include <fcntl.h>
 #include <stdlib.h>
+#include <sys/mman.h>
+#include <unistd.h>
 extern void *__libc_malloc(size_t), *__libc_realloc(void *, size_t), *__libc_calloc(size_t, size_t);
-static long asked, at = -1;
+static long unkept, *asked = &unkept, at = -1;
 static int all;
 __attribute__((constructor)) static void begin(void)
 {
     const char *text = getenv("REFUSE_AT");
+    int file = open(getenv("COUNT_TO"), O_RDWR | O_CREAT, 0600);
+    if (file < 0 || ftruncate(file, 8)) _exit(99);
+    asked = mmap(0, 8, PROT_READ | PROT_WRITE, MAP_SHARED, file, 0);
+    if (asked == MAP_FAILED) _exit(99);
     all = getenv("REFUSE_ALL") != 0;
-    asked = 0;
+    *asked = 0;
     at = text ? atol(text) : -1;
 }
-static int refused(void) { asked++; return at > 0 && (all ? asked >= at : asked == at); }
+static int refused(void) { ++*asked; return at > 0 && (all ? *asked >= at : *asked == at); }
 void *malloc(size_t n) { return refused() ? 0 : __libc_malloc(n); }
 void *realloc(void *p, size_t n) { return refused() ? 0 : __libc_realloc(p, n); }
 void *calloc(size_t n, size_t m) { return refused() ? 0 : __libc_calloc(n, m); }
-__attribute__((destructor)) static void end(void)
-{
-    long count = asked;
-    at = -1;
-    FILE *file = fopen(getenv("COUNT_TO"), "w");
-    if (file) { fprintf(file, "%ld", count); fclose(file); }
-}
 '''
 
 
@@ -85,8 +84,8 @@ def replay(room, words, script, at=None, all_later=False):
     if all_later:
         environment['REFUSE_ALL'] = '1'
     done = subprocess.run([PROGRAM] + words, input=script, capture_output=True, env=environment)
-    with open(count) as file:
-        return done.returncode, done.stdout, int(file.read())
+    with open(count, 'rb') as file:
+        return done.returncode, done.stdout, int.from_bytes(file.read(), 'little')
 
 
 def sweep(room, given, name, script):
