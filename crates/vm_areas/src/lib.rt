@@ -156,8 +156,8 @@ impl Areas {
         Ok(())
     }
 
-    /// The pages of the span get the right, as by `mprotect`; an area is cut at the span's ends. The areas are then made
-    /// in the room of `spare`, whose own are lost.
+    /// The pages of the span get the right, as by `mprotect`; an area is cut at the span's ends. The areas are
+    /// then made in the room of `spare`, whose own are lost.
     pub fn protect(
         &mut self,
         span: Span,
