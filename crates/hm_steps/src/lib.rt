@@ -10,8 +10,7 @@ mod operations;
 mod phases;
 
 use hm_base::{Actor, NoMemory};
-use hm_history::phases::Next;
-use hm_history::{Entry, Progress};
+use hm_history::Progress;
 use hm_reads::Reads;
 use phases::due_phase;
 use skip_rules::SkipRule;
@@ -29,15 +28,11 @@ pub fn due<W: Reads, R: SkipRule>(
     ensures { IfOk result (λ progress. progress ≡ spec.due_in (W.program world.now) (W.state world.now) actor) }
 {
     world.script().facts();
-    match world.op(actor) {
-        None => Ok(Progress::Idle),
-        Some(op) => match world.phase(actor) {
-            None => Ok(Progress::Idle),
-            Some(top) => match due_phase(world, rule, alloc, actor, op, top) {
-                Ok(Next::Do(kind)) => Ok(Progress::Did(Entry { actor, kind })),
-                Ok(Next::Wait(why)) => Ok(Progress::Waiting(why)),
-                Err(error) => Err(error),
-            },
-        },
-    }
+    let Some(op) = world.op(actor) else {
+        return Ok(Progress::Idle);
+    };
+    let Some(top) = world.phase(actor) else {
+        return Ok(Progress::Idle);
+    };
+    due_phase(world, rule, alloc, actor, op, top)
 }

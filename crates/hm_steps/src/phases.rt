@@ -1,5 +1,7 @@
-// What is due at each phase.
-ghost use Rattle.std.specs.Prelude.{◌≡◌, ◌≤◌, Some, IsTrue, IfOk};
+// What is due at each phase. Each turn answers what `due` answers, so that a kind moves as seldom as can be. Each is a
+// function of its own: what an arm of `due_phase` kept in its frame would be filled with zeros at every turn, be it
+// taken or not.
+ghost use Rattle.std.specs.Prelude.{◌≡◌, Some, Ok, IsTrue, IfOk};
 ghost use Rattle.hm_base.specs.Pages.{one_page};
 ghost use Rattle.hm_base.specs.Program.{op_in_range};
 ghost use Rattle.hm_history.specs.Plain.{mirror_proc};
@@ -16,7 +18,6 @@ ghost use Rattle.hm_history.specs.declared.KeptWhy.TheVariants as why;
 ghost use Rattle.hm_history.specs.declared.phases.Phase.TheVariants as phase;
 ghost use Rattle.hm_history.specs.declared.phases.Next.TheVariants as next;
 ghost use Rattle.hm_reads.specs.Ranges.{body_in_range};
-ghost use Rattle.hm_steps.specs.Groups.{group};
 
 use crate::bodies::due_guard;
 use crate::moves::due_moves;
@@ -26,7 +27,7 @@ use exclusive_ops::{fetched, step_exclusive};
 use fault_home::{give_up, step_home};
 use hm_base::{Actor, Cause, Frame, MirrorId, NoMemory, Op, Page, Place, Proc, Span};
 use hm_history::phases::{Body, MoveStep, Next, Phase, Touch};
-use hm_history::{KeptAt, KeptWhy, Kind};
+use hm_history::{Entry, KeptAt, KeptWhy, Kind, Progress};
 use hm_reads::Reads;
 use hm_reads::decisions::{rlock_mirror, start_page};
 use hm_reads::faults::Wanted;
@@ -78,36 +79,137 @@ fn due_decide<W: Reads>(world: &W, actor: Actor, op: &Op, touch: &Touch) -> Next
     decide_at(world, actor, op, touch, &at)
 }
 
-fn due_taken<W: Reads>(world: &W, op: &Op, touch: &Touch, by: &Frame, over: &Place) -> Next
+#[inline(always)]
+fn did(actor: Actor, kind: Kind) -> Result<Progress, NoMemory>
+    ensures { result ≡ Ok (spec.progress actor (next.Do kind)) }
+{
+    Ok(Progress::Did(Entry { actor, kind }))
+}
+
+#[inline(always)]
+fn comes_to(actor: Actor, next: Next) -> Result<Progress, NoMemory>
+    ensures { result ≡ Ok (spec.progress actor next) }
+{
+    match next {
+        Next::Do(kind) => did(actor, kind),
+        Next::Wait(why) => Ok(Progress::Waiting(why)),
+    }
+}
+
+#[inline(never)]
+fn begin_turn<W: Reads>(world: &W, actor: Actor, op: &Op) -> Result<Progress, NoMemory>
+    ensures { result ≡ Ok (spec.progress actor (spec.due_begin (W.state world.now).after actor op.now)) }
+{
+    comes_to(actor, due_begin(world, actor, op))
+}
+
+#[inline(never)]
+fn locked_turn<W: Reads>(world: &W, actor: Actor, op: &Op) -> Result<Progress, NoMemory>
+    ensures { result ≡ Ok (spec.progress actor (next.Do (spec.due_locked (W.state world.now).after op.now))) }
+{
+    did(actor, due_locked(world, op))
+}
+
+#[inline(never)]
+fn ready_turn<W: Reads>(world: &W, actor: Actor, op: &Op) -> Result<Progress, NoMemory>
+    ensures { result ≡ Ok (spec.progress actor (next.Do (spec.due_ready (W.state world.now).after op.now))) }
+{
+    did(actor, due_ready(world, op))
+}
+
+#[inline(never)]
+fn answer_turn<W: Reads>(world: &W, actor: Actor, op: &Op) -> Result<Progress, NoMemory>
+    ensures { result ≡ Ok (spec.progress actor (next.Do (spec.due_answer (W.state world.now).after op.now))) }
+{
+    did(actor, due_answer(world, op))
+}
+
+#[inline(never)]
+fn detaching_turn<W: Reads>(
+    world: &W,
+    actor: Actor,
+    op: &Op,
+    seq: u64,
+) -> Result<Progress, NoMemory>
+    ensures { result ≡ Ok (spec.progress actor (spec.due_detaching (W.state world.now).after (op_mirror op.now) seq)) }
+{
+    comes_to(actor, leave(world, op_mirror(op), seq))
+}
+
+#[inline(never)]
+fn pages_turn<W: Reads>(world: &W, actor: Actor, op: &Op, from: u64) -> Result<Progress, NoMemory>
+    ensures { result ≡ Ok (spec.progress actor (next.Do (spec.due_pages (W.state world.now).after op.now from))) }
+{
+    did(actor, due_pages(world, op, from))
+}
+
+#[inline(never)]
+fn begun_turn<W: Reads>(world: &W, actor: Actor, op: &Op) -> Result<Progress, NoMemory>
+    ensures { result ≡ Ok (spec.progress actor (spec.rlock (W.state world.now).after (mirror_proc (W.state world.now).after.plain (op_mirror op.now)))) }
+{
+    comes_to(actor, rlock_mirror(world, op_mirror(op)))
+}
+
+#[inline(never)]
+fn decide_turn<W: Reads>(
+    world: &W,
+    actor: Actor,
+    op: &Op,
+    touch: &Touch,
+) -> Result<Progress, NoMemory>
     requires { IsTrue (op_in_range op.now) }
-    ensures { result
-        ≡ spec.due_taken (W.state world.now).after by.now over.now (touch_proc (W.state world.now).after op.now)
-        (touch_page op.now touch.now) }
+    ensures { result ≡ Ok (spec.progress actor (spec.due_decide (W.program world.now) (W.state world.now).after actor op.now touch.now (touch_proc (W.state world.now).after op.now) (touch_page op.now touch.now))) }
+{
+    comes_to(actor, due_decide(world, actor, op, touch))
+}
+
+#[inline(never)]
+fn noted_turn<W: Reads>(
+    world: &W,
+    actor: Actor,
+    op: &Op,
+    piece: u32,
+    since: u64,
+    seq: u64,
+    place: &Place,
+) -> Result<Progress, NoMemory>
+    requires { IsTrue (op_in_range op.now) }
+    ensures { result ≡ Ok (spec.progress actor (spec.due_noted (W.state world.now).after op.now piece since seq place.now)) }
+{
+    comes_to(actor, noted(world, op, piece, since, seq, place))
+}
+
+#[inline(never)]
+fn taken_turn<W: Reads>(
+    world: &W,
+    actor: Actor,
+    op: &Op,
+    touch: &Touch,
+    by: &Frame,
+    over: &Place,
+) -> Result<Progress, NoMemory>
+    requires { IsTrue (op_in_range op.now) }
+    ensures { result ≡ Ok (spec.progress actor (spec.due_taken (W.state world.now).after by.now over.now (touch_proc (W.state world.now).after op.now) (touch_page op.now touch.now))) }
 {
     let at = wanted(world, op, touch);
-    anon_fault::taken(world, &at, by, over)
+    comes_to(actor, anon_fault::taken(world, &at, by, over))
 }
 
-fn due_armed<W: Reads>(world: &W, op: &Op, touch: &Touch) -> Kind
+#[inline(never)]
+fn armed_turn<W: Reads>(
+    world: &W,
+    actor: Actor,
+    op: &Op,
+    touch: &Touch,
+) -> Result<Progress, NoMemory>
     requires { IsTrue (op_in_range op.now) }
-    ensures { result
-        ≡ spec.start_entry (W.state world.now).after (touch_proc (W.state world.now).after op.now)
-        (one_page (touch_page op.now touch.now)) }
+    ensures { result ≡ Ok (spec.progress actor (next.Do (spec.start_entry (W.state world.now).after (touch_proc (W.state world.now).after op.now) (one_page (touch_page op.now touch.now))))) }
 {
     let at = wanted(world, op, touch);
-    start_page(world, at.proc, at.page)
+    did(actor, start_page(world, at.proc, at.page))
 }
 
-fn due_begun<W: Reads>(world: &W, op: &Op) -> Next
-    ensures { result
-        ≡ spec.rlock (W.state world.now).after (mirror_proc (W.state world.now).after.plain (op_mirror op.now)) }
-{
-    rlock_mirror(world, op_mirror(op))
-}
-
-// The turns of the phases whose entry is there at once. Each is a function of its own: what an arm of the two functions
-// below would keep in their frames is filled with zeros at every turn, be it taken or not.
-
+#[inline(never)]
 fn guard_turn<W: Reads>(
     world: &W,
     actor: Actor,
@@ -117,61 +219,97 @@ fn guard_turn<W: Reads>(
     overlapped: bool,
     told: Option<MirrorId>,
     body: &Body,
-) -> Next
+) -> Result<Progress, NoMemory>
     requires { IsTrue (body_in_range body.now) }
-    ensures { result
-        ≡ next.Do (spec.due_guard (W.state world.now).after actor op.now proc span overlapped told body.now) }
+    ensures { result ≡ Ok (spec.progress actor (next.Do (spec.due_guard (W.state world.now).after actor op.now proc span overlapped told body.now))) }
 {
-    Next::Do(due_guard(world, actor, op, proc, span, overlapped, told, body))
+    did(
+        actor,
+        due_guard(world, actor, op, proc, span, overlapped, told, body),
+    )
 }
 
-fn drop_turn(frame: Frame) -> Next
-    ensures { result ≡ next.Do (kind.Drop frame) }
+#[inline(never)]
+fn drop_turn(actor: Actor, frame: Frame) -> Result<Progress, NoMemory>
+    ensures { result ≡ Ok (spec.progress actor (next.Do (kind.Drop frame))) }
 {
-    Next::Do(Kind::Drop(frame))
+    did(actor, Kind::Drop(frame))
 }
 
-fn home_turn<W: Reads>(world: &W, frame: &Frame, at: KeptAt) -> Next
-    ensures { result ≡ next.Do (spec.due_emptying (W.program world.now) (W.state world.now).after frame.now at) }
+#[inline(never)]
+fn home_turn<W: Reads>(
+    world: &W,
+    actor: Actor,
+    frame: &Frame,
+    at: KeptAt,
+) -> Result<Progress, NoMemory>
+    ensures { result ≡ Ok (spec.progress actor (next.Do (spec.due_emptying (W.program world.now) (W.state world.now).after frame.now at))) }
 {
-    Next::Do(step_home(world, frame, at))
+    did(actor, step_home(world, frame, at))
 }
 
-fn copy_turn(from: Frame, to: Frame, part: u8) -> Next
-    ensures { result ≡ next.Do (kind.Copied from to (Some part)) }
+#[inline(never)]
+fn copy_turn(actor: Actor, from: Frame, to: Frame, part: u8) -> Result<Progress, NoMemory>
+    ensures { result ≡ Ok (spec.progress actor (next.Do (kind.Copied from to (Some part)))) }
 {
-    Next::Do(Kind::Copied {
-        from,
-        to,
-        part: Some(part),
-    })
+    did(
+        actor,
+        Kind::Copied {
+            from,
+            to,
+            part: Some(part),
+        },
+    )
 }
 
-fn commit_turn(from: Frame, to: Frame) -> Next
-    ensures { result ≡ next.Do (kind.Committed from to) }
+#[inline(never)]
+fn commit_turn(actor: Actor, from: Frame, to: Frame) -> Result<Progress, NoMemory>
+    ensures { result ≡ Ok (spec.progress actor (next.Do (kind.Committed from to))) }
 {
-    Next::Do(Kind::Committed { from, to })
+    did(actor, Kind::Committed { from, to })
 }
 
-fn finish_turn<W: Reads>(world: &W, from: &Frame, to: Option<Frame>) -> Next
-    ensures { result ≡ next.Do (spec.due_finish (W.state world.now).after from.now to) }
+#[inline(never)]
+fn finish_turn<W: Reads>(
+    world: &W,
+    actor: Actor,
+    from: &Frame,
+    to: Option<Frame>,
+) -> Result<Progress, NoMemory>
+    ensures { result ≡ Ok (spec.progress actor (next.Do (spec.due_finish (W.state world.now).after from.now to))) }
 {
-    Next::Do(step_finish(world, from, to))
+    did(actor, step_finish(world, from, to))
 }
 
-fn settle_turn<W: Reads>(world: &W, frame: &Frame) -> Next
-    ensures { result ≡ next.Do (spec.settle (W.state world.now).after frame.now) }
+#[inline(never)]
+fn settle_turn<W: Reads>(world: &W, actor: Actor, frame: &Frame) -> Result<Progress, NoMemory>
+    ensures { result ≡ Ok (spec.progress actor (next.Do (spec.settle (W.state world.now).after frame.now))) }
 {
-    Next::Do(settle(world, frame))
+    did(actor, settle(world, frame))
 }
 
-fn give_up_turn(op: &Op, touch: &Option<Touch>) -> Next
+#[inline(never)]
+fn give_up_turn(actor: Actor, op: &Op, touch: &Option<Touch>) -> Result<Progress, NoMemory>
     requires { IsTrue (op_in_range op.now) }
-    ensures { result ≡ next.Do (spec.due_give_up op.now touch.now) }
+    ensures { result ≡ Ok (spec.progress actor (next.Do (spec.due_give_up op.now touch.now))) }
 {
-    Next::Do(give_up(op, touch))
+    did(actor, give_up(op, touch))
 }
 
+#[inline(never)]
+fn frames_turn<W: Reads>(
+    world: &W,
+    actor: Actor,
+    op: &Op,
+    from: u64,
+    emptied: u64,
+) -> Result<Progress, NoMemory>
+    ensures { result ≡ Ok (spec.progress actor (spec.due_frames (W.program world.now) (W.state world.now).after actor op.now from emptied)) }
+{
+    comes_to(actor, step_evict(world, actor, op, from, emptied))
+}
+
+#[inline(never)]
 fn moves_turn<W: Reads, R: SkipRule>(
     world: &W,
     rule: &R,
@@ -179,123 +317,51 @@ fn moves_turn<W: Reads, R: SkipRule>(
     op: &Op,
     step: MoveStep,
     from: u64,
-) -> Next
-    ensures { result
-        ≡ next.Do
-        (spec.due_moves (W.program world.now) (W.state world.now).after op.now
-        ((W.state world.now).going actor).pages
-        (coming (W.state world.now).after op.now ((W.state world.now).going actor).pages
-        (phase.Moves step from))) }
+) -> Result<Progress, NoMemory>
+    ensures { result ≡ Ok (spec.progress actor (next.Do (spec.due_moves (W.program world.now) (W.state world.now).after op.now ((W.state world.now).going actor).pages (coming (W.state world.now).after op.now ((W.state world.now).going actor).pages (phase.Moves step from))))) }
 {
-    Next::Do(due_moves(world, rule, actor, op, step, from))
+    did(actor, due_moves(world, rule, actor, op, step, from))
 }
 
-fn lost_turn(page: Page) -> Next
-    ensures { result ≡ next.Do (kind.Kept (kept.Page page) why.Lost) }
+#[inline(never)]
+fn lost_turn(actor: Actor, page: Page) -> Result<Progress, NoMemory>
+    ensures { result ≡ Ok (spec.progress actor (next.Do (kind.Kept (kept.Page page) why.Lost))) }
 {
-    Next::Do(Kind::Kept {
-        at: KeptAt::Page(page),
-        why: KeptWhy::Lost,
-    })
+    did(
+        actor,
+        Kind::Kept {
+            at: KeptAt::Page(page),
+            why: KeptWhy::Lost,
+        },
+    )
 }
 
-fn no_turn() -> Next
-    ensures { result ≡ next.Do (kind.Refused cause.Never) }
-{
-    Next::Do(Kind::Refused(Cause::Never))
-}
-
-fn locked_turn<W: Reads>(world: &W, op: &Op) -> Next
-    ensures { result ≡ next.Do (spec.due_locked (W.state world.now).after op.now) }
-{
-    Next::Do(due_locked(world, op))
-}
-
-fn ready_turn<W: Reads>(world: &W, op: &Op) -> Next
-    ensures { result ≡ next.Do (spec.due_ready (W.state world.now).after op.now) }
-{
-    Next::Do(due_ready(world, op))
-}
-
-fn answer_turn<W: Reads>(world: &W, op: &Op) -> Next
-    ensures { result ≡ next.Do (spec.due_answer (W.state world.now).after op.now) }
-{
-    Next::Do(due_answer(world, op))
-}
-
-fn pages_turn<W: Reads>(world: &W, op: &Op, from: u64) -> Next
-    ensures { result ≡ next.Do (spec.due_pages (W.state world.now).after op.now from) }
-{
-    Next::Do(due_pages(world, op, from))
-}
-
-fn armed_turn<W: Reads>(world: &W, op: &Op, touch: &Touch) -> Next
+#[inline(never)]
+fn piece_turn<W: Reads>(
+    world: &W,
+    alloc: Global,
+    actor: Actor,
+    op: &Op,
+    piece: u32,
+) -> Result<Progress, NoMemory>
     requires { IsTrue (op_in_range op.now) }
-    ensures { result
-        ≡ next.Do
-        (spec.start_entry (W.state world.now).after (touch_proc (W.state world.now).after op.now)
-        (one_page (touch_page op.now touch.now))) }
+    ensures { IfOk result (λ p. p ≡ spec.progress actor (spec.due_piece (W.state world.now).after actor op.now piece)) }
 {
-    Next::Do(due_armed(world, op, touch))
+    comes_to(actor, due_piece(world, alloc, actor, op, piece)?)
 }
 
-fn due_frame<W: Reads, R: SkipRule>(world: &W, rule: &R, actor: Actor, op: &Op, top: &Phase) -> Next
-    requires op { IsTrue (op_in_range op.now) }
-    requires top { IsTrue (phase_in_range top.now) }
-    requires group { 2 ≤ group top.now }
-    ensures { result
-        ≡ spec.due_phase (W.program world.now) (W.state world.now).after actor op.now
-        ((W.state world.now).going actor).pages top.now }
+#[inline(never)]
+fn fetched_turn<W: Reads>(
+    world: &W,
+    alloc: Global,
+    actor: Actor,
+    op: &Op,
+    old: u8,
+) -> Result<Progress, NoMemory>
+    requires { IsTrue (op_in_range op.now) }
+    ensures { IfOk result (λ p. p ≡ spec.progress actor (spec.due_fetched (W.state world.now).after actor op.now old)) }
 {
-    match top {
-        Phase::Guard {
-            proc,
-            span,
-            overlapped,
-            told,
-            body,
-        } => guard_turn(world, actor, op, *proc, *span, *overlapped, *told, body),
-        Phase::Drop { frame } => drop_turn(*frame),
-        Phase::Emptying { frame, at } => home_turn(world, frame, *at),
-        Phase::Copy { from, to, part } => copy_turn(*from, *to, *part),
-        Phase::Copied { from, to } => commit_turn(*from, *to),
-        Phase::Finish { from, to } => finish_turn(world, from, *to),
-        Phase::Settle { frame } => settle_turn(world, frame),
-        Phase::GiveUp { touch } => give_up_turn(op, touch),
-        Phase::Frames { next, emptied } => step_evict(world, actor, op, *next, *emptied),
-        Phase::Moves { step, next } => moves_turn(world, rule, actor, op, *step, *next),
-        Phase::Lost { page, .. } => lost_turn(*page),
-        _ => no_turn(),
-    }
-}
-
-fn due_fault<W: Reads, R: SkipRule>(world: &W, rule: &R, actor: Actor, op: &Op, top: &Phase) -> Next
-    requires op { IsTrue (op_in_range op.now) }
-    requires top { IsTrue (phase_in_range top.now) }
-    requires group { 1 ≤ group top.now }
-    ensures { result
-        ≡ spec.due_phase (W.program world.now) (W.state world.now).after actor op.now
-        ((W.state world.now).going actor).pages top.now }
-{
-    match top {
-        Phase::Begin => due_begin(world, actor, op),
-        Phase::Locked => locked_turn(world, op),
-        Phase::Ready => ready_turn(world, op),
-        Phase::Answer => answer_turn(world, op),
-        Phase::Detaching { seq } => leave(world, op_mirror(op), *seq),
-        Phase::Pages { next } => pages_turn(world, op, *next),
-        Phase::Begun { .. } => due_begun(world, op),
-        Phase::Decide { touch } => due_decide(world, actor, op, touch),
-        Phase::Noted {
-            piece,
-            since,
-            seq,
-            place,
-        } => noted(world, op, *piece, *since, *seq, place),
-        Phase::Taken { touch, by, over } => due_taken(world, op, touch, by, over),
-        Phase::Armed { touch, .. } => armed_turn(world, op, touch),
-        _ => due_frame(world, rule, actor, op, top),
-    }
+    comes_to(actor, fetched(world, alloc, actor, op, old)?)
 }
 
 /// The turn at a phase. Only the answers of accesses take memory.
@@ -307,17 +373,50 @@ pub fn due_phase<W: Reads, R: SkipRule>(
     actor: Actor,
     op: &Op,
     top: &Phase,
-) -> Result<Next, NoMemory>
+) -> Result<Progress, NoMemory>
     requires op { IsTrue (op_in_range op.now) }
     requires top { IsTrue (phase_in_range top.now) }
     ensures { IfOk result
-        (λ next. next
-        ≡ spec.due_phase (W.program world.now) (W.state world.now).after actor op.now
-        ((W.state world.now).going actor).pages top.now) }
+        (λ progress. progress
+        ≡ spec.progress actor
+        (spec.due_phase (W.program world.now) (W.state world.now).after actor op.now
+        ((W.state world.now).going actor).pages top.now)) }
 {
     match top {
-        Phase::Piece { piece } => due_piece(world, alloc, actor, op, *piece),
-        Phase::Fetched { old } => fetched(world, alloc, actor, op, *old),
-        _ => Ok(due_fault(world, rule, actor, op, top)),
+        Phase::Begin => begin_turn(world, actor, op),
+        Phase::Locked => locked_turn(world, actor, op),
+        Phase::Ready => ready_turn(world, actor, op),
+        Phase::Answer => answer_turn(world, actor, op),
+        Phase::Detaching { seq } => detaching_turn(world, actor, op, *seq),
+        Phase::Pages { next } => pages_turn(world, actor, op, *next),
+        Phase::Piece { piece } => piece_turn(world, alloc, actor, op, *piece),
+        Phase::Fetched { old } => fetched_turn(world, alloc, actor, op, *old),
+        Phase::Begun { .. } => begun_turn(world, actor, op),
+        Phase::Decide { touch } => decide_turn(world, actor, op, touch),
+        Phase::Noted {
+            piece,
+            since,
+            seq,
+            place,
+        } => noted_turn(world, actor, op, *piece, *since, *seq, place),
+        Phase::Taken { touch, by, over } => taken_turn(world, actor, op, touch, by, over),
+        Phase::Armed { touch, .. } => armed_turn(world, actor, op, touch),
+        Phase::Guard {
+            proc,
+            span,
+            overlapped,
+            told,
+            body,
+        } => guard_turn(world, actor, op, *proc, *span, *overlapped, *told, body),
+        Phase::Drop { frame } => drop_turn(actor, *frame),
+        Phase::Emptying { frame, at } => home_turn(world, actor, frame, *at),
+        Phase::Copy { from, to, part } => copy_turn(actor, *from, *to, *part),
+        Phase::Copied { from, to } => commit_turn(actor, *from, *to),
+        Phase::Finish { from, to } => finish_turn(world, actor, from, *to),
+        Phase::Settle { frame } => settle_turn(world, actor, frame),
+        Phase::GiveUp { touch } => give_up_turn(actor, op, touch),
+        Phase::Frames { next, emptied } => frames_turn(world, actor, op, *next, *emptied),
+        Phase::Moves { step, next } => moves_turn(world, rule, actor, op, *step, *next),
+        Phase::Lost { page, .. } => lost_turn(actor, *page),
     }
 }
