@@ -145,7 +145,9 @@ fn pages_turn<W: Reads>(world: &W, actor: Actor, op: &Op, from: u64) -> Result<P
 
 #[inline(never)]
 fn begun_turn<W: Reads>(world: &W, actor: Actor, op: &Op) -> Result<Progress, NoMemory>
-    ensures { result ≡ Ok (spec.progress actor (spec.rlock (W.state world.now).after (mirror_proc (W.state world.now).after.plain (op_mirror op.now)))) }
+    ensures { result
+        ≡ Ok (spec.progress actor
+        (spec.rlock (W.state world.now).after (mirror_proc (W.state world.now).after.plain (op_mirror op.now)))) }
 {
     comes_to(actor, rlock_mirror(world, op_mirror(op)))
 }
@@ -158,7 +160,10 @@ fn decide_turn<W: Reads>(
     touch: &Touch,
 ) -> Result<Progress, NoMemory>
     requires { IsTrue (op_in_range op.now) }
-    ensures { result ≡ Ok (spec.progress actor (spec.due_decide (W.program world.now) (W.state world.now).after actor op.now touch.now (touch_proc (W.state world.now).after op.now) (touch_page op.now touch.now))) }
+    ensures { result
+        ≡ Ok (spec.progress actor
+        (spec.due_decide (W.program world.now) (W.state world.now).after actor op.now touch.now (touch_proc
+        (W.state world.now).after op.now) (touch_page op.now touch.now))) }
 {
     comes_to(actor, due_decide(world, actor, op, touch))
 }
@@ -174,7 +179,9 @@ fn noted_turn<W: Reads>(
     place: &Place,
 ) -> Result<Progress, NoMemory>
     requires { IsTrue (op_in_range op.now) }
-    ensures { result ≡ Ok (spec.progress actor (spec.due_noted (W.state world.now).after op.now piece since seq place.now)) }
+    ensures { result
+        ≡ Ok (spec.progress actor
+        (spec.due_noted (W.state world.now).after op.now piece since seq place.now)) }
 {
     comes_to(actor, noted(world, op, piece, since, seq, place))
 }
@@ -189,7 +196,10 @@ fn taken_turn<W: Reads>(
     over: &Place,
 ) -> Result<Progress, NoMemory>
     requires { IsTrue (op_in_range op.now) }
-    ensures { result ≡ Ok (spec.progress actor (spec.due_taken (W.state world.now).after by.now over.now (touch_proc (W.state world.now).after op.now) (touch_page op.now touch.now))) }
+    ensures { result
+        ≡ Ok (spec.progress actor
+        (spec.due_taken (W.state world.now).after by.now over.now (touch_proc (W.state world.now).after op.now)
+        (touch_page op.now touch.now))) }
 {
     let at = wanted(world, op, touch);
     comes_to(actor, anon_fault::taken(world, &at, by, over))
@@ -203,7 +213,10 @@ fn armed_turn<W: Reads>(
     touch: &Touch,
 ) -> Result<Progress, NoMemory>
     requires { IsTrue (op_in_range op.now) }
-    ensures { result ≡ Ok (spec.progress actor (next.Do (spec.start_entry (W.state world.now).after (touch_proc (W.state world.now).after op.now) (one_page (touch_page op.now touch.now))))) }
+    ensures { result
+        ≡ Ok (spec.progress actor
+        (next.Do (spec.start_entry (W.state world.now).after (touch_proc (W.state world.now).after op.now) (one_page
+        (touch_page op.now touch.now))))) }
 {
     let at = wanted(world, op, touch);
     did(actor, start_page(world, at.proc, at.page))
@@ -221,7 +234,9 @@ fn guard_turn<W: Reads>(
     body: &Body,
 ) -> Result<Progress, NoMemory>
     requires { IsTrue (body_in_range body.now) }
-    ensures { result ≡ Ok (spec.progress actor (next.Do (spec.due_guard (W.state world.now).after actor op.now proc span overlapped told body.now))) }
+    ensures { result
+        ≡ Ok (spec.progress actor
+        (next.Do (spec.due_guard (W.state world.now).after actor op.now proc span overlapped told body.now))) }
 {
     did(
         actor,
@@ -243,7 +258,9 @@ fn home_turn<W: Reads>(
     frame: &Frame,
     at: KeptAt,
 ) -> Result<Progress, NoMemory>
-    ensures { result ≡ Ok (spec.progress actor (next.Do (spec.due_emptying (W.program world.now) (W.state world.now).after frame.now at))) }
+    ensures { result
+        ≡ Ok (spec.progress actor
+        (next.Do (spec.due_emptying (W.program world.now) (W.state world.now).after frame.now at))) }
 {
     did(actor, step_home(world, frame, at))
 }
@@ -304,7 +321,9 @@ fn frames_turn<W: Reads>(
     from: u64,
     emptied: u64,
 ) -> Result<Progress, NoMemory>
-    ensures { result ≡ Ok (spec.progress actor (spec.due_frames (W.program world.now) (W.state world.now).after actor op.now from emptied)) }
+    ensures { result
+        ≡ Ok (spec.progress actor
+        (spec.due_frames (W.program world.now) (W.state world.now).after actor op.now from emptied)) }
 {
     comes_to(actor, step_evict(world, actor, op, from, emptied))
 }
@@ -318,7 +337,11 @@ fn moves_turn<W: Reads, R: SkipRule>(
     step: MoveStep,
     from: u64,
 ) -> Result<Progress, NoMemory>
-    ensures { result ≡ Ok (spec.progress actor (next.Do (spec.due_moves (W.program world.now) (W.state world.now).after op.now ((W.state world.now).going actor).pages (coming (W.state world.now).after op.now ((W.state world.now).going actor).pages (phase.Moves step from))))) }
+    ensures { result
+        ≡ Ok (spec.progress actor
+        (next.Do (spec.due_moves (W.program world.now) (W.state world.now).after op.now
+        ((W.state world.now).going actor).pages (coming (W.state world.now).after op.now
+        ((W.state world.now).going actor).pages (phase.Moves step from))))) }
 {
     did(actor, due_moves(world, rule, actor, op, step, from))
 }
