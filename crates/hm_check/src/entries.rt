@@ -112,7 +112,7 @@ fn take_line(
             if !is_line_of(out, line, at, &entry) {
                 return Ok(false);
             }
-            world.add(entry.actor, entry.kind)?;
+            world.add(entry)?;
             Ok(true)
         }
         Progress::Waiting(_) => Ok(false),

@@ -110,7 +110,7 @@ impl<R: SkipRule> Machine<R> {
         if self.world.history().len() == MOST_ENTRIES {
             return Err(self.halt(StepError::Full(MOST_ENTRIES)));
         }
-        match self.world.add(entry.actor, entry.kind) {
+        match self.world.add(entry) {
             Ok(()) => Ok(Turn::Did),
             Err(NoMemory) => Err(self.halt(StepError::NoMemory)),
         }

@@ -24,7 +24,7 @@ fn add(world: &mut World, entry: Entry) -> Result<(), StepError>
     if world.history().len() == MOST_ENTRIES {
         return Err(StepError::Full(MOST_ENTRIES));
     }
-    match world.add(entry.actor, entry.kind) {
+    match world.add(entry) {
         Ok(()) => Ok(()),
         Err(_) => Err(StepError::NoMemory),
     }

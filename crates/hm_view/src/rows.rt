@@ -27,7 +27,7 @@ fn go_on(alloc: Global, world: &mut World, entry: &Entry) -> Result<(), NoMemory
 {
     world.facts();
     match hm_steps::due(&*world, &Multiples, alloc, entry.actor)? {
-        Progress::Did(again) => world.add(again.actor, again.kind),
+        Progress::Did(again) => world.add(again),
         _ => unreachable!(),
     }
 }

@@ -1,6 +1,6 @@
 -- What is noted of an entry is what the stack of phases sees.
-use Rattle.std.proofs.Common.{◌≡◌, ℕ, Bool, true, Option, Some, List, refl, sym, ap, ◌∙◌, subst, length}
-use Rattle.std.specs.Prelude.{IsTrue, slice_get}
+use Rattle.std.proofs.Common.{◌≡◌, ℕ, Bool, true, Option, Some, List, refl, sym, subst, length}
+use Rattle.std.specs.Prelude.{IsTrue}
 use Rattle.std.proofs.lemmas.Bool.{and_parts}
 use Rattle.hm_base.specs.Program.{Program, op_in_range, op_fits}
 use Rattle.hm_base.specs.declared.Frame.{Frame}
@@ -8,13 +8,13 @@ use Rattle.hm_base.specs.declared.Place.{Place}
 use Rattle.hm_base.specs.declared.ops.Op.{Op}
 use Rattle.hm_history.specs.Locks.{orphan}
 use Rattle.hm_history.specs.After.{After}
-use Rattle.hm_history.specs.Going.{Going, op_at, seen_at, seen_overlap, seen_place, coming, coming_page}
+use Rattle.hm_history.specs.Going.{Going, op_at, seen_overlap}
 use Rattle.hm_history.specs.declared.Kind.{Kind}
 use Rattle.hm_history.specs.declared.phases.Migrating.{Migrating}
-use Rattle.hm_history.specs.declared.phases.Phase.{Phase}
 use Rattle.hm_history.specs.declared.phases.Seen.{Seen}
 use Rattle.hm_laws.proofs.Histories.Sound.{small}
 use Rattle.hm_actors.specs.Actors.{IsSeen}
+use Rattle.hm_world.specs.Noted.{IsPlaceSeen, IsPageSeen}
 use Rattle.hm_world.specs.WorldValue.{WorldValue, now}
 use Rattle.hm_world.specs.Stands.{Parts, Stands}
 
@@ -27,14 +27,7 @@ range_at t x s a o e = in_range (length t.script.devices) o ((small t.script s.s
 pub op_ranged : (t u : WorldValue) → t ≡ u → (x : Parts) → Stands t x → (a : ℕ) (o : Op) → Some o ≡ op_at u.script a ((now u).going a).index → IsTrue (op_in_range o)
 op_ranged t u e x s a o = subst (λ v. Some o ≡ op_at v.script a ((now v).going a).index → IsTrue (op_in_range o)) e (range_at t x s a o)
 
-some_is : {X : Type 0} (x y : X) → Some x ≡ Some y → x ≡ y
-some_is x y e = cc
-
-pub seen_is : (c : Program) (s : After) (a : ℕ) (g : Going) (k : Kind) (op : Op) (tp : Phase) (n : ℕ) (ov : Bool) (pl : Place) (left : Option Frame) (pg : Option Migrating) →
-    Some op ≡ op_at c a g.index → Some tp ≡ slice_get g.stack 0 → n ≡ s.length → ov ≡ seen_overlap s k → pl ≡ seen_place s op tp k → left ≡ orphan s.locks s.places k → pg ≡ coming_page (coming s op g.pages tp) →
+pub seen_is : (c : Program) (s : After) (a : ℕ) (g : Going) (k : Kind) (n : ℕ) (ov : Bool) (pl : Place) (left : Option Frame) (pg : Option Migrating) →
+    n ≡ s.length → ov ≡ seen_overlap s k → IsPlaceSeen c s a g k pl → left ≡ orphan s.locks s.places k → IsPageSeen c s a g pg →
     IsSeen c s a g k (record { at = n; overlapped = ov; place = pl; orphan = left; page = pg })
-seen_is c s a g k op tp n ov pl left pg eo et en ev ep el eg o top below fo ft =
-    let p : op ≡ o = some_is op o (eo ∙ fo) in
-    let q : tp ≡ top = some_is tp top (et ∙ ap (λ (l : List Phase). slice_get l 0) ft) in
-    subst (λ y. ◌≡◌ {A = Seen} (record { at = n; overlapped = ov; place = pl; orphan = left; page = pg }) (seen_at s y g.pages top k)) p
-    (subst (λ y. ◌≡◌ {A = Seen} (record { at = n; overlapped = ov; place = pl; orphan = left; page = pg }) (seen_at s op g.pages y k)) q (rw (en, ev, ep, el, eg) refl))
+seen_is c s a g k n ov pl left pg en ev ep el eg o top below fo ft = rw (en, ev, ep o top below fo ft, el, eg o top below fo ft) refl

@@ -14,6 +14,8 @@ mod goings;
 mod migrations;
 mod noted;
 mod reads;
+mod rooms;
+mod steps;
 
 use hm_actors::Actors;
 use hm_base::{NoMemory, Script};

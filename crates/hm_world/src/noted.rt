@@ -1,23 +1,23 @@
 // What is read of a world before an entry changes it: the place that the entry is about, the frame that it leaves
 // unnamed, and what the stack of phases notes.
-ghost use Rattle.std.specs.Prelude.{◌≡◌, ◌+◌, ◌<◌, Some, is_some, IsTrue};
-ghost use Rattle.hm_base.specs.Program.{op_in_range};
+ghost use Rattle.std.specs.Prelude.{◌≡◌, Some, is_some};
 ghost use Rattle.hm_history.specs.Words.{page_of};
 ghost use Rattle.hm_history.specs.Plain.{owner};
 ghost use Rattle.hm_history.specs.Contents.{place_for};
 ghost use Rattle.hm_history.specs.Locks.{orphan};
 ghost use Rattle.hm_history.specs.Sequences.{some_overlap};
-ghost use Rattle.hm_history.specs.Going.{seen_overlap, seen_place, coming, coming_page, op_at, seen_at};
+ghost use Rattle.hm_history.specs.Going.{seen_overlap, seen_place, coming, coming_page, op_at, touch_page, touch_proc};
 ghost use Rattle.hm_frames.specs.Shown.{entry_place};
-ghost use Rattle.hm_actors.specs.Actors.{IsSeen};
 ghost use Rattle.hm_base.specs.PlaceWords.{names};
 ghost use Rattle.hm_base.specs.declared.Frame.{Frame as AnyFrame};
+ghost use Rattle.hm_base.specs.declared.ops.Op.{Op as AnyOp};
 ghost use Rattle.hm_history.specs.declared.phases.Phase.{Phase as AnyPhase};
+ghost use Rattle.hm_world.specs.Noted.{IsPlaceSeen, IsPageSeen};
 ghost use Rattle.hm_world.specs.WorldValue.{now};
 
 use crate::World;
-use hm_base::{Actor, Frame, Op, Page, Place, Proc, Span};
-use hm_history::phases::{Migrating, MoveStep, Phase, Seen};
+use hm_base::{Actor, Frame, Page, Place, Proc, Span};
+use hm_history::phases::{Migrating, MoveStep, Phase, Touch};
 use hm_history::{Kind, Who};
 use hm_reads::Reads;
 use hm_reads::operations::{page_of, touch_page, touch_proc};
@@ -43,6 +43,7 @@ impl World {
     }
 
     /// The place that an entry is about.
+    #[inline(always)]
     pub(crate) fn place_before(&self, kind: &Kind) -> Place
         ensures { result ≡ entry_place (now self.now).after.plain (now self.now).after.places kind.now }
     {
@@ -94,7 +95,8 @@ impl World {
         self.notifiers.some_overlap(proc, span)
     }
 
-    fn overlaps(&self, kind: &Kind) -> bool
+    #[inline(always)]
+    pub(crate) fn overlaps(&self, kind: &Kind) -> bool
         ensures { result ≡ seen_overlap (now self.now).after kind.now }
     {
         match kind {
@@ -103,66 +105,83 @@ impl World {
         }
     }
 
+    // Where the actor's phase decides, the place that it decides about.
+    fn decided_place(&self, actor: Actor, touch: &Touch) -> Place
+        ensures { (o : AnyOp) → op_at self.now.script actor ((now self.now).going actor).index ≡ Some o
+            → result ≡ (now self.now).after.places.place (touch_proc (now self.now).after o) (touch_page o touch.now) }
+    {
+        // hands the prover the world's invariant
+        let _ = &self.history;
+        match self.op(actor) {
+            Some(op) => self.place(touch_proc(self, op), touch_page(op, *touch)),
+            None => Place::Empty,
+        }
+    }
+
     #[inline(always)]
-    fn step_place(&self, op: &Op, top: &Phase, kind: &Kind, old: &Place) -> Place
-        requires range { IsTrue (op_in_range op.now) }
-        requires old { old.now ≡ entry_place (now self.now).after.plain (now self.now).after.places kind.now }
-        ensures { result ≡ seen_place (now self.now).after op.now top.now kind.now }
+    fn step_place(&self, actor: Actor, top: &Phase, kind: &Kind, old: &Place) -> Place
+        requires { old.now ≡ entry_place (now self.now).after.plain (now self.now).after.places kind.now }
+        ensures { (o : AnyOp) → op_at self.now.script actor ((now self.now).going actor).index ≡ Some o
+            → result ≡ seen_place (now self.now).after o top.now kind.now }
     {
         match kind {
             Kind::Start { proc, span, seq: _ } => self.place(*proc, span.first()),
             Kind::Place { .. } => *old,
             _ => match top {
-                Phase::Decide { touch } => self.place(touch_proc(self, op), touch_page(op, *touch)),
+                Phase::Decide { touch } => self.decided_place(actor, touch),
                 _ => Place::Empty,
             },
         }
     }
 
+    /// The place that the actor's step is about; `old` is the place that its entry is about.
     #[inline(always)]
-    fn page_come_to(&self, actor: Actor, op: &Op, top: &Phase) -> Option<Migrating>
-        ensures { result ≡ coming_page (coming (now self.now).after op.now ((now self.now).going actor).pages top.now) }
+    pub(crate) fn place_seen(&self, actor: Actor, kind: &Kind, old: &Place) -> Place
+        requires { old.now ≡ entry_place (now self.now).after.plain (now self.now).after.places kind.now }
+        ensures { IsPlaceSeen self.now.script (now self.now).after actor ((now self.now).going actor) kind.now result }
     {
-        match top {
-            Phase::Moves { step, next } => self.page_at_step(actor, op, *step, *next),
-            _ => None,
+        match self.phase(actor) {
+            Some(top) => self.step_place(actor, top, kind, old),
+            None => Place::Empty,
         }
     }
 
     // Apart from the rest, so that the entries of other phases do not pay for it.
     #[inline(never)]
-    fn page_at_step(&self, actor: Actor, op: &Op, step: MoveStep, next: u64) -> Option<Migrating>
-        ensures { result
+    fn page_at_step(&self, actor: Actor, step: MoveStep, next: u64) -> Option<Migrating>
+        ensures { (o : AnyOp) → op_at self.now.script actor ((now self.now).going actor).index ≡ Some o
+            → result
             ≡ coming_page
-            (coming (now self.now).after op.now ((now self.now).going actor).pages (AnyPhase.Moves step next)) }
+            (coming (now self.now).after o ((now self.now).going actor).pages (AnyPhase.Moves step next)) }
     {
-        match self.coming(actor, op, step, next) {
-            Some((_, page)) => Some(page),
+        match self.op(actor) {
+            Some(op) => match self.coming(actor, op, step, next) {
+                Some((_, page)) => Some(page),
+                None => None,
+            },
             None => None,
         }
     }
 
-    /// What the stack of phases notes of the entry; `old` is the place that it is about, and `left` the frame that it
-    /// leaves unnamed.
     #[inline(always)]
-    pub(crate) fn seen(&self, actor: Actor, kind: &Kind, old: &Place, left: &Option<Frame>) -> Seen
-        requires old { old.now ≡ entry_place (now self.now).after.plain (now self.now).after.places kind.now }
-        requires left { left.now ≡ orphan (now self.now).after.locks (now self.now).after.places kind.now }
-        ensures { IsSeen self.now.script (now self.now).after actor ((now self.now).going actor) kind.now result }
+    fn page_come_to(&self, actor: Actor, top: &Phase) -> Option<Migrating>
+        ensures { (o : AnyOp) → op_at self.now.script actor ((now self.now).going actor).index ≡ Some o
+            → result ≡ coming_page (coming (now self.now).after o ((now self.now).going actor).pages top.now) }
     {
-        let mut seen = Seen {
-            at: self.history.len(),
-            overlapped: self.overlaps(kind),
-            place: Place::Empty,
-            orphan: *left,
-            page: None,
-        };
-        if let Some(op) = self.op(actor) {
-            if let Some(top) = self.phase(actor) {
-                seen.place = self.step_place(op, top, kind, old);
-                seen.page = self.page_come_to(actor, op, top);
-            }
+        match top {
+            Phase::Moves { step, next } => self.page_at_step(actor, *step, *next),
+            _ => None,
         }
-        seen
+    }
+
+    /// The page that the actor's migration has come to.
+    #[inline(always)]
+    pub(crate) fn page_seen(&self, actor: Actor) -> Option<Migrating>
+        ensures { IsPageSeen self.now.script (now self.now).after actor ((now self.now).going actor) result }
+    {
+        match self.phase(actor) {
+            Some(top) => self.page_come_to(actor, top),
+            None => None,
+        }
     }
 }
