@@ -3,10 +3,9 @@ ghost use Rattle.std.specs.Prelude.{◌≡◌, length, slice_index};
 ghost use Rattle.hm_history.specs.Words.{pieces};
 ghost use Rattle.hm_history.specs.Operation.{op_pieces};
 ghost use Rattle.hm_history.specs.Stacks as spec;
-ghost use Rattle.hm_phases.specs.Items.{phases_of};
 
+use crate::Stack;
 use crate::guards::opened;
-use crate::items::Items;
 use hm_base::{Bytes, Frame, Op, Place, PoolId};
 use hm_history::Kind;
 use hm_history::phases::{Body, Phase, Seen, Touch};
@@ -42,14 +41,14 @@ fn piece_count(op: &Op) -> u32
     }
 }
 
-fn piece_ends(op: &Op, piece: u32) -> Items
-    ensures { phases_of result ≡ spec.piece_ends op.now piece }
+fn piece_ends(stack: &mut Stack, op: &Op, piece: u32)
+    ensures { stack.new ≡ spec.piece_ends op.now piece }
 {
     let count = piece_count(op);
     if piece < count && piece + 1 < count {
-        Items::One(Phase::Piece { piece: piece + 1 })
+        stack.only(Phase::Piece { piece: piece + 1 });
     } else {
-        Items::Zero
+        stack.clear();
     }
 }
 
@@ -85,12 +84,14 @@ fn first_byte(bytes: &Bytes) -> u8
     }
 }
 
-pub fn after_piece(op: &Op, piece: u32, touch: Touch, kind: &Kind, seen: &Seen) -> Items
-    ensures { phases_of result ≡ spec.after_piece op.now piece touch kind.now seen.now }
+pub fn after_piece(stack: &mut Stack, op: &Op, piece: u32, touch: Touch, kind: &Kind, seen: &Seen)
+    ensures { stack.new ≡ spec.after_piece op.now piece touch kind.now seen.now }
 {
     match kind {
-        Kind::Loaded { .. } | Kind::Stored { .. } | Kind::Failed { .. } => piece_ends(op, piece),
-        Kind::Begin { mirror: _, seq } => Items::One(Phase::Begun {
+        Kind::Loaded { .. } | Kind::Stored { .. } | Kind::Failed { .. } => {
+            piece_ends(stack, op, piece);
+        }
+        Kind::Begin { mirror: _, seq } => stack.only(Phase::Begun {
             piece,
             since: seen.at,
             seq: *seq,
@@ -99,11 +100,11 @@ pub fn after_piece(op: &Op, piece: u32, touch: Touch, kind: &Kind, seen: &Seen) 
             mirror: _,
             addr: _,
             bytes,
-        } => Items::One(Phase::Fetched {
+        } => stack.only(Phase::Fetched {
             old: first_byte(bytes),
         }),
-        Kind::Rlock(_) => Items::One(Phase::Decide { touch }),
-        _ => Items::One(Phase::Piece { piece }),
+        Kind::Rlock(_) => stack.only(Phase::Decide { touch }),
+        _ => stack.only(Phase::Piece { piece }),
     }
 }
 
@@ -116,13 +117,13 @@ fn is_added(kind: &Kind) -> bool
     }
 }
 
-pub fn after_fetched(op: &Op, kind: &Kind, seen: &Seen) -> Items
-    ensures { phases_of result ≡ spec.after_fetched op.now kind.now seen.now }
+pub fn after_fetched(stack: &mut Stack, op: &Op, kind: &Kind, seen: &Seen)
+    ensures { stack.new ≡ spec.after_fetched op.now kind.now seen.now }
 {
     if is_added(kind) {
-        Items::Zero
+        stack.clear();
     } else {
-        after_piece(op, 0, Touch::Sole, kind, seen)
+        after_piece(stack, op, 0, Touch::Sole, kind, seen);
     }
 }
 
@@ -179,34 +180,32 @@ fn caught(place: Place) -> Body
     }
 }
 
-pub fn after_decide(op: &Op, touch: Touch, kind: &Kind, seen: &Seen) -> Items
-    ensures { phases_of result ≡ spec.after_decide op.now touch kind.now seen.now }
+pub fn after_decide(stack: &mut Stack, op: &Op, touch: Touch, kind: &Kind, seen: &Seen)
+    ensures { stack.new ≡ spec.after_decide op.now touch kind.now seen.now }
 {
     match kind {
-        Kind::Failed { .. } => piece_ends(op, piece_of(touch)),
-        Kind::Retry(_) => Items::One(Phase::Piece {
+        Kind::Failed { .. } => piece_ends(stack, op, piece_of(touch)),
+        Kind::Retry(_) => stack.only(Phase::Piece {
             piece: piece_of(touch),
         }),
-        Kind::Runlock(_) => Items::One(noted(touch, seen.place)),
-        Kind::Set { .. } => Items::One(Phase::Answer),
-        Kind::Place { .. } => Items::One(Phase::Decide { touch }),
-        Kind::Take(frame) => Items::One(taken(touch, *frame, seen.place)),
-        Kind::Start { .. } => opened(
-            kind,
-            seen,
-            caught(seen.place),
-            Items::One(Phase::Decide { touch }),
-        ),
-        _ => Items::Zero,
+        Kind::Runlock(_) => stack.only(noted(touch, seen.place)),
+        Kind::Set { .. } => stack.only(Phase::Answer),
+        Kind::Place { .. } => stack.only(Phase::Decide { touch }),
+        Kind::Take(frame) => stack.only(taken(touch, *frame, seen.place)),
+        Kind::Start { .. } => {
+            stack.only(Phase::Decide { touch });
+            opened(stack, kind, seen, caught(seen.place));
+        }
+        _ => stack.clear(),
     }
 }
 
-pub fn after_taken(touch: Touch, by: Frame, over: Place, kind: &Kind) -> Items
-    ensures { phases_of result ≡ spec.after_taken touch by over kind.now }
+pub fn after_taken(stack: &mut Stack, touch: Touch, by: Frame, over: Place, kind: &Kind)
+    ensures { stack.new ≡ spec.after_taken touch by over kind.now }
 {
     match kind {
-        Kind::Copied { .. } => Items::One(Phase::Armed { touch, by, over }),
-        _ => Items::One(Phase::Decide { touch }),
+        Kind::Copied { .. } => stack.only(Phase::Armed { touch, by, over }),
+        _ => stack.only(Phase::Decide { touch }),
     }
 }
 
@@ -219,11 +218,11 @@ fn piece_of_given_up(touch: Option<Touch>) -> u32
     }
 }
 
-pub fn after_give_up(op: &Op, touch: Option<Touch>, kind: &Kind) -> Items
-    ensures { phases_of result ≡ spec.after_give_up op.now touch kind.now }
+pub fn after_give_up(stack: &mut Stack, op: &Op, touch: Option<Touch>, kind: &Kind)
+    ensures { stack.new ≡ spec.after_give_up op.now touch kind.now }
 {
     match kind {
-        Kind::Failed { .. } => piece_ends(op, piece_of_given_up(touch)),
-        _ => Items::Zero,
+        Kind::Failed { .. } => piece_ends(stack, op, piece_of_given_up(touch)),
+        _ => stack.clear(),
     }
 }

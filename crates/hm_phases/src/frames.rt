@@ -3,10 +3,10 @@ ghost use Rattle.std.specs.Prelude.{◌≡◌, ◌≤◌, ◌<◌, ◌∷◌, le
 ghost use Rattle.hm_history.specs.Words.{names};
 ghost use Rattle.hm_history.specs.Operation.{is_remove};
 ghost use Rattle.hm_history.specs.Stacks as spec;
-ghost use Rattle.hm_phases.specs.Items.{phases_of, first_takes_count};
+ghost use Rattle.hm_phases.specs.Items.{first_takes_count};
 
+use crate::Stack;
 use crate::guards::{opened, past_frame};
-use crate::items::{Items, put};
 use hm_base::frames::names;
 use hm_base::{Frame, Op};
 use hm_history::phases::{Body, Phase, Seen};
@@ -39,120 +39,95 @@ fn giving_up(op: &Op, top: &Phase) -> Option<Phase>
     }
 }
 
-fn gives_up(op: &Op, below: Items) -> Items
-    ensures { phases_of result ≡ spec.gives_up op.now (phases_of below) }
+fn gives_up(below: &mut Stack, op: &Op)
+    ensures { below.new ≡ spec.gives_up op.now below.old }
 {
-    match below {
-        Items::Zero => Items::Zero,
-        Items::One(a) => match giving_up(op, &a) {
-            Some(top) => Items::One(top),
-            None => Items::One(a),
-        },
-        Items::Two(a, b) => match giving_up(op, &a) {
-            Some(top) => Items::One(top),
-            None => Items::Two(a, b),
-        },
-        Items::Three(a, b, c) => match giving_up(op, &a) {
-            Some(top) => Items::One(top),
-            None => Items::Three(a, b, c),
-        },
+    let Some(top) = below.top() else {
+        return;
+    };
+    if let Some(by) = giving_up(op, top) {
+        below.only(by);
     }
 }
 
-fn copy_phases(from: &Frame, to: &Frame, below: Items) -> Items
-    requires { length (phases_of below) < 2 }
-    ensures { phases_of result ≡ Phase.Copy from.now to.now 0 ∷ Phase.Copied from.now to.now ∷ phases_of below }
+fn copy_phases(below: &mut Stack, from: &Frame, to: &Frame)
+    requires { length below.old < 2 }
+    ensures { below.new ≡ Phase.Copy from.now to.now 0 ∷ Phase.Copied from.now to.now ∷ below.old }
 {
-    let copied = Phase::Copied {
+    below.put(Phase::Copied {
         from: *from,
         to: *to,
-    };
-    let copy = Phase::Copy {
+    });
+    below.put(Phase::Copy {
         from: *from,
         to: *to,
         part: 0,
-    };
-    put(copy, put(copied, below))
+    });
 }
 
 pub fn after_emptying(
+    below: &mut Stack,
     op: &Op,
     frame: &Frame,
     at: KeptAt,
-    below: Items,
     kind: &Kind,
     seen: &Seen,
-) -> Items
-    requires { length (spec.after_emptying op.now frame.now at (phases_of below) kind.now seen.now) ≤ 3 }
-    ensures { phases_of result ≡ spec.after_emptying op.now frame.now at (phases_of below) kind.now seen.now }
+)
+    requires { length (spec.after_emptying op.now frame.now at below.old kind.now seen.now) ≤ 3 }
+    ensures { below.new ≡ spec.after_emptying op.now frame.now at below.old kind.now seen.now }
 {
     match kind {
-        Kind::Start { .. } => opened(
-            kind,
-            seen,
-            Body::Freeze { frame: *frame },
-            put(Phase::Emptying { frame: *frame, at }, below),
-        ),
-        Kind::Take(to) => copy_phases(frame, to, below),
-        _ => put(
-            Phase::Finish {
+        Kind::Start { .. } => {
+            below.put(Phase::Emptying { frame: *frame, at });
+            opened(below, kind, seen, Body::Freeze { frame: *frame });
+        }
+        Kind::Take(to) => copy_phases(below, frame, to),
+        _ => {
+            gives_up(below, op);
+            below.put(Phase::Finish {
                 from: *frame,
                 to: None,
-            },
-            gives_up(op, below),
-        ),
+            });
+        }
     }
 }
 
-pub fn counted(below: Items) -> Items
-    requires { IsTrue (first_takes_count (phases_of below)) }
-    ensures { phases_of result ≡ spec.with_one_more (phases_of below) }
+fn counted(below: &mut Stack)
+    requires { IsTrue (first_takes_count below.old) }
+    ensures { below.new ≡ spec.with_one_more below.old }
 {
-    match below {
-        Items::One(Phase::Frames { next, emptied }) => Items::One(Phase::Frames {
-            next,
-            emptied: emptied + 1,
-        }),
-        Items::Two(Phase::Frames { next, emptied }, b) => Items::Two(
-            Phase::Frames {
-                next,
-                emptied: emptied + 1,
-            },
-            b,
-        ),
-        Items::Three(Phase::Frames { next, emptied }, b, c) => Items::Three(
-            Phase::Frames {
-                next,
-                emptied: emptied + 1,
-            },
-            b,
-            c,
-        ),
-        _ => below,
+    if let Some(Phase::Frames { next, emptied }) = below.top() {
+        let next = *next;
+        let emptied = *emptied + 1;
+        below.renew(Phase::Frames { next, emptied });
     }
 }
 
-pub fn after_copy(from: Frame, to: Frame, part: u8, below: Items) -> Items
-    requires { length (spec.after_copy from to part (phases_of below)) ≤ 3 }
-    ensures { phases_of result ≡ spec.after_copy from to part (phases_of below) }
+pub fn after_copied(below: &mut Stack, from: Frame, to: Frame)
+    requires room { length (Phase.Finish from (Some to) ∷ spec.with_one_more below.old) ≤ 3 }
+    requires counted { IsTrue (first_takes_count below.old) }
+    ensures { below.new ≡ Phase.Finish from (Some to) ∷ spec.with_one_more below.old }
+{
+    counted(below);
+    below.put(Phase::Finish { from, to: Some(to) });
+}
+
+pub fn after_copy(below: &mut Stack, from: Frame, to: Frame, part: u8)
+    requires { length (spec.after_copy from to part below.old) ≤ 3 }
+    ensures { below.new ≡ spec.after_copy from to part below.old }
 {
     if part < 7 {
-        put(
-            Phase::Copy {
-                from,
-                to,
-                part: part + 1,
-            },
-            below,
-        )
-    } else {
-        below
+        below.put(Phase::Copy {
+            from,
+            to,
+            part: part + 1,
+        });
     }
 }
 
-pub fn after_finish(from: Frame, to: Option<Frame>, below: Items, kind: &Kind) -> Items
-    requires { length (spec.after_finish from to (phases_of below) kind.now) ≤ 3 }
-    ensures { phases_of result ≡ spec.after_finish from to (phases_of below) kind.now }
+pub fn after_finish(below: &mut Stack, from: Frame, to: Option<Frame>, kind: &Kind)
+    requires { length (spec.after_finish from to below.old kind.now) ≤ 3 }
+    ensures { below.new ≡ spec.after_finish from to below.old kind.now }
 {
     match (kind, to) {
         (
@@ -162,9 +137,9 @@ pub fn after_finish(from: Frame, to: Option<Frame>, below: Items, kind: &Kind) -
                 place: _,
             },
             _,
-        ) => put(Phase::Finish { from, to }, below),
-        (Kind::Drop(_), Some(by)) => put(Phase::Settle { frame: by }, below),
-        _ => below,
+        ) => below.put(Phase::Finish { from, to }),
+        (Kind::Drop(_), Some(by)) => below.put(Phase::Settle { frame: by }),
+        _ => (),
     }
 }
 
@@ -186,26 +161,22 @@ fn catching(frame: Option<Frame>) -> Body
     }
 }
 
-pub fn after_frames(next: u64, emptied: u64, kind: &Kind, seen: &Seen) -> Items
-    ensures { phases_of result ≡ spec.after_frames next emptied kind.now seen.now }
+pub fn after_frames(stack: &mut Stack, next: u64, emptied: u64, kind: &Kind, seen: &Seen)
+    ensures { stack.new ≡ spec.after_frames next emptied kind.now seen.now }
 {
     match kind {
         Kind::Start { .. } => {
             let frame = names(&seen.place);
             let next = number_of(&frame);
-            opened(
-                kind,
-                seen,
-                catching(frame),
-                Items::One(Phase::Frames { next, emptied }),
-            )
+            stack.only(Phase::Frames { next, emptied });
+            opened(stack, kind, seen, catching(frame));
         }
         Kind::Kept {
             at: KeptAt::Frame(frame),
             why: _,
-        } => Items::One(past_frame(frame, emptied)),
-        Kind::Drop(frame) => Items::One(past_frame(frame, emptied)),
-        Kind::Withdrawn(_) => Items::One(Phase::Frames { next, emptied }),
-        _ => Items::Zero,
+        } => stack.only(past_frame(frame, emptied)),
+        Kind::Drop(frame) => stack.only(past_frame(frame, emptied)),
+        Kind::Withdrawn(_) => stack.only(Phase::Frames { next, emptied }),
+        _ => stack.clear(),
     }
 }

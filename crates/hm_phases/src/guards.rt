@@ -2,30 +2,26 @@
 ghost use Rattle.std.specs.Prelude.{◌≡◌, ◌+◌, ◌≤◌, ◌<◌, ◌^◌, length};
 ghost use Rattle.hm_history.specs.Operation.{is_evicting};
 ghost use Rattle.hm_history.specs.Stacks as spec;
-ghost use Rattle.hm_phases.specs.Items.{phases_of};
 ghost use Rattle.hm_history.specs.declared.KeptAt.{KeptAt};
 
-use crate::items::{Items, put};
+use crate::Stack;
 use hm_base::{Frame, MirrorId, Op, Place, Proc, Span};
 use hm_history::phases::{Body, Phase, Seen};
 use hm_history::{KeptAt, Kind};
 
-pub fn opened(kind: &Kind, seen: &Seen, body: Body, below: Items) -> Items
-    requires { length (spec.with_guard kind.now seen.now body (phases_of below)) ≤ 3 }
-    ensures { phases_of result ≡ spec.with_guard kind.now seen.now body (phases_of below) }
+pub fn opened(below: &mut Stack, kind: &Kind, seen: &Seen, body: Body)
+    requires { length (spec.with_guard kind.now seen.now body below.old) ≤ 3 }
+    ensures { below.new ≡ spec.with_guard kind.now seen.now body below.old }
 {
     match kind {
-        Kind::Start { proc, span, seq: _ } => put(
-            Phase::Guard {
-                proc: *proc,
-                span: *span,
-                overlapped: seen.overlapped,
-                told: None,
-                body,
-            },
-            below,
-        ),
-        _ => below,
+        Kind::Start { proc, span, seq: _ } => below.put(Phase::Guard {
+            proc: *proc,
+            span: *span,
+            overlapped: seen.overlapped,
+            told: None,
+            body,
+        }),
+        _ => (),
     }
 }
 
@@ -91,48 +87,36 @@ pub fn body_next(body: Body, proc: Proc, kind: &Kind) -> Body
     }
 }
 
-fn ended(body: Body, span: Span, below: Items) -> Items
-    requires { length (spec.after_body body span (phases_of below)) ≤ 3 }
-    ensures { phases_of result ≡ spec.after_body body span (phases_of below) }
+fn ended(below: &mut Stack, body: Body, span: Span)
+    requires { length (spec.after_body body span below.old) ≤ 3 }
+    ensures { below.new ≡ spec.after_body body span below.old }
 {
     match body {
-        Body::Replace { over: _, by } => put(Phase::Drop { frame: by }, below),
-        Body::Fresh { by } => put(
-            Phase::Lost {
-                page: span.first(),
-                by,
-            },
-            below,
-        ),
-        _ => below,
+        Body::Replace { over: _, by } => below.put(Phase::Drop { frame: by }),
+        Body::Fresh { by } => below.put(Phase::Lost {
+            page: span.first(),
+            by,
+        }),
+        _ => (),
     }
 }
 
-pub fn dropping(orphan: Option<Frame>, below: Items) -> Items
-    requires { length (spec.dropping orphan (phases_of below)) ≤ 3 }
-    ensures { phases_of result ≡ spec.dropping orphan (phases_of below) }
+pub fn dropping(below: &mut Stack, orphan: Option<Frame>)
+    requires { length (spec.dropping orphan below.old) ≤ 3 }
+    ensures { below.new ≡ spec.dropping orphan below.old }
 {
     match orphan {
-        None => below,
-        Some(frame) => put(Phase::Drop { frame }, below),
+        None => (),
+        Some(frame) => below.put(Phase::Drop { frame }),
     }
 }
 
-fn frames_past(frame: &Frame, below: Items) -> Items
-    ensures { phases_of result ≡ spec.frames_past frame.now (phases_of below) }
+fn frames_past(below: &mut Stack, frame: &Frame)
+    ensures { below.new ≡ spec.frames_past frame.now below.old }
 {
-    match below {
-        Items::One(Phase::Frames { next: _, emptied }) => Items::One(past_frame(frame, emptied)),
-        Items::Two(Phase::Frames { next: _, emptied }, b) => Items::Two(
-            past_frame(frame, emptied),
-            b,
-        ),
-        Items::Three(Phase::Frames { next: _, emptied }, b, c) => Items::Three(
-            past_frame(frame, emptied),
-            b,
-            c,
-        ),
-        _ => below,
+    if let Some(Phase::Frames { next: _, emptied }) = below.top() {
+        let emptied = *emptied;
+        below.renew(past_frame(frame, emptied));
     }
 }
 
@@ -163,30 +147,28 @@ fn evicts(op: &Op) -> bool
     }
 }
 
-fn caught_next(op: &Op, frame: &Frame, span: Span, below: Items) -> Items
-    requires { length (spec.caught_next op.now frame.now span (phases_of below)) ≤ 3 }
-    ensures { phases_of result ≡ spec.caught_next op.now frame.now span (phases_of below) }
+fn caught_next(below: &mut Stack, op: &Op, frame: &Frame, span: Span)
+    requires { length (spec.caught_next op.now frame.now span below.old) ≤ 3 }
+    ensures { below.new ≡ spec.caught_next op.now frame.now span below.old }
 {
     if evicts(op) {
-        put(alone_for_frame(frame), frames_past(frame, below))
+        frames_past(below, frame);
+        below.put(alone_for_frame(frame));
     } else {
-        put(
-            Phase::Emptying {
-                frame: *frame,
-                at: KeptAt::Page(span.first()),
-            },
-            below,
-        )
+        below.put(Phase::Emptying {
+            frame: *frame,
+            at: KeptAt::Page(span.first()),
+        });
     }
 }
 
-fn below_next(op: &Op, body: Body, span: Span, below: Items) -> Items
-    requires { length (spec.below_next op.now body span (phases_of below)) ≤ 3 }
-    ensures { phases_of result ≡ spec.below_next op.now body span (phases_of below) }
+fn below_next(below: &mut Stack, op: &Op, body: Body, span: Span)
+    requires { length (spec.below_next op.now body span below.old) ≤ 3 }
+    ensures { below.new ≡ spec.below_next op.now body span below.old }
 {
     match body {
-        Body::Catch { frame } => caught_next(op, &frame, span, below),
-        _ => below,
+        Body::Catch { frame } => caught_next(below, op, &frame, span),
+        _ => (),
     }
 }
 
@@ -234,38 +216,36 @@ fn guard_phase(guard: &Guarding, told: Option<MirrorId>, body: Body) -> Phase
     }
 }
 
-fn guard_goes_on(op: &Op, guard: &Guarding, below: Items, kind: &Kind, seen: &Seen) -> Items
+fn guard_goes_on(below: &mut Stack, op: &Op, guard: &Guarding, kind: &Kind, seen: &Seen)
     requires { length
         (spec.guard_goes_on op.now guard.now.proc guard.now.span guard.now.overlapped guard.now.told guard.now.body
-        (phases_of below) kind.now seen.now)
+        below.old kind.now seen.now)
         ≤ 3 }
-    ensures { phases_of result
+    ensures { below.new
         ≡ spec.guard_goes_on op.now guard.now.proc guard.now.span guard.now.overlapped guard.now.told guard.now.body
-        (phases_of below) kind.now seen.now }
+        below.old kind.now seen.now }
 {
-    let next = guard_phase(guard, guard.told, body_next(guard.body, guard.proc, kind));
-    dropping(
-        seen.orphan,
-        put(next, below_next(op, guard.body, guard.span, below)),
-    )
+    below_next(below, op, guard.body, guard.span);
+    below.put(guard_phase(guard, guard.told, body_next(guard.body, guard.proc, kind)));
+    dropping(below, seen.orphan);
 }
 
-pub fn after_guard(op: &Op, guard: &Guarding, below: Items, kind: &Kind, seen: &Seen) -> Items
+pub fn after_guard(below: &mut Stack, op: &Op, guard: &Guarding, kind: &Kind, seen: &Seen)
     requires { length
         (spec.after_guard op.now guard.now.proc guard.now.span guard.now.overlapped guard.now.told guard.now.body
-        (phases_of below) kind.now seen.now)
+        below.old kind.now seen.now)
         ≤ 3 }
-    ensures { phases_of result
+    ensures { below.new
         ≡ spec.after_guard op.now guard.now.proc guard.now.span guard.now.overlapped guard.now.told guard.now.body
-        (phases_of below) kind.now seen.now }
+        below.old kind.now seen.now }
 {
     match told_mirror(kind) {
-        Some(mirror) => put(guard_phase(guard, Some(mirror), guard.body), below),
+        Some(mirror) => below.put(guard_phase(guard, Some(mirror), guard.body)),
         None => {
             if is_end(kind) {
-                ended(guard.body, guard.span, below)
+                ended(below, guard.body, guard.span);
             } else {
-                guard_goes_on(op, guard, below, kind, seen)
+                guard_goes_on(below, op, guard, kind, seen);
             }
         }
     }

@@ -8,7 +8,6 @@ ghost use Rattle.hm_history.specs.declared.phases.Seen.{Seen as AnySeen};
 ghost use Rattle.hm_phases.specs.Items.{phases_of, catches, keeps_only};
 
 use crate::guards::{body_next, is_end, told_mirror};
-use crate::items::Items;
 use hm_base::{MirrorId, Proc};
 use hm_history::phases::{Body, MoveStep, Phase, Seen};
 use hm_history::{KeptAt, KeptWhy, Kind};
@@ -48,7 +47,7 @@ fn guard_goes_on(
 }
 
 /// Changes the top phase where an entry changes nothing else, and tells whether it does.
-fn top_goes_on(top: &mut Phase, kind: &Kind, seen: &Seen) -> bool
+pub fn top_goes_on(top: &mut Phase, kind: &Kind, seen: &Seen) -> bool
     ensures on { result ≡ true → (o : Op) (below : List AnyPhase)
         → spec.after_top o top.old below kind.now seen.now ≡ top.new ∷ below }
     ensures same { result ≡ false → top.new ≡ top.old }
@@ -140,7 +139,7 @@ fn pages_go_on(next: &mut u64, kind: &Kind) -> bool
 }
 
 /// Changes the only phase of a stack where an entry leaves one, and tells whether it does.
-fn only_goes_on(top: &mut Phase, kind: &Kind, seen: &Seen) -> bool
+pub fn only_goes_on(top: &mut Phase, kind: &Kind, seen: &Seen) -> bool
     ensures on { result ≡ true → (o : Op) → spec.after_top o top.old [] kind.now seen.now ≡ top.new ∷ [] }
     ensures same { result ≡ false → top.new ≡ top.old }
 {
@@ -149,19 +148,5 @@ fn only_goes_on(top: &mut Phase, kind: &Kind, seen: &Seen) -> bool
         Phase::Frames { next, .. } => frames_go_on(next, kind),
         Phase::Pages { next } => pages_go_on(next, kind),
         _ => top_goes_on(top, kind, seen),
-    }
-}
-
-/// Changes the top of the stack where an entry changes nothing else, and tells whether it does.
-pub fn goes_on(items: &mut Items, kind: &Kind, seen: &Seen) -> bool
-    ensures on { result ≡ true → (o : Op)
-        → spec.stack_after o (phases_of items.old) kind.now seen.now ≡ phases_of items.new }
-    ensures same { result ≡ false → items.new ≡ items.old }
-{
-    match items {
-        Items::Zero => false,
-        Items::One(top) => only_goes_on(top, kind, seen),
-        Items::Two(top, _) => top_goes_on(top, kind, seen),
-        Items::Three(top, _, _) => top_goes_on(top, kind, seen),
     }
 }

@@ -3,16 +3,22 @@
 // the stack of each actor.
 #![tactic(auto)]
 
-ghost use Rattle.std.specs.Prelude.{◌≡◌, ℕ, ◌+◌, ◌≤◌, ◌<◌, [], ◌∷◌, length, IfOk, IsTrue, IsOk, option_copied, slice_get};
+ghost use Rattle.std.specs.Prelude.{◌≡◌, ℕ, ◌+◌, ◌≤◌, ◌<◌, [], ◌∷◌, length, IfOk, IsTrue, IsOk, true, false, option_copied, slice_get};
+ghost use Rattle.hm_base.specs.declared.ops.Op.{Op as AnyOp};
 ghost use Rattle.hm_history.specs.Stacks.{first_phase, stack_after};
+ghost use Rattle.hm_history.specs.declared.phases.Seen.{Seen as AnySeen};
 ghost use Rattle.hm_phases.specs.Items.{below_takes_count, phases_of};
 
+use crate::in_place::{only_goes_on, top_goes_on};
+use crate::moves::after_top;
+use crate::tops::top_leaves;
 use hm_base::{NoMemory, Op};
 use hm_history::Kind;
 use std::alloc::Global;
 use std::marker::Model;
 
 mod accesses;
+mod edits;
 mod frames;
 mod guards;
 mod in_place;
@@ -25,10 +31,23 @@ mod tops;
 pub use hm_history::phases::{Body, Migrating, Phase, Seen, Touch};
 pub use items::Items;
 
-/// An actor's phases within its operation; contracts see the list, the top first.
+/// How many phases a stack has.
+#[derive(Clone, Copy, PartialEq, Eq, Debug)]
+enum Depth {
+    Zero,
+    One,
+    Two,
+    Three,
+}
+
+/// An actor's phases within its operation; contracts see the list, the top first. Most entries change the top alone,
+/// so it is always at the same place. What is past the depth is left over.
 #[derive(Drop)]
 pub struct Stack {
-    items: Items,
+    depth: Depth,
+    top: Phase,
+    second: Phase,
+    third: Phase,
 }
 
 impl Model for Stack {
@@ -37,9 +56,9 @@ impl Model for Stack {
 
     ghost Value = { List Phase };
 
-    ghost use Rattle.hm_phases.specs.Items.{phases_of};
+    ghost use Rattle.hm_phases.specs.Depths.{front};
 
-    ghost view = { λ s. phases_of s.items };
+    ghost view = { λ s. front s.depth s.top s.second s.third };
 }
 
 impl Stack {
@@ -49,7 +68,12 @@ impl Stack {
         ensures empty { IfOk result (λ s. s ≡ []) }
     {
         let _ = alloc;
-        Ok(Stack { items: Items::Zero })
+        Ok(Stack {
+            depth: Depth::Zero,
+            top: Phase::Begin,
+            second: Phase::Begin,
+            third: Phase::Begin,
+        })
     }
 
     /// Puts the operation's first phase.
@@ -57,18 +81,16 @@ impl Stack {
         requires { self.old ≡ [] }
         ensures { self.new ≡ first_phase op.now ∷ [] }
     {
-        self.items = Items::One(operations::first_phase(op));
+        self.only(operations::first_phase(op));
     }
 
     /// The phase that the actor is in, none between operations.
     pub fn top(&self) -> Option<&Phase>
         ensures { option_copied result ≡ slice_get self.now 0 }
     {
-        match &self.items {
-            Items::Zero => None,
-            Items::One(top) => Some(top),
-            Items::Two(top, _) => Some(top),
-            Items::Three(top, _, _) => Some(top),
+        match self.depth {
+            Depth::Zero => None,
+            _ => Some(&self.top),
         }
     }
 
@@ -76,7 +98,41 @@ impl Stack {
     pub fn items(&self) -> Items
         ensures { phases_of result ≡ self.now }
     {
-        self.items
+        match self.depth {
+            Depth::Zero => Items::Zero,
+            Depth::One => Items::One(self.top),
+            Depth::Two => Items::Two(self.top, self.second),
+            Depth::Three => Items::Three(self.top, self.second, self.third),
+        }
+    }
+
+    /// Changes the top where an entry changes nothing else, and tells whether it does.
+    fn goes_on(&mut self, kind: &Kind, seen: &Seen) -> bool
+        ensures on { result ≡ true → (o : AnyOp) → stack_after o self.old kind.now seen.now ≡ self.new }
+        ensures same { result ≡ false → self.new ≡ self.old }
+    {
+        match self.depth {
+            Depth::Zero => false,
+            Depth::One => only_goes_on(&mut self.top, kind, seen),
+            _ => top_goes_on(&mut self.top, kind, seen),
+        }
+    }
+
+    /// Takes the top away where an entry does no more, and tells whether it does.
+    fn leaves(&mut self, kind: &Kind) -> bool
+        ensures on { result ≡ true → (o : AnyOp) (seen : AnySeen) → stack_after o self.old kind.now seen ≡ self.new }
+        ensures same { result ≡ false → self.new ≡ self.old }
+    {
+        match self.depth {
+            Depth::Zero => false,
+            _ => {
+                if !top_leaves(&self.top, kind) {
+                    return false;
+                }
+                self.pop();
+                true
+            }
+        }
     }
 
     /// What the stack is after the actor's entry, given what the world showed just before it; empty where the entry
@@ -86,12 +142,16 @@ impl Stack {
         requires counted { IsTrue (below_takes_count self.old) }
         ensures { self.new ≡ stack_after op.now self.old kind.now seen.now }
     {
-        if in_place::goes_on(&mut self.items, kind, seen)
-            || tops::leaves(&mut self.items, kind)
-            || tops::begins(&mut self.items, kind, seen)
-        {
+        if self.goes_on(kind, seen) || self.leaves(kind) {
             return;
         }
-        self.items = moves::moved(op, &self.items, kind, seen);
+        match self.depth {
+            Depth::Zero => (),
+            _ => {
+                let top = self.top;
+                self.pop();
+                after_top(self, &top, op, kind, seen);
+            }
+        }
     }
 }

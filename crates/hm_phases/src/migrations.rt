@@ -1,11 +1,10 @@
 // The steps of a migration after its setup.
 ghost use Rattle.std.specs.Prelude.{◌≡◌, ◌+◌, ◌≤◌, [], ◌∷◌, length};
 ghost use Rattle.hm_history.specs.Stacks as spec;
-ghost use Rattle.hm_phases.specs.Items.{phases_of};
 
+use crate::Stack;
 use crate::frames::after_finish;
 use crate::guards::{dropping, opened};
-use crate::items::{Items, put};
 use hm_base::Frame;
 use hm_history::phases::{Body, Migrating, MoveStep, Phase, Seen};
 use hm_history::{KeptWhy, Kind};
@@ -25,111 +24,99 @@ fn freezing(step: MoveStep, source: Option<Frame>, dest: Option<Frame>) -> Body
     }
 }
 
-fn copying(source: Option<Frame>, to: Frame, below: Items) -> Items
-    requires { length (spec.copying source to (phases_of below)) ≤ 3 }
-    ensures { phases_of result ≡ spec.copying source to (phases_of below) }
+fn copying(below: &mut Stack, source: Option<Frame>, to: Frame)
+    requires { length (spec.copying source to below.old) ≤ 3 }
+    ensures { below.new ≡ spec.copying source to below.old }
 {
     match source {
-        None => below,
-        Some(from) => put(Phase::Copy { from, to, part: 0 }, below),
+        None => (),
+        Some(from) => below.put(Phase::Copy { from, to, part: 0 }),
     }
 }
 
-fn kept_on(why: KeptWhy, page: Migrating) -> Items
-    ensures { phases_of result
-        ≡ spec.dropping_lost why page.dest (Phase.Moves (spec.kept_step why) (page.page + 1) ∷ []) }
+fn kept_on(stack: &mut Stack, why: KeptWhy, page: &Migrating)
+    ensures { stack.new
+        ≡ spec.dropping_lost why page.now.dest (Phase.Moves (spec.kept_step why) (page.now.page + 1) ∷ []) }
 {
     let next = page.page.number() + 1;
     match why {
-        KeptWhy::Lost => dropping(
-            page.dest,
-            Items::One(Phase::Moves {
+        KeptWhy::Lost => {
+            stack.only(Phase::Moves {
                 step: MoveStep::Commit,
                 next,
-            }),
-        ),
-        _ => Items::One(Phase::Moves {
+            });
+            dropping(stack, page.dest);
+        }
+        _ => stack.only(Phase::Moves {
             step: MoveStep::TakeAndCopy,
             next,
         }),
     }
 }
 
-fn finishing(page: Migrating, kind: &Kind) -> Items
-    ensures { phases_of result ≡ spec.finishing page kind.now }
+fn finishing(stack: &mut Stack, page: &Migrating, kind: &Kind)
+    ensures { stack.new ≡ spec.finishing page.now kind.now }
 {
-    let Migrating {
-        page,
-        source,
-        dest,
-        moved,
-    } = page;
-    let below = Items::One(Phase::Moves {
+    stack.only(Phase::Moves {
         step: MoveStep::Finish,
-        next: page.number() + 1,
+        next: page.page.number() + 1,
     });
-    match source {
-        None => below,
-        Some(from) => after_finish(from, if moved { dest } else { None }, below, kind),
+    match page.source {
+        None => (),
+        Some(from) => after_finish(stack, from, if page.moved { page.dest } else { None }, kind),
     }
 }
 
-fn migration_starts(step: MoveStep, page: Migrating, kind: &Kind, seen: &Seen) -> Items
-    ensures { phases_of result
-        ≡ spec.with_guard kind.now seen.now (spec.freezing step page.source page.dest)
-        (spec.next_cursor step page.page ∷ []) }
+fn migration_starts(stack: &mut Stack, step: MoveStep, page: &Migrating, kind: &Kind, seen: &Seen)
+    ensures { stack.new
+        ≡ spec.with_guard kind.now seen.now (spec.freezing step page.now.source page.now.dest)
+        (spec.next_cursor step page.now.page ∷ []) }
 {
     let number = page.page.number();
-    let on = match step {
-        MoveStep::FreezeOthers => Phase::Moves {
+    match step {
+        MoveStep::FreezeOthers => stack.only(Phase::Moves {
             step: MoveStep::FreezeOthers,
             next: number,
-        },
-        _ => Phase::Moves {
+        }),
+        _ => stack.only(Phase::Moves {
             step: MoveStep::Commit,
             next: number + 1,
-        },
-    };
-    opened(
-        kind,
-        seen,
-        freezing(step, page.source, page.dest),
-        Items::One(on),
-    )
+        }),
+    }
+    opened(stack, kind, seen, freezing(step, page.source, page.dest));
 }
 
-fn after_moves(step: MoveStep, page: Migrating, kind: &Kind, seen: &Seen) -> Items
-    ensures { phases_of result ≡ spec.after_moves step page kind.now seen.now }
+fn after_moves(stack: &mut Stack, step: MoveStep, page: &Migrating, kind: &Kind, seen: &Seen)
+    ensures { stack.new ≡ spec.after_moves step page.now kind.now seen.now }
 {
     let next = page.page.number() + 1;
     match kind {
-        Kind::Start { .. } => migration_starts(step, page, kind, seen),
-        Kind::Take(to) => copying(
-            page.source,
-            *to,
-            Items::One(Phase::Moves {
+        Kind::Start { .. } => migration_starts(stack, step, page, kind, seen),
+        Kind::Take(to) => {
+            stack.only(Phase::Moves {
                 step: MoveStep::TakeAndCopy,
                 next,
-            }),
-        ),
-        Kind::Kept { at: _, why } => kept_on(*why, page),
-        Kind::Committed { .. } => Items::One(Phase::Moves {
+            });
+            copying(stack, page.source, *to);
+        }
+        Kind::Kept { at: _, why } => kept_on(stack, *why, page),
+        Kind::Committed { .. } => stack.only(Phase::Moves {
             step: MoveStep::Commit,
             next,
         }),
-        Kind::Set { .. } => Items::One(Phase::Moves {
+        Kind::Set { .. } => stack.only(Phase::Moves {
             step: MoveStep::SetOwnTable,
             next,
         }),
-        _ => finishing(page, kind),
+        _ => finishing(stack, page, kind),
     }
 }
 
-pub fn after_migration(step: MoveStep, page: Option<Migrating>, kind: &Kind, seen: &Seen) -> Items
-    ensures { phases_of result ≡ spec.after_migration step page kind.now seen.now }
+pub fn after_migration(stack: &mut Stack, step: MoveStep, kind: &Kind, seen: &Seen)
+    ensures { stack.new ≡ spec.after_migration step seen.now.page kind.now seen.now }
 {
-    match page {
-        None => Items::Zero,
-        Some(page) => after_moves(step, page, kind, seen),
+    match &seen.page {
+        None => stack.clear(),
+        Some(page) => after_moves(stack, step, page, kind, seen),
     }
 }

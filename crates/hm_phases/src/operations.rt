@@ -1,10 +1,9 @@
 // The first steps of an operation, and the operations on areas and snapshots.
-ghost use Rattle.std.specs.Prelude.{◌≡◌};
+ghost use Rattle.std.specs.Prelude.{◌≡◌, false, [], ◌∷◌};
 ghost use Rattle.hm_history.specs.Stacks as spec;
-ghost use Rattle.hm_phases.specs.Items.{phases_of};
 
+use crate::Stack;
 use crate::guards::opened;
-use crate::items::Items;
 use hm_base::{Op, Rights, Span};
 use hm_history::Kind;
 use hm_history::phases::{Body, MoveStep, Phase, Seen, Touch};
@@ -36,14 +35,14 @@ fn read_locked(op: &Op) -> Phase
     }
 }
 
-pub fn after_begin(op: &Op, kind: &Kind) -> Items
-    ensures { phases_of result ≡ spec.after_begin op.now kind.now }
+pub fn after_begin(stack: &mut Stack, op: &Op, kind: &Kind)
+    ensures { stack.new ≡ spec.after_begin op.now kind.now }
 {
     match kind {
-        Kind::Wlock(_) => Items::One(Phase::Locked),
-        Kind::Rlock(_) => Items::One(read_locked(op)),
-        Kind::Detaching { mirror: _, seq } => Items::One(Phase::Detaching { seq: *seq }),
-        _ => Items::Zero,
+        Kind::Wlock(_) => stack.only(Phase::Locked),
+        Kind::Rlock(_) => stack.only(read_locked(op)),
+        Kind::Detaching { mirror: _, seq } => stack.only(Phase::Detaching { seq: *seq }),
+        _ => stack.clear(),
     }
 }
 
@@ -69,84 +68,85 @@ fn body_of(op: &Op, span: Span) -> Body
     }
 }
 
-pub fn after_locked(op: &Op, kind: &Kind, seen: &Seen) -> Items
-    ensures { phases_of result ≡ spec.after_locked op.now kind.now seen.now }
+pub fn after_locked(stack: &mut Stack, op: &Op, kind: &Kind, seen: &Seen)
+    ensures { stack.new ≡ spec.after_locked op.now kind.now seen.now }
 {
     match kind {
         Kind::Named {
             parent: _,
             child: _,
-        } => Items::One(Phase::Ready),
+        } => stack.only(Phase::Ready),
         Kind::Start {
             proc: _,
             span,
             seq: _,
-        } => opened(kind, seen, body_of(op, *span), Items::One(Phase::Answer)),
-        _ => Items::Zero,
+        } => {
+            stack.only(Phase::Answer);
+            opened(stack, kind, seen, body_of(op, *span));
+        }
+        _ => stack.clear(),
     }
 }
 
-pub fn after_ready(op: &Op, kind: &Kind, seen: &Seen) -> Items
-    ensures { phases_of result ≡ spec.after_ready op.now kind.now seen.now }
+fn selects(stack: &mut Stack, span: &Span, kind: &Kind, seen: &Seen)
+    ensures { stack.new
+        ≡ spec.with_guard kind.now seen.now (Body.Select span.now.first)
+        (Phase.Moves MoveStep.FreezeOthers span.now.first ∷ []) }
+{
+    let next = span.first().number();
+    stack.only(Phase::Moves {
+        step: MoveStep::FreezeOthers,
+        next,
+    });
+    opened(stack, kind, seen, Body::Select { next });
+}
+
+fn forks(stack: &mut Stack, kind: &Kind, seen: &Seen)
+    ensures { stack.new ≡ spec.with_guard kind.now seen.now (Body.Fork 0 false) (Phase.Answer ∷ []) }
+{
+    stack.only(Phase::Answer);
+    opened(
+        stack,
+        kind,
+        seen,
+        Body::Fork {
+            next: 0,
+            half: false,
+        },
+    );
+}
+
+pub fn after_ready(stack: &mut Stack, op: &Op, kind: &Kind, seen: &Seen)
+    ensures { stack.new ≡ spec.after_ready op.now kind.now seen.now }
 {
     match op {
-        Op::Fork { .. } => opened(
-            kind,
-            seen,
-            Body::Fork {
-                next: 0,
-                half: false,
-            },
-            Items::One(Phase::Answer),
-        ),
-        Op::ToDevice { mirror: _, span } => {
-            let next = span.first().number();
-            opened(
-                kind,
-                seen,
-                Body::Select { next },
-                Items::One(Phase::Moves {
-                    step: MoveStep::FreezeOthers,
-                    next,
-                }),
-            )
-        }
-        Op::ToSystem { mirror: _, span } => {
-            let next = span.first().number();
-            opened(
-                kind,
-                seen,
-                Body::Select { next },
-                Items::One(Phase::Moves {
-                    step: MoveStep::FreezeOthers,
-                    next,
-                }),
-            )
-        }
-        _ => Items::Zero,
+        Op::Fork { .. } => forks(stack, kind, seen),
+        Op::ToDevice { mirror: _, span } => selects(stack, span, kind, seen),
+        Op::ToSystem { mirror: _, span } => selects(stack, span, kind, seen),
+        _ => stack.clear(),
     }
 }
 
-pub fn after_answer(kind: &Kind) -> Items
-    ensures { phases_of result ≡ spec.after_answer kind.now }
+pub fn after_answer(stack: &mut Stack, kind: &Kind)
+    ensures { stack.new ≡ spec.after_answer kind.now }
 {
     match kind {
-        Kind::Runlock(_) => Items::One(Phase::Piece { piece: 0 }),
-        _ => Items::Zero,
+        Kind::Runlock(_) => stack.only(Phase::Piece { piece: 0 }),
+        _ => stack.clear(),
     }
 }
 
-pub fn after_pages(kind: &Kind) -> Items
-    ensures { phases_of result ≡ spec.after_pages kind.now }
+pub fn after_pages(stack: &mut Stack, kind: &Kind)
+    ensures { stack.new ≡ spec.after_pages kind.now }
 {
     match kind {
         Kind::Seen {
             mirror: _,
             page,
             code: _,
-        } => Items::One(Phase::Pages {
+        } => stack.only(Phase::Pages {
             next: page.number() + 1,
         }),
-        _ => Items::Zero,
+        _ => stack.clear(),
     }
 }

@@ -8,7 +8,6 @@ ghost use Rattle.hm_history.specs.declared.phases.Seen.{Seen as AnySeen};
 ghost use Rattle.hm_phases.specs.Items.{phases_of, ends_plainly, finish_ends};
 
 use crate::guards::is_end;
-use crate::items::Items;
 use hm_base::Frame;
 use hm_history::Kind;
 use hm_history::phases::{Body, Migrating, MoveStep, Phase, Seen};
@@ -34,7 +33,7 @@ fn finish_ends(to: &Option<Frame>, kind: &Kind) -> bool
 }
 
 /// Whether an entry takes the top phase away and changes nothing else.
-fn top_leaves(top: &Phase, kind: &Kind) -> bool
+pub fn top_leaves(top: &Phase, kind: &Kind) -> bool
     ensures { result ≡ true → (o : Op) (below : List AnyPhase) (seen : AnySeen)
         → spec.after_top o top.now below kind.now seen ≡ below }
 {
@@ -47,29 +46,8 @@ fn top_leaves(top: &Phase, kind: &Kind) -> bool
     }
 }
 
-/// Takes the top away where an entry does no more, and tells whether it does.
-pub fn leaves(items: &mut Items, kind: &Kind) -> bool
-    ensures on { result ≡ true → (o : Op) (seen : AnySeen)
-        → spec.stack_after o (phases_of items.old) kind.now seen ≡ phases_of items.new }
-    ensures same { result ≡ false → items.new ≡ items.old }
-{
-    match items {
-        Items::Two(top, below) if top_leaves(top, kind) => {
-            let below = *below;
-            *items = Items::One(below);
-            true
-        }
-        Items::Three(top, a, b) if top_leaves(top, kind) => {
-            let below = Items::Two(*a, *b);
-            *items = below;
-            true
-        }
-        _ => false,
-    }
-}
-
-// What an entry of a page begins, and the step that the migration is at then.
-fn begun(page: &Migrating, kind: &Kind) -> Option<(Phase, MoveStep)>
+/// What an entry of a page begins, and the step that the migration is at then.
+pub fn begun(page: &Migrating, kind: &Kind) -> Option<(Phase, MoveStep)>
     ensures { IfSome result
         (λ b. (step : Step) (seen : AnySeen)
         → spec.after_moves step page.now kind.now seen ≡ b.0 ∷ AnyPhase.Moves b.1 (page.now.page + 1) ∷ []) }
@@ -92,24 +70,4 @@ fn begun(page: &Migrating, kind: &Kind) -> Option<(Phase, MoveStep)>
         }
         _ => None,
     }
-}
-
-/// Puts what an entry begins on a migration's phase, and tells whether it begins anything.
-pub fn begins(items: &mut Items, kind: &Kind, seen: &Seen) -> bool
-    ensures on { result ≡ true → (o : Op)
-        → spec.stack_after o (phases_of items.old) kind.now seen.now ≡ phases_of items.new }
-    ensures same { result ≡ false → items.new ≡ items.old }
-{
-    let Items::One(Phase::Moves { .. }) = items else {
-        return false;
-    };
-    let Some(page) = &seen.page else {
-        return false;
-    };
-    let Some((top, step)) = begun(page, kind) else {
-        return false;
-    };
-    let next = page.page.number() + 1;
-    *items = Items::Two(top, Phase::Moves { step, next });
-    true
 }

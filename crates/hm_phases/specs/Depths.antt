@@ -1,0 +1,10 @@
+-- The phases of a stack: so many of its three, from the top on.
+use Rattle.std.specs.Prelude.{List, [], ◌∷◌}
+use Rattle.hm_history.specs.declared.phases.Phase.{Phase}
+use Rattle.hm_phases.specs.declared.Depth.{Depth}
+
+abbrev pub front : Depth → Phase → Phase → Phase → List Phase
+front Depth.Zero a b c = []
+front Depth.One a b c = a ∷ []
+front Depth.Two a b c = a ∷ b ∷ []
+front Depth.Three a b c = a ∷ b ∷ c ∷ []
