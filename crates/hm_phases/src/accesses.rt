@@ -1,11 +1,13 @@
 // Accesses piece by piece, and the decisions of a fault.
-ghost use Rattle.std.specs.Prelude.{◌≡◌, length, slice_index};
+ghost use Rattle.std.specs.Prelude.{◌≡◌, [], ◌∷◌, length, slice_index};
 ghost use Rattle.hm_history.specs.Words.{pieces};
 ghost use Rattle.hm_history.specs.Operation.{op_pieces};
 ghost use Rattle.hm_history.specs.Stacks as spec;
+ghost use Rattle.hm_history.specs.declared.phases.Body.{Body as AnyBody};
+ghost use Rattle.hm_history.specs.declared.phases.Phase.{Phase as AnyPhase};
 
 use crate::Stack;
-use crate::guards::opened;
+use crate::guards::opened_over;
 use hm_base::{Bytes, Frame, Op, Place, PoolId};
 use hm_history::Kind;
 use hm_history::phases::{Body, Phase, Seen, Touch};
@@ -66,7 +68,7 @@ fn piece_of(touch: Touch) -> u32
     }
 }
 
-pub fn first_touch(op: &Op, piece: u32) -> Touch
+fn first_touch(op: &Op, piece: u32) -> Touch
     ensures { result ≡ spec.first_touch op.now piece }
 {
     match op {
@@ -84,7 +86,7 @@ fn first_byte(bytes: &Bytes) -> u8
     }
 }
 
-pub fn after_piece(stack: &mut Stack, op: &Op, piece: u32, touch: Touch, kind: &Kind, seen: &Seen)
+fn after_piece(stack: &mut Stack, op: &Op, piece: u32, touch: Touch, kind: &Kind, seen: &Seen)
     ensures { stack.new ≡ spec.after_piece op.now piece touch kind.now seen.now }
 {
     match kind {
@@ -108,6 +110,42 @@ pub fn after_piece(stack: &mut Stack, op: &Op, piece: u32, touch: Touch, kind: &
     }
 }
 
+#[inline(never)]
+pub fn after_first(stack: &mut Stack, op: &Op, piece: u32, kind: &Kind, seen: &Seen)
+    ensures { stack.new ≡ spec.after_piece op.now piece (spec.first_touch op.now piece) kind.now seen.now }
+{
+    after_piece(stack, op, piece, first_touch(op, piece), kind, seen);
+}
+
+#[inline(never)]
+pub fn after_begun(
+    stack: &mut Stack,
+    op: &Op,
+    piece: u32,
+    since: u64,
+    seq: u64,
+    kind: &Kind,
+    seen: &Seen,
+)
+    ensures { stack.new ≡ spec.after_piece op.now piece (Touch.Walk piece since seq) kind.now seen.now }
+{
+    after_piece(
+        stack,
+        op,
+        piece,
+        Touch::Walk { piece, since, seq },
+        kind,
+        seen,
+    );
+}
+
+#[inline(never)]
+pub fn after_noted(stack: &mut Stack, piece: u32)
+    ensures { stack.new ≡ AnyPhase.Piece piece ∷ [] }
+{
+    stack.only(Phase::Piece { piece });
+}
+
 fn is_added(kind: &Kind) -> bool
     ensures { result ≡ spec.is_added kind.now }
 {
@@ -117,6 +155,7 @@ fn is_added(kind: &Kind) -> bool
     }
 }
 
+#[inline(never)]
 pub fn after_fetched(stack: &mut Stack, op: &Op, kind: &Kind, seen: &Seen)
     ensures { stack.new ≡ spec.after_fetched op.now kind.now seen.now }
 {
@@ -180,9 +219,11 @@ fn caught(place: Place) -> Body
     }
 }
 
-pub fn after_decide(stack: &mut Stack, op: &Op, touch: Touch, kind: &Kind, seen: &Seen)
-    ensures { stack.new ≡ spec.after_decide op.now touch kind.now seen.now }
+#[inline(never)]
+pub fn after_decide(stack: &mut Stack, op: &Op, touch: &Touch, kind: &Kind, seen: &Seen)
+    ensures { stack.new ≡ spec.after_decide op.now touch.now kind.now seen.now }
 {
+    let touch = *touch;
     match kind {
         Kind::Failed { .. } => piece_ends(stack, op, piece_of(touch)),
         Kind::Retry(_) => stack.only(Phase::Piece {
@@ -192,34 +233,63 @@ pub fn after_decide(stack: &mut Stack, op: &Op, touch: Touch, kind: &Kind, seen:
         Kind::Set { .. } => stack.only(Phase::Answer),
         Kind::Place { .. } => stack.only(Phase::Decide { touch }),
         Kind::Take(frame) => stack.only(taken(touch, *frame, seen.place)),
-        Kind::Start { .. } => {
-            stack.only(Phase::Decide { touch });
-            opened(stack, kind, seen, caught(seen.place));
-        }
+        Kind::Start { .. } => opened_over(
+            stack,
+            Phase::Decide { touch },
+            kind,
+            seen,
+            caught(seen.place),
+        ),
         _ => stack.clear(),
     }
 }
 
-pub fn after_taken(stack: &mut Stack, touch: Touch, by: Frame, over: Place, kind: &Kind)
-    ensures { stack.new ≡ spec.after_taken touch by over kind.now }
+#[inline(never)]
+pub fn after_armed(
+    stack: &mut Stack,
+    touch: &Touch,
+    by: &Frame,
+    over: &Place,
+    kind: &Kind,
+    seen: &Seen,
+)
+    ensures { stack.new
+        ≡ spec.with_guard kind.now seen.now (AnyBody.Replace over.now by.now) (AnyPhase.Decide touch.now ∷ []) }
+{
+    let below = Phase::Decide { touch: *touch };
+    let body = Body::Replace {
+        over: *over,
+        by: *by,
+    };
+    opened_over(stack, below, kind, seen, body);
+}
+
+#[inline(never)]
+pub fn after_taken(stack: &mut Stack, touch: &Touch, by: &Frame, over: &Place, kind: &Kind)
+    ensures { stack.new ≡ spec.after_taken touch.now by.now over.now kind.now }
 {
     match kind {
-        Kind::Copied { .. } => stack.only(Phase::Armed { touch, by, over }),
-        _ => stack.only(Phase::Decide { touch }),
+        Kind::Copied { .. } => stack.only(Phase::Armed {
+            touch: *touch,
+            by: *by,
+            over: *over,
+        }),
+        _ => stack.only(Phase::Decide { touch: *touch }),
     }
 }
 
-fn piece_of_given_up(touch: Option<Touch>) -> u32
-    ensures { result ≡ spec.piece_of_given_up touch }
+fn piece_of_given_up(touch: &Option<Touch>) -> u32
+    ensures { result ≡ spec.piece_of_given_up touch.now }
 {
     match touch {
         None => 0,
-        Some(touch) => piece_of(touch),
+        Some(touch) => piece_of(*touch),
     }
 }
 
-pub fn after_give_up(stack: &mut Stack, op: &Op, touch: Option<Touch>, kind: &Kind)
-    ensures { stack.new ≡ spec.after_give_up op.now touch kind.now }
+#[inline(never)]
+pub fn after_give_up(stack: &mut Stack, op: &Op, touch: &Option<Touch>, kind: &Kind)
+    ensures { stack.new ≡ spec.after_give_up op.now touch.now kind.now }
 {
     match kind {
         Kind::Failed { .. } => piece_ends(stack, op, piece_of_given_up(touch)),

@@ -21,7 +21,18 @@ impl Stack {
         self.depth = Depth::One;
     }
 
+    /// Leaves these two. To write the lower one where it stands is cheaper than to move it there from the top.
+    #[inline(always)]
+    pub(crate) fn two(&mut self, top: Phase, below: Phase)
+        ensures { self.new ≡ top ∷ below ∷ [] }
+    {
+        self.top = top;
+        self.second = below;
+        self.depth = Depth::Two;
+    }
+
     /// Puts the phase on top.
+    #[inline(never)]
     pub(crate) fn put(&mut self, top: Phase)
         requires { length self.old < 3 }
         ensures { self.new ≡ top ∷ self.old }
@@ -43,6 +54,7 @@ impl Stack {
     }
 
     /// Puts the phase in place of the top.
+    #[inline(never)]
     pub(crate) fn renew(&mut self, top: Phase)
         requires { 0 < length self.old }
         ensures { self.new ≡ top ∷ drop 1 self.old }
@@ -51,6 +63,7 @@ impl Stack {
     }
 
     /// Takes the top away.
+    #[inline(never)]
     pub(crate) fn pop(&mut self)
         ensures { self.new ≡ drop 1 self.old }
     {

@@ -1,12 +1,12 @@
 // A frame that is emptied: its other mappings, the copy, the finish; and the frames of an eviction.
-ghost use Rattle.std.specs.Prelude.{◌≡◌, ◌≤◌, ◌<◌, ◌∷◌, length, IsTrue};
+ghost use Rattle.std.specs.Prelude.{◌≡◌, [], ◌≤◌, ◌<◌, ◌∷◌, length, IsTrue};
 ghost use Rattle.hm_history.specs.Words.{names};
 ghost use Rattle.hm_history.specs.Operation.{is_remove};
 ghost use Rattle.hm_history.specs.Stacks as spec;
 ghost use Rattle.hm_phases.specs.Items.{first_takes_count};
 
 use crate::Stack;
-use crate::guards::{opened, past_frame};
+use crate::guards::{opened, opened_over, past_frame};
 use hm_base::frames::names;
 use hm_base::{Frame, Op};
 use hm_history::phases::{Body, Phase, Seen};
@@ -65,20 +65,24 @@ fn copy_phases(below: &mut Stack, from: &Frame, to: &Frame)
     });
 }
 
+#[inline(never)]
 pub fn after_emptying(
     below: &mut Stack,
     op: &Op,
     frame: &Frame,
-    at: KeptAt,
+    at: &KeptAt,
     kind: &Kind,
     seen: &Seen,
 )
-    requires { length (spec.after_emptying op.now frame.now at below.old kind.now seen.now) ≤ 3 }
-    ensures { below.new ≡ spec.after_emptying op.now frame.now at below.old kind.now seen.now }
+    requires { length (spec.after_emptying op.now frame.now at.now below.old kind.now seen.now) ≤ 3 }
+    ensures { below.new ≡ spec.after_emptying op.now frame.now at.now below.old kind.now seen.now }
 {
     match kind {
         Kind::Start { .. } => {
-            below.put(Phase::Emptying { frame: *frame, at });
+            below.put(Phase::Emptying {
+                frame: *frame,
+                at: *at,
+            });
             opened(below, kind, seen, Body::Freeze { frame: *frame });
         }
         Kind::Take(to) => copy_phases(below, frame, to),
@@ -103,43 +107,56 @@ fn counted(below: &mut Stack)
     }
 }
 
-pub fn after_copied(below: &mut Stack, from: Frame, to: Frame)
-    requires room { length (Phase.Finish from (Some to) ∷ spec.with_one_more below.old) ≤ 3 }
+#[inline(never)]
+pub fn after_copied(below: &mut Stack, from: &Frame, to: &Frame)
+    requires room { length (Phase.Finish from.now (Some to.now) ∷ spec.with_one_more below.old) ≤ 3 }
     requires counted { IsTrue (first_takes_count below.old) }
-    ensures { below.new ≡ Phase.Finish from (Some to) ∷ spec.with_one_more below.old }
+    ensures { below.new ≡ Phase.Finish from.now (Some to.now) ∷ spec.with_one_more below.old }
 {
     counted(below);
-    below.put(Phase::Finish { from, to: Some(to) });
+    below.put(Phase::Finish {
+        from: *from,
+        to: Some(*to),
+    });
 }
 
-pub fn after_copy(below: &mut Stack, from: Frame, to: Frame, part: u8)
-    requires { length (spec.after_copy from to part below.old) ≤ 3 }
-    ensures { below.new ≡ spec.after_copy from to part below.old }
+#[inline(never)]
+pub fn after_copy(below: &mut Stack, from: &Frame, to: &Frame, part: u8)
+    requires { length (spec.after_copy from.now to.now part below.old) ≤ 3 }
+    ensures { below.new ≡ spec.after_copy from.now to.now part below.old }
 {
     if part < 7 {
         below.put(Phase::Copy {
-            from,
-            to,
+            from: *from,
+            to: *to,
             part: part + 1,
         });
     }
 }
 
-pub fn after_finish(below: &mut Stack, from: Frame, to: Option<Frame>, kind: &Kind)
-    requires { length (spec.after_finish from to below.old kind.now) ≤ 3 }
-    ensures { below.new ≡ spec.after_finish from to below.old kind.now }
+#[inline(never)]
+pub fn after_finish(below: &mut Stack, from: &Frame, to: &Option<Frame>, kind: &Kind)
+    requires { length (spec.after_finish from.now to.now below.old kind.now) ≤ 3 }
+    ensures { below.new ≡ spec.after_finish from.now to.now below.old kind.now }
+{
+    match (kind, *to) {
+        (Kind::Place { .. }, _) => below.put(Phase::Finish {
+            from: *from,
+            to: *to,
+        }),
+        (Kind::Drop(_), Some(frame)) => below.put(Phase::Settle { frame }),
+        _ => (),
+    }
+}
+
+/// A finish over this phase alone, after one of its entries.
+pub fn finishing_over(stack: &mut Stack, below: Phase, from: Frame, to: Option<Frame>, kind: &Kind)
+    ensures { stack.new ≡ spec.after_finish from to (below ∷ []) kind.now }
 {
     match (kind, to) {
-        (
-            Kind::Place {
-                proc: _,
-                page: _,
-                place: _,
-            },
-            _,
-        ) => below.put(Phase::Finish { from, to }),
-        (Kind::Drop(_), Some(by)) => below.put(Phase::Settle { frame: by }),
-        _ => (),
+        (Kind::Place { .. }, _) => stack.two(Phase::Finish { from, to }, below),
+        (Kind::Drop(_), Some(frame)) => stack.two(Phase::Settle { frame }, below),
+        _ => stack.only(below),
     }
 }
 
@@ -161,6 +178,7 @@ fn catching(frame: Option<Frame>) -> Body
     }
 }
 
+#[inline(never)]
 pub fn after_frames(stack: &mut Stack, next: u64, emptied: u64, kind: &Kind, seen: &Seen)
     ensures { stack.new ≡ spec.after_frames next emptied kind.now seen.now }
 {
@@ -168,8 +186,13 @@ pub fn after_frames(stack: &mut Stack, next: u64, emptied: u64, kind: &Kind, see
         Kind::Start { .. } => {
             let frame = names(&seen.place);
             let next = number_of(&frame);
-            stack.only(Phase::Frames { next, emptied });
-            opened(stack, kind, seen, catching(frame));
+            opened_over(
+                stack,
+                Phase::Frames { next, emptied },
+                kind,
+                seen,
+                catching(frame),
+            );
         }
         Kind::Kept {
             at: KeptAt::Frame(frame),

@@ -1,5 +1,5 @@
 // A guard: the mirrors told, its body, its end.
-ghost use Rattle.std.specs.Prelude.{◌≡◌, ◌+◌, ◌≤◌, ◌<◌, ◌^◌, length};
+ghost use Rattle.std.specs.Prelude.{◌≡◌, [], ◌∷◌, ◌+◌, ◌≤◌, ◌<◌, ◌^◌, length};
 ghost use Rattle.hm_history.specs.Operation.{is_evicting};
 ghost use Rattle.hm_history.specs.Stacks as spec;
 ghost use Rattle.hm_history.specs.declared.KeptAt.{KeptAt};
@@ -22,6 +22,26 @@ pub fn opened(below: &mut Stack, kind: &Kind, seen: &Seen, body: Body)
             body,
         }),
         _ => (),
+    }
+}
+
+/// The guard that a `start` opens, over this phase alone.
+#[inline(always)]
+pub fn opened_over(stack: &mut Stack, below: Phase, kind: &Kind, seen: &Seen, body: Body)
+    ensures { stack.new ≡ spec.with_guard kind.now seen.now body (below ∷ []) }
+{
+    match kind {
+        Kind::Start { proc, span, seq: _ } => stack.two(
+            Phase::Guard {
+                proc: *proc,
+                span: *span,
+                overlapped: seen.overlapped,
+                told: None,
+                body,
+            },
+            below,
+        ),
+        _ => stack.only(below),
     }
 }
 
@@ -57,33 +77,28 @@ fn is_place_of(kind: &Kind, proc: Proc) -> bool
     }
 }
 
-pub fn body_next(body: Body, proc: Proc, kind: &Kind) -> Body
-    ensures { result ≡ spec.body_next body proc kind.now }
+fn fork_goes_on(next: &mut u64, half: &mut bool, proc: Proc, kind: &Kind)
+    ensures { Body.Fork next.new half.new ≡ spec.body_next (Body.Fork next.old half.old) proc kind.now }
+{
+    if is_place_of(kind, proc) {
+        *next = page_of_entry(kind);
+        *half = true;
+    } else {
+        *next = page_of_entry(kind) + 1;
+        *half = false;
+    }
+}
+
+/// Changes a body by one of its entries.
+pub fn body_goes_on(body: &mut Body, proc: Proc, kind: &Kind)
+    ensures { body.new ≡ spec.body_next body.old proc kind.now }
 {
     match body {
-        Body::Zap { .. } => Body::Zap {
-            next: page_of_entry(kind) + 1,
-        },
-        Body::Narrow { .. } => Body::Narrow {
-            next: page_of_entry(kind) + 1,
-        },
-        Body::Select { .. } => Body::Select {
-            next: page_of_entry(kind) + 1,
-        },
-        Body::Fork { .. } => {
-            if is_place_of(kind, proc) {
-                Body::Fork {
-                    next: page_of_entry(kind),
-                    half: true,
-                }
-            } else {
-                Body::Fork {
-                    next: page_of_entry(kind) + 1,
-                    half: false,
-                }
-            }
-        }
-        _ => Body::Nothing,
+        Body::Zap { next } => *next = page_of_entry(kind) + 1,
+        Body::Narrow { next } => *next = page_of_entry(kind) + 1,
+        Body::Select { next } => *next = page_of_entry(kind) + 1,
+        Body::Fork { next, half } => fork_goes_on(next, half, proc, kind),
+        _ => *body = Body::Nothing,
     }
 }
 
@@ -172,14 +187,14 @@ fn below_next(below: &mut Stack, op: &Op, body: Body, span: Span)
     }
 }
 
-/// A guard, as its phase has it.
+// A guard, as its phase has it.
 #[derive(Clone, Copy)]
-pub struct Guarding {
-    pub proc: Proc,
-    pub span: Span,
-    pub overlapped: bool,
-    pub told: Option<MirrorId>,
-    pub body: Body,
+struct Guarding {
+    proc: Proc,
+    span: Span,
+    overlapped: bool,
+    told: Option<MirrorId>,
+    body: Body,
 }
 
 pub fn told_mirror(kind: &Kind) -> Option<MirrorId>
@@ -225,12 +240,14 @@ fn guard_goes_on(below: &mut Stack, op: &Op, guard: &Guarding, kind: &Kind, seen
         ≡ spec.guard_goes_on op.now guard.now.proc guard.now.span guard.now.overlapped guard.now.told guard.now.body
         below.old kind.now seen.now }
 {
+    let mut body = guard.body;
+    body_goes_on(&mut body, guard.proc, kind);
     below_next(below, op, guard.body, guard.span);
-    below.put(guard_phase(guard, guard.told, body_next(guard.body, guard.proc, kind)));
+    below.put(guard_phase(guard, guard.told, body));
     dropping(below, seen.orphan);
 }
 
-pub fn after_guard(below: &mut Stack, op: &Op, guard: &Guarding, kind: &Kind, seen: &Seen)
+fn after_guard(below: &mut Stack, op: &Op, guard: &Guarding, kind: &Kind, seen: &Seen)
     requires { length
         (spec.after_guard op.now guard.now.proc guard.now.span guard.now.overlapped guard.now.told guard.now.body
         below.old kind.now seen.now)
@@ -249,4 +266,42 @@ pub fn after_guard(below: &mut Stack, op: &Op, guard: &Guarding, kind: &Kind, se
             }
         }
     }
+}
+
+/// What comes after an entry of the guard of these parts.
+#[inline(never)]
+pub fn after_guard_at(
+    below: &mut Stack,
+    op: &Op,
+    proc: &Proc,
+    span: &Span,
+    overlapped: bool,
+    told: &Option<MirrorId>,
+    body: &Body,
+    kind: &Kind,
+    seen: &Seen,
+)
+    requires { length
+        (spec.after_guard op.now proc.now span.now overlapped told.now body.now below.old kind.now seen.now)
+        ≤ 3 }
+    ensures { below.new
+        ≡ spec.after_guard op.now proc.now span.now overlapped told.now body.now below.old kind.now seen.now }
+{
+    let guard = Guarding {
+        proc: *proc,
+        span: *span,
+        overlapped,
+        told: *told,
+        body: *body,
+    };
+    after_guard(below, op, &guard, kind, seen);
+}
+
+/// The page got a frame meanwhile: the taken one is dropped.
+#[inline(never)]
+pub fn after_lost(below: &mut Stack, by: &Frame)
+    requires { length below.old < 3 }
+    ensures { below.new ≡ Phase.Drop by.now ∷ below.old }
+{
+    below.put(Phase::Drop { frame: *by });
 }

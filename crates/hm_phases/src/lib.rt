@@ -4,14 +4,9 @@
 #![tactic(auto)]
 
 ghost use Rattle.std.specs.Prelude.{◌≡◌, ℕ, ◌+◌, ◌≤◌, ◌<◌, [], ◌∷◌, length, IfOk, IsTrue, IsOk, true, false, option_copied, slice_get};
-ghost use Rattle.hm_base.specs.declared.ops.Op.{Op as AnyOp};
 ghost use Rattle.hm_history.specs.Stacks.{first_phase, stack_after};
-ghost use Rattle.hm_history.specs.declared.phases.Seen.{Seen as AnySeen};
 ghost use Rattle.hm_phases.specs.Items.{below_takes_count, phases_of};
 
-use crate::in_place::{only_goes_on, top_goes_on};
-use crate::moves::after_top;
-use crate::tops::top_leaves;
 use hm_base::{NoMemory, Op};
 use hm_history::Kind;
 use std::alloc::Global;
@@ -26,7 +21,6 @@ mod items;
 mod migrations;
 mod moves;
 mod operations;
-mod tops;
 
 pub use hm_history::phases::{Body, Migrating, Phase, Seen, Touch};
 pub use items::Items;
@@ -106,35 +100,6 @@ impl Stack {
         }
     }
 
-    /// Changes the top where an entry changes nothing else, and tells whether it does.
-    fn goes_on(&mut self, kind: &Kind, seen: &Seen) -> bool
-        ensures on { result ≡ true → (o : AnyOp) → stack_after o self.old kind.now seen.now ≡ self.new }
-        ensures same { result ≡ false → self.new ≡ self.old }
-    {
-        match self.depth {
-            Depth::Zero => false,
-            Depth::One => only_goes_on(&mut self.top, kind, seen),
-            _ => top_goes_on(&mut self.top, kind, seen),
-        }
-    }
-
-    /// Takes the top away where an entry does no more, and tells whether it does.
-    fn leaves(&mut self, kind: &Kind) -> bool
-        ensures on { result ≡ true → (o : AnyOp) (seen : AnySeen) → stack_after o self.old kind.now seen ≡ self.new }
-        ensures same { result ≡ false → self.new ≡ self.old }
-    {
-        match self.depth {
-            Depth::Zero => false,
-            _ => {
-                if !top_leaves(&self.top, kind) {
-                    return false;
-                }
-                self.pop();
-                true
-            }
-        }
-    }
-
     /// What the stack is after the actor's entry, given what the world showed just before it; empty where the entry
     /// ends the operation.
     pub fn moved(&mut self, op: &Op, kind: &Kind, seen: &Seen)
@@ -142,16 +107,9 @@ impl Stack {
         requires counted { IsTrue (below_takes_count self.old) }
         ensures { self.new ≡ stack_after op.now self.old kind.now seen.now }
     {
-        if self.goes_on(kind, seen) || self.leaves(kind) {
-            return;
-        }
         match self.depth {
             Depth::Zero => (),
-            _ => {
-                let top = self.top;
-                self.pop();
-                after_top(self, &top, op, kind, seen);
-            }
+            _ => self.after_top(op, kind, seen),
         }
     }
 }

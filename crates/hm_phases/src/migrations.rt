@@ -3,8 +3,8 @@ ghost use Rattle.std.specs.Prelude.{◌≡◌, ◌+◌, ◌≤◌, [], ◌∷◌
 ghost use Rattle.hm_history.specs.Stacks as spec;
 
 use crate::Stack;
-use crate::frames::after_finish;
-use crate::guards::{dropping, opened};
+use crate::frames::finishing_over;
+use crate::guards::{dropping, opened_over};
 use hm_base::Frame;
 use hm_history::phases::{Body, Migrating, MoveStep, Phase, Seen};
 use hm_history::{KeptWhy, Kind};
@@ -24,13 +24,12 @@ fn freezing(step: MoveStep, source: Option<Frame>, dest: Option<Frame>) -> Body
     }
 }
 
-fn copying(below: &mut Stack, source: Option<Frame>, to: Frame)
-    requires { length (spec.copying source to below.old) ≤ 3 }
-    ensures { below.new ≡ spec.copying source to below.old }
+fn copying(stack: &mut Stack, source: Option<Frame>, to: Frame, below: Phase)
+    ensures { stack.new ≡ spec.copying source to (below ∷ []) }
 {
     match source {
-        None => (),
-        Some(from) => below.put(Phase::Copy { from, to, part: 0 }),
+        None => stack.only(below),
+        Some(from) => stack.two(Phase::Copy { from, to, part: 0 }, below),
     }
 }
 
@@ -57,33 +56,38 @@ fn kept_on(stack: &mut Stack, why: KeptWhy, page: &Migrating)
 fn finishing(stack: &mut Stack, page: &Migrating, kind: &Kind)
     ensures { stack.new ≡ spec.finishing page.now kind.now }
 {
-    stack.only(Phase::Moves {
+    let below = Phase::Moves {
         step: MoveStep::Finish,
         next: page.page.number() + 1,
-    });
+    };
     match page.source {
-        None => (),
-        Some(from) => after_finish(stack, from, if page.moved { page.dest } else { None }, kind),
+        None => stack.only(below),
+        Some(from) => {
+            let to = if page.moved { page.dest } else { None };
+            finishing_over(stack, below, from, to, kind);
+        }
     }
 }
 
+#[inline(never)]
 fn migration_starts(stack: &mut Stack, step: MoveStep, page: &Migrating, kind: &Kind, seen: &Seen)
     ensures { stack.new
         ≡ spec.with_guard kind.now seen.now (spec.freezing step page.now.source page.now.dest)
         (spec.next_cursor step page.now.page ∷ []) }
 {
     let number = page.page.number();
-    match step {
-        MoveStep::FreezeOthers => stack.only(Phase::Moves {
+    let below = match step {
+        MoveStep::FreezeOthers => Phase::Moves {
             step: MoveStep::FreezeOthers,
             next: number,
-        }),
-        _ => stack.only(Phase::Moves {
+        },
+        _ => Phase::Moves {
             step: MoveStep::Commit,
             next: number + 1,
-        }),
-    }
-    opened(stack, kind, seen, freezing(step, page.source, page.dest));
+        },
+    };
+    let body = freezing(step, page.source, page.dest);
+    opened_over(stack, below, kind, seen, body);
 }
 
 fn after_moves(stack: &mut Stack, step: MoveStep, page: &Migrating, kind: &Kind, seen: &Seen)
@@ -92,13 +96,15 @@ fn after_moves(stack: &mut Stack, step: MoveStep, page: &Migrating, kind: &Kind,
     let next = page.page.number() + 1;
     match kind {
         Kind::Start { .. } => migration_starts(stack, step, page, kind, seen),
-        Kind::Take(to) => {
-            stack.only(Phase::Moves {
+        Kind::Take(to) => copying(
+            stack,
+            page.source,
+            *to,
+            Phase::Moves {
                 step: MoveStep::TakeAndCopy,
                 next,
-            });
-            copying(stack, page.source, *to);
-        }
+            },
+        ),
         Kind::Kept { at: _, why } => kept_on(stack, *why, page),
         Kind::Committed { .. } => stack.only(Phase::Moves {
             step: MoveStep::Commit,
@@ -112,6 +118,7 @@ fn after_moves(stack: &mut Stack, step: MoveStep, page: &Migrating, kind: &Kind,
     }
 }
 
+#[inline(never)]
 pub fn after_migration(stack: &mut Stack, step: MoveStep, kind: &Kind, seen: &Seen)
     ensures { stack.new ≡ spec.after_migration step seen.now.page kind.now seen.now }
 {

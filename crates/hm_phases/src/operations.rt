@@ -3,7 +3,7 @@ ghost use Rattle.std.specs.Prelude.{◌≡◌, false, [], ◌∷◌};
 ghost use Rattle.hm_history.specs.Stacks as spec;
 
 use crate::Stack;
-use crate::guards::opened;
+use crate::guards::opened_over;
 use hm_base::{Op, Rights, Span};
 use hm_history::Kind;
 use hm_history::phases::{Body, MoveStep, Phase, Seen, Touch};
@@ -68,6 +68,7 @@ fn body_of(op: &Op, span: Span) -> Body
     }
 }
 
+#[inline(never)]
 pub fn after_locked(stack: &mut Stack, op: &Op, kind: &Kind, seen: &Seen)
     ensures { stack.new ≡ spec.after_locked op.now kind.now seen.now }
 {
@@ -81,8 +82,7 @@ pub fn after_locked(stack: &mut Stack, op: &Op, kind: &Kind, seen: &Seen)
             span,
             seq: _,
         } => {
-            stack.only(Phase::Answer);
-            opened(stack, kind, seen, body_of(op, *span));
+            opened_over(stack, Phase::Answer, kind, seen, body_of(op, *span));
         }
         _ => stack.clear(),
     }
@@ -94,28 +94,24 @@ fn selects(stack: &mut Stack, span: &Span, kind: &Kind, seen: &Seen)
         (Phase.Moves MoveStep.FreezeOthers span.now.first ∷ []) }
 {
     let next = span.first().number();
-    stack.only(Phase::Moves {
+    let below = Phase::Moves {
         step: MoveStep::FreezeOthers,
         next,
-    });
-    opened(stack, kind, seen, Body::Select { next });
+    };
+    opened_over(stack, below, kind, seen, Body::Select { next });
 }
 
 fn forks(stack: &mut Stack, kind: &Kind, seen: &Seen)
     ensures { stack.new ≡ spec.with_guard kind.now seen.now (Body.Fork 0 false) (Phase.Answer ∷ []) }
 {
-    stack.only(Phase::Answer);
-    opened(
-        stack,
-        kind,
-        seen,
-        Body::Fork {
-            next: 0,
-            half: false,
-        },
-    );
+    let body = Body::Fork {
+        next: 0,
+        half: false,
+    };
+    opened_over(stack, Phase::Answer, kind, seen, body);
 }
 
+#[inline(never)]
 pub fn after_ready(stack: &mut Stack, op: &Op, kind: &Kind, seen: &Seen)
     ensures { stack.new ≡ spec.after_ready op.now kind.now seen.now }
 {
