@@ -1,5 +1,5 @@
 // The page to which a migration has come.
-ghost use Rattle.std.specs.Prelude.{◌≡◌, Bool};
+ghost use Rattle.std.specs.Prelude.{◌≡◌, Bool, option_copied};
 ghost use Rattle.hm_history.specs.Going.{steps_from};
 ghost use Rattle.hm_history.specs.declared.phases.Migrating.{Migrating as Record};
 ghost use Rattle.hm_history.specs.declared.phases.MoveStep.{MoveStep as Step};
@@ -17,17 +17,17 @@ pub trait Concerns {
 }
 
 // The first record from the page on that the step concerns.
-fn first_from<C: Concerns>(
-    records: &[Migrating],
+fn first_from<'a, C: Concerns>(
+    records: &'a [Migrating],
     concerns: &C,
     step: MoveStep,
     next: u64,
-) -> Option<Migrating>
-    ensures { result ≡ first_from (C.concerns concerns.now step) next records.now }
+) -> Option<&'a Migrating>
+    ensures { option_copied result ≡ first_from (C.concerns concerns.now step) next records.now }
 {
     for migrating in records {
         if next <= migrating.page.number() && concerns.concerns(step, migrating) {
-            return Some(*migrating);
+            return Some(migrating);
         }
     }
     None
@@ -69,7 +69,7 @@ pub fn come_to<C: Concerns>(
     let mut from = next;
     for at in steps_from(step) {
         match first_from(records.from_page(from), concerns, *at, from) {
-            Some(migrating) => return Some((*at, migrating)),
+            Some(migrating) => return Some((*at, *migrating)),
             None => from = 0,
         }
     }
