@@ -1,9 +1,10 @@
 // All actors of a script.
-ghost use Rattle.std.specs.Prelude.{◌≡◌, ◌<◌, ◌≤◌, [], true, is_none, count_by, length, OnOk, OnErr, IfOk, option_copied, slice_get};
+ghost use Rattle.std.specs.Prelude.{◌≡◌, ◌<◌, ◌≤◌, List, [], true, false, is_none, count_by, length, OnOk, OnErr, IfOk, option_copied, slice_get};
 ghost use Rattle.hm_history.specs.Going.{op_at, steps_from};
+ghost use Rattle.hm_history.specs.declared.phases.Phase.{Phase as AnyPhase};
 ghost use Rattle.hm_actors.specs.Coming.{come_by};
 ghost use Rattle.hm_phases.specs.Items.{phases_of};
-ghost use Rattle.hm_actors.specs.Actors.{actors_start, actors_next, going_of, goings, ActorsFit, ActorsRoom};
+ghost use Rattle.hm_actors.specs.Actors.{actors_start, actors_next, adds_record, going_of, goings, ActorsFit, ActorsRoom};
 
 use crate::coming::Concerns;
 use crate::records::Records;
@@ -16,6 +17,16 @@ use hm_phases::Items;
 use slab::Slab;
 use std::alloc::Global;
 use std::marker::Model;
+
+// Whether an entry of this kind adds no record, whatever the phase.
+fn adds_none(kind: &Kind) -> bool
+    ensures { result ≡ true → (stack : List AnyPhase) → adds_record stack kind.now ≡ false }
+{
+    match kind {
+        Kind::Fresh { .. } | Kind::Place { .. } => false,
+        _ => true,
+    }
+}
 
 /// How far each actor of a script is.
 #[derive(Drop)]
@@ -61,6 +72,9 @@ impl Actors {
         ensures same { goings self.new ≡ goings self.old }
         ensures err { OnErr result (self.new ≡ self.old) }
     {
+        if adds_none(kind) {
+            return Ok(());
+        }
         let at = actor.number() as usize;
         if self.tasks.len() <= at {
             return Ok(());
