@@ -67,14 +67,26 @@ impl Actors {
     }
 
     /// Makes room for the record that the actor's entry adds, if it adds one; all else stays.
+    #[inline(always)]
     pub fn reserve(&mut self, actor: Actor, kind: &Kind) -> Result<(), NoMemory>
         ensures room { OnOk result (ActorsRoom actor kind.now self.new) }
         ensures same { goings self.new ≡ goings self.old }
         ensures err { OnErr result (self.new ≡ self.old) }
     {
         if adds_none(kind) {
-            return Ok(());
+            Ok(())
+        } else {
+            self.reserve_record(actor, kind)
         }
+    }
+
+    // Apart, so that most entries do not pay for it.
+    #[inline(never)]
+    fn reserve_record(&mut self, actor: Actor, kind: &Kind) -> Result<(), NoMemory>
+        ensures room { OnOk result (ActorsRoom actor kind.now self.new) }
+        ensures same { goings self.new ≡ goings self.old }
+        ensures err { OnErr result (self.new ≡ self.old) }
+    {
         let at = actor.number() as usize;
         if self.tasks.len() <= at {
             return Ok(());

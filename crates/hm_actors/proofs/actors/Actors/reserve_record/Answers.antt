@@ -2,7 +2,7 @@ use Rattle.std.proofs.Common.{arith, subst, sym}
 use Rattle.std.proofs.lemmas.Result.{on_err_weaker, on_ok_weaker}
 use Rattle.hm_actors.specs.Actors.{TaskValue, HasRoom}
 use Rattle.hm_actors.proofs.KeysKept.{keys_kept, changed, stays, goings_stay}
-use Rattle.hm_actors.proofs.actors.Actors.reserve.Goals as goal
+use Rattle.hm_actors.proofs.actors.Actors.reserve_record.Goals as goal
 
 pub invariant_of-self : goal.invariant_of-self
 invariant_of-self c = keys_kept c.self.inside.tasks.items c.self.inside.migrations c.reserve.new.migrations c.number-at.result c.index_mut-task.result.now c.reserve.new.self c.self.invariant c.index_mut-task.ensures.value (omega (arith, c.self.inside.tasks.ok.0)) c.reserve.ensures.changes
