@@ -1,5 +1,6 @@
 pub mod Tables
 pub mod TableBits
+pub mod Passed
 pub mod Lasts
 pub mod Steps
 pub mod Made

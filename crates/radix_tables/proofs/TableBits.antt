@@ -55,7 +55,7 @@ bits_child test {words} {bits} {now} xs ys at h c l = by c.step
     by (inr s) = bits_longer test h s.5 l
 
 -- the bits of a table
-table_bit : (bits : List ℕ) (t k : ℕ) → bit bits (t * 64 + k % 64) ≡ eqb (bit_at (get_or bits t 0) (k % 64)) 1
+pub table_bit : (bits : List ℕ) (t k : ℕ) → bit bits (t * 64 + k % 64) ≡ eqb (bit_at (get_or bits t 0) (k % 64)) 1
 table_bit bits t k = ap (λ i. eqb (bit_at (get_or bits i 0) ((t * 64 + k % 64) % 64)) 1) high ∙ ap (λ i. eqb (bit_at (get_or bits t 0) i) 1) low
   where
     high : (t * 64 + k % 64) / 64 ≡ t

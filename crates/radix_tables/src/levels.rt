@@ -263,7 +263,7 @@ impl Levels {
                     if let Some(found) = self.next_in_table(table, at) {
                         return Some(found);
                     }
-                    at = (at / ENTRIES + 1) * ENTRIES;
+                    at = self.past_unused(at);
                 }
             }
         }
@@ -284,11 +284,35 @@ impl Levels {
                     if let Some(found) = self.next_mark(table, at) {
                         return Some(found);
                     }
-                    at = (at / ENTRIES + 1) * ENTRIES;
+                    at = self.past_unmarked(at);
                 }
             }
         }
         None
+    }
+
+    /// A page from which on to look for a word, once the table of this page has none from there on.
+    fn past_unused(&self, page: u64) -> u64
+        requires levels { IsLevels self.now }
+        requires page { page < 2 ^ 36 }
+        ensures further { (page / 64 + 1) * 64 ≤ result }
+        ensures none { (v : ℕ) → (page / 64 + 1) * 64 ≤ v → v < result → word_of self.now v ≡ 0 }
+    {
+        let block = page / ENTRIES;
+        let table = self.second_table(block / ENTRIES);
+        past_tables(&self.second, &self.used, table, block) * ENTRIES
+    }
+
+    /// A page from which on to look for a marked word, once the table of this page has none from there on.
+    fn past_unmarked(&self, page: u64) -> u64
+        requires levels { IsLevels self.now }
+        requires page { page < 2 ^ 36 }
+        ensures further { (page / 64 + 1) * 64 ≤ result }
+        ensures none { (v : ℕ) → (page / 64 + 1) * 64 ≤ v → v < result → marked_of self.now v ≡ 0 }
+    {
+        let block = page / ENTRIES;
+        let table = self.second_table(block / ENTRIES);
+        past_tables(&self.second, &self.marks, table, block) * ENTRIES
     }
 
     /// Goes down towards the page as far as there are tables.
@@ -379,12 +403,37 @@ fn next_entry(bits: &[u64], table: u64, number: u64) -> Option<u64>
         (λ q. (number ≤ q) × (q < (number / 64 + 1) * 64) × (bit bits.now (table * 64 + q % 64) ≡ true)
         × ((k : ℕ) → number ≤ k → k < q → bit bits.now (table * 64 + k % 64) ≡ false)) }
 {
-    let word = match bits.get(table as usize) {
+    let next = bits::next_in_word(bits_of(bits, table), (number % ENTRIES) as u32)?;
+    Some(number / ENTRIES * ENTRIES + next as u64)
+}
+
+/// The first number after this one in its table whose entry names a table with a bit that is set, or where the table
+/// ends. It looks at a word for each of these tables, so that a search passes over those that have nothing.
+fn past_tables(entries: &[u64], bits: &[u64], table: u64, number: u64) -> u64
+    requires table { table < 2 ^ 57 }
+    requires number { number < 2 ^ 30 }
+    ensures further { number < result }
+    ensures inside { result ≤ (number / 64 + 1) * 64 }
+    ensures none { (n : ℕ) → number < n → n < result
+        → slice_index bits.now (slice_index entries.now (table * 64 + n % 64)) ≡ 0 }
+{
+    let end = (number / ENTRIES + 1) * ENTRIES;
+    for at in number + 1..end {
+        if bits_of(bits, entry(entries, table, at)) != 0 {
+            return at;
+        }
+    }
+    end
+}
+
+/// The bits of a table.
+fn bits_of(bits: &[u64], table: u64) -> u64
+    ensures { result ≡ slice_index bits.now table }
+{
+    match bits.get(table as usize) {
         Some(word) => *word,
         None => 0,
-    };
-    let next = bits::next_in_word(word, (number % ENTRIES) as u32)?;
-    Some(number / ENTRIES * ENTRIES + next as u64)
+    }
 }
 
 /// Makes room for the bits of so many entries and of three more tables.

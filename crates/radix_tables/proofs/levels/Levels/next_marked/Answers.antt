@@ -16,8 +16,10 @@ loop-at-preserved-in-Gap c = record {
 
 pub loop-at-preserved : goal.loop-at-preserved
 loop-at-preserved c = record {
-  past = omega (arith, c.loop-at.invariant.past);
-  none = joined (marked_of c.args.self.now) c.args.page c.loop-at.at _ c.loop-at.invariant.none c.in_default.ensures;
+  past = omega (arith, c.loop-at.invariant.past, c.past_unmarked-at.ensures.further);
+  none =
+      joined (marked_of c.args.self.now) c.args.page _ _
+      (joined (marked_of c.args.self.now) c.args.page c.loop-at.at _ c.loop-at.invariant.none c.in_default.ensures) c.past_unmarked-at.ensures.none;
 }
 
 pub returns : goal.returns
