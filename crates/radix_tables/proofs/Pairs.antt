@@ -6,7 +6,7 @@ use Rattle.std.specs.Ordering.{nat_cmp}
 use Rattle.std.specs.FinMap.Entries as sorted
 use Rattle.std.proofs.lemmas.Bool.{cases_eq, cases_lt}
 use Rattle.std.proofs.lemmas.Bool.Decides.{nat_tests}
-use Rattle.radix_tables.specs.Maps.{pairs, pages, blocks, page_count, block_count, map_of, word_at, is_reserved, with_word, without_word, next_word, is_marked, marked, next_marked}
+use Rattle.radix_tables.specs.Maps.{Map, pairs, pages, blocks, page_count, block_count, map_of, word_at, is_reserved, with_word, without_word, given_back, room_left, next_word, is_marked, marked, next_marked}
 use Rattle.radix_tables.specs.Levels.{IsLeast}
 
 same_test : (a b : ℕ) → a ≡ b → eqb a b ≡ true
@@ -294,6 +294,17 @@ none_passes test (a ∷ ns) h = rw (h a, none_passes test ns h) refl
 
 pub no_words : (f t : ℕ → ℕ) → ((q : ℕ) → f q ≡ 0) → ((b : ℕ) → t b ≡ 0) → map_of f t ≡ record { words = []; blocks = [] }
 no_words f t h g = rw (none_of f pages h, none_passes (λ b. not (eqb (t b) 0)) blocks (λ b. rw (same_test (t b) 0 (g b)) refl)) refl
+
+-- a map without words gives its room back
+pub map_empty : (f t g u : ℕ → ℕ) (map : Map) → map_of f t ≡ map → ((q : ℕ) → f q ≡ 0) → ((q : ℕ) → g q ≡ 0) → ((b : ℕ) → u b ≡ 0) → map_of g u ≡ given_back map
+map_empty f t g u map e h k l = no_words g u k l ∙ (sym (rw (none_of f pages h) refl) ∙ ap given_back e)
+
+pub map_some : (m : Map) (p : ℕ) (e : ℕ × ℕ) → Some e ≡ next_word m p → m ≡ given_back m
+map_some m p e s = ap (λ (bs : List ℕ). record m { blocks = bs }) (stays m.words m.blocks s)
+  where
+    stays : (ws : List (ℕ × ℕ)) (bs : List ℕ) → Some e ≡ find (λ e. leb p e.0) ws → bs ≡ room_left ws bs
+    stays [] bs s = cc
+    stays (w ∷ ws) bs s = refl
 
 -- a page without a word loses none
 pub map_clear : (f t : ℕ → ℕ) (p : ℕ) → f p ≡ 0 → map_of f t ≡ without_word (map_of f t) p

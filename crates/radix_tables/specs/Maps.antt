@@ -22,6 +22,14 @@ with_word m page word = record m { words = sorted.put nat_cmp page word m.words 
 abbrev pub without_word : Map → ℕ → Map
 without_word m page = record m { words = sorted.where_key nat_cmp (λ v. not (v == page)) m.words }
 
+-- the map without its room, where it has no word
+abbrev pub room_left : List (ℕ × ℕ) → List ℕ → List ℕ
+room_left [] blocks = []
+room_left (_ ∷ _) blocks = blocks
+
+abbrev pub given_back : Map → Map
+given_back m = record m { blocks = room_left m.words m.blocks }
+
 -- the first page from there on that has a word, and its word
 abbrev pub next_word : Map → ℕ → Option (ℕ × ℕ)
 next_word m page = find (λ e. nat_le page e.0) m.words

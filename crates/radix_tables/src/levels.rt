@@ -55,6 +55,15 @@ impl Levels {
         }
     }
 
+    /// Gives all tables back.
+    pub fn give_back(&mut self)
+        ensures levels { IsLevels self.new }
+        ensures tables { (b : ℕ) → table_of self.new b ≡ 0 }
+        ensures words { (v : ℕ) → word_of self.new v ≡ 0 }
+    {
+        *self = Levels::new(*self.words.allocator());
+    }
+
     /// The table of the first level for a block of 64 pages.
     fn table(&self, block: u64) -> u64
         requires levels { IsLevels self.now }

@@ -1,6 +1,6 @@
 // What a page has is read, set, cleared, and found from a page on.
 ghost use Rattle.std.specs.Prelude.{◌≡◌, ◌≢◌, ℕ, ◌^◌, ◌<◌, ◌≤◌, [], true, OnOk, OnErr};
-ghost use Rattle.radix_tables.specs.Maps.{word_at, with_word, without_word, next_word, next_marked, is_reserved};
+ghost use Rattle.radix_tables.specs.Maps.{word_at, with_word, without_word, given_back, next_word, next_marked, is_reserved};
 
 use crate::levels::Levels;
 use hm_base::{NoMemory, Page};
@@ -69,6 +69,16 @@ impl Radix {
         let number = page.number();
         if self.levels.word(number) != 0 {
             self.levels.set(number, 0);
+        }
+    }
+
+    /// Gives the memory of the tables back where no page has a word, as `free_pgtables` of mm/memory.c does.
+    pub fn give_back(&mut self)
+        ensures { self.new ≡ given_back self.old }
+    {
+        match self.levels.next(0) {
+            None => self.levels.give_back(),
+            Some(_) => (),
         }
     }
 
