@@ -1,6 +1,6 @@
 // Bytes of frames in one block of memory.
 ghost use Rattle.std.specs.Prelude.{◌≡◌, ℕ, ◌+◌, ◌-◌, ◌≤◌, ◌<◌, ◌^◌, ◌++◌, length, replicate, vec_capacity};
-ghost use Rattle.frame_pool.specs.Frames.{overwritten, padded, part_of, zero_frame};
+ghost use Rattle.frame_pool.specs.Frames.{overwritten, padded, part_of};
 
 /// The bytes of a frame.
 pub const FRAME_BYTES: usize = 4096;
@@ -51,21 +51,12 @@ pub fn read_over(bytes: &mut Vec<u8>, at: usize, count: usize, source: &[u8], fr
 }
 
 /// Writes so many zeros over the bytes from `at` on.
-fn overwrite_by_zeros(bytes: &mut Vec<u8>, at: usize, count: usize)
+pub fn overwrite_by_zeros(bytes: &mut Vec<u8>, at: usize, count: usize)
     requires { at + count ≤ length bytes.old.items }
     ensures items { bytes.new.items ≡ overwritten bytes.old.items at (replicate count 0) }
     ensures capacity { vec_capacity bytes.new ≡ vec_capacity bytes.old }
 {
     bytes[at..at + count].fill(0);
-}
-
-/// Writes zeros over the frame that begins there.
-pub fn zero_frame(bytes: &mut Vec<u8>, at: usize)
-    requires { at + 4096 ≤ length bytes.old.items }
-    ensures items { bytes.new.items ≡ overwritten bytes.old.items at zero_frame }
-    ensures capacity { vec_capacity bytes.new ≡ vec_capacity bytes.old }
-{
-    overwrite_by_zeros(bytes, at, FRAME_BYTES);
 }
 
 /// Copies so many bytes from `at` on over those from `to` on.

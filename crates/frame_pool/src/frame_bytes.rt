@@ -1,8 +1,8 @@
 // Bytes of all frames of a pool, which take memory when they are first needed.
 ghost use Rattle.std.specs.Prelude.{◌≡◌, ◌+◌, ◌≤◌, length, replicate, IfOk};
-ghost use Rattle.frame_pool.specs.Frames.{overwritten, part_of, zero_frame};
+ghost use Rattle.frame_pool.specs.Frames.{overwritten, part_of};
 
-use crate::bytes::{self, FRAME_BYTES};
+use crate::bytes;
 use hm_base::NoMemory;
 use std::alloc::Global;
 use std::marker::Model;
@@ -54,16 +54,16 @@ impl FrameBytes {
         bytes::overwrite(&mut self.front, at, from);
     }
 
-    /// Writes zeros over the frame that begins there. Where no byte at or past it was written, there is nothing to do.
-    pub fn zero_frame(&mut self, at: usize)
-        requires { at + 4096 ≤ length self.old }
-        ensures { self.new ≡ overwritten self.old at zero_frame }
+    /// Writes so many zeros over the bytes from `at` on. Where no byte at or past it was written, there is nothing to do.
+    pub fn zero(&mut self, at: usize, count: usize)
+        requires { at + count ≤ length self.old }
+        ensures { self.new ≡ overwritten self.old at (replicate count 0) }
     {
         if self.front.len() <= at {
             return;
         }
-        bytes::grow(&mut self.front, at + FRAME_BYTES);
-        bytes::zero_frame(&mut self.front, at);
+        bytes::grow(&mut self.front, at + count);
+        bytes::overwrite_by_zeros(&mut self.front, at, count);
     }
 
     /// Copies so many bytes from `at` on over those from `to` on.

@@ -7,5 +7,6 @@ mod bytes;
 mod frame_bytes;
 mod number_set;
 mod pool;
+mod pool_bytes;
 
 pub use pool::{Held, Piece, Pool, copy_across};

@@ -4,8 +4,8 @@ ghost use Rattle.frame_pool.specs.Bits.{next_true};
 ghost use Rattle.frame_pool.specs.Frames.{IsFrames, IsPiece, fresh, is_held, locker, lowest_free, lowest_taken, taken, dropped, written, copied, part_of, locked, unlocked, piece_start, piece_len};
 
 use crate::bytes::FRAME_BYTES;
-use crate::frame_bytes::FrameBytes;
 use crate::number_set::NumberSet;
+use crate::pool_bytes::PoolBytes;
 use hm_base::{Actor, NoMemory};
 use std::alloc::Global;
 use std::marker::Model;
@@ -30,7 +30,7 @@ pub struct Held(pub Actor);
 pub struct Pool {
     free: NumberSet,
     held: NumberSet,
-    bytes: FrameBytes,
+    bytes: PoolBytes,
     locks: Vec<Option<Actor>>,
     withdrawn: bool,
 }
@@ -55,7 +55,7 @@ impl Pool {
     {
         let free = NumberSet::full(alloc, frames)?;
         let held = NumberSet::empty(alloc, frames)?;
-        let bytes = FrameBytes::new(alloc, frames as usize * FRAME_BYTES)?;
+        let bytes = PoolBytes::new(alloc, frames as usize * FRAME_BYTES)?;
         let locks = unlocked_frames(alloc, frames as usize)?;
         Ok(Pool {
             free,
