@@ -32,7 +32,7 @@ place_next x h p v y l w q u = ap (λ m. place_in_table m u) (table_next x h p v
 pub sizes_next : (x : Tables) → IsTables x → (p v : ℕ) (y : Place) → FrameFits (size_in x.pools) (names y) → (pool : PoolId) → size_in (tables_next (Kind.Place p v y) x).pools pool ≡ size_in x.pools pool
 sizes_next x h p v y l pool = size_next x.pools p v (place_of x p v) y (h.exact p v) l pool
 
-length_set : {X : Type 0} (xs : List X) (i : ℕ) (x : X) → length (set xs i x) ≡ length xs
+pub length_set : {X : Type 0} (xs : List X) (i : ℕ) (x : X) → length (set xs i x) ≡ length xs
 length_set xs i x = grind (arith, elements)
 
 pub tables_sound : (x : Tables) → IsTables x → (p v : ℕ) (y : Place) → p < 32 → v < 2 ^ 36 → has_word y ≡ true → FrameFits (size_in x.pools) (names y) → IsTables (tables_next (Kind.Place p v y) x)

@@ -6,7 +6,7 @@ use Rattle.hm_base.specs.declared.Frame.{Frame}
 use Rattle.hm_base.specs.declared.Place.{Place}
 use Rattle.hm_base.specs.PlaceWords.{names, is_frame}
 use Rattle.entry_words.specs.Word.{pool_field, has_word}
-use Rattle.radix_tables.specs.Maps.{is_reserved}
+use Rattle.radix_tables.specs.Maps.{is_reserved, given_back}
 use Rattle.rev_maps.specs.Uses.{Uses, unused, has_use, with_moving, added, removed}
 use Rattle.hm_history.specs.declared.Kind.{Kind}
 use Rattle.hm_tables.specs.Values.{Tables, no_words, table_of, pool_in, size_in, uses_in, place_of, table_with, is_moving, mark_by, mark_of}
@@ -67,6 +67,7 @@ tables_next (Kind.Place p v y) x = record {
   processes = slice_set x.processes p (table_with (table_of x p) v y);
   pools = uses_next p v (place_of x p v) y x.pools;
 }
+tables_next (Kind.Exited p) x = record x { processes = slice_set x.processes p (given_back (table_of x p)) }
 tables_next _ x = x
 
 -- the frame that a place names is one of its pool; the sizes of the pools may be those of a script or of the tables
@@ -90,6 +91,7 @@ TablesRoom _ x = Unit {0}
 -- what the types of an entry's fields keep
 abbrev pub TablesRange : Kind → Type 0
 TablesRange (Kind.Place p v y) = (p < 32) × (v < 2 ^ 36) × IsTrue (has_word y)
+TablesRange (Kind.Exited p) = p < 32
 TablesRange _ = Unit {0}
 
 -- the uses by the page are what its place says

@@ -1,6 +1,6 @@
 // The page tables of the processes, and the reverse maps of the pools.
 ghost use Rattle.std.specs.Prelude.{◌≡◌, ℕ, not, true, is_some, length, replicate, slice_index_or, slice_set, OnOk, IfOk};
-ghost use Rattle.radix_tables.specs.Maps.{is_reserved};
+ghost use Rattle.radix_tables.specs.Maps.{is_reserved, given_back};
 ghost use Rattle.hm_history.specs.declared.Kind.{Kind as AnyKind};
 ghost use Rattle.hm_base.specs.PlaceWords.{names};
 ghost use Rattle.hm_tables.specs.Values.{no_words, size_in, place_in_table, place_of, table_with};
@@ -84,6 +84,7 @@ impl PageTables {
     {
         match kind {
             Kind::Place { proc, page, place } => self.set_place(*proc, *page, place),
+            Kind::Exited(proc) => self.give_back(*proc),
             _ => (),
         }
     }
@@ -97,6 +98,14 @@ impl PageTables {
         let old = place_in(&self.tables, proc, page);
         change_use(&mut self.pools, proc, page, &old, place);
         set_word(&mut self.tables, proc, page, place);
+    }
+
+    /// The process has exited: what its table had room for is given back, where no page has a place any more.
+    fn give_back(&mut self, proc: Proc)
+        ensures tables { self.new ≡ tables_next (AnyKind.Exited proc) self.old }
+        ensures range { TablesRange (AnyKind.Exited proc) }
+    {
+        give_back(&mut self.tables, proc);
     }
 
     /// The place of a page.
@@ -208,6 +217,17 @@ fn set_word(tables: &mut Vec<Radix>, proc: Proc, page: Page, place: &Place)
     } else {
         table.set_reserved(page, word);
     }
+}
+
+/// Gives back what the table of a process has room for, where it has no word.
+fn give_back(tables: &mut Vec<Radix>, proc: Proc)
+    requires { length tables.old.items ≡ 32 }
+    ensures tables { let table = slice_index_or tables.old.items proc no_words in
+        tables.new.items ≡ slice_set tables.old.items proc (given_back table) }
+    ensures range { TablesRange (AnyKind.Exited proc) }
+{
+    let table = &mut tables[proc.number() as usize];
+    table.give_back();
 }
 
 /// The first page of the table from `from` on whose place passes.
