@@ -64,7 +64,8 @@ impl Levels {
         *self = Levels::new(*self.words.allocator());
     }
 
-    /// The table of the first level for a block of 64 pages.
+    /// The table of the first level for a block of 64 pages. Those of a small process are found in a load or two.
+    #[inline(always)]
     fn table(&self, block: u64) -> u64
         requires levels { IsLevels self.now }
         requires block { block < 2 ^ 30 }
@@ -73,6 +74,20 @@ impl Levels {
         if block == 0 {
             return FIRST;
         }
+        if block < ENTRIES {
+            return entry(&self.second, FIRST, block);
+        }
+        self.far_table(block)
+    }
+
+    /// The same for a block that the first table of the second level does not name.
+    #[inline(never)]
+    fn far_table(&self, block: u64) -> u64
+        requires levels { IsLevels self.now }
+        requires block { block < 2 ^ 30 }
+        requires far { 64 ≤ block }
+        ensures { result ≡ table_in (from_second self.now) block }
+    {
         entry(&self.second, self.second_table(block / ENTRIES), block)
     }
 
@@ -121,6 +136,7 @@ impl Levels {
         entry(&self.sixth, FIRST, number)
     }
 
+    #[inline(always)]
     pub fn word(&self, page: u64) -> u64
         requires levels { IsLevels self.now }
         requires page { page < 2 ^ 36 }
@@ -324,8 +340,22 @@ impl Levels {
         past_tables(&self.second, &self.marks, table, block) * ENTRIES
     }
 
-    /// Goes down towards the page as far as there are tables.
+    /// The table of the page, or a gap. Most often the table is there.
+    #[inline]
     fn step(&self, page: u64) -> Step
+        requires levels { IsLevels self.now }
+        requires page { page < 2 ^ 36 }
+        ensures { IsStep self.now page result }
+    {
+        match self.table(page / ENTRIES) {
+            0 => self.go_down(page),
+            table => Step::Table(table),
+        }
+    }
+
+    /// Goes down towards the page as far as there are tables.
+    #[inline(never)]
+    fn go_down(&self, page: u64) -> Step
         requires levels { IsLevels self.now }
         requires page { page < 2 ^ 36 }
         ensures { IsStep self.now page result }

@@ -1,7 +1,7 @@
 use Rattle.std.proofs.Common.{◌/◌, arith}
 use Rattle.radix_tables.specs.Levels.{from_second}
 use Rattle.radix_tables.proofs.Tables.{above_none}
-use Rattle.radix_tables.proofs.levels.Levels.step.Goals as goal
+use Rattle.radix_tables.proofs.levels.Levels.go_down.Goals as goal
 
 pub returns-in-Gap : goal.returns-in-Gap
 returns-in-Gap c =
