@@ -54,7 +54,8 @@ impl FrameBytes {
         bytes::overwrite(&mut self.front, at, from);
     }
 
-    /// Writes so many zeros over the bytes from `at` on. Where no byte at or past it was written, there is nothing to do.
+    /// Writes so many zeros over the bytes from `at` on. Where no byte at or past it was written, there is nothing to
+    /// do.
     pub fn zero(&mut self, at: usize, count: usize)
         requires { at + count ≤ length self.old }
         ensures { self.new ≡ overwritten self.old at (replicate count 0) }
@@ -77,8 +78,8 @@ impl FrameBytes {
         bytes::copy(&mut self.front, at, to, count);
     }
 
-    /// Copies so many bytes of another row from `at` on over those from `to` on. Where neither row has a byte there that
-    /// was written, there is nothing to do.
+    /// Copies so many bytes of another row from `at` on over those from `to` on. Where neither row has a byte there
+    /// that was written, there is nothing to do.
     pub fn copy_from(&mut self, from: &FrameBytes, at: usize, to: usize, count: usize)
         requires source { at + count ≤ length from.now }
         requires target { to + count ≤ length self.old }
