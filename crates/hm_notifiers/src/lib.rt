@@ -47,6 +47,7 @@ impl AllNotifiers {
 
     /// Makes room for what an entry of this kind changes: a process takes memory with its first mirror. A failure may
     /// leave some of it.
+    #[inline(always)]
     pub fn reserve(&mut self, kind: &Kind) -> Result<(), NoMemory>
         ensures same { SameNotifiers self.old self.new }
         ensures ok { OnOk result (NotifiersRoom kind.now self.new) }
@@ -63,6 +64,7 @@ impl AllNotifiers {
         }
     }
 
+    #[inline(never)]
     fn reserve_insert(&mut self, proc: Proc) -> Result<(), NoMemory>
         ensures same { SameNotifiers self.old self.new }
         ensures ok { OnOk result (proc < 32 → (of_proc self.new proc).room ≡ true) }
@@ -71,8 +73,28 @@ impl AllNotifiers {
         notifiers.reserve(self.alloc)
     }
 
-    /// The state after an entry, for which there is room.
+    /// The state after an entry, for which there is room. An entry that changes nothing here costs one look.
+    #[inline(always)]
     pub fn step(&mut self, kind: &Kind)
+        requires fits { CanStep kind.now self.old }
+        requires room { NotifiersRoom kind.now self.old }
+        ensures next { self.new ≡ notifiers_next kind.now self.old }
+        ensures range { InRange kind.now }
+    {
+        match kind {
+            Kind::Start { .. }
+            | Kind::Told { .. }
+            | Kind::End { .. }
+            | Kind::Attached { .. }
+            | Kind::Detaching { .. }
+            | Kind::Detached(..) => self.change(kind),
+            _ => (),
+        }
+    }
+
+    // The state after an entry that may change it.
+    #[inline(never)]
+    fn change(&mut self, kind: &Kind)
         requires fits { CanStep kind.now self.old }
         requires room { NotifiersRoom kind.now self.old }
         ensures next { self.new ≡ notifiers_next kind.now self.old }
