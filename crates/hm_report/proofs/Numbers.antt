@@ -1,5 +1,5 @@
--- The text of a number, two digits at a time.
-use Rattle.std.proofs.Common.{◌≡◌, ℕ, ◌+◌, ◌*◌, ◌/◌, ◌%◌, ◌^◌, ◌<◌, ◌≤◌, List, [], ◌∷◌, ◌++◌, length, arith, append_assoc, length-append, ap, ◌∙◌}
+-- The text of a number, two or four digits at a time.
+use Rattle.std.proofs.Common.{◌≡◌, ℕ, ◌+◌, ◌/◌, ◌%◌, ◌^◌, ◌<◌, ◌≤◌, [], ◌∷◌, ◌++◌, length, arith, append_assoc, length-append, ap, refl, ◌∙◌}
 use Rattle.std.proofs.lemmas.Fmt.{decimal_digit, decimal_step, length-decimal-le}
 use Rattle.std.specs.Fmt.{decimal}
 use Rattle.hm_report.specs.Words.{pair_text}
@@ -28,3 +28,12 @@ length_one n h = ap length (decimal_digit n h)
 
 pub length_decimal : (n : ℕ) → n < 2 ^ 64 → length (decimal n) ≤ 64
 length_decimal n h = length-decimal-le 64 n (omega arith) (omega arith) h
+
+pub decimal_four : (n : ℕ) → 10000 ≤ n → n < 2 ^ 64 → decimal n ≡ decimal (n / 10000) ++ (pair_text (n / 100 % 100) ++ pair_text (n % 100))
+decimal_four n lo hi =
+    let a : n / 100 / 100 ≡ n / 10000 = omega arith in
+    rw (decimal_pair n (omega arith) hi, decimal_pair (n / 100) (omega arith) (omega arith), append_assoc, a) refl
+
+pub length_four : (n : ℕ) → 10000 ≤ n → n < 2 ^ 64 → length (decimal n) ≡ length (decimal (n / 10000)) + 4
+length_four n lo hi =
+    ap length (decimal_four n lo hi) ∙ length-append (decimal (n / 10000)) (pair_text (n / 100 % 100) ++ pair_text (n % 100))

@@ -1,6 +1,8 @@
 // Bytes on their way to a sink.
 ghost use Rattle.std.specs.Prelude.{◌≡◌, ◌+◌, ◌≤◌, ◌<◌, ◌∷◌, ◌++◌, [], length, take, drop, IfOk};
+ghost use Rattle.std.specs.Fmt.{decimal};
 
+use crate::digits::put_digits;
 use hm_base::NoMemory;
 use std::alloc::Global;
 use std::marker::Model;
@@ -74,6 +76,15 @@ impl Buffer {
         let end = self.len + bytes.len();
         self.bytes[self.len..end].copy_from_slice(bytes);
         self.len = end;
+    }
+
+    /// Adds the number's decimal digits.
+    #[inline(always)]
+    pub fn put_number(&mut self, number: u64)
+        requires { length self.old + length (decimal number) ≤ ROOM }
+        ensures { self.new ≡ self.old ++ decimal number }
+    {
+        self.len = put_digits(&mut self.bytes, self.len, number);
     }
 
     /// The piece at the front.

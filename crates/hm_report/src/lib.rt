@@ -2,6 +2,7 @@
 #![tactic(auto)]
 
 mod buffer;
+mod digits;
 mod ended;
 mod kinds;
 mod laws;

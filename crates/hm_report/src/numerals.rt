@@ -52,32 +52,7 @@ pub fn put_decimal(out: &mut Buffer, lead: &[u8], number: u64)
     ensures room { length out.new ≤ length out.old + length lead.now + DIGITS }
 {
     out.put(lead);
-    put_digits(out, number);
-}
-
-/// Adds the number's decimal digits, two at a time. Most numbers of a report have one or two.
-fn put_digits(out: &mut Buffer, number: u64)
-    requires { length out.old + length (decimal number) ≤ ROOM }
-    ensures { out.new ≡ out.old ++ decimal number }
-{
-    if number >= 100 {
-        put_digits(out, number / 100);
-        put_pair(out, (number % 100) as u8);
-    } else if number >= 10 {
-        put_pair(out, number as u8);
-    } else {
-        out.push(b'0' + number as u8);
-    }
-}
-
-#[inline(always)]
-fn put_pair(out: &mut Buffer, number: u8)
-    requires few { number < 100 }
-    requires room { length out.old + 2 ≤ ROOM }
-    ensures { out.new ≡ out.old ++ pair_text number }
-{
-    out.push(b'0' + number / 10);
-    out.push(b'0' + number % 10);
+    out.put_number(number);
 }
 
 /// Adds a space and the address.

@@ -1,4 +1,4 @@
-use Rattle.std.proofs.Common.{◌≡◌, ◌∷◌, ◌++◌, append_assoc, ap, codes}
+use Rattle.std.proofs.Common.{◌∷◌, ◌++◌, append_assoc, ap, codes}
 use Rattle.std.specs.Fmt.{decimal}
 use Rattle.hm_report.specs.Words.{proc_text, mirror_text, device_text}
 use Rattle.hm_report.proofs.Heads.{span_then}

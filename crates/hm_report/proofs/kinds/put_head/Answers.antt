@@ -1,4 +1,4 @@
-use Rattle.std.proofs.Common.{◌≡◌, ◌++◌, append_assoc, refl, ap, sym, codes}
+use Rattle.std.proofs.Common.{◌++◌, append_assoc, refl, ap, sym, codes}
 use Rattle.std.specs.Fmt.{decimal}
 use Rattle.hm_report.specs.Words.{mirror_text}
 use Rattle.hm_report.proofs.Heads.{one_word, two_words}
