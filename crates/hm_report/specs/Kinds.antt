@@ -1,5 +1,5 @@
 -- Which entries end an operation, or a piece of one.
-use Rattle.std.specs.Prelude.{Bool, true, false}
+use Rattle.std.specs.Prelude.{◌≡◌, Bool, true, false}
 use Rattle.hm_base.specs.declared.cause.Cause.{Cause}
 use Rattle.hm_base.specs.declared.ops.Op.{Op}
 use Rattle.hm_history.specs.declared.Kind.{Kind}
@@ -33,3 +33,7 @@ finishes o (Kind.Refused Cause.Never) = false
 finishes o (Kind.Refused why) = true
 finishes o (Kind.Runlock p) = is_snap o
 finishes o _ = false
+
+-- the entry answers no piece of an operation, and ends none
+abbrev pub TellsNothing : Kind → Type 0
+TellsNothing k = (is_answer k ≡ false) × ((o : Op) → finishes o k ≡ false)

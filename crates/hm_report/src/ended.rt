@@ -1,9 +1,9 @@
 // Which operations have ended, from the entries alone.
-ghost use Rattle.std.specs.Prelude.{◌≡◌, ℕ, ◌+◌, ◌≤◌, ◌<◌, ◌^◌, [], length, slice_index};
+ghost use Rattle.std.specs.Prelude.{◌≡◌, ℕ, ◌+◌, ◌≤◌, ◌<◌, ◌^◌, [], false, length, slice_index};
 ghost use Rattle.hm_history.specs.Words.{pieces};
 ghost use Rattle.hm_history.specs.Operation.{op_pieces};
 ghost use Rattle.hm_history.specs.Going.{ops_of};
-ghost use Rattle.hm_report.specs.Kinds.{is_answer, is_snap, finishes};
+ghost use Rattle.hm_report.specs.Kinds.{is_answer, is_snap, finishes, TellsNothing};
 
 use hm_base::{Cause, Op, Script};
 use hm_history::{Entry, History, Kind};
@@ -115,6 +115,37 @@ fn finishes(op: &Op, kind: &Kind) -> bool
 
 ghost use Rattle.hm_report.specs.Ended.{ended_next, ended_after};
 
+/// Whether the entry may answer a piece of an operation, or end one. Most entries do neither.
+#[inline(always)]
+fn tells(kind: &Kind) -> bool
+    ensures { result ≡ false → TellsNothing kind.now }
+{
+    match kind {
+        Kind::Detaching { .. }
+        | Kind::Seen { .. }
+        | Kind::Rlock(..)
+        | Kind::Wlock(..)
+        | Kind::Named { .. }
+        | Kind::Take(..)
+        | Kind::Drop(..)
+        | Kind::Place { .. }
+        | Kind::Start { .. }
+        | Kind::Told { .. }
+        | Kind::End { .. }
+        | Kind::Begin { .. }
+        | Kind::Retry(..)
+        | Kind::Set { .. }
+        | Kind::Fresh { .. }
+        | Kind::Copied { .. }
+        | Kind::Committed { .. }
+        | Kind::Kept { .. }
+        | Kind::Done(..)
+        | Kind::Withdrawn(..)
+        | Kind::Fetched { .. } => false,
+        _ => true,
+    }
+}
+
 /// How far an actor is after its entry.
 fn after_entry(script: &Script, entry: &Entry, ended: &Ended) -> Ended
     requires operations { ended.now.operations + 1 < 2 ^ 64 }
@@ -123,6 +154,9 @@ fn after_entry(script: &Script, entry: &Entry, ended: &Ended) -> Ended
     ensures operations { result.operations ≤ ended.now.operations + 1 }
     ensures pieces { result.pieces ≤ ended.now.pieces + 1 }
 {
+    if !tells(&entry.kind) {
+        return *ended;
+    }
     let Some(ops) = script.actors.get(u64::from(entry.actor.number())) else {
         return *ended;
     };
