@@ -1,9 +1,9 @@
 // The words of a line, and what they spell.
 
 ghost use Rattle.std.specs.Prelude.{◌≡◌, ◌==◌, ◌+◌, ◌∷◌, ◌<◌, ◌≤◌, ◌^◌, List, [], slice_index_or, length, position, count_by, take, drop, IfSome, IfNone, IfOk, IfErr, MatchResult};
-ghost use Rattle.std.specs.List.{slice_split};
+ghost use Rattle.std.specs.List.{list_all, slice_split};
 ghost use Rattle.hm_script.specs.Splitting.{split, word};
-ghost use Rattle.hm_script.specs.Reading.{shape};
+ghost use Rattle.hm_script.specs.Reading.{is_some_word, shape};
 
 use crate::reason::{LineError, Reason};
 use hm_base::{Bytes, NoMemory, Rights};
@@ -21,6 +21,7 @@ fn space_in(line: &[u8]) -> Option<usize>
 fn cut_word(line: &[u8]) -> Option<(&[u8], &[u8])>
     ensures none { IfNone result (split line.now ≡ line.now ∷ []) }
     ensures splits { IfSome result (λ parts. split line.now ≡ parts.0.now ∷ split parts.1.now) }
+    ensures shorter { IfSome result (λ parts. length parts.1.now < length line.now) }
 {
     match space_in(line) {
         Some(end) => Some((&line[..end], &line[end + 1..])),
@@ -59,20 +60,30 @@ fn word_count(line: &[u8]) -> usize
     spaces(line) + 1
 }
 
+/// Whether no word is empty, by one pass over the line.
+fn has_no_empty_word(line: &[u8]) -> bool
+    ensures { result ≡ list_all is_some_word (split line.now) }
+{
+    let mut rest = line;
+    while let Some((word, after)) = cut_word(rest) {
+        if word.is_empty() {
+            return false;
+        }
+        rest = after;
+    }
+    !rest.is_empty()
+}
+
 /// Whether there are so many words, none of them empty.
 #[tactic(auto, unfolding(crate::specs::Reading::shape))]
 fn shape_of(line: &[u8], count: usize) -> Result<(), Reason>
     ensures { result ≡ shape count (split line.now) }
 {
-    if word_count(line) != count {
-        return Err(Reason::Shape);
+    if word_count(line) == count && has_no_empty_word(line) {
+        Ok(())
+    } else {
+        Err(Reason::Shape)
     }
-    for at in 0..count {
-        if word_at(line, at).is_empty() {
-            return Err(Reason::Shape);
-        }
-    }
-    Ok(())
 }
 
 /// The words of a line, which single spaces separate.
