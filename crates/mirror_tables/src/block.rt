@@ -86,7 +86,7 @@ impl Block {
     {
         let first = span.first().number();
         let from = place(&self.entries, first);
-        let upto = place(&self.entries, first + span.count());
+        let upto = place_from(&self.entries, from, first + span.count());
         if from < upto {
             cut(&mut self.entries, from, upto);
         }
@@ -110,6 +110,24 @@ fn place(entries: &[(Page, MirrorEntry)], page: u64) -> usize
         }
     }
     low
+}
+
+/// The place of a page that lies at this place or behind it, found by single steps: what they pass is taken out next.
+fn place_from(entries: &[(Page, MirrorEntry)], from: usize, page: u64) -> usize
+    requires rising { (i j : ℕ) → i < j → j < length entries.now
+        → slice_index (keys entries.now) i < slice_index (keys entries.now) j }
+    requires within { from ≤ length entries.now }
+    requires below { (k : ℕ) → k < from → slice_index (keys entries.now) k < page }
+    ensures { IsPlace entries.now page result }
+{
+    let mut at = from;
+    while at < entries.len() {
+        if entries[at].0.number() >= page {
+            return at;
+        }
+        at += 1;
+    }
+    at
 }
 
 /// Whether the entry at the place is the page's.

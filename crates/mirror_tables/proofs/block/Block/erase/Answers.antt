@@ -11,8 +11,8 @@ invariant_of-self c =
     let first : c.number-first.result ≡ c.args.span.first = c.number-first.ensures.same ∙ c.first.ensures.same in
     let last : c.number-first.result + c.count.result ≡ c.args.span.first + c.args.span.count = omega (arith, first, c.count.ensures.same) in
     let p = place_as _ es _ c.args.span.first _ c.deref.ensures.value first c.place-from.ensures in
-    let q = place_as _ es _ (c.args.span.first + c.args.span.count) _ c.deref-2.ensures.value last c.place-upto.ensures in
-    rw c.cut.ensures.items (cut_kept es c.place-from.result c.place-upto.result c.self.invariant (omega arith) q.within)
+    let q = place_as _ es _ (c.args.span.first + c.args.span.count) _ c.deref-2.ensures.value last c.place_from-upto.ensures in
+    rw c.cut.ensures.items (cut_kept es c.place-from.result c.place_from-upto.result c.self.invariant (omega arith) q.within)
 
 pub returns-then-from-upto-clause-block : goal.returns-then-from-upto-clause-block
 returns-then-from-upto-clause-block c =
@@ -20,8 +20,8 @@ returns-then-from-upto-clause-block c =
     let first : c.number-first.result ≡ c.args.span.first = c.number-first.ensures.same ∙ c.first.ensures.same in
     let last : c.number-first.result + c.count.result ≡ c.args.span.first + c.args.span.count = omega (arith, first, c.count.ensures.same) in
     let p = place_as _ es _ c.args.span.first _ c.deref.ensures.value first c.place-from.ensures in
-    let q = place_as _ es _ (c.args.span.first + c.args.span.count) _ c.deref-2.ensures.value last c.place-upto.ensures in
-    changed_as _ _ _ _ (λ t. without_span t c.args.span) c.self.view_is (c.cut.ensures.items ∙ without_cut es c.args.span c.place-from.result c.place-upto.result p q)
+    let q = place_as _ es _ (c.args.span.first + c.args.span.count) _ c.deref-2.ensures.value last c.place_from-upto.ensures in
+    changed_as _ _ _ _ (λ t. without_span t c.args.span) c.self.view_is (c.cut.ensures.items ∙ without_cut es c.args.span c.place-from.result c.place_from-upto.result p q)
 
 pub returns-else-from-upto-clause-block : goal.returns-else-from-upto-clause-block
 returns-else-from-upto-clause-block c =
@@ -29,7 +29,7 @@ returns-else-from-upto-clause-block c =
     let first : c.number-first.result ≡ c.args.span.first = c.number-first.ensures.same ∙ c.first.ensures.same in
     let last : c.number-first.result + c.count.result ≡ c.args.span.first + c.args.span.count = omega (arith, first, c.count.ensures.same) in
     let p = place_as _ es _ c.args.span.first _ c.deref.ensures.value first c.place-from.ensures in
-    let q = place_as _ es _ (c.args.span.first + c.args.span.count) _ c.deref-2.ensures.value last c.place-upto.ensures in
-    let same = same_places es c.args.span c.place-from.result c.place-upto.result p q c.if-from-upto.false in
+    let q = place_as _ es _ (c.args.span.first + c.args.span.count) _ c.deref-2.ensures.value last c.place_from-upto.ensures in
+    let same = same_places es c.args.span c.place-from.result c.place_from-upto.result p q c.if-from-upto.false in
     unchanged _ _ (λ t. without_span t c.args.span) c.self.view_is
-    (sym (take-append-drop c.place-from.result es) ∙ (ap (λ k. take c.place-from.result es ++ drop k es) same ∙ without_cut es c.args.span c.place-from.result c.place-upto.result p q))
+    (sym (take-append-drop c.place-from.result es) ∙ (ap (λ k. take c.place-from.result es ++ drop k es) same ∙ without_cut es c.args.span c.place-from.result c.place_from-upto.result p q))
