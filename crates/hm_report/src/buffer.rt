@@ -2,7 +2,7 @@
 ghost use Rattle.std.specs.Prelude.{◌≡◌, ◌+◌, ◌≤◌, ◌<◌, ◌∷◌, ◌++◌, [], length, take, drop, IfOk};
 ghost use Rattle.std.specs.Fmt.{decimal};
 
-use crate::digits::put_digits;
+use crate::digits::{put_at, put_digits};
 use hm_base::NoMemory;
 use std::alloc::Global;
 use std::marker::Model;
@@ -85,6 +85,29 @@ impl Buffer {
         ensures { self.new ≡ self.old ++ decimal number }
     {
         self.len = put_digits(&mut self.bytes, self.len, number);
+    }
+
+    /// Adds a space and the number's decimal digits.
+    #[inline(always)]
+    #[tactic(auto, using(std::proofs::Common::append_assoc))]
+    pub fn put_spaced(&mut self, number: u64)
+        requires { length self.old + 1 + length (decimal number) ≤ ROOM }
+        ensures { self.new ≡ self.old ++ 32 ∷ decimal number }
+    {
+        let end = put_at(&mut self.bytes, self.len, b' ');
+        self.len = put_digits(&mut self.bytes, end, number);
+    }
+
+    /// Adds a space, a letter and the number's decimal digits.
+    #[inline(always)]
+    #[tactic(auto, using(std::proofs::Common::append_assoc))]
+    pub fn put_lettered(&mut self, letter: u8, number: u64)
+        requires { length self.old + 2 + length (decimal number) ≤ ROOM }
+        ensures { self.new ≡ self.old ++ 32 ∷ letter ∷ decimal number }
+    {
+        let space = put_at(&mut self.bytes, self.len, b' ');
+        let end = put_at(&mut self.bytes, space, letter);
+        self.len = put_digits(&mut self.bytes, end, number);
     }
 
     /// The piece at the front.

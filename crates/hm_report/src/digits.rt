@@ -5,7 +5,7 @@ ghost use Rattle.hm_report.specs.Words.{pair_text};
 
 /// Writes one byte.
 #[inline(always)]
-fn put_at(block: &mut [u8], at: usize, byte: u8) -> usize
+pub fn put_at(block: &mut [u8], at: usize, byte: u8) -> usize
     requires { at < length block.old }
     ensures text { take (at + 1) block.new ≡ take at block.old ++ byte ∷ [] }
     ensures end { result ≡ at + 1 }

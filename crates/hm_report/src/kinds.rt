@@ -315,6 +315,6 @@ pub fn put_front(out: &mut Buffer, at: u64, entry: &Entry)
     ensures room { length out.new ≤ length out.old + 1200 }
 {
     put_decimal(out, b"", at);
-    put_decimal(out, b" a", u64::from(entry.actor.number()));
+    put_actor(out, entry.actor);
     put_head(out, &entry.kind);
 }

@@ -55,6 +55,26 @@ pub fn put_decimal(out: &mut Buffer, lead: &[u8], number: u64)
     out.put_number(number);
 }
 
+/// Adds a space and the number.
+#[inline(always)]
+pub fn put_spaced(out: &mut Buffer, number: u64)
+    requires { length out.old + 1 + DIGITS ≤ ROOM }
+    ensures text { out.new ≡ out.old ++ 32 ∷ decimal number }
+    ensures room { length out.new ≤ length out.old + 1 + DIGITS }
+{
+    out.put_spaced(number);
+}
+
+/// Adds a space, a letter and the number.
+#[inline(always)]
+pub fn put_lettered(out: &mut Buffer, letter: u8, number: u64)
+    requires { length out.old + 2 + DIGITS ≤ ROOM }
+    ensures text { out.new ≡ out.old ++ 32 ∷ letter ∷ decimal number }
+    ensures room { length out.new ≤ length out.old + 2 + DIGITS }
+{
+    out.put_lettered(letter, number);
+}
+
 /// Adds a space and the address.
 pub fn put_address(out: &mut Buffer, address: u64)
     requires { length out.old + 3 + DIGITS ≤ ROOM }

@@ -6,7 +6,7 @@ ghost use Rattle.hm_report.specs.Words.{proc_text, mirror_text, device_text, act
 ghost use Rattle.hm_report.specs.Line.{spaced};
 
 use crate::buffer::{Buffer, ROOM};
-use crate::numerals::{put_byte, put_decimal};
+use crate::numerals::{put_byte, put_decimal, put_lettered, put_spaced};
 use hm_base::{Actor, Cause, Dev, Frame, MirrorId, PoolId, Proc, Rights, Span};
 use hm_history::{KeptAt, TableRight, Who};
 
@@ -18,7 +18,7 @@ pub fn put_number(out: &mut Buffer, number: u64)
     ensures text { out.new ≡ out.old ++ 32 ∷ decimal number }
     ensures room { length out.new ≤ length out.old + WORD }
 {
-    put_decimal(out, b" ", number);
+    put_spaced(out, number);
 }
 
 /// The first page of a span, and how many pages it has.
@@ -37,7 +37,7 @@ pub fn put_proc(out: &mut Buffer, proc: Proc)
     ensures text { out.new ≡ out.old ++ 32 ∷ proc_text proc }
     ensures room { length out.new ≤ length out.old + WORD }
 {
-    put_decimal(out, b" p", u64::from(proc.number()));
+    put_lettered(out, b'p', u64::from(proc.number()));
 }
 
 pub fn put_mirror(out: &mut Buffer, mirror: MirrorId)
@@ -45,7 +45,7 @@ pub fn put_mirror(out: &mut Buffer, mirror: MirrorId)
     ensures text { out.new ≡ out.old ++ 32 ∷ mirror_text mirror }
     ensures room { length out.new ≤ length out.old + WORD }
 {
-    put_decimal(out, b" m", u64::from(mirror.number()));
+    put_lettered(out, b'm', u64::from(mirror.number()));
 }
 
 pub fn put_device(out: &mut Buffer, dev: Dev)
@@ -53,7 +53,7 @@ pub fn put_device(out: &mut Buffer, dev: Dev)
     ensures text { out.new ≡ out.old ++ 32 ∷ device_text dev }
     ensures room { length out.new ≤ length out.old + WORD }
 {
-    put_decimal(out, b" d", u64::from(dev.number()));
+    put_lettered(out, b'd', u64::from(dev.number()));
 }
 
 pub fn put_actor(out: &mut Buffer, actor: Actor)
@@ -61,7 +61,7 @@ pub fn put_actor(out: &mut Buffer, actor: Actor)
     ensures text { out.new ≡ out.old ++ 32 ∷ actor_text actor }
     ensures room { length out.new ≤ length out.old + WORD }
 {
-    put_decimal(out, b" a", u64::from(actor.number()));
+    put_lettered(out, b'a', u64::from(actor.number()));
 }
 
 pub fn put_who(out: &mut Buffer, who: Who)
@@ -93,9 +93,9 @@ pub fn put_frame(out: &mut Buffer, frame: &Frame)
     ensures room { length out.new ≤ length out.old + WORD }
 {
     match frame.pool {
-        PoolId::System => put_decimal(out, b" s", u64::from(frame.number)),
+        PoolId::System => put_lettered(out, b's', u64::from(frame.number)),
         PoolId::Device(dev) => {
-            put_decimal(out, b" d", u64::from(dev.number()));
+            put_lettered(out, b'd', u64::from(dev.number()));
             put_decimal(out, b".", u64::from(frame.number));
         }
     }
