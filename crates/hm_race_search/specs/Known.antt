@@ -50,7 +50,8 @@ GoneOn c fs x = (a : ℕ) → GoesOn c fs x a
 
 -- where an actor is left out nothing is due to it
 abbrev pub HaveLeft : Program → Point → List Bool → Type 0
-HaveLeft c x adds = (a : ℕ) → a < length c.actors → slice_index_or adds a true ≡ false → is_entry (due_in c x.state a) ≡ false
+HaveLeft c x adds = (a : ℕ) → a < length c.actors → slice_index_or adds a true ≡ false
+    → is_entry (due_in c x.state a) ≡ false
 
 -- a search: the states that are known, and the turns to those from which it has not gone on yet
 pub record Explores (c : Program) (h : List Entry) (known : List KnownValue) (todo : List (List ℕ)) : Type 0 where
