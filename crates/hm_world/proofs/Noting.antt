@@ -1,5 +1,5 @@
 -- What is noted of an entry is what the stack of phases sees.
-use Rattle.std.proofs.Common.{◌≡◌, ℕ, Bool, true, Option, Some, List, refl, sym, subst, length}
+use Rattle.std.proofs.Common.{◌≡◌, ℕ, Bool, true, Option, Some, refl, sym, subst, length}
 use Rattle.std.specs.Prelude.{IsTrue}
 use Rattle.std.proofs.lemmas.Bool.{and_parts}
 use Rattle.hm_base.specs.Program.{Program, op_in_range, op_fits}
@@ -11,7 +11,6 @@ use Rattle.hm_history.specs.After.{After}
 use Rattle.hm_history.specs.Going.{Going, op_at, seen_overlap}
 use Rattle.hm_history.specs.declared.Kind.{Kind}
 use Rattle.hm_history.specs.declared.phases.Migrating.{Migrating}
-use Rattle.hm_history.specs.declared.phases.Seen.{Seen}
 use Rattle.hm_laws.proofs.Histories.Sound.{small}
 use Rattle.hm_actors.specs.Actors.{IsSeen}
 use Rattle.hm_world.specs.Noted.{IsPlaceSeen, IsPageSeen}

@@ -118,31 +118,19 @@ impl World {
         }
     }
 
-    #[inline(always)]
-    fn step_place(&self, actor: Actor, top: &Phase, kind: &Kind, old: &Place) -> Place
-        requires { old.now ≡ entry_place (now self.now).after.plain (now self.now).after.places kind.now }
-        ensures { (o : AnyOp) → op_at self.now.script actor ((now self.now).going actor).index ≡ Some o
-            → result ≡ seen_place (now self.now).after o top.now kind.now }
-    {
-        match kind {
-            Kind::Start { proc, span, seq: _ } => self.place(*proc, span.first()),
-            Kind::Place { .. } => *old,
-            _ => match top {
-                Phase::Decide { touch } => self.decided_place(actor, touch),
-                _ => Place::Empty,
-            },
-        }
-    }
-
     /// The place that the actor's step is about; `old` is the place that its entry is about.
     #[inline(always)]
     pub(crate) fn place_seen(&self, actor: Actor, kind: &Kind, old: &Place) -> Place
         requires { old.now ≡ entry_place (now self.now).after.plain (now self.now).after.places kind.now }
         ensures { IsPlaceSeen self.now.script (now self.now).after actor ((now self.now).going actor) kind.now result }
     {
-        match self.phase(actor) {
-            Some(top) => self.step_place(actor, top, kind, old),
-            None => Place::Empty,
+        match kind {
+            Kind::Start { proc, span, seq: _ } => self.place(*proc, span.first()),
+            Kind::Place { .. } => *old,
+            _ => match self.phase(actor) {
+                Some(Phase::Decide { touch }) => self.decided_place(actor, touch),
+                _ => Place::Empty,
+            },
         }
     }
 
@@ -163,25 +151,14 @@ impl World {
         }
     }
 
-    #[inline(always)]
-    fn page_come_to(&self, actor: Actor, top: &Phase) -> Option<Migrating>
-        ensures { (o : AnyOp) → op_at self.now.script actor ((now self.now).going actor).index ≡ Some o
-            → result ≡ coming_page (coming (now self.now).after o ((now self.now).going actor).pages top.now) }
-    {
-        match top {
-            Phase::Moves { step, next } => self.page_at_step(actor, *step, *next),
-            _ => None,
-        }
-    }
-
     /// The page that the actor's migration has come to.
     #[inline(always)]
     pub(crate) fn page_seen(&self, actor: Actor) -> Option<Migrating>
         ensures { IsPageSeen self.now.script (now self.now).after actor ((now self.now).going actor) result }
     {
         match self.phase(actor) {
-            Some(top) => self.page_come_to(actor, top),
-            None => None,
+            Some(Phase::Moves { step, next }) => self.page_at_step(actor, *step, *next),
+            _ => None,
         }
     }
 }
