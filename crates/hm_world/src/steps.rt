@@ -75,7 +75,7 @@ pub fn step_tables(tables: &mut PageTables, kind: &Kind)
     ensures range { TablesRange kind.now }
 {
     match kind {
-        Kind::Place { .. } => tables.step(kind),
+        Kind::Place { .. } | Kind::Exited(_) => tables.step(kind),
         _ => (),
     }
 }
