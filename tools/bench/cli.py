@@ -44,6 +44,13 @@ HISTORIES = [
     Case('migrations-20k', '`todev` and `tosys` of 64 pages', lambda: histories.migrations(24)),
     Case('migrations-full', 'the same, to a full history', lambda: histories.migrations(2400), STATUS_FULL),
 ]
+# The beginning of a long history, and half of it, with the same pages.
+PARTS = [
+    Case('stores-begin', 'the first round of the long loads and stores', lambda: histories.stores(8064, 1)),
+    Case('stores-half', 'eleven of its 21 rounds', lambda: histories.stores(8064, 11)),
+    Case('forks-begin', 'the accesses of the long forks, and one fork', lambda: histories.forks(60000, 1)),
+    Case('forks-half', 'seven of its 14 forks', lambda: histories.forks(60000, 7)),
+]
 SLOW_PATHS = [
     Case('window-down', 'a window filled from the last page down', lambda: slow.window('down')),
     Case('window-up', 'a window filled upward', lambda: slow.window('up')),
@@ -175,6 +182,21 @@ def print_growth(figures):
             print(f'{kind}: an entry of the long history takes {ratios} times as long as one of the short')
 
 
+def between(short, long):
+    """What an entry takes of those that the long history has and the short one has not."""
+    return (long.seconds - short.seconds) / (long.entries - short.entries)
+
+
+def print_halves(figures):
+    """What an entry of the second half of a long history takes, where the pages are those of the first half."""
+    for kind in ('stores', 'forks'):
+        three = [figures.get(f'{kind}-{part}') for part in ('begin', 'half', '2m')]
+        if all(three):
+            ratios = ' and '.join(f'{between(half, long) / between(begin, half):.2f}'
+                                  for begin, half, long in zip(*three))
+            print(f'{kind}: with the same pages, an entry of the second half takes {ratios} times one of the first')
+
+
 def parsed_words():
     parser = argparse.ArgumentParser(description=__doc__, formatter_class=argparse.RawDescriptionHelpFormatter)
     parser.add_argument('--program', default=shlex.join([PROGRAM, 'replay']), metavar='COMMAND')
@@ -188,7 +210,7 @@ def parsed_words():
 
 def main():
     options = parsed_words()
-    cases = [START] + [case for case in HISTORIES + SLOW_PATHS
+    cases = [START] + [case for case in HISTORIES + PARTS + SLOW_PATHS
                        if not options.only or any(word in case.name for word in options.only)]
     if options.list:
         print('\n'.join(f'{case.name:18} {case.does}' for case in cases))
@@ -208,6 +230,7 @@ def main():
         fine = fine and found is not None
         figures[case.name] = found
     print_growth(figures)
+    print_halves(figures)
     return 0 if fine else 1
 
 
