@@ -18,7 +18,7 @@ use Rattle.hm_actors.specs.contracts.tasks.Task as Task
 use Rattle.hm_actors.specs.contracts.records.Records as Records
 use Rattle.hm_phases.specs.contracts.Stack as Stack
 use Rattle.hm_phases.specs.contracts.Stack.TheInside as StackInside
-use Rattle.hm_phases.specs.contracts.items.Items as Items
+use Rattle.hm_phases.specs.contracts.Depth as Depth
 use Rattle.mirror_tables.specs.contracts.table.MirrorTable as MirrorTable
 use Rattle.mirror_tables.specs.contracts.block.Block as Block
 use Rattle.mirror_tables.specs.contracts.entry.MirrorEntry as MirrorEntry
@@ -311,17 +311,15 @@ migrating = search (page, frame, sendable, crosses) depth 60 fits 8000
 phase_field : IsSend (Phase.the_field).row
 phase_field = enum_send (shape Phase.the_type) each_phase
 
-each_items : EachSend (shape Items.the_type).variants
-each_items = (tt, ((phase_field, tt), ((phase_field, (phase_field, tt)), ((phase_field, (phase_field, (phase_field, tt))), tt))))
+each_depth : EachSend (shape Depth.the_type).variants
+each_depth = (tt, (tt, (tt, (tt, tt))))
 
-items : IsSend Items.the_row
-items = recorded_send _ _ _ (Items.the_type).to_one (enum_send (shape Items.the_type) each_items)
-
-items_field : IsSend (Items.the_field).row
-items_field = enum_send (shape Items.the_type) each_items
+depth_field : IsSend (Depth.the_field).row
+depth_field = enum_send (shape Depth.the_type) each_depth
 
 stack_inside : IsSend StackInside.the_row
-stack_inside = recorded_send _ _ _ (StackInside.the_type).to_one (struct_send (fields_of StackInside.the_type) (items_field, tt))
+stack_inside = recorded_send _ _ _ (StackInside.the_type).to_one
+    (struct_send (fields_of StackInside.the_type) (depth_field, (phase_field, (phase_field, (phase_field, tt)))))
 
 pub stack : IsSend Stack.the_row
 stack = search (stack_inside, sendable, crosses) depth 60 fits 8000
