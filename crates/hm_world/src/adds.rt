@@ -8,7 +8,7 @@ ghost use Rattle.hm_world.specs.Fits.{Fits};
 
 use crate::World;
 use crate::rooms::{lost, reserve};
-use crate::steps::{step_frames, step_mirrors, step_notifiers, step_spaces, step_tables};
+use crate::steps::{step_frames, step_tables};
 use hm_base::NoMemory;
 use hm_history::Entry;
 use hm_history::phases::Seen;
@@ -46,11 +46,11 @@ impl World {
             page: self.page_seen(actor),
         };
         self.actors.step(&self.script, actor, kind, &seen);
-        step_spaces(&mut self.spaces, actor, kind);
+        self.spaces.step(actor, kind);
         step_frames(&mut self.frames, actor, kind, &before, &orphan);
         step_tables(&mut self.tables, kind);
-        step_notifiers(&mut self.notifiers, kind);
-        step_mirrors(&mut self.mirrors, kind);
+        self.notifiers.step(kind);
+        self.mirrors.step(kind);
         self.history.push_reserved(entry);
         Ok(())
     }

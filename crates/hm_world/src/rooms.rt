@@ -1,5 +1,4 @@
-// Room for an entry, made before anything changes. Most kinds need none but the history's, so the kind is asked here,
-// and a structure is called only where it may grow.
+// Room for an entry, made before anything changes. Most kinds need none but the history's.
 ghost use Rattle.std.specs.Prelude.{◌≡◌, ◌≤◌, OnOk};
 ghost use Rattle.hm_actors.specs.Actors.{goings, ActorsRoom};
 ghost use Rattle.hm_mirrors.specs.Mirrors.{reserved, room_for, MirrorsRoom};
@@ -8,7 +7,7 @@ ghost use Rattle.hm_tables.specs.Values.{size_in};
 ghost use Rattle.hm_tables.specs.Steps.{TablesFit, TablesRoom, SameTables};
 
 use hm_actors::Actors;
-use hm_base::{Actor, NoMemory};
+use hm_base::NoMemory;
 use hm_history::{Entry, History, Kind};
 use hm_mirrors::Mirrors;
 use hm_notifiers::AllNotifiers;
@@ -22,39 +21,6 @@ fn reserve_tables(tables: &mut PageTables, kind: &Kind) -> Result<(), NoMemory>
 {
     match kind {
         Kind::Place { .. } => tables.reserve(kind),
-        _ => Ok(()),
-    }
-}
-
-#[inline(always)]
-fn reserve_mirrors(mirrors: &mut Mirrors, kind: &Kind) -> Result<(), NoMemory>
-    ensures same { mirrors.new ≡ reserved (room_for kind.now mirrors.new) kind.now mirrors.old }
-    ensures ok { OnOk result (MirrorsRoom kind.now mirrors.new) }
-{
-    match kind {
-        Kind::Set { .. } => mirrors.reserve(kind),
-        _ => Ok(()),
-    }
-}
-
-#[inline(always)]
-fn reserve_actors(actors: &mut Actors, actor: Actor, kind: &Kind) -> Result<(), NoMemory>
-    ensures same { goings actors.new ≡ goings actors.old }
-    ensures ok { OnOk result (ActorsRoom actor kind.now actors.new) }
-{
-    match kind {
-        Kind::Place { .. } | Kind::Fresh { .. } => actors.reserve(actor, kind),
-        _ => Ok(()),
-    }
-}
-
-#[inline(always)]
-fn reserve_notifiers(notifiers: &mut AllNotifiers, kind: &Kind) -> Result<(), NoMemory>
-    ensures same { SameNotifiers notifiers.old notifiers.new }
-    ensures ok { OnOk result (NotifiersRoom kind.now notifiers.new) }
-{
-    match kind {
-        Kind::Attached { .. } => notifiers.reserve(kind),
         _ => Ok(()),
     }
 }
@@ -81,11 +47,11 @@ pub fn reserve(
     ensures actors_room { OnOk result (ActorsRoom entry.now.actor entry.now.kind actors.new) }
     ensures notifiers_room { OnOk result (NotifiersRoom entry.now.kind notifiers.new) }
 {
-    reserve_mirrors(mirrors, &entry.kind)?;
+    mirrors.reserve(&entry.kind)?;
     history.reserve(1)?;
     reserve_tables(tables, &entry.kind)?;
-    reserve_actors(actors, entry.actor, &entry.kind)?;
-    reserve_notifiers(notifiers, &entry.kind)
+    actors.reserve(entry.actor, &entry.kind)?;
+    notifiers.reserve(&entry.kind)
 }
 
 /// An entry for which there is no memory is dropped here, apart from where it would be added.

@@ -35,28 +35,28 @@ invariant_of-self-6 c = (reserved_stands c.self.inside.script c.self.inside.hist
 pub step-requires-clause-fits : goal.step-requires-clause-fits
 step-requires-clause-fits c = actors_ready (record { script = c.self.inside.script; history = c.reserve.new.history.entries; halted = c.self.inside.halted }) _ (reserved_stands c.self.inside.script c.self.inside.history.entries c.reserve.new.history.entries c.self.inside.halted _ c.self.invariant c.reserve.ensures.history c.reserve.new.tables c.reserve.ensures.tables _ c.args.entry.kind c.reserve.new.mirrors c.reserve.ensures.mirrors c.reserve.new.actors c.reserve.ensures.actors c.reserve.new.notifiers c.reserve.ensures.notifiers) c.args.entry.actor c.args.entry.kind (is_next (record { script = c.self.inside.script; history = c.reserve.new.history.entries; halted = c.self.inside.halted }) _ (ap (λ (h : List Entry). told c.self.inside.script h c.self.inside.halted) c.reserve.ensures.history ∙ c.self.view_is) c.args.entry.actor c.args.entry.kind c.requires.limit c.requires.running c.requires.due) _ (seen_is c.self.inside.script (now (record { script = c.self.inside.script; history = c.reserve.new.history.entries; halted = c.self.inside.halted })).after c.args.entry.actor ((now (record { script = c.self.inside.script; history = c.reserve.new.history.entries; halted = c.self.inside.halted })).going c.args.entry.actor) c.args.entry.kind _ _ _ _ _ (c.len.ensures ∙ sym (now_length (record { script = c.self.inside.script; history = c.reserve.new.history.entries; halted = c.self.inside.halted }))) c.overlaps.ensures c.place_seen.ensures c.left_behind-orphan.ensures c.page_seen.ensures)
 
-pub step_spaces-requires : goal.step_spaces-requires
-step_spaces-requires c = record { fits = spaces_ready (record { script = c.self.inside.script; history = c.reserve.new.history.entries; halted = c.self.inside.halted }) _ (reserved_stands c.self.inside.script c.self.inside.history.entries c.reserve.new.history.entries c.self.inside.halted _ c.self.invariant c.reserve.ensures.history c.reserve.new.tables c.reserve.ensures.tables _ c.args.entry.kind c.reserve.new.mirrors c.reserve.ensures.mirrors c.reserve.new.actors c.reserve.ensures.actors c.reserve.new.notifiers c.reserve.ensures.notifiers) c.args.entry.actor c.args.entry.kind (is_next (record { script = c.self.inside.script; history = c.reserve.new.history.entries; halted = c.self.inside.halted }) _ (ap (λ (h : List Entry). told c.self.inside.script h c.self.inside.halted) c.reserve.ensures.history ∙ c.self.view_is) c.args.entry.actor c.args.entry.kind c.requires.limit c.requires.running c.requires.due) }
+pub step-requires-2 : goal.step-requires-2
+step-requires-2 c = record { fits = spaces_ready (record { script = c.self.inside.script; history = c.reserve.new.history.entries; halted = c.self.inside.halted }) _ (reserved_stands c.self.inside.script c.self.inside.history.entries c.reserve.new.history.entries c.self.inside.halted _ c.self.invariant c.reserve.ensures.history c.reserve.new.tables c.reserve.ensures.tables _ c.args.entry.kind c.reserve.new.mirrors c.reserve.ensures.mirrors c.reserve.new.actors c.reserve.ensures.actors c.reserve.new.notifiers c.reserve.ensures.notifiers) c.args.entry.actor c.args.entry.kind (is_next (record { script = c.self.inside.script; history = c.reserve.new.history.entries; halted = c.self.inside.halted }) _ (ap (λ (h : List Entry). told c.self.inside.script h c.self.inside.halted) c.reserve.ensures.history ∙ c.self.view_is) c.args.entry.actor c.args.entry.kind c.requires.limit c.requires.running c.requires.due) }
 
 pub step_frames-requires : goal.step_frames-requires
 step_frames-requires c = frames_ready (record { script = c.self.inside.script; history = c.reserve.new.history.entries; halted = c.self.inside.halted }) _ (reserved_stands c.self.inside.script c.self.inside.history.entries c.reserve.new.history.entries c.self.inside.halted _ c.self.invariant c.reserve.ensures.history c.reserve.new.tables c.reserve.ensures.tables _ c.args.entry.kind c.reserve.new.mirrors c.reserve.ensures.mirrors c.reserve.new.actors c.reserve.ensures.actors c.reserve.new.notifiers c.reserve.ensures.notifiers) c.args.entry.actor c.args.entry.kind (is_next (record { script = c.self.inside.script; history = c.reserve.new.history.entries; halted = c.self.inside.halted }) _ (ap (λ (h : List Entry). told c.self.inside.script h c.self.inside.halted) c.reserve.ensures.history ∙ c.self.view_is) c.args.entry.actor c.args.entry.kind c.requires.limit c.requires.running c.requires.due) c.place_before-before.result c.left_behind-orphan.result c.place_before-before.ensures c.left_behind-orphan.ensures
 
-pub step_notifiers-requires-clause-fits : goal.step_notifiers-requires-clause-fits
-step_notifiers-requires-clause-fits c = notifiers_ready (record { script = c.self.inside.script; history = c.reserve.new.history.entries; halted = c.self.inside.halted }) _ (reserved_stands c.self.inside.script c.self.inside.history.entries c.reserve.new.history.entries c.self.inside.halted _ c.self.invariant c.reserve.ensures.history c.reserve.new.tables c.reserve.ensures.tables _ c.args.entry.kind c.reserve.new.mirrors c.reserve.ensures.mirrors c.reserve.new.actors c.reserve.ensures.actors c.reserve.new.notifiers c.reserve.ensures.notifiers) c.args.entry.actor c.args.entry.kind (is_next (record { script = c.self.inside.script; history = c.reserve.new.history.entries; halted = c.self.inside.halted }) _ (ap (λ (h : List Entry). told c.self.inside.script h c.self.inside.halted) c.reserve.ensures.history ∙ c.self.view_is) c.args.entry.actor c.args.entry.kind c.requires.limit c.requires.running c.requires.due)
+pub step-requires-3-clause-fits : goal.step-requires-3-clause-fits
+step-requires-3-clause-fits c = notifiers_ready (record { script = c.self.inside.script; history = c.reserve.new.history.entries; halted = c.self.inside.halted }) _ (reserved_stands c.self.inside.script c.self.inside.history.entries c.reserve.new.history.entries c.self.inside.halted _ c.self.invariant c.reserve.ensures.history c.reserve.new.tables c.reserve.ensures.tables _ c.args.entry.kind c.reserve.new.mirrors c.reserve.ensures.mirrors c.reserve.new.actors c.reserve.ensures.actors c.reserve.new.notifiers c.reserve.ensures.notifiers) c.args.entry.actor c.args.entry.kind (is_next (record { script = c.self.inside.script; history = c.reserve.new.history.entries; halted = c.self.inside.halted }) _ (ap (λ (h : List Entry). told c.self.inside.script h c.self.inside.halted) c.reserve.ensures.history ∙ c.self.view_is) c.args.entry.actor c.args.entry.kind c.requires.limit c.requires.running c.requires.due)
 
-pub step_mirrors-requires-clause-fits : goal.step_mirrors-requires-clause-fits
-step_mirrors-requires-clause-fits c = mirrors_ready (record { script = c.self.inside.script; history = c.reserve.new.history.entries; halted = c.self.inside.halted }) _ (reserved_stands c.self.inside.script c.self.inside.history.entries c.reserve.new.history.entries c.self.inside.halted _ c.self.invariant c.reserve.ensures.history c.reserve.new.tables c.reserve.ensures.tables _ c.args.entry.kind c.reserve.new.mirrors c.reserve.ensures.mirrors c.reserve.new.actors c.reserve.ensures.actors c.reserve.new.notifiers c.reserve.ensures.notifiers) c.args.entry.actor c.args.entry.kind (is_next (record { script = c.self.inside.script; history = c.reserve.new.history.entries; halted = c.self.inside.halted }) _ (ap (λ (h : List Entry). told c.self.inside.script h c.self.inside.halted) c.reserve.ensures.history ∙ c.self.view_is) c.args.entry.actor c.args.entry.kind c.requires.limit c.requires.running c.requires.due)
+pub step-requires-4-clause-fits : goal.step-requires-4-clause-fits
+step-requires-4-clause-fits c = mirrors_ready (record { script = c.self.inside.script; history = c.reserve.new.history.entries; halted = c.self.inside.halted }) _ (reserved_stands c.self.inside.script c.self.inside.history.entries c.reserve.new.history.entries c.self.inside.halted _ c.self.invariant c.reserve.ensures.history c.reserve.new.tables c.reserve.ensures.tables _ c.args.entry.kind c.reserve.new.mirrors c.reserve.ensures.mirrors c.reserve.new.actors c.reserve.ensures.actors c.reserve.new.notifiers c.reserve.ensures.notifiers) c.args.entry.actor c.args.entry.kind (is_next (record { script = c.self.inside.script; history = c.reserve.new.history.entries; halted = c.self.inside.halted }) _ (ap (λ (h : List Entry). told c.self.inside.script h c.self.inside.halted) c.reserve.ensures.history ∙ c.self.view_is) c.args.entry.actor c.args.entry.kind c.requires.limit c.requires.running c.requires.due)
 
 pub invariant_of-self-7 : goal.invariant_of-self-7
 invariant_of-self-7 c = rw c.push_reserved.ensures.entries (added (record { script = c.self.inside.script; history = c.reserve.new.history.entries; halted = c.self.inside.halted }) _ _ (reserved_stands c.self.inside.script c.self.inside.history.entries c.reserve.new.history.entries c.self.inside.halted _ c.self.invariant c.reserve.ensures.history c.reserve.new.tables c.reserve.ensures.tables _ c.args.entry.kind c.reserve.new.mirrors c.reserve.ensures.mirrors c.reserve.new.actors c.reserve.ensures.actors c.reserve.new.notifiers c.reserve.ensures.notifiers) c.args.entry.actor c.args.entry.kind (is_next (record { script = c.self.inside.script; history = c.reserve.new.history.entries; halted = c.self.inside.halted }) _ (ap (λ (h : List Entry). told c.self.inside.script h c.self.inside.halted) c.reserve.ensures.history ∙ c.self.view_is) c.args.entry.actor c.args.entry.kind c.requires.limit c.requires.running c.requires.due) _ c.place_before-before.result c.left_behind-orphan.result c.place_before-before.ensures c.left_behind-orphan.ensures (seen_is c.self.inside.script (now (record { script = c.self.inside.script; history = c.reserve.new.history.entries; halted = c.self.inside.halted })).after c.args.entry.actor ((now (record { script = c.self.inside.script; history = c.reserve.new.history.entries; halted = c.self.inside.halted })).going c.args.entry.actor) c.args.entry.kind _ _ _ _ _ (c.len.ensures ∙ sym (now_length (record { script = c.self.inside.script; history = c.reserve.new.history.entries; halted = c.self.inside.halted }))) c.overlaps.ensures c.place_seen.ensures c.left_behind-orphan.ensures c.page_seen.ensures) (record {
   frames = c.step_frames.ensures;
   tables = c.step_tables.ensures.tables;
   tables_range = c.step_tables.ensures.range;
-  spaces = c.step_spaces.ensures.next;
-  spaces_range = c.step_spaces.ensures.parent;
-  notifiers = c.step_notifiers.ensures.next;
-  notifiers_range = c.step_notifiers.ensures.range;
+  spaces = c.step-2.ensures.next;
+  spaces_range = c.step-2.ensures.parent;
+  notifiers = c.step-3.ensures.next;
+  notifiers_range = c.step-3.ensures.range;
   room = _;
-  mirrors = c.step_mirrors.ensures;
+  mirrors = c.step-4.ensures;
   actors = c.step.ensures;
 }))
