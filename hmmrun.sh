@@ -4,11 +4,16 @@
 #   ./hmmrun.sh WORDS..            the proved program; proves and builds it first where something has changed
 #   ./hmmrun.sh --quick WORDS..    the same program at once, by the toolchain's unproved build
 #
-# What it says itself goes to standard error. Status 70: the program could not be proved or built. The program is the
-# crate of this script's own name, so a link NAME.sh to this file serves the crate NAME. Needs `rt`, of the Rattle kit.
+# What it says itself goes to standard error. Status 70: the program could not be proved or built. The program is hmmrun;
+# with `--program NAME` first it is that of the crate NAME, as hmmraces.sh and hmmview.sh call it. Needs `rt`, of the
+# Rattle kit.
 set -u
 top=$(cd "$(dirname "${BASH_SOURCE[0]}")" && pwd)
-name=$(basename "${BASH_SOURCE[0]}" .sh)
+name=hmmrun
+if [ "${1-}" = --program ]; then
+    name=$2
+    shift 2
+fi
 crate=$top/crates/$name
 program=$crate/out/$name
 built=$crate/out/$name.built      # as old as the last build that was proved
