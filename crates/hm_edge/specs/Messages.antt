@@ -4,6 +4,7 @@ use Rattle.hm_io.specs.Streams.{SinkState}
 use Rattle.hm_report.specs.Sends.{Sends, Stops}
 use Rattle.hm_report.specs.declared.outlet.Stop.{Stop}
 use Rattle.hm_script.specs.Reasons.{refused_text}
+use Rattle.hm_script.specs.declared.reason.Refused.{Refused}
 use Rattle.hm_edge.specs.declared.status.Status.{Status}
 
 -- the exit code
@@ -50,11 +51,15 @@ abbrev pub Wrote : List ℕ → SinkState → SinkState → Type 0
 Wrote bytes before after =
     (Sends before after bytes × (after.pending ≡ false)) ⊎ ((why : Stop) × Stops before after bytes why)
 
--- what is written on standard error: nothing if all was done, and else the line of the status; of a refused script that
--- line, or, if there is no memory for its number, that memory ran out
-abbrev pub Says : List ℕ → List ℕ → Status → SinkState → SinkState → Type 0
-Says name usage Status.Done before after = after ≡ before
-Says name usage (Status.Refused refused) before after =
+-- what is written on standard error of a refused script: its line, or, if there is no memory for the number in it, that
+-- memory ran out
+abbrev pub SaysRefused : List ℕ → Refused → SinkState → SinkState → Type 0
+SaysRefused name refused before after =
     Wrote (line_of name (refused_text refused)) before after
     ⊎ Wrote (line_of name (codes "out of memory")) before after
+
+-- what is written on standard error: nothing if all was done, and else the line of the status
+abbrev pub Says : List ℕ → List ℕ → Status → SinkState → SinkState → Type 0
+Says name usage Status.Done before after = after ≡ before
+Says name usage (Status.Refused refused) before after = SaysRefused name refused before after
 Says name usage status before after = Wrote (line_of name (fixed_text usage status)) before after

@@ -1,6 +1,6 @@
 // What a program says at its end, and its exit code.
 ghost use Rattle.std.specs.Prelude.{◌≡◌, ◌++◌, false, OnOk, IfErr};
-ghost use Rattle.hm_edge.specs.Messages.{Says, Wrote, code_of, line_of};
+ghost use Rattle.hm_edge.specs.Messages.{Says, SaysRefused, Wrote, code_of, line_of};
 ghost use Rattle.hm_report.specs.Sends.{Sends, Stops};
 
 use crate::messages::{fixed_text, refusal};
@@ -8,6 +8,7 @@ use crate::status::Status;
 use hm_base::NoMemory;
 use hm_io::Sink;
 use hm_report::{Stop, send_on, write_all};
+use hm_script::Refused;
 use std::alloc::Global;
 
 /// Writes two pieces, one after the other.
@@ -40,9 +41,30 @@ fn say<K: Sink>(errors: &mut K, name: &str, message: &[u8])
     }
 }
 
+/// Says why a script was refused; or, if there is no memory for the number of the line, that.
+fn say_refusal<K: Sink>(alloc: Global, name: &str, refused: &Refused, errors: &mut K)
+    ensures { SaysRefused name.now refused.now (K.state errors.old) (K.state errors.new) }
+{
+    match refusal(alloc, refused) {
+        Ok(text) => say(errors, name, text.as_slice()),
+        Err(NoMemory) => say(errors, name, b"out of memory"),
+    }
+}
+
+/// Says why the call did not end with all done.
+fn say_why<K: Sink>(alloc: Global, name: &str, usage: &str, status: &Status, errors: &mut K)
+    ensures { Says name.now usage.now status.now (K.state errors.old) (K.state errors.new) }
+{
+    match status {
+        Status::Done => (),
+        Status::Refused(refused) => say_refusal(alloc, name, refused, errors),
+        _ => say(errors, name, fixed_text(status, usage).as_bytes()),
+    }
+}
+
 /// Says on the error stream why the call did not end with all done, in one line after the program's name, and gives the
-/// exit code. It takes memory only for the number in the line of a refused script. `usage` is what `Status::Usage`
-/// says.
+/// exit code. It takes memory only for the number in the line of a refused script. `usage` is what it says at
+/// `Status::Usage`.
 pub fn finish<K: Sink>(
     alloc: Global,
     name: &str,
@@ -53,13 +75,6 @@ pub fn finish<K: Sink>(
     ensures code { result ≡ code_of status.now }
     ensures says { Says name.now usage.now status.now (K.state errors.old) (K.state errors.new) }
 {
-    match status {
-        Status::Done => (),
-        Status::Refused(refused) => match refusal(alloc, refused) {
-            Ok(text) => say(errors, name, text.as_slice()),
-            Err(NoMemory) => say(errors, name, b"out of memory"),
-        },
-        _ => say(errors, name, fixed_text(status, usage).as_bytes()),
-    }
+    say_why(alloc, name, usage, status, errors);
     status.code()
 }

@@ -13,11 +13,12 @@ use std::io;
 fn without_name(alloc: Global, args: Args) -> Result<Vec<String>, NoMemory>
     ensures { IfOk result (λ words. words.items ≡ drop 1 (into_iter_items args)) }
 {
-    let mut args = args;
     let mut words = Vec::new(alloc);
-    let _name = args.next();
-    while let Some(word) = args.next() {
+    for word in args {
         words.push(word)?;
+    }
+    if !words.is_empty() {
+        let _name = words.remove(0);
     }
     Ok(words)
 }
