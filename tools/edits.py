@@ -155,10 +155,14 @@ class Trier:
 
     def prepare(self):
         """Builds the libraries below, proves the crate as it stands, and returns what is wrong, or nothing."""
-        for dep in self.crate.below():
-            if dep.build_rlib(self.flags, anew=False):
-                return f'the library {dep.name} is not built'
-        self.kit.adopt(self.crate, is_alone=False)
+        with open(f'{self.room}/libraries', 'w+', encoding='utf-8') as told:
+            for crate in [*self.crate.below(), self.crate]:
+                crate.out = told
+            for dep in self.crate.below():
+                if dep.build_rlib(self.flags, anew=False):
+                    told.seek(0)
+                    return f'the library {dep.name} is not built:\n{told.read()[-2000:]}'
+            self.kit.adopt(self.crate, is_alone=False)
         start, seed = f'{self.crate.folder}/out/incremental', f'{self.room}/seed'
         if os.path.isdir(start):
             self.kit.linked(start, seed)
