@@ -327,4 +327,5 @@ def main():
     print(len(modules), 'worked scripts')
 
 
-main()
+if __name__ == '__main__':
+    main()
