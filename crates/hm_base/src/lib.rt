@@ -26,7 +26,8 @@ pub use ops::{Op, Rights, ScheduleLine, Script, Version};
 pub use snap::snap_code;
 
 /// The allocator gave no memory, and the value that was asked is as it was.
-#[derive(Clone, Copy, PartialEq, Eq, Debug)]
+#[derive(Clone, Copy, PartialEq, Eq, Debug, thiserror::Error)]
+#[error("out of memory")]
 pub struct NoMemory;
 
 impl From<AllocError> for NoMemory {
