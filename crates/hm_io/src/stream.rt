@@ -69,10 +69,10 @@ impl<W: Write> StreamSink<W> {
 
 impl<W: Write> Sink for StreamSink<W> {
     ghost state = { λ s. record {
-        held = W.contents s.to;
-        faults = s.faults;
-        wants = 0;
-        pending = s.pending;
+      held = W.contents s.to;
+      faults = s.faults;
+      wants = 0;
+      pending = s.pending;
     } };
 
     fn write(&mut self, from: &[u8]) -> Put {

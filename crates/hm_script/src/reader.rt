@@ -15,8 +15,8 @@ use crate::part::Part;
 use crate::reason::{LineError, Reason};
 use crate::words::Words;
 use hm_base::{
-    Actor, ActorLists, DeviceList, MOST_ACTORS, MOST_DEVICE_FRAMES, MOST_DEVICES, MOST_OPERATIONS, MOST_SCHEDULE_LINES,
-    MOST_SYSTEM_FRAMES, OpList, Schedule, ScheduleLine, Script, Version,
+    Actor, ActorLists, DeviceList, MOST_ACTORS, MOST_DEVICE_FRAMES, MOST_DEVICES, MOST_OPERATIONS,
+    MOST_SCHEDULE_LINES, MOST_SYSTEM_FRAMES, OpList, Schedule, ScheduleLine, Script, Version,
 };
 use std::alloc::Global;
 
@@ -96,7 +96,10 @@ impl Reader {
         words.shape(3)?;
         let device = number(words.get(1))?;
         let frames = number(words.get(2))?;
-        if device != self.devices.len() || device >= u64::from(MOST_DEVICES) || frames > MOST_DEVICE_FRAMES {
+        if device != self.devices.len()
+            || device >= u64::from(MOST_DEVICES)
+            || frames > MOST_DEVICE_FRAMES
+        {
             return Err(LineError::Bad(Reason::Range));
         }
         self.devices.push(frames as u32)?;

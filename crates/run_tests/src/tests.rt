@@ -50,7 +50,10 @@ fn ends<R: Abort + Threads + Wait + Sync, S: Source, K: Sink, G: Gate + Sync>(
     let (skip, leans) = (Kept::new(skips), Leans::new(leans));
     let ended = run(rt, alloc, listed, source, sink, gate, &skip, &leans);
     assert_eq!(rt; ended.status.code(), code);
-    assert_eq!(rt; message(alloc, USAGE, &ended.status)?.as_slice(), text.as_bytes());
+    assert_eq!(rt;
+        message(alloc, USAGE, &ended.status)?.as_slice(),
+        text.as_bytes()
+    );
     Ok(())
 }
 

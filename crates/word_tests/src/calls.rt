@@ -41,7 +41,10 @@ pub fn writes<R: Abort>(
     let mut sink = SureSink::new(alloc);
     let ended = called(rt, alloc, words, text.as_bytes(), &mut sink)?;
     assert_eq!(rt; ended.status.code(), code);
-    assert_eq!(rt; message(alloc, USAGE, &ended.status)?.as_slice(), said.as_bytes());
+    assert_eq!(rt;
+        message(alloc, USAGE, &ended.status)?.as_slice(),
+        said.as_bytes()
+    );
     assert_eq!(rt; sink.held(), written.as_bytes());
     Ok(())
 }
