@@ -174,4 +174,5 @@ def main():
         print(f'{line:{COLUMN}}{last_text(line.split(" "), machine)}')
 
 
-main()
+if __name__ == '__main__':
+    main()
