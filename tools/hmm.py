@@ -23,6 +23,7 @@ from explain import unfinished_text
 from run import Machine
 
 ALL_TURNS = 1_000_000
+WIDTH = 100      # of a line that is shown
 KINDS = {'P': 'process', 'M': 'mirror', 'D': 'device', 'A': 'actor', 'DEVICE': 'device', 'ACTOR': 'actor'}
 LETTERS = {'process': 'p', 'mirror': 'm', 'device': 'd', 'actor': 'a'}
 MOST = {'process': 31, 'mirror': 31, 'device': 3, 'actor': 15}
@@ -77,7 +78,8 @@ def signature(word):
 
 def did_you_mean(word, known):
     near = MEANT.get(word.lower()) if MEANT.get(word.lower()) in known else None
-    near = near or next(iter(difflib.get_close_matches(word.lower(), sorted(known), 1, 0.6)), None)
+    lower = {name.lower(): name for name in known}
+    near = near or lower.get(next(iter(difflib.get_close_matches(word.lower(), sorted(lower), 1, 0.6)), None))
     return f'; did you mean `{near}`?' if near else ''
 
 
@@ -163,9 +165,9 @@ class Script:
             return decimal(self.part_of(word, 1), f'a {kind}')
         if not self.exact and re.match(r'[A-Za-z_]', word):
             names = [name for name, (of, _) in self.names.items() if of == kind]
-            said = f'there is no {kind} `{word}`' + did_you_mean(word, names)
-            raise word.trouble(said + (f'; `{kind} {word} = 0` above would name one' if kind in ('process', 'mirror')
-                                       else ''))
+            near, can = did_you_mean(word, names), kind in ('process', 'mirror')
+            raise word.trouble(f'there is no {kind} `{word}`' + (near or (
+                f'; `{kind} {word} = 0` above would name one' if can else '')))
         return decimal(word, f'a {kind}')
 
     @staticmethod
@@ -194,8 +196,8 @@ class Script:
             return sum(named)
         if not self.exact and re.match(r'[A-Za-z_]', word):
             pages = [name for name, (kind, _) in self.names.items() if kind == 'page']
-            raise word.trouble(f'there is no page `{word}`{did_you_mean(word, pages)}; `page {word} = 16` above would name '
-                               'one')
+            raise word.trouble(f'there is no page `{word}`' + (did_you_mean(word, pages) or
+                                                               f'; `page {word} = 16` above would name one'))
         return decimal(word, what)
 
     def address(self, word):
@@ -320,7 +322,7 @@ class Script:
         if self.part == 'turns' and word in {'actor', *scripts.OPERATIONS}:
             raise word.trouble(f'`{word}` stands too late: actors and their operations come before the first `turns`')
         if word in scripts.VERSION_2 and self.version == 1:
-            raise word.trouble(f'`{word}` is a word of version 2: line 1 is to be `hmm 2` (`upgrade` writes it so)')
+            raise word.trouble(f'`{word}` is a word of version 2: line 1 is to be `hmm 2`')
 
     def read_hmm(self, word, rest):
         if self.version is not None:
@@ -611,8 +613,10 @@ def told(trouble, data, name):
     text = lines[trouble.line - 1].rstrip('\r').replace('\t', ' ') if trouble.line and trouble.line <= len(lines) else ''
     text = text.lstrip('\ufeff').encode('utf-8', 'replace').decode()
     place = f'{name}:{trouble.line}:' + (f'{trouble.column}:' if trouble.column else '')
-    shown = f'\n    {text}' if text.strip() else ''
-    mark = f'\n    {" " * (trouble.column - 1)}{"^" * max(1, trouble.width)}' if shown and trouble.column else ''
+    cut = text[:WIDTH] + ('..' if len(text) > WIDTH else '')
+    shown = f'\n    {cut}' if text.strip() else ''
+    width = max(1, min(trouble.width, WIDTH - trouble.column + 1))
+    mark = f'\n    {" " * (trouble.column - 1)}{"^" * width}' if shown and 0 < trouble.column <= WIDTH else ''
     return f'{place} {trouble.said}{shown}{mark}'
 
 
