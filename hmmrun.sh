@@ -70,6 +70,7 @@ What is read is FILE, or standard input. A FILE whose name is a number is given 
 
   --quick              an unproved build of the program, which is compiled once and kept until a source changes
   --ready              the proved program if it is built, or else as --quick; nothing is proved
+  --path               writes the name of the program's file, which is built first as is due; nothing is run
   --version            the commit, and the kit that it needs
   --help, -h           this text
 
@@ -149,7 +150,7 @@ read_words() {
                     need_bytes "${@:2:3}"
                     takes=3 ;;
                 *) refuse "there is no word \`$1\`$(nearest "$1" replay threads generate trial upgrade check peek advise \
-                    why --quick --ready --help --version)" ;;
+                    why --quick --ready --path --help --version)" ;;
             esac
             words=("${@:1:takes + 1}")
             shift $((takes + 1)) ;;
@@ -239,6 +240,23 @@ check_kit() {
     fail "$here. To try it all the same: HMMRUN_ANY_KIT=1 ./$name.sh .."
 }
 
+# Runs the program in place of this script. If it reads a file, this script stays, to say more of one that is refused.
+run() {
+    local status text=$file
+    does_read && [ -f /dev/stdin ] && command -v python3 >/dev/null || exec "$1" "${words[@]}"
+    "$1" "${words[@]}"
+    status=$?
+    [ "$text" = - ] && text=/dev/stdin
+    if [ $status -eq 3 ]; then
+        "$top/tools/hmm.py" --explain "$text" | tail -n +2 >&2
+    elif [ $status -eq 1 ] && [ "$(head -c 4 "$text")" = 'hmm ' ] && ! grep -q '^history$' "$text"; then
+        say 'this is a script; what is read here is the report that `./hmmrun.sh replay` writes of it'
+    elif [ $status -eq 1 ] && [ "$(wc -c <"$text")" -lt 4000000 ]; then
+        "$top/tools/hmm.py" --due "$text" >&2
+    fi
+    exit $status
+}
+
 # The unproved program.
 
 make_quick() {
@@ -259,9 +277,11 @@ make_quick() {
 run_quick() {
     if make_quick; then
         say 'this program is not proved: it was only compiled'
-        exec "$quick" "${words[@]}"
+        [ "$path" = no ] || { echo "$quick"; exit 0; }
+        run "$quick"
     fi
     unlock
+    [ "$path" = no ] || fail "the unproved program could not be compiled; $quick.said has why"
     say "this kit's trial build could not be compiled ($quick.said has what it said)"
     say 'so the trial build is used as it is: it builds anew at each run, stops after a minute, and writes at most 1 MiB'
     cd "$crate" || fail "no folder $crate"
@@ -347,8 +367,16 @@ how=proved
 case ${1-} in
     --quick | --ready) how=${1#--}; shift ;;
 esac
-read_words "$@"
-if does_read && [ "$file" != - ]; then
+path=no
+if [ "${1-}" = --path ]; then
+    path=yes
+    [ $# -eq 1 ] || refuse '`--path` is the last word'
+else
+    read_words "$@"
+fi
+if [ "$path" = yes ]; then
+    :
+elif does_read && [ "$file" != - ]; then
     exec <"$file" || fail "$file could not be read"
 elif does_read && [ -t 0 ]; then
     say 'reading from the terminal; Ctrl-D ends the text'
@@ -356,4 +384,5 @@ fi
 [ "$how" = ready ] && { is_proved_fresh && how=proved || how=quick; }
 [ "$how" = quick ] && run_quick
 make_proved
-exec "$program" "${words[@]}"
+[ "$path" = no ] || { echo "$program"; exit 0; }
+run "$program"

@@ -1,18 +1,20 @@
 #!/usr/bin/env python3
 """Explains a report: each line of its history with a sentence after it, and who waited for whom.
 
-    tools/explain.py < REPORT
+    tools/explain.py [FILE]              reads a report: FILE, or standard input
 
 A line of the history is followed by a sentence. A line that begins with dots is no line of the report: there a turn of
 the schedule added nothing, since its actor had to wait. An `unfinished` line is followed by the operation, and by what
 keeps it from its end: a wait, or that no turn is left. tools/reference runs the script once more to find all this. A
-report that is not the one of its script is explained without it.
+report that is not the one of its script is explained without it. Ends with status 3 if it is no report.
 """
 import os, sys
 
-sys.path.insert(0, os.path.join(os.path.dirname(os.path.abspath(__file__)), 'reference'))
+HERE = os.path.dirname(os.path.abspath(__file__))
+sys.path[:0] = [HERE, os.path.join(HERE, 'reference')]
 import report as reports
 import script as scripts
+import words as given
 from due import Wait
 from run import FULL, Machine
 
@@ -153,9 +155,14 @@ def last_text(words, machine):
 
 
 def main():
-    lines = sys.stdin.read().splitlines()
+    given.begin(__doc__)
+    given.end_with_reader()
+    lines = given.data_of(sys.argv[1:]).decode('ascii', 'replace').splitlines()
     if 'history' not in lines:
-        sys.exit('explain.py: there is no line `history`')
+        is_script = lines[:1] and lines[0].startswith('hmm ')
+        print('explain.py: ' + ('this is a script; `./hmmrun.sh replay` writes its report' if is_script
+                                else 'this is no report: there is no line `history`'), file=sys.stderr)
+        return 3
     start = lines.index('history')
     rest = lines[start + 1:]
     history = [line for line in rest if line[:1].isdigit()]
@@ -172,7 +179,8 @@ def main():
         print(f'..    {said}')
     for line in rest[len(history):]:
         print(f'{line:{COLUMN}}{last_text(line.split(" "), machine)}')
+    return 0
 
 
 if __name__ == '__main__':
-    main()
+    sys.exit(main())

@@ -3,6 +3,7 @@
 
     tools/hmm.py [FILE]                  reads a readable script, writes the exact one
     tools/hmm.py --explain [FILE]        says why hmmrun refuses a script: the word, its column, and what was wanted
+    tools/hmm.py --due [FILE]            says of a report that is not legal what was due at its first bad line
     tools/hmm.py --test [FOLDER]         replays the stored cases (tools/hmm_cases), and says how many pass
     tools/hmm.py --with COMMAND .. -- [FILE]     asks this command for reports, such as ./hmmrun.sh --quick
 
@@ -10,8 +11,8 @@ A readable script has comments (#), blank lines, any white space, names, and `un
 counted `turns` line. docs/SCRIPT.md has a table of all that it has. To count turns, a report of the script so far is
 needed. It comes from tools/reference, which nobody has proved, or from the command of --with.
 
-Reads FILE, or standard input. Status 0: written, or nothing to explain; 1: a case fails; 2: wrong words; 3: refused,
-with the reason on standard error; 4: FILE cannot be read.
+Reads FILE, or standard input. Status 0: written, or nothing to explain; 1: a case fails, or a report is not legal;
+2: wrong words; 3: refused, with the reason on standard error; 4: FILE cannot be read.
 """
 import difflib, os, re, subprocess, sys
 
@@ -19,7 +20,8 @@ HERE = os.path.dirname(os.path.abspath(__file__))
 sys.path[:0] = [HERE, os.path.join(HERE, 'reference')]
 import report as reports
 import script as scripts
-from explain import unfinished_text
+from due import Wait
+from explain import unfinished_text, wait_text
 from run import Machine
 
 ALL_TURNS = 1_000_000
@@ -657,19 +659,62 @@ def explain(data, name):
     return 3 if is_refused else 0
 
 
+def due_at(data, line):
+    """What was due at this line of a report, to the actor that it names."""
+    lines = data.decode('ascii', 'replace').split('\n')
+    if 'history' not in lines[:line - 1]:
+        return 'no script of a report goes on so; `--explain` of the script alone says more'
+    start = lines.index('history') + 1
+    machine = Machine(scripts.parse('\n'.join(lines[:start - 1] + ['']).encode()))
+    for text in lines[start:line - 1]:
+        if text[:1].isdigit():
+            machine.step(int(text.split(' ')[1][1:]))
+    words, at = lines[line - 1].split(' '), len(machine.history)
+    actor = re.fullmatch(r'a(0|[1-9][0-9]*)', words[1]) if len(words) > 1 else None
+    if words[0].isdigit() and actor and int(actor[1]) < len(machine.ended):
+        actor = int(actor[1])
+        if machine.is_idle(actor):
+            return f'a{actor} has no operation left'
+        due, _ = machine.due(actor)
+        return wait_text(actor, due) if isinstance(due, Wait) else f'due was `{reports.line(at, actor, due)}`'
+    if words[0].isdigit():
+        return f'an entry is its position, its actor and its words: `{at} a0 ..`'
+    last = [f'unfinished a{a} {ended}' for a, ended in enumerate(machine.ended) if not machine.is_idle(a)]
+    return f'if the history ends here, the lines after it are `{"`, `".join(last + [f"end {at}"])}`'
+
+
+def due_text(data, name):
+    try:
+        return f'{name} is a legal report of {reports.check(data)} entries\n'
+    except reports.NotLegal as bad:
+        said = Trouble(due_at(data, bad.args[0]))
+        said.line = bad.args[0]
+        raise said from None
+
+
+def tell_due(data, name):
+    try:
+        sys.stdout.write(due_text(data, name))
+        return 0
+    except Trouble as trouble:
+        print(told(trouble, data, name))
+        return 1
+
+
 def test(folder):
     """Each NAME.hmm of the folder against NAME.exact (what is written) or NAME.said (what is explained)."""
     wrong = count = 0
     for file in sorted(os.listdir(folder)):
         name, end = os.path.splitext(file)
-        if end not in ('.exact', '.said', '.refused'):
+        if end not in ('.exact', '.said', '.refused', '.due'):
             continue
         with open(os.path.join(folder, name + '.hmm'), 'rb') as it:
             data = it.read()
         with open(os.path.join(folder, file), encoding='utf-8') as it:
             wanted = it.read()
         try:
-            got = explained(data, name)[0] if end == '.said' else exact_text(data, Runs(None))[0]
+            got = explained(data, name)[0] if end == '.said' else due_text(data, name) if end == '.due' else exact_text(
+                data, Runs(None))[0]
         except Trouble as trouble:
             got = told(trouble, data, name) + '\n'
         count += 1
@@ -692,8 +737,8 @@ def main():
         return usage()
     if words[:1] == ['--test']:
         return test((words[1:] or [os.path.join(HERE, 'hmm_cases')])[0])
-    if words[:1] == ['--explain']:
-        how, words = explain, words[1:]
+    if words[:1] in (['--explain'], ['--due']):
+        how, words = explain if words[0] == '--explain' else tell_due, words[1:]
     elif words[:1] == ['--with']:
         if '--' in words:
             command, words = words[1:words.index('--')], words[words.index('--') + 1:]
@@ -714,7 +759,7 @@ def main():
         data, name = sys.stdin.buffer.read(), 'script'
     if name.startswith('/dev/'):
         name = 'script'
-    return how(data, name) if how is explain else how(data, name, Runs(command))
+    return how(data, name, Runs(command)) if how is translate else how(data, name)
 
 
 if __name__ == '__main__':
