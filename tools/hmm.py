@@ -31,10 +31,11 @@ LETTERS = {'process': 'p', 'mirror': 'm', 'device': 'd', 'actor': 'a'}
 MOST = {'process': 31, 'mirror': 31, 'device': 3, 'actor': 15}
 # words of other programs, and the word that is meant
 MEANT = {'mmap': 'map', 'munmap': 'unmap', 'mprotect': 'protect', 'read': 'load', 'write': 'store', 'clone': 'fork',
-         'dread': 'dload', 'dwrite': 'dstore', 'memory': 'frames', 'thread': 'actor', 'process': 'actor', 'gpu': 'device',
-         'insert': 'attach', 'migrate': 'todev', 'turn': 'turns', 'snapshot': 'snap', 'atomic': 'dadd', 'end': 'drain'}
+         'dread': 'dload', 'dwrite': 'dstore', 'memory': 'frames', 'thread': 'actor', 'process': 'actor',
+         'gpu': 'device', 'insert': 'attach', 'migrate': 'todev', 'turn': 'turns', 'snapshot': 'snap', 'atomic': 'dadd', 'end': 'drain'}
 UNITS = {'LEN': '1 to 256 bytes', 'AMOUNT': 'an amount is 0 to 255', 'FRAMES': 'at most 16384 frames of the system',
-         'SIZE': 'at most 8192 frames of a device', 'SKIP': 'a number from 1 to 68719476736', 'TURNS': '1 to 1000000 turns',
+         'SIZE': 'at most 8192 frames of a device', 'SKIP': 'a number from 1 to 68719476736',
+         'TURNS': '1 to 1000000 turns',
          'PAGE': 'a page is below 68719476736, which is 2^36'}
 
 
@@ -221,13 +222,15 @@ class Script:
             word, {'COUNT': 'a count', 'LEN': 'a length', 'AMOUNT': 'an amount'}.get(shape, 'this'))
 
     def operands(self, word, words):
-        shapes = [s for shape in shapes_of(word) for s in (('FIRST', 'COUNT') if shape in scripts.MOST_PAGES else (shape,))]
+        shapes = []
+        for shape in shapes_of(word):
+            shapes += ['FIRST', 'COUNT'] if shape in scripts.MOST_PAGES else [shape]
         if len(words) < len(shapes):
             raise Trouble(f'`{word}` is too short: `{signature(word)}` wants {len(shapes) + 1} words, and here are '
                           f'{len(words) + 1}', word.column, len(word))
         if len(words) > len(shapes):
-            raise words[len(shapes)].trouble(f'a word too many: `{signature(word)}` has {len(shapes) + 1} words, and here '
-                                             f'are {len(words) + 1}')
+            raise words[len(shapes)].trouble(f'a word too many: `{signature(word)}` has {len(shapes) + 1} words, and '
+                                             f'here are {len(words) + 1}')
         return [self.operand(shape, given) for shape, given in zip(shapes, words)]
 
     def check(self, word, words, values):
@@ -270,8 +273,8 @@ class Script:
         if number < len(self.devices):
             return
         if self.exact and number in self.later:
-            raise word.trouble(f'device {number} is declared in line {self.later[number]}, below the actors; `device` lines '
-                               'stand right below `frames`')
+            raise word.trouble(f'device {number} is declared in line {self.later[number]}, below the actors; '
+                               '`device` lines stand right below `frames`')
         if self.exact or number not in self.later:
             raise word.trouble(f'there is no device {number}: declared are {listed(range(len(self.devices)))}; a line '
                                f'`device {len(self.devices)} 4` below `frames` would declare one with four frames')
@@ -309,7 +312,7 @@ class Script:
         if word.startswith('#'):
             raise word.trouble('a script has no comments (tools/hmm.py FILE takes them, and writes the exact script)')
         if word == 'history' and self.actors:
-            raise word.trouble('this is a report: `check` and `why` read it, and ./hmmview.sh; `replay` reads the script')
+            raise word.trouble('this is a report: `check` and `why` read it, and ./hmmview.sh; `replay` reads a script')
         if self.part == 'header' and word != 'frames':
             raise word.trouble('`frames` is missing: the second line is `frames N`, with the frames of system memory')
         if word == 'hmm' or word == 'frames' and self.part != 'header':
@@ -320,7 +323,8 @@ class Script:
             raise word.trouble('an operation belongs to an actor: a line `actor 0` is wanted above it')
         if word in ('device', 'skip') and self.part in ('actors', 'turns') or word == 'device' and self.part == 'skip' \
                 or word == 'skip' and self.part == 'skip':
-            raise word.trouble(f'`{word}` stands too late: first `frames`, then each `device`, then one `skip`, then actors')
+            raise word.trouble(f'`{word}` stands too late: first `frames`, then each `device`, then one `skip`, then '
+                               'actors')
         if self.part == 'turns' and word in {'actor', *scripts.OPERATIONS}:
             raise word.trouble(f'`{word}` stands too late: actors and their operations come before the first `turns`')
         if word in scripts.VERSION_2 and self.version == 1:
@@ -386,8 +390,8 @@ class Script:
         if len(rest) != 3 or rest[1] != '=':
             raise (rest or [word])[0].trouble(f'`{word} NAME = NUMBER` is wanted, with spaces around =')
         if re.fullmatch(r'0x[0-9a-f]+', rest[2]) and word == 'page':
-            raise rest[2].trouble(f'a page is its number, which is decimal: {rest[2]} is {int(rest[2], 16)}, and the address '
-                                  f'{rest[2]} lies in page {int(rest[2], 16) // scripts.PAGE_BYTES}')
+            raise rest[2].trouble(f'a page is its number, which is decimal: {rest[2]} is {int(rest[2], 16)}, and the '
+                                  f'address {rest[2]} lies in page {int(rest[2], 16) // scripts.PAGE_BYTES}')
         number = decimal(rest[2], f'a {word}')
         if number > MOST.get(str(word), scripts.PAGES - 1):
             raise rest[2].trouble(UNITS['PAGE'] if word == 'page' else f'0 to {MOST[str(word)]}')
@@ -414,8 +418,8 @@ class Script:
 
     def read_until(self, word, rest):
         if len(rest) < 3 or rest[1] not in ('before', 'after'):
-            raise (rest[1] if len(rest) > 1 else word).trouble('`until ACTOR before ENTRY` or `until ACTOR after ENTRY` is '
-                                                               'wanted, such as `until a1 before set`')
+            raise (rest[1] if len(rest) > 1 else word).trouble(
+                '`until ACTOR before ENTRY` or `until ACTOR after ENTRY` is wanted, such as `until a1 before set`')
         actor = self.number_of('actor', rest[0])
         self.check_actor(rest[0], actor)
         kind = rest[2]

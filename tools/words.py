@@ -11,6 +11,7 @@ def tool():
 def begin(about):
     """Answers --help and -h with what the tool says of itself."""
     if {'--help', '-h'} & set(sys.argv[1:]):
+        end_with_reader()
         print(about.strip())
         sys.exit(0)
 
