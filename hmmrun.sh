@@ -149,8 +149,8 @@ read_words() {
                     [ $# -ge 4 ] || refuse '`peek` takes three words: P ADDR LEN'
                     need_bytes "${@:2:3}"
                     takes=3 ;;
-                *) refuse "there is no word \`$1\`$(nearest "$1" replay threads generate trial upgrade check peek advise \
-                    why --quick --ready --path --help --version)" ;;
+                *) refuse "there is no word \`$1\`$(nearest "$1" replay threads generate trial upgrade check peek \
+                    advise why --quick --ready --path --help --version)" ;;
             esac
             words=("${@:1:takes + 1}")
             shift $((takes + 1)) ;;
@@ -161,7 +161,8 @@ read_words() {
                 shift
             done
             [ "$name" = hmmraces ] && [ ${#words[@]} -gt 1 ] && refuse 'one number at most: MOST'
-            [ "$name" = hmmview ] && [ ${#words[@]} -ne 0 ] && [ ${#words[@]} -ne 2 ] && refuse 'two numbers: FROM TO' ;;
+            [ "$name" = hmmview ] && [ ${#words[@]} -ne 0 ] && [ ${#words[@]} -ne 2 ] &&
+                refuse 'two numbers: FROM TO' ;;
     esac
     case ${1-} in
         -?*) refuse "there is no \`$1\` here$(nearest "$1" --quick --ready --help --version)" ;;
@@ -235,7 +236,7 @@ check_kit() {
     case " $here " in
         *" logic $logic "*) return ;;
     esac
-    here="the kit of this machine is \`${here:-one that does not say its version}\`; the proofs need one with logic $logic"
+    here="the kit here is \`${here:-one that does not say its version}\`; the proofs need one with logic $logic"
     [ -n "${HMMRUN_ANY_KIT-}" ] && { say "$here; it is tried all the same"; return; }
     fail "$here. To try it all the same: HMMRUN_ANY_KIT=1 ./$name.sh .."
 }
@@ -283,7 +284,7 @@ run_quick() {
     unlock
     [ "$path" = no ] || fail "the unproved program could not be compiled; $quick.said has why"
     say "this kit's trial build could not be compiled ($quick.said has what it said)"
-    say 'so the trial build is used as it is: it builds anew at each run, stops after a minute, and writes at most 1 MiB'
+    say 'so the trial is run as it is: it builds anew at each run, stops after a minute, and writes at most 1 MiB'
     cd "$crate" || fail "no folder $crate"
     rt try -- "${words[@]}" 2> >(grep -v -e '^interpreter: ' -e '^checked: ' -e '^races: ' -e '^run=' >&2)
     exit $?
@@ -309,7 +310,9 @@ prove() {
             printf '%s\n' "$line" >>"$log"
             case $line in
                 '== summary') ;;
-                '== '*) done=$((done + 1)); say "$done of $total crates proved, $((SECONDS / 60)) minutes: ${line#== }" ;;
+                '== '*)
+                    done=$((done + 1))
+                    say "$done of $total crates proved, $((SECONDS / 60)) minutes: ${line#== }" ;;
             esac
         elif [ $? -gt 128 ]; then
             say "$done of $total crates proved, $((SECONDS / 60)) minutes"
@@ -325,7 +328,8 @@ link() {
     local test_words=() status=0
     [ -e "$crate/args" ] && mapfile -t test_words <"$crate/args"
     [ -e "$crate/status" ] && status=$(cat "$crate/status")
-    (cd "$crate" && rt run -- "${test_words[@]}" <"$( [ -e stdin ] && echo stdin || echo /dev/null)" >/dev/null 2>>"$log")
+    (cd "$crate" && rt run -- "${test_words[@]}" <"$( [ -e stdin ] && echo stdin || echo /dev/null)" \
+        >/dev/null 2>>"$log")
     [ $? -eq "$status" ] && [ -x "$program" ]
 }
 

@@ -32,7 +32,8 @@ MOST = {'process': 31, 'mirror': 31, 'device': 3, 'actor': 15}
 # words of other programs, and the word that is meant
 MEANT = {'mmap': 'map', 'munmap': 'unmap', 'mprotect': 'protect', 'read': 'load', 'write': 'store', 'clone': 'fork',
          'dread': 'dload', 'dwrite': 'dstore', 'memory': 'frames', 'thread': 'actor', 'process': 'actor',
-         'gpu': 'device', 'insert': 'attach', 'migrate': 'todev', 'turn': 'turns', 'snapshot': 'snap', 'atomic': 'dadd', 'end': 'drain'}
+         'gpu': 'device', 'insert': 'attach', 'migrate': 'todev', 'turn': 'turns', 'snapshot': 'snap', 'atomic': 'dadd',
+         'end': 'drain'}
 UNITS = {'LEN': '1 to 256 bytes', 'AMOUNT': 'an amount is 0 to 255', 'FRAMES': 'at most 16384 frames of the system',
          'SIZE': 'at most 8192 frames of a device', 'SKIP': 'a number from 1 to 68719476736',
          'TURNS': '1 to 1000000 turns',
@@ -443,8 +444,8 @@ class Script:
             raise Trouble('`frames` is missing: a line `frames N`, with the number of frames of system memory')
         if self.version is None:
             self.version = 2 if self.uses & scripts.VERSION_2 else 1
-        for word, number in ((op[0], op[1] if op[0] in ('evict', 'remove') else op[2]) for ops in self.actors for op in ops
-                             if op[0] in ('evict', 'remove', 'attach')):
+        for word, *values in (op for ops in self.actors for op in ops if 'D' in scripts.OPERATIONS[op[0]].split()):
+            number = values[scripts.OPERATIONS[word].split().index('D')]
             if number >= len(self.devices):
                 raise Trouble(f'`{word}` names device {number}, which is declared nowhere')
 
@@ -473,7 +474,8 @@ def decoded(data):
 
 def bad_character(text, column):
     char = text[column - 1]
-    quotes = {'\u201c': '"', '\u201d': '"', '\u2018': "'", '\u2019': "'", '\u2013': '-', '\u2014': '-', '\u00a0': 'a space'}
+    quotes = {'\u201c': '"', '\u201d': '"', '\u2018': "'", '\u2019': "'", '\u2013': '-', '\u2014': '-',
+              '\u00a0': 'a space'}
     said = f'a character that no script has: {char!r}, U+{ord(char):04X}' if ord(char) < 0xdc80 or ord(char) > 0xdcff \
         else f'a byte that no script has: {ord(char) - 0xdc00:#04x}'
     return Trouble(said + (f', in place of {quotes[char]}' if char in quotes else ''), column)
@@ -616,7 +618,8 @@ def exact_text(data, runs):
 
 def told(trouble, data, name):
     lines = decoded(data).split('\n')
-    text = lines[trouble.line - 1].rstrip('\r').replace('\t', ' ') if trouble.line and trouble.line <= len(lines) else ''
+    text = lines[trouble.line - 1] if trouble.line and trouble.line <= len(lines) else ''
+    text = text.rstrip('\r').replace('\t', ' ')
     text = text.lstrip('\ufeff').encode('utf-8', 'replace').decode()
     place = f'{name}:{trouble.line}:' + (f'{trouble.column}:' if trouble.column else '')
     cut = text[:WIDTH] + ('..' if len(text) > WIDTH else '')
@@ -749,7 +752,7 @@ def main():
         else:
             command, words = words[1:], []
     if len(words) > 1 or words and words[0].startswith('-') and words[0] != '-':
-        return usage(f'`{words[0]}` and `{words[1]}`: one file at most' if len(words) > 1 else f'there is no `{words[0]}`')
+        return usage(f'`{words[1]}` is a word too many' if len(words) > 1 else f'there is no `{words[0]}`')
     if words and words[0] != '-':
         try:
             with open(words[0], 'rb') as it:

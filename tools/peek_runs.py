@@ -7,8 +7,8 @@ Draws so many scripts (1,000, from seed 1) with the bytes of a process to look a
 `peek P ADDR LEN`. The report must be whole and legal, as tools/reference judges it. Each peek must have the bytes that
 tools/reference's plain state has after that many entries; the counts must rise; and the last one must be of the whole
 history exactly where all the bytes have areas at the end. Prints how many peeks came. The command is
-./hmmrun.sh --ready if none is given; any program of the same behaviour will do. Ends with status 1 at the first that is wrong, which is then
-printed. It is run by hand, outside the gate: all this is proved.
+./hmmrun.sh --ready if none is given; any program of the same behaviour will do. Ends with status 1 at the first that is
+wrong, which is then printed. It is run by hand, outside the gate: all this is proved.
 """
 import os, random, subprocess, sys
 

@@ -5,13 +5,13 @@
     tools/race_outcomes.py --drawn RUNS [SEED] [--with COMMAND..] compares drawn scripts with the command
 
 The script's schedule is the set-up. From there each actor may take its turn at any time, until all operations have
-ended. This tool shares no states: it goes through all orders of the turns that add an entry, by the definitional program
-in tools/reference. So it is for a few entries only.
+ended. This tool shares no states: it goes through all orders of the turns that add an entry, by the definitional
+program in tools/reference. So it is for a few entries only.
 
 With --drawn it draws so many scripts (from seed 1) of two actors, whose races have at most 12 entries in every order.
 Of those with a single outcome it leaves four in five out.
-The command (./hmmraces.sh --ready; any program of the same behaviour will do) must say `whole`, must have the same outcomes as
-this tool, each once, and each schedule that it tells must lead to its outcome with all operations ended, as
+The command (./hmmraces.sh --ready; any program of the same behaviour will do) must say `whole`, must have the same
+outcomes as this tool, each once, and each schedule that it tells must lead to its outcome with all operations ended, as
 tools/reference replays it. Ends with status 1 at the first script where that fails, which is then printed. It is run by
 hand, outside the gate: all this is proved.
 """

@@ -3,14 +3,14 @@
 
     tools/threads_runs.py [RUNS] [--script FILE] [--with COMMAND..]
 
-Runs `threads` on the script (FILE, or standard input) so often (200). Each report must be whole (no operation is left unfinished) and legal, as
-tools/reference judges it and as the command's own `check` does. How many different reports came is said at the end.
+Runs `threads` on the script (FILE, or standard input) so often (200). Each report must be whole (no operation is left
+unfinished) and legal, as tools/reference judges it and as the command's own `check` does. How many different reports came is said at the end.
 
 Then it draws as many scripts (from seed 1) whose actors cannot meet in their answers: each maps, stores to and loads
 from pages of its own, with frames enough for all. There each actor must have the same answers as under `replay`.
 
-The command is ./hmmrun.sh --ready if none is given: the proved program if it is built, or else the unproved one. Any program of the same behaviour will do. Ends with status 1 at the first
-report that is not as it should be, which is then printed. It is run by hand, outside the gate: that the history is
+The command is ./hmmrun.sh --ready if none is given: the proved program if it is built, or else the unproved one. Any
+program of the same behaviour will do. Ends with status 1 at the first report that is not as it should be, which is then printed. It is run by hand, outside the gate: that the history is
 legal and whole is proved.
 """
 import argparse, os, random, subprocess, sys

@@ -4,7 +4,8 @@
     tools/view_page.py [FROM TO] [FILE]              the page of a report: FILE, or standard input
     tools/view_page.py --lines [FROM TO] [FILE]      its lines alone
 
-Ends with status 1 if that is no legal report. For short reports: it replays what came before for each actor at each row.
+Ends with status 1 if that is no legal report. For short reports: it replays what came before for each actor at each
+row.
 """
 import os, re, sys
 

@@ -48,8 +48,8 @@ def data_of(words):
 def need(program):
     """Whether the proved program is there, which this tool does not build: status 2 if not."""
     if not os.access(program, os.X_OK):
-        print(f'{tool()}: there is no {program}; the proved program is built by ./hmmrun.sh and its like, or by the gate',
-              file=sys.stderr)
+        print(f'{tool()}: there is no {program}; ./hmmrun.sh, ./hmmraces.sh, ./hmmview.sh and the gate build proved '
+              'programs', file=sys.stderr)
         sys.exit(2)
 
 
