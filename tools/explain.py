@@ -2,6 +2,7 @@
 """Explains a report: each line of its history with a sentence after it, and who waited for whom.
 
     tools/explain.py [FILE]              reads a report: FILE, or standard input
+    tools/explain.py --fold [FILE]       the same, with the eight `copied` lines of a page as one, if nothing lies between
 
 A line of the history is followed by a sentence. A line that begins with dots is no line of the report: there a turn of
 the schedule added nothing, since its actor had to wait. An `unfinished` line is followed by the operation, and by what
@@ -154,10 +155,41 @@ def last_text(words, machine):
     return unfinished_text(machine, int(words[1][1:]))
 
 
+def folded(history, at):
+    """How many lines from there on are parts of one copy, one after the other."""
+    position, actor, word, *rest = history[at].split(' ')
+    if word != 'copied' or not rest[2].isdigit():
+        return 1
+    count, part = 1, int(rest[2])
+    while at + count < len(history) and history[at + count] == ' '.join(
+            [str(int(position) + count), actor, word, *rest[:2], str(part + count)]):
+        count += 1
+    return count
+
+
+def print_history(history, waits, fold):
+    at = 0
+    while at < len(history):
+        for said in waits.get(at, []):
+            print(f'..    {said}')
+        count = folded(history, at) if fold else 1
+        # a wait between two parts is told above the second one
+        count = next((n for n in range(1, count) if waits.get(at + n)), count)
+        line = history[at]
+        word, *words = line.split(' ')[2:]
+        if count == 1:
+            print(f'{line:{COLUMN}}{SENTENCES[word](*words)}'.rstrip())
+        else:
+            last = int(words[2]) + count - 1
+            print(f'{line + " to " + str(last):{COLUMN}}{words[0]} is copied to {words[1]}, parts {words[2]} to {last}')
+        at += count
+
+
 def main():
     given.begin(__doc__)
     given.end_with_reader()
-    lines = given.data_of(sys.argv[1:]).decode('ascii', 'replace').splitlines()
+    fold = sys.argv[1:2] == ['--fold']
+    lines = given.data_of(sys.argv[1 + fold:]).decode('ascii', 'replace').splitlines()
     if 'history' not in lines:
         is_script = lines[:1] and lines[0].startswith('hmm ')
         print('explain.py: ' + ('this is a script; `./hmmrun.sh replay` writes its report' if is_script
@@ -170,11 +202,7 @@ def main():
     waits = waits_of(machine) if machine else {}
     for line in lines[:start + 1]:
         print(line)
-    for at, line in enumerate(history):
-        for said in waits.get(at, []):
-            print(f'..    {said}')
-        word, *words = line.split(' ')[2:]
-        print(f'{line:{COLUMN}}{SENTENCES[word](*words)}'.rstrip())
+    print_history(history, waits, fold)
     for said in waits.get(len(history), []):
         print(f'..    {said}')
     for line in rest[len(history):]:
