@@ -2,7 +2,7 @@
 """Explains a report: each line of its history with a sentence after it, and who waited for whom.
 
     tools/explain.py [FILE]              reads a report: FILE, or standard input
-    tools/explain.py --fold [FILE]       the same, with the eight `copied` lines of a page as one, if nothing lies between
+    tools/explain.py --fold [FILE]       the same, with the eight `copied` lines of a page as one line
 
 A line of the history is followed by a sentence. A line that begins with dots is no line of the report: there a turn of
 the schedule added nothing, since its actor had to wait. An `unfinished` line is followed by the operation, and by what
