@@ -223,16 +223,19 @@ lock() {
 
 unlock() { exec 9>&-; }
 
+# What the kit says of itself: the file that `rt version` prints, or else `rt version`.
 kit_here() {
-    command -v rt >/dev/null || { echo none; return; }
-    timeout 10 rt version 2>/dev/null | head -n 1
+    local rt
+    rt=$(command -v rt) || { echo none; return; }
+    cat "$(dirname "$(dirname "$(realpath "$rt")")")/KIT-ID" 2>/dev/null || timeout 10 rt version 2>/dev/null | head -n 1
 }
 
 # Whether the kit can prove this repository. It takes no second, and comes before any build.
 check_kit() {
     local here
     here=$(kit_here)
-    [ "$here" != none ] || fail 'there is no `rt` on the PATH; it comes with the Rattle kit (README.md, "Install")'
+    [ "$here" != none ] || fail 'there is no `rt` on the PATH; it comes with the Rattle kit (README.md, "Install").
+Without a kit, tools/reference/cli.py replays a short script, by a program in Python that nobody has proved'
     case " $here " in
         *" logic $logic "*) return ;;
     esac
