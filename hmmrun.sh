@@ -1,14 +1,15 @@
 #!/usr/bin/env bash
-# Runs a program of this repository on standard input and output, and ends with its status.
+# Runs a program of this repository, and ends with its status. `./hmmrun.sh --help` has the words.
 #
-#   ./hmmrun.sh WORDS..            the proved program; proves and builds it first where something has changed
-#   ./hmmrun.sh --quick WORDS..    the same program at once, by the toolchain's unproved build
+#   ./hmmrun.sh WORD .. [FILE]            the proved program; it is proved and built first if something has changed
+#   ./hmmrun.sh --quick WORD .. [FILE]    the unproved one; it is compiled first if something has changed
+#   ./hmmrun.sh --ready WORD .. [FILE]    the proved one if it is built, or else the unproved one; never proves
 #
-# What it says itself goes to standard error. Status 70: the program could not be proved or built. The program is hmmrun;
-# with `--program NAME` first it is that of the crate NAME, as hmmraces.sh and hmmview.sh call it. Needs `rt`, of the
-# Rattle kit.
+# Words are looked at before anything is built. What this script says itself goes to standard error. The program is
+# hmmrun; with `--program NAME` first it is that of the crate NAME, as hmmraces.sh and hmmview.sh call it.
 set -u
 top=$(cd "$(dirname "${BASH_SOURCE[0]}")" && pwd)
+logic=dac8208d650f15bf              # of the kits that prove this repository
 name=hmmrun
 if [ "${1-}" = --program ]; then
     name=$2
@@ -16,7 +17,8 @@ if [ "${1-}" = --program ]; then
 fi
 crate=$top/crates/$name
 program=$crate/out/$name
-built=$crate/out/$name.built      # as old as the last build that was proved
+built=$program.built                # the sum of what the proved program was made from
+quick=$crate/out/quick/$name        # the unproved one, with its sum in $quick.built
 
 say() { echo "$name.sh: $*" >&2; }
 
@@ -25,23 +27,273 @@ fail() {
     exit 70
 }
 
-is_fresh() {
-    [ -x "$program" ] && [ -e "$built" ] &&
-        [ -z "$(find "$top"/crates/*/src "$top"/crates/*/specs "$top/crates.txt" -newer "$built" -print -quit 2>/dev/null)" ]
+# What each program takes, a line for each word.
+
+words_hmmrun() {
+    cat <<'END'
+  replay               reads a script: its report
+  threads              reads a script: the report of a run in which each actor goes from a thread of its own
+  generate N           a script of 4,000 operations that is drawn from the number N
+  trial N              a summary of that script's run
+  upgrade              reads a script: its text in version 2 of the language
+  check                reads a report: `legal N`, or `bad L` for its first line that no legal report has there
+  peek P ADDR LEN      reads a script: as threads, and what these bytes of process P were meanwhile
+  advise               reads a script: how often the CPU and the device accessed each page, and which pages to move
+  why                  reads a report: for each load, the entries that its bytes came from
+END
 }
 
-# How many crates of the repository the program stands on, with itself.
-count_crates() {
+words_hmmraces() {
+    cat <<'END'
+  (no word)            reads a script: every outcome of its race; gives up beyond 1,000,000 states
+  MOST                 the same; gives up beyond MOST states
+END
+}
+
+words_hmmview() {
+    cat <<'END'
+  (no word)            reads a report: one page of HTML that shows it, of at most 20,000 rows
+  FROM TO              the same of the rows FROM to TO-1
+END
+}
+
+usage() {
+    local takes='WORD ..'
+    [ "$name" = hmmraces ] && takes='[MOST]'
+    [ "$name" = hmmview ] && takes='[FROM TO]'
+    cat <<END
+usage: ./$name.sh [--quick | --ready] $takes [FILE]
+
+$("words_$name")
+
+What is read is FILE, or standard input. A FILE whose name is a number is given as ./NAME.
+
+  --quick              an unproved build of the program, which is compiled once and kept until a source changes
+  --ready              the proved program if it is built, or else as --quick; nothing is proved
+  --path               writes the name of the program's file, which is built first as is due; nothing is run
+  --version            the commit, and the kit that it needs
+  --help, -h           this text
+
+With no such word it is the proved program. If it is not built yet it is proved first, which takes 20 minutes or more.
+END
+    case $name in
+        hmmview) echo 'docs/VIEW.md explains a page; docs/REPORT.md each line of a report.' ;;
+        *) echo 'Scripts: docs/TUTORIAL.md; tools/hmm.py explains one that is refused. All tools: docs/TOOLS.md.' ;;
+    esac
+}
+
+# The word of the second argument and those after it that is nearest to the first, if one is near.
+nearest() {
+    printf '%s\n' "$@" | awk '
+        function least(x, y) { return x < y ? x : y }
+        function steps(a, b, i, j, d, same) {
+            for (i = 0; i <= length(a); i++) d[i, 0] = i
+            for (j = 0; j <= length(b); j++) d[0, j] = j
+            for (i = 1; i <= length(a); i++) for (j = 1; j <= length(b); j++) {
+                same = substr(a, i, 1) == substr(b, j, 1)
+                d[i, j] = least(least(d[i - 1, j] + 1, d[i, j - 1] + 1), d[i - 1, j - 1] + !same)
+                if (i > 1 && j > 1 && substr(a, i, 1) == substr(b, j - 1, 1) && substr(a, i - 1, 1) == substr(b, j, 1))
+                    d[i, j] = least(d[i, j], d[i - 2, j - 2] + 1)
+            }
+            return d[length(a), length(b)]
+        }
+        NR == 1 { given = $0; best = 3; next }
+        { n = steps(given, $0); if (n < best) { best = n; found = $0 } }
+        END { if (found != "") print "; did you mean `" found "`?" }'
+}
+
+refuse() {
+    say "$*"
+    echo >&2
+    usage >&2
+    exit 2
+}
+
+no_file() {
+    say "$*"
+    exit 2
+}
+
+is_number() { [[ $1 =~ ^(0|[1-9][0-9]{0,19})$ ]] && { [ ${#1} -lt 20 ] || [[ ! $1 > 18446744073709551615 ]]; }; }
+
+need_numbers() {
+    local word
+    for word in "$@"; do
+        is_number "$word" || refuse "\`$word\` is no number below 2^64 (decimal digits, no leading zero)"
+    done
+}
+
+need_bytes() {
+    need_numbers "$1" "$3"
+    [ ${#1} -le 2 ] && [ "$1" -le 31 ] || refuse "process $1: processes are 0 to 31"
+    [ ${#3} -le 3 ] && [ "$3" -ge 1 ] && [ "$3" -le 256 ] || refuse "length $3: 1 to 256 bytes"
+    [[ $2 =~ ^0x(0|[1-9a-f][0-9a-f]{0,11})$ ]] ||
+        refuse "\`$2\` is no address below 2^48: 0x and hexadecimal digits in lower case, such as 0x10000"
+    [ $(($2 + $3)) -le $((1 << 48)) ] || refuse "the bytes end beyond 2^48"
+}
+
+# Looks at the words, and leaves those of the program in `words` and the file to read in `file`.
+read_words() {
+    local takes
+    words=() file=
+    case $name in
+        hmmrun)
+            [ $# -gt 0 ] || refuse 'which word?'
+            case $1 in
+                replay | threads | upgrade | check | advise | why) takes=0 ;;
+                generate | trial)
+                    [ $# -eq 2 ] || refuse "\`$1\` takes one number, and no file"
+                    need_numbers "$2"
+                    takes=1 ;;
+                peek)
+                    [ $# -ge 4 ] || refuse '`peek` takes three words: P ADDR LEN'
+                    need_bytes "${@:2:3}"
+                    takes=3 ;;
+                *) refuse "there is no word \`$1\`$(nearest "$1" replay threads generate trial upgrade check peek \
+                    advise why --quick --ready --path --help --version)" ;;
+            esac
+            words=("${@:1:takes + 1}")
+            shift $((takes + 1)) ;;
+        *)
+            while [ $# -gt 0 ] && [[ $1 =~ ^[0-9]+$ ]]; do
+                need_numbers "$1"
+                words+=("$1")
+                shift
+            done
+            [ "$name" = hmmraces ] && [ ${#words[@]} -gt 1 ] && refuse 'one number at most: MOST'
+            [ "$name" = hmmview ] && [ ${#words[@]} -ne 0 ] && [ ${#words[@]} -ne 2 ] &&
+                refuse 'two numbers: FROM TO' ;;
+    esac
+    case ${1-} in
+        -?*) refuse "there is no \`$1\` here$(nearest "$1" --quick --ready --help --version)" ;;
+    esac
+    [ $# -le 1 ] || refuse "too many words: \`${*:2}\`"
+    file=${1--}
+    [ "$file" = - ] || [ -e "$file" ] || no_file "there is no file $file"
+    [ ! -d "$file" ] || no_file "$file is a folder"
+    [ -r "$file" ] || [ "$file" = - ] || no_file "the file $file may not be read"
+}
+
+does_read() { case ${words[0]-} in generate | trial) return 1 ;; esac; }
+
+# What a build is made from.
+
+# The crates that the program stands on, with itself.
+crates_below() {
     awk -v want="$name" '
         { sub(/#.*/, ""); if (split($0, half, ":") == 2) { split(half[1], head, " "); uses[head[1]] = half[2] } }
         function visit(crate, deps, n, i) {
             if (seen[crate]++ || !(crate in uses)) return
-            count++
+            print crate
             n = split(uses[crate], deps, " ")
             for (i = 1; i <= n; i++) visit(deps[i])
         }
-        END { visit(want); print count }' "$top/crates.txt"
+        END { visit(want) }' "$top/crates.txt"
 }
+
+# A sum of the files in these folders of those crates, and of the words after `:`.
+sum_of() {
+    local crate folder folders=() inner=()
+    while [ "$1" != : ]; do
+        inner+=("$1")
+        shift
+    done
+    for crate in $(crates_below); do
+        for folder in "${inner[@]}"; do
+            [ -d "$top/crates/$crate/$folder" ] && folders+=("crates/$crate/$folder")
+        done
+    done
+    (cd "$top" && find "${folders[@]}" -type f | LC_ALL=C sort | xargs -d '\n' sha256sum && echo "$@" && crates_below) |
+        sha256sum | cut -d ' ' -f 1
+}
+
+is_fresh() { [ -x "$1" ] && [ -e "$1.built" ] && [ "$(cat "$1.built")" = "$2" ]; }
+is_quick_fresh() { is_fresh "$quick" "$(sum_of src : quick)"; }
+is_proved_fresh() {
+    [ -x "$program" ] && [ -e "$built" ] && [ "$(cat "$built")" = "$(sum_of src specs : proved)" ]
+}
+
+# Waits until no other run builds the same, and keeps the rest out until this one is done or `unlock` is called.
+lock() {
+    command -v flock >/dev/null || return 0
+    mkdir -p "$(dirname "$1")"
+    exec 9>>"$1" || fail "$1 may not be written"
+    flock -n 9 || { say "another run is building it; waiting for that one"; flock 9; }
+}
+
+unlock() { exec 9>&-; }
+
+# What the kit says of itself: the file that `rt version` prints, or else `rt version`.
+kit_here() {
+    local rt
+    rt=$(command -v rt) || { echo none; return; }
+    cat "$(dirname "$(dirname "$(realpath "$rt")")")/KIT-ID" 2>/dev/null || timeout 10 rt version 2>/dev/null | head -n 1
+}
+
+# Whether the kit can prove this repository. It takes no second, and comes before any build.
+check_kit() {
+    local here
+    here=$(kit_here)
+    [ "$here" != none ] || fail 'there is no `rt` on the PATH; it comes with the Rattle kit (README.md, "Install").
+Without a kit, tools/reference/cli.py replays a short script, by a program in Python that nobody has proved'
+    case " $here " in
+        *" logic $logic "*) return ;;
+    esac
+    here="the kit here is \`${here:-one that does not say its version}\`; the proofs need one with logic $logic"
+    [ -n "${HMMRUN_ANY_KIT-}" ] && { say "$here; it is tried all the same"; return; }
+    fail "$here. To try it all the same: HMMRUN_ANY_KIT=1 ./$name.sh .."
+}
+
+# Runs the program in place of this script. If it reads a file, this script stays, to say more of one that is refused.
+run() {
+    local status text=$file
+    does_read && [ -f /dev/stdin ] && command -v python3 >/dev/null || exec "$1" "${words[@]}"
+    "$1" "${words[@]}"
+    status=$?
+    [ "$text" = - ] && text=/dev/stdin
+    if [ $status -eq 3 ]; then
+        "$top/tools/hmm.py" --explain "$text" | tail -n +2 >&2
+    elif [ $status -eq 1 ] && [ "$(head -c 4 "$text")" = 'hmm ' ] && ! grep -q '^history$' "$text"; then
+        say 'this is a script; what is read here is the report that `./hmmrun.sh replay` writes of it'
+    elif [ $status -eq 1 ] && [ "$(wc -c <"$text")" -lt 4000000 ]; then
+        "$top/tools/hmm.py" --due "$text" >&2
+    fi
+    exit $status
+}
+
+# The unproved program.
+
+make_quick() {
+    is_quick_fresh && return
+    check_kit
+    lock "$quick.lock"
+    if ! is_quick_fresh; then
+        local sum
+        sum=$(sum_of src : quick)
+        say 'compiling the unproved program: about a minute, once; later runs start at once'
+        "$top/tools/quick_build.sh" "$name" "$quick" 2>"$quick.said" || return 1
+        echo "$sum" >"$quick.built"
+        rm -f "$quick.said"
+    fi
+    unlock
+}
+
+run_quick() {
+    if make_quick; then
+        say 'this program is not proved: it was only compiled'
+        [ "$path" = no ] || { echo "$quick"; exit 0; }
+        run "$quick"
+    fi
+    unlock
+    [ "$path" = no ] || fail "the unproved program could not be compiled; $quick.said has why"
+    say "this kit's trial build could not be compiled ($quick.said has what it said)"
+    say 'so the trial is run as it is: it builds anew at each run, stops after a minute, and writes at most 1 MiB'
+    cd "$crate" || fail "no folder $crate"
+    rt try -- "${words[@]}" 2> >(grep -v -e '^interpreter: ' -e '^checked: ' -e '^races: ' -e '^run=' >&2)
+    exit $?
+}
+
+# The proved program.
 
 # As many crates at a time as there are processors, and 2 GB of memory for each.
 count_jobs() {
@@ -55,13 +307,15 @@ count_jobs() {
 # Proves the program and all that it stands on, and says how far it is, at least each minute.
 prove() {
     local total done=0 line
-    total=$(count_crates)
+    total=$(crates_below | wc -l)
     (cd "$crate" && rt all check --jobs "$(count_jobs)" 2>&1; echo "status $?") | while true; do
         if read -r -t 60 line; then
             printf '%s\n' "$line" >>"$log"
             case $line in
                 '== summary') ;;
-                '== '*) done=$((done + 1)); say "$done of $total crates proved, $((SECONDS / 60)) minutes: ${line#== }" ;;
+                '== '*)
+                    done=$((done + 1))
+                    say "$done of $total crates proved, $((SECONDS / 60)) minutes: ${line#== }" ;;
             esac
         elif [ $? -gt 128 ]; then
             say "$done of $total crates proved, $((SECONDS / 60)) minutes"
@@ -74,34 +328,68 @@ prove() {
 
 # Links the program, by a first run on its own test input.
 link() {
-    local words=() status=0
-    [ -e "$crate/args" ] && mapfile -t words <"$crate/args"
+    local test_words=() status=0
+    [ -e "$crate/args" ] && mapfile -t test_words <"$crate/args"
     [ -e "$crate/status" ] && status=$(cat "$crate/status")
-    (cd "$crate" && rt run -- "${words[@]}" <"$( [ -e stdin ] && echo stdin || echo /dev/null)" >/dev/null 2>>"$log")
+    (cd "$crate" && rt run -- "${test_words[@]}" <"$( [ -e stdin ] && echo stdin || echo /dev/null)" \
+        >/dev/null 2>>"$log")
     [ $? -eq "$status" ] && [ -x "$program" ]
 }
 
-[ -d "$crate/src" ] || fail "there is no program $name in crates/"
+make_proved() {
+    is_proved_fresh && return
+    check_kit
+    lock "$top/crates/hmmrun/out/prove.lock"    # one for all programs, since they stand on the same crates
+    if ! is_proved_fresh; then
+        local sum
+        sum=$(sum_of src specs : proved)
+        log=$(mktemp)
+        say 'proving and building the program first: from nothing 20 minutes or more on four processors'
+        say "later runs start at once; ./$name.sh --quick takes a minute, and is not proved"
+        prove && link || { tail -n 40 "$log" >&2; fail "not proved or not built; all that was said is in $log"; }
+        echo "$sum" >"$built"
+        rm -f "$log"
+        say "proved and built in $((SECONDS / 60)) minutes"
+    fi
+    unlock
+}
 
-if [ "${1-}" = --quick ]; then
-    shift
-    command -v rt >/dev/null || fail 'there is no `rt` on the PATH; it comes with the Rattle kit'
-    say 'an unproved build: this run is not proved, and is for at most 1 MiB of output'
-    cd "$crate" || fail "no folder $crate"
-    exec rt try -- "$@"
-fi
+version() {
+    local commit
+    commit=$(git -C "$top" describe --always --dirty=' with changes' 2>/dev/null) || commit='that is not known'
+    echo "$name, commit $commit"
+    echo "kit: logic $logic is needed; here is: $(kit_here)"
+    echo "proved program: $(is_proved_fresh && echo built || echo 'not built')"
+    echo "unproved program (--quick): $(is_quick_fresh && echo compiled || echo 'not compiled')"
+}
 
-if is_fresh; then
-    say 'running the proved program'
+[ -d "$crate/src" ] && declare -F "words_$name" >/dev/null || fail "there is no program $name"
+for word in "$@"; do
+    case $word in
+        --help | -h) usage; exit 0 ;;
+        --version) version; exit 0 ;;
+    esac
+done
+how=proved
+case ${1-} in
+    --quick | --ready) how=${1#--}; shift ;;
+esac
+path=no
+if [ "${1-}" = --path ]; then
+    path=yes
+    [ $# -eq 1 ] || refuse '`--path` is the last word'
 else
-    command -v rt >/dev/null || fail 'there is no `rt` on the PATH; it comes with the Rattle kit'
-    log=$(mktemp)
-    say 'proving and building the program first: from nothing about 20 minutes on four processors'
-    say 'later runs start at once; ./'"$name"'.sh --quick runs it now, unproved'
-    started=$(mktemp)
-    prove && link || { tail -n 40 "$log" >&2; fail "not proved or not built; all that was said is in $log"; }
-    touch -r "$started" "$built"
-    rm -f "$log" "$started"
-    say "proved and built in $((SECONDS / 60)) minutes"
+    read_words "$@"
 fi
-exec "$program" "$@"
+if [ "$path" = yes ]; then
+    :
+elif does_read && [ "$file" != - ]; then
+    exec <"$file" || fail "$file could not be read"
+elif does_read && [ -t 0 ]; then
+    say 'reading from the terminal; Ctrl-D ends the text'
+fi
+[ "$how" = ready ] && { is_proved_fresh && how=proved || how=quick; }
+[ "$how" = quick ] && run_quick
+make_proved
+[ "$path" = no ] || { echo "$program"; exit 0; }
+run "$program"

@@ -16,6 +16,7 @@ gate. A difference says that one of the two is wrong, and not which.
 import argparse, os, random, shlex, subprocess, sys
 
 import quiet_share
+import words
 
 TOP = os.path.dirname(os.path.dirname(os.path.abspath(__file__)))
 WORKED = os.path.join(TOP, 'crates', 'replay_examples', 'data')
@@ -136,15 +137,17 @@ def compare_drawn(given, draw):
 
 
 def main():
+    words.begin(__doc__)
     parse = argparse.ArgumentParser(usage=__doc__)
     parse.add_argument('--against', dest='theirs', type=shlex.split, required=True)
-    parse.add_argument('--with', dest='ours', type=shlex.split, default=[os.path.join(TOP, 'hmmrun.sh')])
+    parse.add_argument('--with', dest='ours', type=shlex.split)
     parse.add_argument('--numbers', type=int, default=200)
     parse.add_argument('--texts', type=int, default=2000)
     parse.add_argument('--drawn', type=int, default=1000)
     parse.add_argument('--words', nargs='+',
                        default=['generate', 'trial', 'upgrade', 'replay', 'advise', 'check', 'why'])
     given = parse.parse_args()
+    given.ours = given.ours or words.ready()
     draw = random.Random(1)
     for of in numbers(draw, given.numbers):
         for word in [w for w in given.words if w in ('generate', 'trial')]:
@@ -157,4 +160,5 @@ def main():
           f'{" ".join(given.words)}')
 
 
-main()
+if __name__ == '__main__':
+    main()

@@ -10,9 +10,10 @@ Waits leave no line in a report; they are those of tools/reference, which runs e
 import os, re, sys
 
 TOP = os.path.dirname(os.path.dirname(os.path.abspath(__file__)))
-sys.path.insert(0, os.path.join(TOP, 'tools', 'reference'))
+sys.path[:0] = [os.path.join(TOP, 'tools'), os.path.join(TOP, 'tools', 'reference')]
 import report as reports
 import script as scripts
+import words
 from run import Machine
 
 WORKED = os.path.join(TOP, 'crates', 'replay_examples', 'data', 'worked')
@@ -73,6 +74,9 @@ def table():
 
 
 def main():
+    words.begin(__doc__)
+    if sys.argv[1:] not in ([], ['--write']):
+        words.refuse('`--write` or no word is wanted')
     lines, missing = table()
     if sys.argv[1:] == ['--write']:
         with open(INDEX) as file:
@@ -84,4 +88,5 @@ def main():
     print('in no worked script: ' + (', '.join(missing) or 'nothing'), file=sys.stderr)
 
 
-main()
+if __name__ == '__main__':
+    main()

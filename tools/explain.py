@@ -1,18 +1,21 @@
 #!/usr/bin/env python3
 """Explains a report: each line of its history with a sentence after it, and who waited for whom.
 
-    tools/explain.py < REPORT
+    tools/explain.py [FILE]              reads a report: FILE, or standard input
+    tools/explain.py --fold [FILE]       the same, with the eight `copied` lines of a page as one line
 
 A line of the history is followed by a sentence. A line that begins with dots is no line of the report: there a turn of
 the schedule added nothing, since its actor had to wait. An `unfinished` line is followed by the operation, and by what
 keeps it from its end: a wait, or that no turn is left. tools/reference runs the script once more to find all this. A
-report that is not the one of its script is explained without it.
+report that is not the one of its script is explained without it. Ends with status 3 if it is no report.
 """
 import os, sys
 
-sys.path.insert(0, os.path.join(os.path.dirname(os.path.abspath(__file__)), 'reference'))
+HERE = os.path.dirname(os.path.abspath(__file__))
+sys.path[:0] = [HERE, os.path.join(HERE, 'reference')]
 import report as reports
 import script as scripts
+import words as given
 from due import Wait
 from run import FULL, Machine
 
@@ -77,8 +80,8 @@ SENTENCES = {
     'migrated': lambda n: f'the migration ends: {n} page(s) moved; the lock is released',
     'seen': lambda m, v, c: f'page {v}: {CODES[c]}',
     'evicted': lambda n: f'the eviction ends: {n} frame(s) emptied',
-    'removed': lambda d: f'{d} is gone for good',
-    'excluded': lambda m, v: f'page {v} is for this actor alone; the lock is released',
+    'removed': lambda d: f'the memory of {d} is gone for good',
+    'excluded': lambda m, v: f'page {v} was taken for this actor alone; the lock is released',
     'added': lambda m, a, was, now: f'the addition ends: {was} became {now}',
     'rlock': lambda p: f'the mmap lock of {p} is taken for reading',
     'runlock': lambda p: f'the mmap lock of {p} is released',
@@ -152,10 +155,46 @@ def last_text(words, machine):
     return unfinished_text(machine, int(words[1][1:]))
 
 
+def folded(history, at):
+    """How many lines from there on are parts of one copy, one after the other."""
+    position, actor, word, *rest = history[at].split(' ')
+    if word != 'copied' or not rest[2].isdigit():
+        return 1
+    count, part = 1, int(rest[2])
+    while at + count < len(history) and history[at + count] == ' '.join(
+            [str(int(position) + count), actor, word, *rest[:2], str(part + count)]):
+        count += 1
+    return count
+
+
+def print_history(history, waits, fold):
+    at = 0
+    while at < len(history):
+        for said in waits.get(at, []):
+            print(f'..    {said}')
+        count = folded(history, at) if fold else 1
+        # a wait between two parts is told above the second one
+        count = next((n for n in range(1, count) if waits.get(at + n)), count)
+        line = history[at]
+        word, *words = line.split(' ')[2:]
+        if count == 1:
+            print(f'{line:{COLUMN}}{SENTENCES[word](*words)}'.rstrip())
+        else:
+            last = int(words[2]) + count - 1
+            print(f'{line + " to " + str(last):{COLUMN}}{words[0]} is copied to {words[1]}, parts {words[2]} to {last}')
+        at += count
+
+
 def main():
-    lines = sys.stdin.read().splitlines()
+    given.begin(__doc__)
+    given.end_with_reader()
+    fold = sys.argv[1:2] == ['--fold']
+    lines = given.data_of(sys.argv[1 + fold:]).decode('ascii', 'replace').splitlines()
     if 'history' not in lines:
-        sys.exit('explain.py: there is no line `history`')
+        is_script = lines[:1] and lines[0].startswith('hmm ')
+        print('explain.py: ' + ('this is a script; `./hmmrun.sh replay` writes its report' if is_script
+                                else 'this is no report: there is no line `history`'), file=sys.stderr)
+        return 3
     start = lines.index('history')
     rest = lines[start + 1:]
     history = [line for line in rest if line[:1].isdigit()]
@@ -163,15 +202,13 @@ def main():
     waits = waits_of(machine) if machine else {}
     for line in lines[:start + 1]:
         print(line)
-    for at, line in enumerate(history):
-        for said in waits.get(at, []):
-            print(f'..    {said}')
-        word, *words = line.split(' ')[2:]
-        print(f'{line:{COLUMN}}{SENTENCES[word](*words)}'.rstrip())
+    print_history(history, waits, fold)
     for said in waits.get(len(history), []):
         print(f'..    {said}')
     for line in rest[len(history):]:
         print(f'{line:{COLUMN}}{last_text(line.split(" "), machine)}')
+    return 0
 
 
-main()
+if __name__ == '__main__':
+    sys.exit(main())

@@ -8,7 +8,9 @@ script's run, that this history is legal, and what the tests of the definitions 
 tools/tried_entries.tsv tries after a part of it. WRONG below lists further histories with an entry that must not follow
 them, and the test that refuses it; they make the file Wrong.antt.
 """
-import collections, os, re
+import collections, os, re, sys
+
+import words
 
 TOP = os.path.dirname(os.path.dirname(os.path.abspath(__file__)))
 WORKED = os.path.join(TOP, 'crates', 'replay_examples', 'data', 'worked')
@@ -316,6 +318,9 @@ def wrong_file():
 def main():
     for old in os.listdir(PROOFS):
         os.remove(os.path.join(PROOFS, old))
+    words.begin(__doc__)
+    if sys.argv[1:]:
+        words.refuse('no word is wanted')
     names = sorted(f[:-4] for f in os.listdir(WORKED) if f.endswith('.hmm'))
     modules, tried = [], tried_entries()
     for name in names:

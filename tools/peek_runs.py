@@ -6,9 +6,9 @@
 Draws so many scripts (1,000, from seed 1) with the bytes of a process to look at, and asks the command for
 `peek P ADDR LEN`. The report must be whole and legal, as tools/reference judges it. Each peek must have the bytes that
 tools/reference's plain state has after that many entries; the counts must rise; and the last one must be of the whole
-history exactly where all the bytes have areas at the end. Prints how many peeks came. The command is ./hmmrun.sh if
-none is given; any program of the same behaviour will do. Ends with status 1 at the first that is wrong, which is then
-printed. It is run by hand, outside the gate: all this is proved.
+history exactly where all the bytes have areas at the end. Prints how many peeks came. The command is
+./hmmrun.sh --ready if none is given; any program of the same behaviour will do. Ends with status 1 at the first that is
+wrong, which is then printed. It is run by hand, outside the gate: all this is proved.
 """
 import os, random, subprocess, sys
 
@@ -17,6 +17,7 @@ sys.path[:0] = [os.path.join(TOP, 'tools'), os.path.join(TOP, 'tools', 'referenc
 import quiet_share
 import report as reports
 import script as scripts
+import words as given
 from run import Machine
 
 PAGE = 4096
@@ -80,12 +81,18 @@ def drawn(draw):
 
 
 def main():
-    words = sys.argv[1:]
-    command = words[words.index('--with') + 1:] if '--with' in words else [os.path.join(TOP, 'hmmrun.sh')]
-    numbers = [int(word) for word in (words[:words.index('--with')] if '--with' in words else words)]
+    given.begin(__doc__)
+    words, command = sys.argv[1:], None
+    if '--with' in words:
+        words, command = words[:words.index('--with')], words[words.index('--with') + 1:]
+    if len(words) > 2 or not all(word.isdigit() for word in words):
+        given.refuse('two numbers at most are wanted')
+    command, numbers = command or given.ready(), [int(word) for word in words]
     runs, seed = (numbers + [1000, 1][len(numbers):])[:2]
     draw, seen = random.Random(seed), []
-    for _ in range(runs):
+    for number in range(runs):
+        if number and number % 100 == 0:
+            print(f'peek_runs.py: {number} of {runs} runs', file=sys.stderr)
         text, asked = drawn(draw)
         process, address, length = asked
         done = subprocess.run(command + ['peek', str(process), hex(address), str(length)], input=text,

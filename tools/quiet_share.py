@@ -4,8 +4,8 @@
     tools/quiet_share.py [SCRIPTS [SEED]] [--with COMMAND..]
 
 Draws so many scripts (1,000, from seed 1) whose operations run one at a time: each actor in turn has turns enough for
-all of its operations before another has any. Replays each with the command (./hmmrun.sh; any program of the same
-behaviour will do), counts the entries of each operation in the report, and divides them by the operation's bound,
+all of its operations before another has any. Replays each with the command (./hmmrun.sh --ready; any program of the
+same behaviour will do), counts the entries of each operation in the report, and divides them by the operation's bound,
 which is computed from the script alone as docs/DEFINITIONS.md has it. Prints for each operation word how many ran, the
 most entries that one had, and the largest share of its bound that one used. Ends with status 1 where a share is above
 1, or a report is not what was asked for.
@@ -17,6 +17,9 @@ import os, random, subprocess, sys
 from fractions import Fraction
 
 TOP = os.path.dirname(os.path.dirname(os.path.abspath(__file__)))
+sys.path.insert(0, os.path.join(TOP, 'tools'))
+import words as given
+
 WORDS = ('map unmap protect load store fork exit attach detach dload dstore todev tosys snap evict remove exclusive '
          'dadd').split()
 FIRST, PAGE = 16, 4096
@@ -231,9 +234,13 @@ def replay_one(command, draw, shares):
 
 
 def main():
-    words = sys.argv[1:]
-    command = words[words.index('--with') + 1:] if '--with' in words else [os.path.join(TOP, 'hmmrun.sh')]
-    numbers = [int(word) for word in (words[:words.index('--with')] if '--with' in words else words)]
+    given.begin(__doc__)
+    words, command = sys.argv[1:], None
+    if '--with' in words:
+        words, command = words[:words.index('--with')], words[words.index('--with') + 1:]
+    if len(words) > 2 or not all(word.isdigit() for word in words):
+        given.refuse('two numbers at most are wanted')
+    command, numbers = command or given.ready(), [int(word) for word in words]
     scripts, seed = (numbers + [1000, 1][len(numbers):])[:2]
     shares, draw = Shares(), random.Random(seed)
     fine = all([replay_one(command, draw, shares) for _ in range(scripts)])

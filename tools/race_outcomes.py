@@ -1,26 +1,27 @@
 #!/usr/bin/env python3
 """Every outcome of a race, by trying every order of turns; and whether hmmraces finds the same.
 
-    tools/race_outcomes.py < SCRIPT                               the outcomes of one script
+    tools/race_outcomes.py [FILE]                                 the outcomes of one script: FILE, or standard input
     tools/race_outcomes.py --drawn RUNS [SEED] [--with COMMAND..] compares drawn scripts with the command
 
 The script's schedule is the set-up. From there each actor may take its turn at any time, until all operations have
-ended. This tool shares no states: it goes through all orders of the turns that add an entry, by the definitional program
-in tools/reference. So it is for a few entries only.
+ended. This tool shares no states: it goes through all orders of the turns that add an entry, by the definitional
+program in tools/reference. So it is for a few entries only.
 
 With --drawn it draws so many scripts (from seed 1) of two actors, whose races have at most 12 entries in every order.
 Of those with a single outcome it leaves four in five out.
-The command (./hmmraces.sh; any program of the same behaviour will do) must say `whole`, must have the same outcomes as
-this tool, each once, and each schedule that it tells must lead to its outcome with all operations ended, as
+The command (./hmmraces.sh --ready; any program of the same behaviour will do) must say `whole`, must have the same
+outcomes as this tool, each once, and each schedule that it tells must lead to its outcome with all operations ended, as
 tools/reference replays it. Ends with status 1 at the first script where that fails, which is then printed. It is run by
 hand, outside the gate: all this is proved.
 """
 import argparse, os, random, subprocess, sys
 
 TOP = os.path.dirname(os.path.dirname(os.path.abspath(__file__)))
-sys.path.insert(0, os.path.join(TOP, 'tools', 'reference'))
+sys.path[:0] = [os.path.join(TOP, 'tools'), os.path.join(TOP, 'tools', 'reference')]
 import report as reports
 import script as scripts
+import words as given
 from due import Wait
 from run import Machine
 
@@ -167,17 +168,25 @@ def compare(command, runs, seed):
 
 
 def main():
-    words = argparse.ArgumentParser(add_help=False)
+    given.begin(__doc__)
+    words = argparse.ArgumentParser(add_help=False, usage=__doc__)
+    words.add_argument('file', nargs='?')
     words.add_argument('--drawn', nargs='+', type=int)
     words.add_argument('--with', dest='command', nargs=argparse.REMAINDER)
     asked = words.parse_args()
     if asked.drawn:
-        command = asked.command or [os.path.join(TOP, 'hmmraces.sh')]
+        command = asked.command or given.ready('hmmraces')
         return compare(command, asked.drawn[0], asked.drawn[1] if len(asked.drawn) > 1 else 1)
-    found = outcomes(scripts.parse(sys.stdin.buffer.read()), 10_000)
+    try:
+        script = scripts.parse(given.data_of([asked.file] if asked.file else []))
+    except scripts.Refused as refused:
+        print('race_outcomes.py: script line {}: {}'.format(*refused.args), file=sys.stderr)
+        return 3
+    found = outcomes(script, 10_000)
     for number, answers in enumerate(sorted(found), 1):
         print(f'outcome {number}', *answers, sep='\n')
+    return 0
 
 
 if __name__ == '__main__':
-    main()
+    sys.exit(main())

@@ -13,6 +13,8 @@ nothing, or be the same as the run without refusals. Prints the counts, and ends
 """
 import argparse, os, subprocess, sys, tempfile
 
+import words
+
 TOP = os.path.dirname(os.path.dirname(os.path.abspath(__file__)))
 PROGRAM = os.environ.get('HMMRUN', os.path.join(TOP, 'crates/hmmrun/out/hmmrun'))
 
@@ -106,12 +108,16 @@ def sweep(room, given, name, script):
 
 
 def main():
+    words.begin(__doc__)
     parse = argparse.ArgumentParser(usage=__doc__)
     parse.add_argument('scripts', nargs='*')
     parse.add_argument('--long', action='store_true')
     parse.add_argument('--most', type=int)
     parse.add_argument('--words', nargs='+', default=['replay'])
     given = parse.parse_args()
+    if not given.scripts and not given.long:
+        words.refuse('no script is given, so nothing is tried')
+    words.need(PROGRAM)
     scripts = [(name, open(name, 'rb').read()) for name in given.scripts]
     if given.long:
         scripts += [(f'a script of {size} bytes', long_script(size)) for size in (1_200_000, LONGEST)]

@@ -10,6 +10,8 @@ keeps those reports, and ends with 1 if there are any.
 """
 import argparse, os, random, re, shlex, subprocess, sys, tempfile
 
+import words as given
+
 TOP = os.path.dirname(os.path.dirname(os.path.abspath(__file__)))
 PROGRAM = os.path.join(TOP, 'crates/check_reports/out/check_reports')
 
@@ -83,12 +85,14 @@ def verdicts(room):
 
 
 def main():
+    given.begin(__doc__)
     words = argparse.ArgumentParser(usage=__doc__)
     words.add_argument('--count', type=int, default=1000)
     words.add_argument('--seed', type=int, default=1)
     words.add_argument('--with', dest='others', action='append', default=[])
     words.add_argument('reports', nargs='+')
     asked = words.parse_args()
+    given.need(PROGRAM)
     pick = random.Random(asked.seed)
     sources = [open(name, 'rb').read() for name in asked.reports]
     room = tempfile.mkdtemp()

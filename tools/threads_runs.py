@@ -1,23 +1,24 @@
 #!/usr/bin/env python3
 """Runs a script from real threads many times, and judges each report.
 
-    tools/threads_runs.py [RUNS] [--with COMMAND..] < SCRIPT
+    tools/threads_runs.py [RUNS] [--script FILE] [--with COMMAND..]
 
-Runs `threads` on the script so often (200). Each report must be whole (no operation is left unfinished) and legal, as
-tools/reference judges it and as the command's own `check` does. How many different reports came is said at the end.
+Runs `threads` on the script (FILE, or standard input) so often (200). Each report must be whole (no operation is left
+unfinished) and legal, as tools/reference judges it and as the command's own `check` does. How many different reports came is said at the end.
 
 Then it draws as many scripts (from seed 1) whose actors cannot meet in their answers: each maps, stores to and loads
 from pages of its own, with frames enough for all. There each actor must have the same answers as under `replay`.
 
-The command is ./hmmrun.sh if none is given; any program of the same behaviour will do. Ends with status 1 at the first
-report that is not as it should be, which is then printed. It is run by hand, outside the gate: that the history is
+The command is ./hmmrun.sh --ready if none is given: the proved program if it is built, or else the unproved one. Any
+program of the same behaviour will do. Ends with status 1 at the first report that is not as it should be, which is then printed. It is run by hand, outside the gate: that the history is
 legal and whole is proved.
 """
 import argparse, os, random, subprocess, sys
 
 TOP = os.path.dirname(os.path.dirname(os.path.abspath(__file__)))
-sys.path.insert(0, os.path.join(TOP, 'tools', 'reference'))
+sys.path[:0] = [os.path.join(TOP, 'tools'), os.path.join(TOP, 'tools', 'reference')]
 import report as reports
+import words
 
 ANSWERS = 'loaded stored failed mapped unmapped protected refused'.split()
 FIRST, APART = 16, 100
@@ -96,9 +97,12 @@ def compare(command, runs):
 def main():
     parse = argparse.ArgumentParser(usage=__doc__)
     parse.add_argument('runs', nargs='?', type=int, default=200)
-    parse.add_argument('--with', dest='command', nargs='+', default=[os.path.join(TOP, 'hmmrun.sh')])
+    parse.add_argument('--script')
+    parse.add_argument('--with', dest='command', nargs='+')
+    words.begin(__doc__)
     given = parse.parse_args()
-    repeat(given.command, sys.stdin.buffer.read(), given.runs)
+    given.command = given.command or words.ready()
+    repeat(given.command, words.data_of([given.script] if given.script else []), given.runs)
     compare(given.command, given.runs)
 
 

@@ -1,17 +1,19 @@
 #!/usr/bin/env python3
 """The page of a report, from the short reference program: what hmmview must write. Slow, and proved by nobody.
 
-    tools/view_page.py [FROM TO] < REPORT        the page
-    tools/view_page.py --lines [FROM TO] < REPORT        its lines alone
+    tools/view_page.py [FROM TO] [FILE]              the page of a report: FILE, or standard input
+    tools/view_page.py --lines [FROM TO] [FILE]      its lines alone
 
-For short reports: it replays what came before for each actor at each row.
+Ends with status 1 if that is no legal report. For short reports: it replays what came before for each actor at each
+row.
 """
 import os, re, sys
 
 TOP = os.path.dirname(os.path.dirname(os.path.abspath(__file__)))
-sys.path.insert(0, os.path.join(TOP, 'tools', 'reference'))
+sys.path[:0] = [os.path.join(TOP, 'tools'), os.path.join(TOP, 'tools', 'reference')]
 import report as reports
 import script as scripts
+import words as given
 from due import Wait
 from run import Machine
 from state import RELEASING
@@ -106,9 +108,19 @@ def page_lines(data, first, behind):
 
 
 def main():
-    words = [word for word in sys.argv[1:] if word != '--lines']
-    first, behind = map(int, words) if words else (0, None)
-    text = ''.join(line + '\n' for line in page_lines(sys.stdin.buffer.read(), first, behind))
+    given.begin(__doc__)
+    given.end_with_reader()
+    words, numbers = [word for word in sys.argv[1:] if word != '--lines'], []
+    while words and words[0].isdigit():
+        numbers.append(int(words.pop(0)))
+    if len(numbers) not in (0, 2):
+        given.refuse('two numbers are wanted, FROM TO, or none')
+    first, behind = numbers or (0, None)
+    try:
+        text = ''.join(line + '\n' for line in page_lines(given.data_of(words), first, behind))
+    except (reports.NotLegal, scripts.Refused) as bad:
+        print(f'view_page.py: not legal: line {bad.args[0]}', file=sys.stderr)
+        sys.exit(1)
     head, tail = '', ''
     if '--lines' not in sys.argv:
         with open(os.path.join(TOP, 'crates', 'hm_view', 'src', 'page.rt')) as source:

@@ -9,6 +9,7 @@ program goes through the same report, and what holds after each entry is compare
 import json, os, re, subprocess, sys, tempfile
 
 import view_page
+import words
 from run import Machine
 
 PROBE = """<script>document.body.replaceChildren();
@@ -81,8 +82,11 @@ def shown(data):
 
 
 def main():
-    wrong = 0
-    for name in sys.argv[1:]:
+    words.begin(__doc__)
+    wrong, names = 0, sys.argv[1:]
+    if not names:
+        words.refuse('no report is given, so nothing is compared')
+    for name in names:
         with open(name, 'rb') as report:
             data = report.read()
         pairs = list(zip(states(data), shown(data), strict=True))
@@ -90,7 +94,7 @@ def main():
         for at in bad[:1]:
             print(f'{name}: row {at}: {sorted(set(pairs[at][0]) ^ set(pairs[at][1]))}')
         wrong += bool(bad)
-    print(f'{len(sys.argv) - 1} reports, {wrong} wrong')
+    print(f'{len(names)} reports, {wrong} wrong')
     sys.exit(wrong > 0)
 
 

@@ -88,6 +88,8 @@ def main():
     words.add_argument('--program', default=f'{CRATES}/hmmraces/out/hmmraces')
     words.add_argument('--most', type=int, default=100_000)
     given = words.parse_args()
+    if not os.access(given.program, os.X_OK):
+        sys.exit(f'races.py: there is no {given.program} (./hmmraces.sh builds the proved program)')
     small, states, spent, longest = 0, 0, 0.0, 0.0
     print(f'{"race":32} {"states":>8}        {"seconds":>8} {"MiB":>6} {"a second":>9} {"KiB each":>9}')
     for name, script in races():

@@ -1,12 +1,15 @@
 #!/usr/bin/env python3
 """A definitional program: slow, short, and proved by nobody. It makes the reports that tests expect.
 
-    tools/reference/cli.py replay < SCRIPT        the report that hmmrun must write
-    tools/reference/cli.py check < REPORT         `legal N`, or `bad L` with the first line that is not legal
+    tools/reference/cli.py replay [FILE]      reads a script: the report that hmmrun must write
+    tools/reference/cli.py check [FILE]       reads a report: `legal N`, or `bad L` with the first line that is not legal
 
-Messages and statuses are those of hmmrun.
+Reads FILE, or standard input. Messages and statuses are those of hmmrun.
 """
-import sys
+import os, sys
+
+sys.path.append(os.path.dirname(os.path.dirname(os.path.abspath(__file__))))
+import words as given
 
 import report as reports
 import script as scripts
@@ -36,11 +39,12 @@ def check(data):
 
 
 def main():
+    given.begin(__doc__)
     words = {'replay': replay, 'check': check}
-    if len(sys.argv) != 2 or sys.argv[1] not in words:
+    if not 2 <= len(sys.argv) <= 3 or sys.argv[1] not in words:
         status, message, text = 2, 'usage: cli.py replay | check', ''
     else:
-        status, message, text = words[sys.argv[1]](sys.stdin.buffer.read())
+        status, message, text = words[sys.argv[1]](given.data_of(sys.argv[2:]))
     sys.stdout.write(text)
     if message:
         sys.stderr.write(f'hmmrun: {message}\n')
