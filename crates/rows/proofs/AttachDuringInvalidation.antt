@@ -1,0 +1,146 @@
+-- The worked script attach_during_invalidation: its run, and that it is legal.
+use Rattle.std.specs.Prelude.{◌≡◌, Some, None, true, false, List, [], ◌∷◌, refl}
+use Rattle.hm_base.specs.Program.{Program}
+use Rattle.hm_base.specs.declared.ops.Version.{Version}
+use Rattle.hm_base.specs.declared.ops.Rights.{Rights}
+use Rattle.hm_base.specs.declared.ops.Op.{Op}
+use Rattle.hm_base.specs.declared.ops.ScheduleLine.{ScheduleLine}
+use Rattle.hm_base.specs.declared.Place.{Place}
+use Rattle.hm_history.specs.declared.Who.{Who}
+use Rattle.hm_history.specs.declared.TableRight.{TableRight}
+use Rattle.hm_history.specs.declared.Kind.{Kind}
+use Rattle.hm_history.specs.Words.{sys_frame}
+use Rattle.hm_history.specs.declared.Entry.{Entry}
+use Rattle.hm_history.specs.Run.{run}
+use Rattle.hm_history.specs.Legal.{Legal}
+
+abbrev script : Program
+script = record {
+  version = Version.One;
+  frames = 4;
+  devices = 4 ∷ [];
+  skip = 0;
+  actors = (Op.Map 0 (record { first = 16; count = 1 }) Rights.ReadWrite ∷ Op.Store 0 0x10000 (65 ∷ []) ∷ Op.Fork 0 1 ∷ Op.Store 0 0x10000 (66 ∷ []) ∷ []) ∷ (Op.Attach 0 0 0 (record { first = 16; count = 1 }) ∷ Op.DeviceLoad 0 0x10000 1 ∷ []) ∷ [];
+  schedule = ScheduleLine.Run 0 18 ∷ ScheduleLine.Run 1 2 ∷ ScheduleLine.Run 0 2 ∷ ScheduleLine.Run 1 5 ∷ ScheduleLine.Run 0 2 ∷ [];
+}
+
+abbrev history : List Entry
+history =
+    record { actor = 0; kind = Kind.Wlock 0 } ∷
+    record { actor = 0; kind = Kind.Mapped 0 (record { first = 16; count = 1 }) Rights.ReadWrite } ∷
+    record { actor = 0; kind = Kind.Rlock 0 } ∷
+    record { actor = 0; kind = Kind.Take (sys_frame 0) } ∷
+    record { actor = 0; kind = Kind.Place 0 16 (Place.Sys 0 true) } ∷
+    record { actor = 0; kind = Kind.Runlock 0 } ∷
+    record { actor = 0; kind = Kind.Stored (Who.Cpu 0) 0x10000 (65 ∷ []) } ∷
+    record { actor = 0; kind = Kind.Wlock 0 } ∷
+    record { actor = 0; kind = Kind.Named 0 1 } ∷
+    record { actor = 0; kind = Kind.Start 0 (record { first = 0; count = 68719476736 }) 2 } ∷
+    record { actor = 0; kind = Kind.Place 0 16 (Place.Sys 0 false) } ∷
+    record { actor = 0; kind = Kind.Place 1 16 (Place.Sys 0 false) } ∷
+    record { actor = 0; kind = Kind.End 0 (record { first = 0; count = 68719476736 }) 2 } ∷
+    record { actor = 0; kind = Kind.Forked 0 1 } ∷
+    record { actor = 0; kind = Kind.Rlock 0 } ∷
+    record { actor = 0; kind = Kind.Take (sys_frame 1) } ∷
+    record { actor = 0; kind = Kind.Copied (sys_frame 0) (sys_frame 1) None } ∷
+    record { actor = 0; kind = Kind.Start 0 (record { first = 16; count = 1 }) 2 } ∷
+    record { actor = 1; kind = Kind.Attached 0 0 0 (record { first = 16; count = 1 }) 3 } ∷
+    record { actor = 0; kind = Kind.Place 0 16 (Place.Sys 1 true) } ∷
+    record { actor = 0; kind = Kind.End 0 (record { first = 16; count = 1 }) 4 } ∷
+    record { actor = 1; kind = Kind.Begin 0 3 } ∷
+    record { actor = 1; kind = Kind.Rlock 0 } ∷
+    record { actor = 1; kind = Kind.Runlock 0 } ∷
+    record { actor = 1; kind = Kind.Set 0 16 (Some (sys_frame 1)) TableRight.Write 21 } ∷
+    record { actor = 1; kind = Kind.Loaded (Who.Mirror 0) 0x10000 (65 ∷ []) } ∷
+    record { actor = 0; kind = Kind.Runlock 0 } ∷
+    record { actor = 0; kind = Kind.Stored (Who.Cpu 0) 0x10000 (66 ∷ []) } ∷ []
+
+runs : run script ≡ history
+runs = refl
+
+legal : Legal script history
+legal = (
+  record { is_due = refl; answers = refl; places = refl; frames = refl; sequences = refl; untold = refl; guarded = refl; kept = refl },
+  (
+    record { is_due = refl; answers = refl; places = refl; frames = refl; sequences = refl; untold = refl; guarded = refl; kept = refl },
+    (
+      record { is_due = refl; answers = refl; places = refl; frames = refl; sequences = refl; untold = refl; guarded = refl; kept = refl },
+      (
+        record { is_due = refl; answers = refl; places = refl; frames = refl; sequences = refl; untold = refl; guarded = refl; kept = refl },
+        (
+          record { is_due = refl; answers = refl; places = refl; frames = refl; sequences = refl; untold = refl; guarded = refl; kept = refl },
+          (
+            record { is_due = refl; answers = refl; places = refl; frames = refl; sequences = refl; untold = refl; guarded = refl; kept = refl },
+            (
+              record { is_due = refl; answers = refl; places = refl; frames = refl; sequences = refl; untold = refl; guarded = refl; kept = refl },
+              (
+                record { is_due = refl; answers = refl; places = refl; frames = refl; sequences = refl; untold = refl; guarded = refl; kept = refl },
+                (
+                  record { is_due = refl; answers = refl; places = refl; frames = refl; sequences = refl; untold = refl; guarded = refl; kept = refl },
+                  (
+                    record { is_due = refl; answers = refl; places = refl; frames = refl; sequences = refl; untold = refl; guarded = refl; kept = refl },
+                    (
+                      record { is_due = refl; answers = refl; places = refl; frames = refl; sequences = refl; untold = refl; guarded = refl; kept = refl },
+                      (
+                        record { is_due = refl; answers = refl; places = refl; frames = refl; sequences = refl; untold = refl; guarded = refl; kept = refl },
+                        (
+                          record { is_due = refl; answers = refl; places = refl; frames = refl; sequences = refl; untold = refl; guarded = refl; kept = refl },
+                          (
+                            record { is_due = refl; answers = refl; places = refl; frames = refl; sequences = refl; untold = refl; guarded = refl; kept = refl },
+                            (
+                              record { is_due = refl; answers = refl; places = refl; frames = refl; sequences = refl; untold = refl; guarded = refl; kept = refl },
+                              (
+                                record { is_due = refl; answers = refl; places = refl; frames = refl; sequences = refl; untold = refl; guarded = refl; kept = refl },
+                                (
+                                  record { is_due = refl; answers = refl; places = refl; frames = refl; sequences = refl; untold = refl; guarded = refl; kept = refl },
+                                  (
+                                    record { is_due = refl; answers = refl; places = refl; frames = refl; sequences = refl; untold = refl; guarded = refl; kept = refl },
+                                    (
+                                      record { is_due = refl; answers = refl; places = refl; frames = refl; sequences = refl; untold = refl; guarded = refl; kept = refl },
+                                      (
+                                        record { is_due = refl; answers = refl; places = refl; frames = refl; sequences = refl; untold = refl; guarded = refl; kept = refl },
+                                        (
+                                          record { is_due = refl; answers = refl; places = refl; frames = refl; sequences = refl; untold = refl; guarded = refl; kept = refl },
+                                          (
+                                            record { is_due = refl; answers = refl; places = refl; frames = refl; sequences = refl; untold = refl; guarded = refl; kept = refl },
+                                            (
+                                              record { is_due = refl; answers = refl; places = refl; frames = refl; sequences = refl; untold = refl; guarded = refl; kept = refl },
+                                              (
+                                                record { is_due = refl; answers = refl; places = refl; frames = refl; sequences = refl; untold = refl; guarded = refl; kept = refl },
+                                                (
+                                                  record { is_due = refl; answers = refl; places = refl; frames = refl; sequences = refl; untold = refl; guarded = refl; kept = refl },
+                                                  (
+                                                    record { is_due = refl; answers = refl; places = refl; frames = refl; sequences = refl; untold = refl; guarded = refl; kept = refl },
+                                                    (
+                                                      record { is_due = refl; answers = refl; places = refl; frames = refl; sequences = refl; untold = refl; guarded = refl; kept = refl },
+                                                      (
+                                                        record { is_due = refl; answers = refl; places = refl; frames = refl; sequences = refl; untold = refl; guarded = refl; kept = refl },
+                                                        tt,
+                                                      ),
+                                                    ),
+                                                  ),
+                                                ),
+                                              ),
+                                            ),
+                                          ),
+                                        ),
+                                      ),
+                                    ),
+                                  ),
+                                ),
+                              ),
+                            ),
+                          ),
+                        ),
+                      ),
+                    ),
+                  ),
+                ),
+              ),
+            ),
+          ),
+        ),
+      ),
+    ),
+  ),
+)

@@ -1,0 +1,174 @@
+-- The worked script detach_while_removal_deferred: its run, and that it is legal.
+use Rattle.std.specs.Prelude.{◌≡◌, None, true, false, List, [], ◌∷◌, refl}
+use Rattle.hm_base.specs.Program.{Program}
+use Rattle.hm_base.specs.declared.ops.Version.{Version}
+use Rattle.hm_base.specs.declared.ops.Rights.{Rights}
+use Rattle.hm_base.specs.declared.ops.Op.{Op}
+use Rattle.hm_base.specs.declared.ops.ScheduleLine.{ScheduleLine}
+use Rattle.hm_base.specs.declared.Place.{Place}
+use Rattle.hm_base.specs.declared.cause.Cause.{Cause}
+use Rattle.hm_history.specs.declared.Who.{Who}
+use Rattle.hm_history.specs.declared.Kind.{Kind}
+use Rattle.hm_history.specs.Words.{sys_frame}
+use Rattle.hm_history.specs.declared.Entry.{Entry}
+use Rattle.hm_history.specs.Run.{run}
+use Rattle.hm_history.specs.Legal.{Legal}
+
+abbrev script : Program
+script = record {
+  version = Version.Two;
+  frames = 8;
+  devices = 4 ∷ [];
+  skip = 0;
+  actors = (Op.Map 0 (record { first = 16; count = 1 }) Rights.ReadWrite ∷ Op.Store 0 0x10000 (65 ∷ []) ∷ Op.Fork 0 1 ∷ Op.Attach 0 0 0 (record { first = 16; count = 1 }) ∷ Op.Attach 1 0 0 (record { first = 16; count = 1 }) ∷ Op.Store 0 0x10000 (67 ∷ []) ∷ []) ∷ (Op.Detach 0 ∷ Op.Detach 0 ∷ []) ∷ (Op.Exit 0 ∷ []) ∷ [];
+  schedule = ScheduleLine.Run 0 26 ∷ ScheduleLine.Run 1 9 ∷ ScheduleLine.Run 2 5 ∷ ScheduleLine.Run 0 99 ∷ ScheduleLine.Run 1 99 ∷ ScheduleLine.Run 2 99 ∷ [];
+}
+
+abbrev history : List Entry
+history =
+    record { actor = 0; kind = Kind.Wlock 0 } ∷
+    record { actor = 0; kind = Kind.Mapped 0 (record { first = 16; count = 1 }) Rights.ReadWrite } ∷
+    record { actor = 0; kind = Kind.Rlock 0 } ∷
+    record { actor = 0; kind = Kind.Take (sys_frame 0) } ∷
+    record { actor = 0; kind = Kind.Place 0 16 (Place.Sys 0 true) } ∷
+    record { actor = 0; kind = Kind.Runlock 0 } ∷
+    record { actor = 0; kind = Kind.Stored (Who.Cpu 0) 0x10000 (65 ∷ []) } ∷
+    record { actor = 0; kind = Kind.Wlock 0 } ∷
+    record { actor = 0; kind = Kind.Named 0 1 } ∷
+    record { actor = 0; kind = Kind.Start 0 (record { first = 0; count = 68719476736 }) 2 } ∷
+    record { actor = 0; kind = Kind.Place 0 16 (Place.Sys 0 false) } ∷
+    record { actor = 0; kind = Kind.Place 1 16 (Place.Sys 0 false) } ∷
+    record { actor = 0; kind = Kind.End 0 (record { first = 0; count = 68719476736 }) 2 } ∷
+    record { actor = 0; kind = Kind.Forked 0 1 } ∷
+    record { actor = 0; kind = Kind.Attached 0 0 0 (record { first = 16; count = 1 }) 1 } ∷
+    record { actor = 0; kind = Kind.Attached 1 0 0 (record { first = 16; count = 1 }) 1 } ∷
+    record { actor = 0; kind = Kind.Rlock 0 } ∷
+    record { actor = 0; kind = Kind.Take (sys_frame 1) } ∷
+    record { actor = 0; kind = Kind.Copied (sys_frame 0) (sys_frame 1) None } ∷
+    record { actor = 0; kind = Kind.Start 0 (record { first = 16; count = 1 }) 3 } ∷
+    record { actor = 0; kind = Kind.Told 0 (record { first = 16; count = 1 }) 3 } ∷
+    record { actor = 0; kind = Kind.Told 1 (record { first = 16; count = 1 }) 3 } ∷
+    record { actor = 0; kind = Kind.Place 0 16 (Place.Sys 1 true) } ∷
+    record { actor = 0; kind = Kind.End 0 (record { first = 16; count = 1 }) 4 } ∷
+    record { actor = 0; kind = Kind.Runlock 0 } ∷
+    record { actor = 0; kind = Kind.Stored (Who.Cpu 0) 0x10000 (67 ∷ []) } ∷
+    record { actor = 1; kind = Kind.Detached 0 } ∷
+    record { actor = 1; kind = Kind.Refused Cause.Outside } ∷
+    record { actor = 2; kind = Kind.Wlock 0 } ∷
+    record { actor = 2; kind = Kind.Start 0 (record { first = 0; count = 68719476736 }) 5 } ∷
+    record { actor = 2; kind = Kind.Told 1 (record { first = 0; count = 68719476736 }) 5 } ∷
+    record { actor = 2; kind = Kind.Place 0 16 Place.Empty } ∷
+    record { actor = 2; kind = Kind.Drop (sys_frame 1) } ∷
+    record { actor = 2; kind = Kind.End 0 (record { first = 0; count = 68719476736 }) 6 } ∷
+    record { actor = 2; kind = Kind.Exited 0 } ∷ []
+
+runs : run script ≡ history
+runs = refl
+
+legal : Legal script history
+legal = (
+  record { is_due = refl; answers = refl; places = refl; frames = refl; sequences = refl; untold = refl; guarded = refl; kept = refl },
+  (
+    record { is_due = refl; answers = refl; places = refl; frames = refl; sequences = refl; untold = refl; guarded = refl; kept = refl },
+    (
+      record { is_due = refl; answers = refl; places = refl; frames = refl; sequences = refl; untold = refl; guarded = refl; kept = refl },
+      (
+        record { is_due = refl; answers = refl; places = refl; frames = refl; sequences = refl; untold = refl; guarded = refl; kept = refl },
+        (
+          record { is_due = refl; answers = refl; places = refl; frames = refl; sequences = refl; untold = refl; guarded = refl; kept = refl },
+          (
+            record { is_due = refl; answers = refl; places = refl; frames = refl; sequences = refl; untold = refl; guarded = refl; kept = refl },
+            (
+              record { is_due = refl; answers = refl; places = refl; frames = refl; sequences = refl; untold = refl; guarded = refl; kept = refl },
+              (
+                record { is_due = refl; answers = refl; places = refl; frames = refl; sequences = refl; untold = refl; guarded = refl; kept = refl },
+                (
+                  record { is_due = refl; answers = refl; places = refl; frames = refl; sequences = refl; untold = refl; guarded = refl; kept = refl },
+                  (
+                    record { is_due = refl; answers = refl; places = refl; frames = refl; sequences = refl; untold = refl; guarded = refl; kept = refl },
+                    (
+                      record { is_due = refl; answers = refl; places = refl; frames = refl; sequences = refl; untold = refl; guarded = refl; kept = refl },
+                      (
+                        record { is_due = refl; answers = refl; places = refl; frames = refl; sequences = refl; untold = refl; guarded = refl; kept = refl },
+                        (
+                          record { is_due = refl; answers = refl; places = refl; frames = refl; sequences = refl; untold = refl; guarded = refl; kept = refl },
+                          (
+                            record { is_due = refl; answers = refl; places = refl; frames = refl; sequences = refl; untold = refl; guarded = refl; kept = refl },
+                            (
+                              record { is_due = refl; answers = refl; places = refl; frames = refl; sequences = refl; untold = refl; guarded = refl; kept = refl },
+                              (
+                                record { is_due = refl; answers = refl; places = refl; frames = refl; sequences = refl; untold = refl; guarded = refl; kept = refl },
+                                (
+                                  record { is_due = refl; answers = refl; places = refl; frames = refl; sequences = refl; untold = refl; guarded = refl; kept = refl },
+                                  (
+                                    record { is_due = refl; answers = refl; places = refl; frames = refl; sequences = refl; untold = refl; guarded = refl; kept = refl },
+                                    (
+                                      record { is_due = refl; answers = refl; places = refl; frames = refl; sequences = refl; untold = refl; guarded = refl; kept = refl },
+                                      (
+                                        record { is_due = refl; answers = refl; places = refl; frames = refl; sequences = refl; untold = refl; guarded = refl; kept = refl },
+                                        (
+                                          record { is_due = refl; answers = refl; places = refl; frames = refl; sequences = refl; untold = refl; guarded = refl; kept = refl },
+                                          (
+                                            record { is_due = refl; answers = refl; places = refl; frames = refl; sequences = refl; untold = refl; guarded = refl; kept = refl },
+                                            (
+                                              record { is_due = refl; answers = refl; places = refl; frames = refl; sequences = refl; untold = refl; guarded = refl; kept = refl },
+                                              (
+                                                record { is_due = refl; answers = refl; places = refl; frames = refl; sequences = refl; untold = refl; guarded = refl; kept = refl },
+                                                (
+                                                  record { is_due = refl; answers = refl; places = refl; frames = refl; sequences = refl; untold = refl; guarded = refl; kept = refl },
+                                                  (
+                                                    record { is_due = refl; answers = refl; places = refl; frames = refl; sequences = refl; untold = refl; guarded = refl; kept = refl },
+                                                    (
+                                                      record { is_due = refl; answers = refl; places = refl; frames = refl; sequences = refl; untold = refl; guarded = refl; kept = refl },
+                                                      (
+                                                        record { is_due = refl; answers = refl; places = refl; frames = refl; sequences = refl; untold = refl; guarded = refl; kept = refl },
+                                                        (
+                                                          record { is_due = refl; answers = refl; places = refl; frames = refl; sequences = refl; untold = refl; guarded = refl; kept = refl },
+                                                          (
+                                                            record { is_due = refl; answers = refl; places = refl; frames = refl; sequences = refl; untold = refl; guarded = refl; kept = refl },
+                                                            (
+                                                              record { is_due = refl; answers = refl; places = refl; frames = refl; sequences = refl; untold = refl; guarded = refl; kept = refl },
+                                                              (
+                                                                record { is_due = refl; answers = refl; places = refl; frames = refl; sequences = refl; untold = refl; guarded = refl; kept = refl },
+                                                                (
+                                                                  record { is_due = refl; answers = refl; places = refl; frames = refl; sequences = refl; untold = refl; guarded = refl; kept = refl },
+                                                                  (
+                                                                    record { is_due = refl; answers = refl; places = refl; frames = refl; sequences = refl; untold = refl; guarded = refl; kept = refl },
+                                                                    (
+                                                                      record { is_due = refl; answers = refl; places = refl; frames = refl; sequences = refl; untold = refl; guarded = refl; kept = refl },
+                                                                      tt,
+                                                                    ),
+                                                                  ),
+                                                                ),
+                                                              ),
+                                                            ),
+                                                          ),
+                                                        ),
+                                                      ),
+                                                    ),
+                                                  ),
+                                                ),
+                                              ),
+                                            ),
+                                          ),
+                                        ),
+                                      ),
+                                    ),
+                                  ),
+                                ),
+                              ),
+                            ),
+                          ),
+                        ),
+                      ),
+                    ),
+                  ),
+                ),
+              ),
+            ),
+          ),
+        ),
+      ),
+    ),
+  ),
+)

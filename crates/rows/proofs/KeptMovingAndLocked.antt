@@ -1,0 +1,237 @@
+-- The worked script kept_moving_and_locked: its run, and that it is legal.
+use Rattle.std.specs.Prelude.{◌≡◌, Some, true, false, List, [], ◌∷◌, refl, take}
+use Rattle.hm_base.specs.Program.{Program}
+use Rattle.hm_base.specs.declared.ops.Version.{Version}
+use Rattle.hm_base.specs.declared.ops.Rights.{Rights}
+use Rattle.hm_base.specs.declared.ops.Op.{Op}
+use Rattle.hm_base.specs.declared.ops.ScheduleLine.{ScheduleLine}
+use Rattle.hm_base.specs.declared.Place.{Place}
+use Rattle.hm_history.specs.declared.Who.{Who}
+use Rattle.hm_history.specs.declared.TableRight.{TableRight}
+use Rattle.hm_history.specs.declared.KeptAt.{KeptAt}
+use Rattle.hm_history.specs.declared.KeptWhy.{KeptWhy}
+use Rattle.hm_history.specs.declared.Kind.{Kind}
+use Rattle.hm_history.specs.Words.{sys_frame, dev_frame}
+use Rattle.hm_history.specs.declared.Entry.{Entry}
+use Rattle.hm_history.specs.Run.{run}
+use Rattle.hm_history.specs.Legal.{Legal, kept_rightly}
+use Rattle.hm_history.specs.Going.{state_of}
+
+abbrev script : Program
+script = record {
+  version = Version.One;
+  frames = 4;
+  devices = 4 ∷ [];
+  skip = 0;
+  actors = (Op.Map 0 (record { first = 16; count = 1 }) Rights.ReadWrite ∷ Op.Attach 0 0 0 (record { first = 16; count = 1 }) ∷ Op.ToDevice 0 (record { first = 16; count = 1 }) ∷ []) ∷ (Op.Load 0 0x10000 1 ∷ []) ∷ (Op.ToDevice 0 (record { first = 16; count = 1 }) ∷ Op.ToDevice 0 (record { first = 16; count = 1 }) ∷ []) ∷ [];
+  schedule = ScheduleLine.Run 0 16 ∷ ScheduleLine.Run 1 14 ∷ ScheduleLine.Run 2 5 ∷ ScheduleLine.Run 1 2 ∷ ScheduleLine.Run 2 5 ∷ ScheduleLine.Run 1 99 ∷ [];
+}
+
+abbrev history : List Entry
+history =
+    record { actor = 0; kind = Kind.Wlock 0 } ∷
+    record { actor = 0; kind = Kind.Mapped 0 (record { first = 16; count = 1 }) Rights.ReadWrite } ∷
+    record { actor = 0; kind = Kind.Attached 0 0 0 (record { first = 16; count = 1 }) 1 } ∷
+    record { actor = 0; kind = Kind.Rlock 0 } ∷
+    record { actor = 0; kind = Kind.Start 0 (record { first = 16; count = 1 }) 3 } ∷
+    record { actor = 0; kind = Kind.Told 0 (record { first = 16; count = 1 }) 3 } ∷
+    record { actor = 0; kind = Kind.Fresh 0 16 } ∷
+    record { actor = 0; kind = Kind.End 0 (record { first = 16; count = 1 }) 4 } ∷
+    record { actor = 0; kind = Kind.Take (dev_frame 0 0) } ∷
+    record { actor = 0; kind = Kind.Start 0 (record { first = 16; count = 1 }) 5 } ∷
+    record { actor = 0; kind = Kind.Told 0 (record { first = 16; count = 1 }) 5 } ∷
+    record { actor = 0; kind = Kind.Place 0 16 (Place.Own 0 0 true) } ∷
+    record { actor = 0; kind = Kind.End 0 (record { first = 16; count = 1 }) 6 } ∷
+    record { actor = 0; kind = Kind.Set 0 16 (Some (dev_frame 0 0)) TableRight.Write 13 } ∷
+    record { actor = 0; kind = Kind.Done (dev_frame 0 0) } ∷
+    record { actor = 0; kind = Kind.Migrated 1 } ∷
+    record { actor = 1; kind = Kind.Rlock 0 } ∷
+    record { actor = 1; kind = Kind.Start 0 (record { first = 16; count = 1 }) 7 } ∷
+    record { actor = 1; kind = Kind.Told 0 (record { first = 16; count = 1 }) 7 } ∷
+    record { actor = 1; kind = Kind.Place 0 16 (Place.Moving (dev_frame 0 0) true) } ∷
+    record { actor = 1; kind = Kind.End 0 (record { first = 16; count = 1 }) 8 } ∷
+    record { actor = 1; kind = Kind.Take (sys_frame 0) } ∷
+    record { actor = 1; kind = Kind.Copied (dev_frame 0 0) (sys_frame 0) (Some 0) } ∷
+    record { actor = 1; kind = Kind.Copied (dev_frame 0 0) (sys_frame 0) (Some 1) } ∷
+    record { actor = 1; kind = Kind.Copied (dev_frame 0 0) (sys_frame 0) (Some 2) } ∷
+    record { actor = 1; kind = Kind.Copied (dev_frame 0 0) (sys_frame 0) (Some 3) } ∷
+    record { actor = 1; kind = Kind.Copied (dev_frame 0 0) (sys_frame 0) (Some 4) } ∷
+    record { actor = 1; kind = Kind.Copied (dev_frame 0 0) (sys_frame 0) (Some 5) } ∷
+    record { actor = 1; kind = Kind.Copied (dev_frame 0 0) (sys_frame 0) (Some 6) } ∷
+    record { actor = 1; kind = Kind.Copied (dev_frame 0 0) (sys_frame 0) (Some 7) } ∷
+    record { actor = 2; kind = Kind.Rlock 0 } ∷
+    record { actor = 2; kind = Kind.Start 0 (record { first = 16; count = 1 }) 9 } ∷
+    record { actor = 2; kind = Kind.Told 0 (record { first = 16; count = 1 }) 9 } ∷
+    record { actor = 2; kind = Kind.Kept (KeptAt.Page 16) KeptWhy.NotHere } ∷
+    record { actor = 2; kind = Kind.End 0 (record { first = 16; count = 1 }) 10 } ∷
+    record { actor = 1; kind = Kind.Committed (dev_frame 0 0) (sys_frame 0) } ∷
+    record { actor = 1; kind = Kind.Place 0 16 (Place.Sys 0 true) } ∷
+    record { actor = 2; kind = Kind.Migrated 0 } ∷
+    record { actor = 2; kind = Kind.Rlock 0 } ∷
+    record { actor = 2; kind = Kind.Start 0 (record { first = 16; count = 1 }) 11 } ∷
+    record { actor = 2; kind = Kind.Told 0 (record { first = 16; count = 1 }) 11 } ∷
+    record { actor = 2; kind = Kind.Kept (KeptAt.Page 16) (KeptWhy.LockedBy 1) } ∷
+    record { actor = 1; kind = Kind.Drop (dev_frame 0 0) } ∷
+    record { actor = 1; kind = Kind.Done (sys_frame 0) } ∷
+    record { actor = 1; kind = Kind.Runlock 0 } ∷
+    record { actor = 1; kind = Kind.Loaded (Who.Cpu 0) 0x10000 (0 ∷ []) } ∷ []
+
+runs : run script ≡ history
+runs = refl
+
+legal : Legal script history
+legal = (
+  record { is_due = refl; answers = refl; places = refl; frames = refl; sequences = refl; untold = refl; guarded = refl; kept = refl },
+  (
+    record { is_due = refl; answers = refl; places = refl; frames = refl; sequences = refl; untold = refl; guarded = refl; kept = refl },
+    (
+      record { is_due = refl; answers = refl; places = refl; frames = refl; sequences = refl; untold = refl; guarded = refl; kept = refl },
+      (
+        record { is_due = refl; answers = refl; places = refl; frames = refl; sequences = refl; untold = refl; guarded = refl; kept = refl },
+        (
+          record { is_due = refl; answers = refl; places = refl; frames = refl; sequences = refl; untold = refl; guarded = refl; kept = refl },
+          (
+            record { is_due = refl; answers = refl; places = refl; frames = refl; sequences = refl; untold = refl; guarded = refl; kept = refl },
+            (
+              record { is_due = refl; answers = refl; places = refl; frames = refl; sequences = refl; untold = refl; guarded = refl; kept = refl },
+              (
+                record { is_due = refl; answers = refl; places = refl; frames = refl; sequences = refl; untold = refl; guarded = refl; kept = refl },
+                (
+                  record { is_due = refl; answers = refl; places = refl; frames = refl; sequences = refl; untold = refl; guarded = refl; kept = refl },
+                  (
+                    record { is_due = refl; answers = refl; places = refl; frames = refl; sequences = refl; untold = refl; guarded = refl; kept = refl },
+                    (
+                      record { is_due = refl; answers = refl; places = refl; frames = refl; sequences = refl; untold = refl; guarded = refl; kept = refl },
+                      (
+                        record { is_due = refl; answers = refl; places = refl; frames = refl; sequences = refl; untold = refl; guarded = refl; kept = refl },
+                        (
+                          record { is_due = refl; answers = refl; places = refl; frames = refl; sequences = refl; untold = refl; guarded = refl; kept = refl },
+                          (
+                            record { is_due = refl; answers = refl; places = refl; frames = refl; sequences = refl; untold = refl; guarded = refl; kept = refl },
+                            (
+                              record { is_due = refl; answers = refl; places = refl; frames = refl; sequences = refl; untold = refl; guarded = refl; kept = refl },
+                              (
+                                record { is_due = refl; answers = refl; places = refl; frames = refl; sequences = refl; untold = refl; guarded = refl; kept = refl },
+                                (
+                                  record { is_due = refl; answers = refl; places = refl; frames = refl; sequences = refl; untold = refl; guarded = refl; kept = refl },
+                                  (
+                                    record { is_due = refl; answers = refl; places = refl; frames = refl; sequences = refl; untold = refl; guarded = refl; kept = refl },
+                                    (
+                                      record { is_due = refl; answers = refl; places = refl; frames = refl; sequences = refl; untold = refl; guarded = refl; kept = refl },
+                                      (
+                                        record { is_due = refl; answers = refl; places = refl; frames = refl; sequences = refl; untold = refl; guarded = refl; kept = refl },
+                                        (
+                                          record { is_due = refl; answers = refl; places = refl; frames = refl; sequences = refl; untold = refl; guarded = refl; kept = refl },
+                                          (
+                                            record { is_due = refl; answers = refl; places = refl; frames = refl; sequences = refl; untold = refl; guarded = refl; kept = refl },
+                                            (
+                                              record { is_due = refl; answers = refl; places = refl; frames = refl; sequences = refl; untold = refl; guarded = refl; kept = refl },
+                                              (
+                                                record { is_due = refl; answers = refl; places = refl; frames = refl; sequences = refl; untold = refl; guarded = refl; kept = refl },
+                                                (
+                                                  record { is_due = refl; answers = refl; places = refl; frames = refl; sequences = refl; untold = refl; guarded = refl; kept = refl },
+                                                  (
+                                                    record { is_due = refl; answers = refl; places = refl; frames = refl; sequences = refl; untold = refl; guarded = refl; kept = refl },
+                                                    (
+                                                      record { is_due = refl; answers = refl; places = refl; frames = refl; sequences = refl; untold = refl; guarded = refl; kept = refl },
+                                                      (
+                                                        record { is_due = refl; answers = refl; places = refl; frames = refl; sequences = refl; untold = refl; guarded = refl; kept = refl },
+                                                        (
+                                                          record { is_due = refl; answers = refl; places = refl; frames = refl; sequences = refl; untold = refl; guarded = refl; kept = refl },
+                                                          (
+                                                            record { is_due = refl; answers = refl; places = refl; frames = refl; sequences = refl; untold = refl; guarded = refl; kept = refl },
+                                                            (
+                                                              record { is_due = refl; answers = refl; places = refl; frames = refl; sequences = refl; untold = refl; guarded = refl; kept = refl },
+                                                              (
+                                                                record { is_due = refl; answers = refl; places = refl; frames = refl; sequences = refl; untold = refl; guarded = refl; kept = refl },
+                                                                (
+                                                                  record { is_due = refl; answers = refl; places = refl; frames = refl; sequences = refl; untold = refl; guarded = refl; kept = refl },
+                                                                  (
+                                                                    record { is_due = refl; answers = refl; places = refl; frames = refl; sequences = refl; untold = refl; guarded = refl; kept = refl },
+                                                                    (
+                                                                      record { is_due = refl; answers = refl; places = refl; frames = refl; sequences = refl; untold = refl; guarded = refl; kept = refl },
+                                                                      (
+                                                                        record { is_due = refl; answers = refl; places = refl; frames = refl; sequences = refl; untold = refl; guarded = refl; kept = refl },
+                                                                        (
+                                                                          record { is_due = refl; answers = refl; places = refl; frames = refl; sequences = refl; untold = refl; guarded = refl; kept = refl },
+                                                                          (
+                                                                            record { is_due = refl; answers = refl; places = refl; frames = refl; sequences = refl; untold = refl; guarded = refl; kept = refl },
+                                                                            (
+                                                                              record { is_due = refl; answers = refl; places = refl; frames = refl; sequences = refl; untold = refl; guarded = refl; kept = refl },
+                                                                              (
+                                                                                record { is_due = refl; answers = refl; places = refl; frames = refl; sequences = refl; untold = refl; guarded = refl; kept = refl },
+                                                                                (
+                                                                                  record { is_due = refl; answers = refl; places = refl; frames = refl; sequences = refl; untold = refl; guarded = refl; kept = refl },
+                                                                                  (
+                                                                                    record { is_due = refl; answers = refl; places = refl; frames = refl; sequences = refl; untold = refl; guarded = refl; kept = refl },
+                                                                                    (
+                                                                                      record { is_due = refl; answers = refl; places = refl; frames = refl; sequences = refl; untold = refl; guarded = refl; kept = refl },
+                                                                                      (
+                                                                                        record { is_due = refl; answers = refl; places = refl; frames = refl; sequences = refl; untold = refl; guarded = refl; kept = refl },
+                                                                                        (
+                                                                                          record { is_due = refl; answers = refl; places = refl; frames = refl; sequences = refl; untold = refl; guarded = refl; kept = refl },
+                                                                                          (
+                                                                                            record { is_due = refl; answers = refl; places = refl; frames = refl; sequences = refl; untold = refl; guarded = refl; kept = refl },
+                                                                                            tt,
+                                                                                          ),
+                                                                                        ),
+                                                                                      ),
+                                                                                    ),
+                                                                                  ),
+                                                                                ),
+                                                                              ),
+                                                                            ),
+                                                                          ),
+                                                                        ),
+                                                                      ),
+                                                                    ),
+                                                                  ),
+                                                                ),
+                                                              ),
+                                                            ),
+                                                          ),
+                                                        ),
+                                                      ),
+                                                    ),
+                                                  ),
+                                                ),
+                                              ),
+                                            ),
+                                          ),
+                                        ),
+                                      ),
+                                    ),
+                                  ),
+                                ),
+                              ),
+                            ),
+                          ),
+                        ),
+                      ),
+                    ),
+                  ),
+                ),
+              ),
+            ),
+          ),
+        ),
+      ),
+    ),
+  ),
+)
+
+-- kept 16 nothere, by actor 2
+tried_1 : kept_rightly script (state_of script (take 33 history)) (record { actor = 2; kind = Kind.Kept (KeptAt.Page 16) KeptWhy.NotHere }) ≡ true
+tried_1 = refl
+
+-- kept 16 nothere, by actor 2
+tried_2 : kept_rightly script (state_of script (take 41 history)) (record { actor = 2; kind = Kind.Kept (KeptAt.Page 16) KeptWhy.NotHere }) ≡ false
+tried_2 = refl
+
+-- kept 16 locked a1, by actor 2
+tried_3 : kept_rightly script (state_of script (take 41 history)) (record { actor = 2; kind = Kind.Kept (KeptAt.Page 16) (KeptWhy.LockedBy 1) }) ≡ true
+tried_3 = refl
+
+-- kept 16 locked a0, by actor 2
+tried_4 : kept_rightly script (state_of script (take 41 history)) (record { actor = 2; kind = Kind.Kept (KeptAt.Page 16) (KeptWhy.LockedBy 0) }) ≡ false
+tried_4 = refl

@@ -1,0 +1,86 @@
+-- The worked script pool_full: its run, and that it is legal.
+use Rattle.std.specs.Prelude.{◌≡◌, true, List, [], ◌∷◌, refl}
+use Rattle.hm_base.specs.Program.{Program}
+use Rattle.hm_base.specs.declared.ops.Version.{Version}
+use Rattle.hm_base.specs.declared.ops.Rights.{Rights}
+use Rattle.hm_base.specs.declared.ops.Op.{Op}
+use Rattle.hm_base.specs.declared.ops.ScheduleLine.{ScheduleLine}
+use Rattle.hm_base.specs.declared.Place.{Place}
+use Rattle.hm_base.specs.declared.cause.Cause.{Cause}
+use Rattle.hm_history.specs.declared.Who.{Who}
+use Rattle.hm_history.specs.declared.Kind.{Kind}
+use Rattle.hm_history.specs.Words.{sys_frame}
+use Rattle.hm_history.specs.declared.Entry.{Entry}
+use Rattle.hm_history.specs.Run.{run}
+use Rattle.hm_history.specs.Legal.{Legal}
+
+abbrev script : Program
+script = record {
+  version = Version.One;
+  frames = 1;
+  devices = [];
+  skip = 0;
+  actors = (Op.Map 0 (record { first = 16; count = 2 }) Rights.ReadWrite ∷ Op.Store 0 0x10000 (65 ∷ []) ∷ Op.Store 0 0x11000 (66 ∷ []) ∷ Op.Load 0 0x11000 1 ∷ []) ∷ [];
+  schedule = ScheduleLine.Run 0 99 ∷ [];
+}
+
+abbrev history : List Entry
+history =
+    record { actor = 0; kind = Kind.Wlock 0 } ∷
+    record { actor = 0; kind = Kind.Mapped 0 (record { first = 16; count = 2 }) Rights.ReadWrite } ∷
+    record { actor = 0; kind = Kind.Rlock 0 } ∷
+    record { actor = 0; kind = Kind.Take (sys_frame 0) } ∷
+    record { actor = 0; kind = Kind.Place 0 16 (Place.Sys 0 true) } ∷
+    record { actor = 0; kind = Kind.Runlock 0 } ∷
+    record { actor = 0; kind = Kind.Stored (Who.Cpu 0) 0x10000 (65 ∷ []) } ∷
+    record { actor = 0; kind = Kind.Rlock 0 } ∷
+    record { actor = 0; kind = Kind.Failed (Who.Cpu 0) 0x11000 1 Cause.NoFrame } ∷
+    record { actor = 0; kind = Kind.Rlock 0 } ∷
+    record { actor = 0; kind = Kind.Place 0 17 Place.Zero } ∷
+    record { actor = 0; kind = Kind.Runlock 0 } ∷
+    record { actor = 0; kind = Kind.Loaded (Who.Cpu 0) 0x11000 (0 ∷ []) } ∷ []
+
+runs : run script ≡ history
+runs = refl
+
+legal : Legal script history
+legal = (
+  record { is_due = refl; answers = refl; places = refl; frames = refl; sequences = refl; untold = refl; guarded = refl; kept = refl },
+  (
+    record { is_due = refl; answers = refl; places = refl; frames = refl; sequences = refl; untold = refl; guarded = refl; kept = refl },
+    (
+      record { is_due = refl; answers = refl; places = refl; frames = refl; sequences = refl; untold = refl; guarded = refl; kept = refl },
+      (
+        record { is_due = refl; answers = refl; places = refl; frames = refl; sequences = refl; untold = refl; guarded = refl; kept = refl },
+        (
+          record { is_due = refl; answers = refl; places = refl; frames = refl; sequences = refl; untold = refl; guarded = refl; kept = refl },
+          (
+            record { is_due = refl; answers = refl; places = refl; frames = refl; sequences = refl; untold = refl; guarded = refl; kept = refl },
+            (
+              record { is_due = refl; answers = refl; places = refl; frames = refl; sequences = refl; untold = refl; guarded = refl; kept = refl },
+              (
+                record { is_due = refl; answers = refl; places = refl; frames = refl; sequences = refl; untold = refl; guarded = refl; kept = refl },
+                (
+                  record { is_due = refl; answers = refl; places = refl; frames = refl; sequences = refl; untold = refl; guarded = refl; kept = refl },
+                  (
+                    record { is_due = refl; answers = refl; places = refl; frames = refl; sequences = refl; untold = refl; guarded = refl; kept = refl },
+                    (
+                      record { is_due = refl; answers = refl; places = refl; frames = refl; sequences = refl; untold = refl; guarded = refl; kept = refl },
+                      (
+                        record { is_due = refl; answers = refl; places = refl; frames = refl; sequences = refl; untold = refl; guarded = refl; kept = refl },
+                        (
+                          record { is_due = refl; answers = refl; places = refl; frames = refl; sequences = refl; untold = refl; guarded = refl; kept = refl },
+                          tt,
+                        ),
+                      ),
+                    ),
+                  ),
+                ),
+              ),
+            ),
+          ),
+        ),
+      ),
+    ),
+  ),
+)

@@ -1,0 +1,341 @@
+-- The worked script removal_without_room: its run, and that it is legal.
+use Rattle.std.specs.Prelude.{◌≡◌, Some, true, List, [], ◌∷◌, refl}
+use Rattle.hm_base.specs.Program.{Program}
+use Rattle.hm_base.specs.declared.ops.Version.{Version}
+use Rattle.hm_base.specs.declared.ops.Rights.{Rights}
+use Rattle.hm_base.specs.declared.ops.Op.{Op}
+use Rattle.hm_base.specs.declared.ops.ScheduleLine.{ScheduleLine}
+use Rattle.hm_base.specs.declared.Place.{Place}
+use Rattle.hm_base.specs.declared.cause.Cause.{Cause}
+use Rattle.hm_history.specs.declared.Who.{Who}
+use Rattle.hm_history.specs.declared.TableRight.{TableRight}
+use Rattle.hm_history.specs.declared.KeptAt.{KeptAt}
+use Rattle.hm_history.specs.declared.KeptWhy.{KeptWhy}
+use Rattle.hm_history.specs.declared.Kind.{Kind}
+use Rattle.hm_history.specs.Words.{sys_frame, dev_frame}
+use Rattle.hm_history.specs.declared.Entry.{Entry}
+use Rattle.hm_history.specs.Run.{run}
+use Rattle.hm_history.specs.Legal.{Legal}
+
+abbrev script : Program
+script = record {
+  version = Version.One;
+  frames = 1;
+  devices = 1 ∷ [];
+  skip = 0;
+  actors = (Op.Map 0 (record { first = 16; count = 2 }) Rights.ReadWrite ∷ Op.Store 0 0x10000 (65 ∷ []) ∷ Op.Attach 0 0 0 (record { first = 16; count = 2 }) ∷ Op.ToDevice 0 (record { first = 16; count = 1 }) ∷ Op.Store 0 0x11000 (66 ∷ []) ∷ Op.Remove 0 ∷ Op.Load 0 0x10000 1 ∷ Op.Unmap 0 (record { first = 17; count = 1 }) ∷ Op.Remove 0 ∷ []) ∷ [];
+  schedule = ScheduleLine.Run 0 99 ∷ [];
+}
+
+abbrev history : List Entry
+history =
+    record { actor = 0; kind = Kind.Wlock 0 } ∷
+    record { actor = 0; kind = Kind.Mapped 0 (record { first = 16; count = 2 }) Rights.ReadWrite } ∷
+    record { actor = 0; kind = Kind.Rlock 0 } ∷
+    record { actor = 0; kind = Kind.Take (sys_frame 0) } ∷
+    record { actor = 0; kind = Kind.Place 0 16 (Place.Sys 0 true) } ∷
+    record { actor = 0; kind = Kind.Runlock 0 } ∷
+    record { actor = 0; kind = Kind.Stored (Who.Cpu 0) 0x10000 (65 ∷ []) } ∷
+    record { actor = 0; kind = Kind.Attached 0 0 0 (record { first = 16; count = 2 }) 1 } ∷
+    record { actor = 0; kind = Kind.Rlock 0 } ∷
+    record { actor = 0; kind = Kind.Start 0 (record { first = 16; count = 1 }) 3 } ∷
+    record { actor = 0; kind = Kind.Told 0 (record { first = 16; count = 1 }) 3 } ∷
+    record { actor = 0; kind = Kind.Place 0 16 (Place.Moving (sys_frame 0) true) } ∷
+    record { actor = 0; kind = Kind.End 0 (record { first = 16; count = 1 }) 4 } ∷
+    record { actor = 0; kind = Kind.Take (dev_frame 0 0) } ∷
+    record { actor = 0; kind = Kind.Copied (sys_frame 0) (dev_frame 0 0) (Some 0) } ∷
+    record { actor = 0; kind = Kind.Copied (sys_frame 0) (dev_frame 0 0) (Some 1) } ∷
+    record { actor = 0; kind = Kind.Copied (sys_frame 0) (dev_frame 0 0) (Some 2) } ∷
+    record { actor = 0; kind = Kind.Copied (sys_frame 0) (dev_frame 0 0) (Some 3) } ∷
+    record { actor = 0; kind = Kind.Copied (sys_frame 0) (dev_frame 0 0) (Some 4) } ∷
+    record { actor = 0; kind = Kind.Copied (sys_frame 0) (dev_frame 0 0) (Some 5) } ∷
+    record { actor = 0; kind = Kind.Copied (sys_frame 0) (dev_frame 0 0) (Some 6) } ∷
+    record { actor = 0; kind = Kind.Copied (sys_frame 0) (dev_frame 0 0) (Some 7) } ∷
+    record { actor = 0; kind = Kind.Committed (sys_frame 0) (dev_frame 0 0) } ∷
+    record { actor = 0; kind = Kind.Set 0 16 (Some (dev_frame 0 0)) TableRight.Write 23 } ∷
+    record { actor = 0; kind = Kind.Place 0 16 (Place.Own 0 0 true) } ∷
+    record { actor = 0; kind = Kind.Drop (sys_frame 0) } ∷
+    record { actor = 0; kind = Kind.Done (dev_frame 0 0) } ∷
+    record { actor = 0; kind = Kind.Migrated 1 } ∷
+    record { actor = 0; kind = Kind.Rlock 0 } ∷
+    record { actor = 0; kind = Kind.Take (sys_frame 0) } ∷
+    record { actor = 0; kind = Kind.Place 0 17 (Place.Sys 0 true) } ∷
+    record { actor = 0; kind = Kind.Runlock 0 } ∷
+    record { actor = 0; kind = Kind.Stored (Who.Cpu 0) 0x11000 (66 ∷ []) } ∷
+    record { actor = 0; kind = Kind.Withdrawn 0 } ∷
+    record { actor = 0; kind = Kind.Start 0 (record { first = 16; count = 1 }) 5 } ∷
+    record { actor = 0; kind = Kind.Told 0 (record { first = 16; count = 1 }) 5 } ∷
+    record { actor = 0; kind = Kind.Place 0 16 (Place.Moving (dev_frame 0 0) true) } ∷
+    record { actor = 0; kind = Kind.End 0 (record { first = 16; count = 1 }) 6 } ∷
+    record { actor = 0; kind = Kind.Kept (KeptAt.Frame (dev_frame 0 0)) KeptWhy.NoFrame } ∷
+    record { actor = 0; kind = Kind.Place 0 16 (Place.Own 0 0 true) } ∷
+    record { actor = 0; kind = Kind.Done (dev_frame 0 0) } ∷
+    record { actor = 0; kind = Kind.Refused Cause.NoFrame } ∷
+    record { actor = 0; kind = Kind.Rlock 0 } ∷
+    record { actor = 0; kind = Kind.Start 0 (record { first = 16; count = 1 }) 7 } ∷
+    record { actor = 0; kind = Kind.Told 0 (record { first = 16; count = 1 }) 7 } ∷
+    record { actor = 0; kind = Kind.Place 0 16 (Place.Moving (dev_frame 0 0) true) } ∷
+    record { actor = 0; kind = Kind.End 0 (record { first = 16; count = 1 }) 8 } ∷
+    record { actor = 0; kind = Kind.Kept (KeptAt.Page 16) KeptWhy.NoFrame } ∷
+    record { actor = 0; kind = Kind.Place 0 16 (Place.Own 0 0 true) } ∷
+    record { actor = 0; kind = Kind.Done (dev_frame 0 0) } ∷
+    record { actor = 0; kind = Kind.Failed (Who.Cpu 0) 0x10000 1 Cause.NoFrame } ∷
+    record { actor = 0; kind = Kind.Wlock 0 } ∷
+    record { actor = 0; kind = Kind.Start 0 (record { first = 17; count = 1 }) 9 } ∷
+    record { actor = 0; kind = Kind.Told 0 (record { first = 17; count = 1 }) 9 } ∷
+    record { actor = 0; kind = Kind.Place 0 17 Place.Empty } ∷
+    record { actor = 0; kind = Kind.Drop (sys_frame 0) } ∷
+    record { actor = 0; kind = Kind.End 0 (record { first = 17; count = 1 }) 10 } ∷
+    record { actor = 0; kind = Kind.Unmapped 0 (record { first = 17; count = 1 }) } ∷
+    record { actor = 0; kind = Kind.Start 0 (record { first = 16; count = 1 }) 11 } ∷
+    record { actor = 0; kind = Kind.Told 0 (record { first = 16; count = 1 }) 11 } ∷
+    record { actor = 0; kind = Kind.Place 0 16 (Place.Moving (dev_frame 0 0) true) } ∷
+    record { actor = 0; kind = Kind.End 0 (record { first = 16; count = 1 }) 12 } ∷
+    record { actor = 0; kind = Kind.Take (sys_frame 0) } ∷
+    record { actor = 0; kind = Kind.Copied (dev_frame 0 0) (sys_frame 0) (Some 0) } ∷
+    record { actor = 0; kind = Kind.Copied (dev_frame 0 0) (sys_frame 0) (Some 1) } ∷
+    record { actor = 0; kind = Kind.Copied (dev_frame 0 0) (sys_frame 0) (Some 2) } ∷
+    record { actor = 0; kind = Kind.Copied (dev_frame 0 0) (sys_frame 0) (Some 3) } ∷
+    record { actor = 0; kind = Kind.Copied (dev_frame 0 0) (sys_frame 0) (Some 4) } ∷
+    record { actor = 0; kind = Kind.Copied (dev_frame 0 0) (sys_frame 0) (Some 5) } ∷
+    record { actor = 0; kind = Kind.Copied (dev_frame 0 0) (sys_frame 0) (Some 6) } ∷
+    record { actor = 0; kind = Kind.Copied (dev_frame 0 0) (sys_frame 0) (Some 7) } ∷
+    record { actor = 0; kind = Kind.Committed (dev_frame 0 0) (sys_frame 0) } ∷
+    record { actor = 0; kind = Kind.Place 0 16 (Place.Sys 0 true) } ∷
+    record { actor = 0; kind = Kind.Drop (dev_frame 0 0) } ∷
+    record { actor = 0; kind = Kind.Done (sys_frame 0) } ∷
+    record { actor = 0; kind = Kind.Removed 0 } ∷ []
+
+runs : run script ≡ history
+runs = refl
+
+legal : Legal script history
+legal = (
+  record { is_due = refl; answers = refl; places = refl; frames = refl; sequences = refl; untold = refl; guarded = refl; kept = refl },
+  (
+    record { is_due = refl; answers = refl; places = refl; frames = refl; sequences = refl; untold = refl; guarded = refl; kept = refl },
+    (
+      record { is_due = refl; answers = refl; places = refl; frames = refl; sequences = refl; untold = refl; guarded = refl; kept = refl },
+      (
+        record { is_due = refl; answers = refl; places = refl; frames = refl; sequences = refl; untold = refl; guarded = refl; kept = refl },
+        (
+          record { is_due = refl; answers = refl; places = refl; frames = refl; sequences = refl; untold = refl; guarded = refl; kept = refl },
+          (
+            record { is_due = refl; answers = refl; places = refl; frames = refl; sequences = refl; untold = refl; guarded = refl; kept = refl },
+            (
+              record { is_due = refl; answers = refl; places = refl; frames = refl; sequences = refl; untold = refl; guarded = refl; kept = refl },
+              (
+                record { is_due = refl; answers = refl; places = refl; frames = refl; sequences = refl; untold = refl; guarded = refl; kept = refl },
+                (
+                  record { is_due = refl; answers = refl; places = refl; frames = refl; sequences = refl; untold = refl; guarded = refl; kept = refl },
+                  (
+                    record { is_due = refl; answers = refl; places = refl; frames = refl; sequences = refl; untold = refl; guarded = refl; kept = refl },
+                    (
+                      record { is_due = refl; answers = refl; places = refl; frames = refl; sequences = refl; untold = refl; guarded = refl; kept = refl },
+                      (
+                        record { is_due = refl; answers = refl; places = refl; frames = refl; sequences = refl; untold = refl; guarded = refl; kept = refl },
+                        (
+                          record { is_due = refl; answers = refl; places = refl; frames = refl; sequences = refl; untold = refl; guarded = refl; kept = refl },
+                          (
+                            record { is_due = refl; answers = refl; places = refl; frames = refl; sequences = refl; untold = refl; guarded = refl; kept = refl },
+                            (
+                              record { is_due = refl; answers = refl; places = refl; frames = refl; sequences = refl; untold = refl; guarded = refl; kept = refl },
+                              (
+                                record { is_due = refl; answers = refl; places = refl; frames = refl; sequences = refl; untold = refl; guarded = refl; kept = refl },
+                                (
+                                  record { is_due = refl; answers = refl; places = refl; frames = refl; sequences = refl; untold = refl; guarded = refl; kept = refl },
+                                  (
+                                    record { is_due = refl; answers = refl; places = refl; frames = refl; sequences = refl; untold = refl; guarded = refl; kept = refl },
+                                    (
+                                      record { is_due = refl; answers = refl; places = refl; frames = refl; sequences = refl; untold = refl; guarded = refl; kept = refl },
+                                      (
+                                        record { is_due = refl; answers = refl; places = refl; frames = refl; sequences = refl; untold = refl; guarded = refl; kept = refl },
+                                        (
+                                          record { is_due = refl; answers = refl; places = refl; frames = refl; sequences = refl; untold = refl; guarded = refl; kept = refl },
+                                          (
+                                            record { is_due = refl; answers = refl; places = refl; frames = refl; sequences = refl; untold = refl; guarded = refl; kept = refl },
+                                            (
+                                              record { is_due = refl; answers = refl; places = refl; frames = refl; sequences = refl; untold = refl; guarded = refl; kept = refl },
+                                              (
+                                                record { is_due = refl; answers = refl; places = refl; frames = refl; sequences = refl; untold = refl; guarded = refl; kept = refl },
+                                                (
+                                                  record { is_due = refl; answers = refl; places = refl; frames = refl; sequences = refl; untold = refl; guarded = refl; kept = refl },
+                                                  (
+                                                    record { is_due = refl; answers = refl; places = refl; frames = refl; sequences = refl; untold = refl; guarded = refl; kept = refl },
+                                                    (
+                                                      record { is_due = refl; answers = refl; places = refl; frames = refl; sequences = refl; untold = refl; guarded = refl; kept = refl },
+                                                      (
+                                                        record { is_due = refl; answers = refl; places = refl; frames = refl; sequences = refl; untold = refl; guarded = refl; kept = refl },
+                                                        (
+                                                          record { is_due = refl; answers = refl; places = refl; frames = refl; sequences = refl; untold = refl; guarded = refl; kept = refl },
+                                                          (
+                                                            record { is_due = refl; answers = refl; places = refl; frames = refl; sequences = refl; untold = refl; guarded = refl; kept = refl },
+                                                            (
+                                                              record { is_due = refl; answers = refl; places = refl; frames = refl; sequences = refl; untold = refl; guarded = refl; kept = refl },
+                                                              (
+                                                                record { is_due = refl; answers = refl; places = refl; frames = refl; sequences = refl; untold = refl; guarded = refl; kept = refl },
+                                                                (
+                                                                  record { is_due = refl; answers = refl; places = refl; frames = refl; sequences = refl; untold = refl; guarded = refl; kept = refl },
+                                                                  (
+                                                                    record { is_due = refl; answers = refl; places = refl; frames = refl; sequences = refl; untold = refl; guarded = refl; kept = refl },
+                                                                    (
+                                                                      record { is_due = refl; answers = refl; places = refl; frames = refl; sequences = refl; untold = refl; guarded = refl; kept = refl },
+                                                                      (
+                                                                        record { is_due = refl; answers = refl; places = refl; frames = refl; sequences = refl; untold = refl; guarded = refl; kept = refl },
+                                                                        (
+                                                                          record { is_due = refl; answers = refl; places = refl; frames = refl; sequences = refl; untold = refl; guarded = refl; kept = refl },
+                                                                          (
+                                                                            record { is_due = refl; answers = refl; places = refl; frames = refl; sequences = refl; untold = refl; guarded = refl; kept = refl },
+                                                                            (
+                                                                              record { is_due = refl; answers = refl; places = refl; frames = refl; sequences = refl; untold = refl; guarded = refl; kept = refl },
+                                                                              (
+                                                                                record { is_due = refl; answers = refl; places = refl; frames = refl; sequences = refl; untold = refl; guarded = refl; kept = refl },
+                                                                                (
+                                                                                  record { is_due = refl; answers = refl; places = refl; frames = refl; sequences = refl; untold = refl; guarded = refl; kept = refl },
+                                                                                  (
+                                                                                    record { is_due = refl; answers = refl; places = refl; frames = refl; sequences = refl; untold = refl; guarded = refl; kept = refl },
+                                                                                    (
+                                                                                      record { is_due = refl; answers = refl; places = refl; frames = refl; sequences = refl; untold = refl; guarded = refl; kept = refl },
+                                                                                      (
+                                                                                        record { is_due = refl; answers = refl; places = refl; frames = refl; sequences = refl; untold = refl; guarded = refl; kept = refl },
+                                                                                        (
+                                                                                          record { is_due = refl; answers = refl; places = refl; frames = refl; sequences = refl; untold = refl; guarded = refl; kept = refl },
+                                                                                          (
+                                                                                            record { is_due = refl; answers = refl; places = refl; frames = refl; sequences = refl; untold = refl; guarded = refl; kept = refl },
+                                                                                            (
+                                                                                              record { is_due = refl; answers = refl; places = refl; frames = refl; sequences = refl; untold = refl; guarded = refl; kept = refl },
+                                                                                              (
+                                                                                                record { is_due = refl; answers = refl; places = refl; frames = refl; sequences = refl; untold = refl; guarded = refl; kept = refl },
+                                                                                                (
+                                                                                                  record { is_due = refl; answers = refl; places = refl; frames = refl; sequences = refl; untold = refl; guarded = refl; kept = refl },
+                                                                                                  (
+                                                                                                    record { is_due = refl; answers = refl; places = refl; frames = refl; sequences = refl; untold = refl; guarded = refl; kept = refl },
+                                                                                                    (
+                                                                                                      record { is_due = refl; answers = refl; places = refl; frames = refl; sequences = refl; untold = refl; guarded = refl; kept = refl },
+                                                                                                      (
+                                                                                                        record { is_due = refl; answers = refl; places = refl; frames = refl; sequences = refl; untold = refl; guarded = refl; kept = refl },
+                                                                                                        (
+                                                                                                          record { is_due = refl; answers = refl; places = refl; frames = refl; sequences = refl; untold = refl; guarded = refl; kept = refl },
+                                                                                                          (
+                                                                                                            record { is_due = refl; answers = refl; places = refl; frames = refl; sequences = refl; untold = refl; guarded = refl; kept = refl },
+                                                                                                            (
+                                                                                                              record { is_due = refl; answers = refl; places = refl; frames = refl; sequences = refl; untold = refl; guarded = refl; kept = refl },
+                                                                                                              (
+                                                                                                                record { is_due = refl; answers = refl; places = refl; frames = refl; sequences = refl; untold = refl; guarded = refl; kept = refl },
+                                                                                                                (
+                                                                                                                  record { is_due = refl; answers = refl; places = refl; frames = refl; sequences = refl; untold = refl; guarded = refl; kept = refl },
+                                                                                                                  (
+                                                                                                                    record { is_due = refl; answers = refl; places = refl; frames = refl; sequences = refl; untold = refl; guarded = refl; kept = refl },
+                                                                                                                    (
+                                                                                                                      record { is_due = refl; answers = refl; places = refl; frames = refl; sequences = refl; untold = refl; guarded = refl; kept = refl },
+                                                                                                                      (
+                                                                                                                        record { is_due = refl; answers = refl; places = refl; frames = refl; sequences = refl; untold = refl; guarded = refl; kept = refl },
+                                                                                                                        (
+                                                                                                                          record { is_due = refl; answers = refl; places = refl; frames = refl; sequences = refl; untold = refl; guarded = refl; kept = refl },
+                                                                                                                          (
+                                                                                                                            record { is_due = refl; answers = refl; places = refl; frames = refl; sequences = refl; untold = refl; guarded = refl; kept = refl },
+                                                                                                                            (
+                                                                                                                              record { is_due = refl; answers = refl; places = refl; frames = refl; sequences = refl; untold = refl; guarded = refl; kept = refl },
+                                                                                                                              (
+                                                                                                                                record { is_due = refl; answers = refl; places = refl; frames = refl; sequences = refl; untold = refl; guarded = refl; kept = refl },
+                                                                                                                                (
+                                                                                                                                  record { is_due = refl; answers = refl; places = refl; frames = refl; sequences = refl; untold = refl; guarded = refl; kept = refl },
+                                                                                                                                  (
+                                                                                                                                    record { is_due = refl; answers = refl; places = refl; frames = refl; sequences = refl; untold = refl; guarded = refl; kept = refl },
+                                                                                                                                    (
+                                                                                                                                      record { is_due = refl; answers = refl; places = refl; frames = refl; sequences = refl; untold = refl; guarded = refl; kept = refl },
+                                                                                                                                      (
+                                                                                                                                        record { is_due = refl; answers = refl; places = refl; frames = refl; sequences = refl; untold = refl; guarded = refl; kept = refl },
+                                                                                                                                        (
+                                                                                                                                          record { is_due = refl; answers = refl; places = refl; frames = refl; sequences = refl; untold = refl; guarded = refl; kept = refl },
+                                                                                                                                          (
+                                                                                                                                            record { is_due = refl; answers = refl; places = refl; frames = refl; sequences = refl; untold = refl; guarded = refl; kept = refl },
+                                                                                                                                            (
+                                                                                                                                              record { is_due = refl; answers = refl; places = refl; frames = refl; sequences = refl; untold = refl; guarded = refl; kept = refl },
+                                                                                                                                              (
+                                                                                                                                                record { is_due = refl; answers = refl; places = refl; frames = refl; sequences = refl; untold = refl; guarded = refl; kept = refl },
+                                                                                                                                                (
+                                                                                                                                                  record { is_due = refl; answers = refl; places = refl; frames = refl; sequences = refl; untold = refl; guarded = refl; kept = refl },
+                                                                                                                                                  (
+                                                                                                                                                    record { is_due = refl; answers = refl; places = refl; frames = refl; sequences = refl; untold = refl; guarded = refl; kept = refl },
+                                                                                                                                                    (
+                                                                                                                                                      record { is_due = refl; answers = refl; places = refl; frames = refl; sequences = refl; untold = refl; guarded = refl; kept = refl },
+                                                                                                                                                      (
+                                                                                                                                                        record { is_due = refl; answers = refl; places = refl; frames = refl; sequences = refl; untold = refl; guarded = refl; kept = refl },
+                                                                                                                                                        tt,
+                                                                                                                                                      ),
+                                                                                                                                                    ),
+                                                                                                                                                  ),
+                                                                                                                                                ),
+                                                                                                                                              ),
+                                                                                                                                            ),
+                                                                                                                                          ),
+                                                                                                                                        ),
+                                                                                                                                      ),
+                                                                                                                                    ),
+                                                                                                                                  ),
+                                                                                                                                ),
+                                                                                                                              ),
+                                                                                                                            ),
+                                                                                                                          ),
+                                                                                                                        ),
+                                                                                                                      ),
+                                                                                                                    ),
+                                                                                                                  ),
+                                                                                                                ),
+                                                                                                              ),
+                                                                                                            ),
+                                                                                                          ),
+                                                                                                        ),
+                                                                                                      ),
+                                                                                                    ),
+                                                                                                  ),
+                                                                                                ),
+                                                                                              ),
+                                                                                            ),
+                                                                                          ),
+                                                                                        ),
+                                                                                      ),
+                                                                                    ),
+                                                                                  ),
+                                                                                ),
+                                                                              ),
+                                                                            ),
+                                                                          ),
+                                                                        ),
+                                                                      ),
+                                                                    ),
+                                                                  ),
+                                                                ),
+                                                              ),
+                                                            ),
+                                                          ),
+                                                        ),
+                                                      ),
+                                                    ),
+                                                  ),
+                                                ),
+                                              ),
+                                            ),
+                                          ),
+                                        ),
+                                      ),
+                                    ),
+                                  ),
+                                ),
+                              ),
+                            ),
+                          ),
+                        ),
+                      ),
+                    ),
+                  ),
+                ),
+              ),
+            ),
+          ),
+        ),
+      ),
+    ),
+  ),
+)
