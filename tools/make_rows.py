@@ -316,11 +316,11 @@ def wrong_file():
 
 
 def main():
-    for old in os.listdir(PROOFS):
-        os.remove(os.path.join(PROOFS, old))
     words.begin(__doc__)
     if sys.argv[1:]:
         words.refuse('no word is wanted')
+    for old in os.listdir(PROOFS):
+        os.remove(os.path.join(PROOFS, old))
     names = sorted(f[:-4] for f in os.listdir(WORKED) if f.endswith('.hmm'))
     modules, tried = [], tried_entries()
     for name in names:
