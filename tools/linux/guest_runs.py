@@ -1,0 +1,17 @@
+"""Boots the guest with an input, and gives what it answered."""
+import os
+import subprocess
+
+HERE = os.path.dirname(os.path.abspath(__file__))
+
+
+def boot(work, kernel, text, name, seconds, cpus=2):
+    """The path of the guest's answers, W/runs/NAME.out. Its input and console stand beside it."""
+    folder = os.path.join(work, 'runs')
+    os.makedirs(folder, exist_ok=True)
+    given, told = os.path.join(folder, name + '.in'), os.path.join(folder, name + '.out')
+    with open(given, 'w') as file:
+        file.write(text)
+    environment = dict(os.environ, CPUS=os.environ.get('CPUS', str(cpus)))
+    subprocess.run([os.path.join(HERE, 'boot.sh'), work, kernel, given, told, str(seconds)], env=environment, check=True)
+    return told

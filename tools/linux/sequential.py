@@ -1,0 +1,119 @@
+"""Drawn scripts of one actor: what the kernel answers, and by which differences hmmrun answers otherwise."""
+import os
+from collections import Counter
+
+import answers
+import guest_runs
+import linux_model
+from draw import Draw
+
+AT_ONCE = 250           # scripts of one boot
+SECONDS = 3             # of a script, at the most
+
+
+def guest_input(seeds):
+    return ''.join(f'script {seed}\n' + ''.join(op + '\n' for op in Draw(seed).shown_texts()) + 'end\n' for seed in seeds)
+
+
+def ask(work, first, count):
+    """The guest's answers of these scripts, by number."""
+    found = {}
+    for start in range(first, first + count, AT_ONCE):
+        seeds = range(start, min(start + AT_ONCE, first + count))
+        told = guest_runs.boot(work, 'changed', guest_input(seeds), f'scripts-{start}', 60 + SECONDS * len(seeds), 1)
+        found.update((int(name), lines) for name, lines in answers.guest_scripts(told).items())
+    return found
+
+
+def shown(draw, lists):
+    """Without the answers of hidden operations."""
+    return [answer for answer, (_, is_hidden) in zip(lists, draw.ops) if not is_hidden]
+
+
+def fewest(ops, at, wanted):
+    """Differences that are enough, and of which none can be left out, for the answers of the operation at this place."""
+    names = list(linux_model.DIFFERENCES)
+    for name in linux_model.DIFFERENCES:
+        fewer = [other for other in names if other != name]
+        if linux_model.run(ops, fewer)[at] == wanted:
+            names = fewer
+    return names
+
+
+class Compared:
+    """One drawn script: both answers of each operation, and whether the differences explain the kernel's."""
+
+    def __init__(self, seed, told, command=None):
+        self.draw = Draw(seed)
+        self.ops = self.draw.all_texts()
+        self.model, rest = answers.by_op(self.ops, answers.model_answers(self.draw.script(), command))
+        assert not rest, (seed, rest)
+        kernel, self.rest = answers.by_op(self.draw.shown_texts(), told)
+        kernel = iter(kernel)
+        self.kernel = [None if is_hidden else next(kernel) for _, is_hidden in self.draw.ops]
+        explained = linux_model.run(self.ops, linux_model.DIFFERENCES)
+        self.unnamed = [i for i, said in enumerate(self.kernel) if said is not None and said != explained[i]]
+
+    def is_same(self):
+        return all(said in (None, model) for said, model in zip(self.kernel, self.model))
+
+    def is_explained(self):
+        return not self.unnamed and not self.rest
+
+    def needed(self):
+        """The differences without which some answer is another one."""
+        def says(names):
+            return shown(self.draw, linux_model.run(self.ops, names))
+        whole = says(linux_model.DIFFERENCES)
+        return [name for name in linux_model.DIFFERENCES
+                if says([other for other in linux_model.DIFFERENCES if other != name]) != whole]
+
+    def kept(self):
+        """The lines of the file of the kernel's answers, see examples/linux/README.md."""
+        lines = []
+        for i, (kernel, model) in enumerate(zip(self.kernel, self.model)):
+            if kernel is None:
+                lines += [f'- | {answer} | close-evicts' for answer in model]
+            elif kernel == model:
+                lines += kernel
+            else:
+                names = ' '.join(fewest(self.ops, i, kernel))
+                assert len(kernel) == len(model) and names, (self.ops[i], kernel, model)
+                lines += [k if k == m else f'{k} | {m} | {names}' for k, m in zip(kernel, model)]
+        return ''.join(line + '\n' for line in lines)
+
+
+def compare(found, first, count, command=None):
+    """Prints the table of the drawn scripts; gives those that were compared, and how many differ without a name."""
+    compared, missing, needed, examples, unnamed = {}, [], Counter(), {}, 0
+    for seed in range(first, first + count):
+        if seed not in found:
+            missing.append(seed)
+            continue
+        one = compared[seed] = Compared(seed, found[seed], command)
+        if not one.is_explained():
+            unnamed += 1
+            for i in one.unnamed[:1]:
+                print(f'NOT NAMED: script {seed}, operation {i}, {one.ops[i]}: hmmrun {one.model[i]}, '
+                      f'the kernel {one.kernel[i]}')
+            continue
+        for name in one.needed():
+            needed[name] += 1
+            examples.setdefault(name, []).append(seed)
+    operations = sum(len(one.draw.shown_texts()) for one in compared.values())
+    print(f'Drawn scripts: {len(compared)} of {operations} operations, from number {first}; no answer of {len(missing)}')
+    print(f'  as hmmrun answers      {sum(one.is_same() for one in compared.values()):6}')
+    print(f'  by named differences   {sum(one.is_explained() and not one.is_same() for one in compared.values()):6}')
+    print(f'  not named              {unnamed:6}')
+    for name, number in needed.most_common():
+        print(f'  {number:6} need {name} (as {examples[name][0]})')
+    return compared, unnamed + len(missing)
+
+
+def keep(compared, folder, count):
+    """Writes the first of these scripts, and what the kernel answered, into a folder."""
+    for seed, one in sorted(compared.items())[:count]:
+        with open(os.path.join(folder, f'{seed}.hmm'), 'w') as file:
+            file.write(one.draw.script())
+        with open(os.path.join(folder, f'{seed}.kernel'), 'w') as file:
+            file.write(one.kept())
