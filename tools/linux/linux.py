@@ -39,9 +39,9 @@ def selftests(options):
 def scripts(options, first=1, count=2000):
     first, count = int(first), int(count)
     found = sequential.ask(options.work, first, count)
-    compared, bad = sequential.compare(found, first, count, options.hmmrun)
+    compared, bad, examples = sequential.compare(found, first, count, options.hmmrun)
     if options.keep:
-        sequential.keep(compared, os.path.join(DATA, 'drawn'), KEPT_SCRIPTS)
+        sequential.keep(compared, examples, os.path.join(DATA, 'drawn'), KEPT_SCRIPTS)
     return bad
 
 

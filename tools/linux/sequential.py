@@ -9,6 +9,7 @@ from draw import Draw
 
 AT_ONCE = 250           # scripts of one boot
 SECONDS = 3             # of a script, at the most
+EACH = 5                # kept scripts of each difference, at the least if so many need it
 
 
 def guest_input(seeds):
@@ -30,12 +31,12 @@ def shown(draw, lists):
     return [answer for answer, (_, is_hidden) in zip(lists, draw.ops) if not is_hidden]
 
 
-def fewest(ops, at, wanted):
-    """Differences that are enough, and of which none can be left out, for the answers of the operation at this place."""
+def fewest(ops, at, piece, wanted):
+    """Differences that are enough, and of which none can be left out, for this piece of an operation's answer."""
     names = list(linux_model.DIFFERENCES)
     for name in linux_model.DIFFERENCES:
         fewer = [other for other in names if other != name]
-        if linux_model.run(ops, fewer)[at] == wanted:
+        if linux_model.run(ops[:at + 1], fewer)[at][piece:piece + 1] == [wanted]:
             names = fewer
     return names
 
@@ -74,17 +75,17 @@ class Compared:
         for i, (kernel, model) in enumerate(zip(self.kernel, self.model)):
             if kernel is None:
                 lines += [f'- | {answer} | close-evicts' for answer in model]
-            elif kernel == model:
-                lines += kernel
-            else:
-                names = ' '.join(fewest(self.ops, i, kernel))
-                assert len(kernel) == len(model) and names, (self.ops[i], kernel, model)
-                lines += [k if k == m else f'{k} | {m} | {names}' for k, m in zip(kernel, model)]
+                continue
+            assert len(kernel) == len(model), (self.ops[i], kernel, model)
+            for piece, (said, ours) in enumerate(zip(kernel, model)):
+                names = ' '.join(fewest(self.ops, i, piece, said)) if said != ours else ''
+                lines.append(f'{said} | {ours} | {names}' if names else said)
         return ''.join(line + '\n' for line in lines)
 
 
 def compare(found, first, count, command=None):
-    """Prints the table of the drawn scripts; gives those that were compared, and how many differ without a name."""
+    """Prints the table of the drawn scripts. Gives those that were compared, how many were not answered or differ without
+    a name, and which scripts need each difference."""
     compared, missing, needed, examples, unnamed = {}, [], Counter(), {}, 0
     for seed in range(first, first + count):
         if seed not in found:
@@ -107,12 +108,25 @@ def compare(found, first, count, command=None):
     print(f'  not named              {unnamed:6}')
     for name, number in needed.most_common():
         print(f'  {number:6} need {name} (as {examples[name][0]})')
-    return compared, unnamed + len(missing)
+    return compared, unnamed + len(missing), examples
 
 
-def keep(compared, folder, count):
-    """Writes the first of these scripts, and what the kernel answered, into a folder."""
-    for seed, one in sorted(compared.items())[:count]:
+def chosen(compared, examples, count):
+    """The numbers of the scripts to keep: of each difference the first EACH that need it, and then the first of all."""
+    seeds = {seed for needing in examples.values() for seed in needing[:EACH]}
+    for seed in sorted(compared):
+        if len(seeds) >= count:
+            break
+        seeds.add(seed)
+    return sorted(seeds)
+
+
+def keep(compared, examples, folder, count):
+    """Writes so many of these scripts into a folder, each with what the kernel answered, in place of those there."""
+    for name in os.listdir(folder):
+        os.remove(os.path.join(folder, name))
+    for seed in chosen(compared, examples, count):
+        one = compared[seed]
         with open(os.path.join(folder, f'{seed}.hmm'), 'w') as file:
             file.write(one.draw.script())
         with open(os.path.join(folder, f'{seed}.kernel'), 'w') as file:
