@@ -8,8 +8,8 @@ import random
 FIRST = 16                  # the first page of the first area
 LOW, WINDOW = 12, 20        # each mirror's window
 
-KINDS = ['load', 'store', 'dload', 'dstore', 'todev', 'tosys', 'snap', 'map', 'unmap', 'protect', 'fork', 'exit', 'attach',
-         'detach', 'evict', 'remove', 'exclusive', 'dadd']
+KINDS = ['load', 'store', 'dload', 'dstore', 'todev', 'tosys', 'snap', 'map', 'unmap', 'protect', 'fork', 'exit',
+         'attach', 'detach', 'evict', 'remove', 'exclusive', 'dadd']
 WEIGHTS = [10, 14, 10, 12, 16, 6, 10, 3, 3, 6, 4, 1.2, 2, 0.8, 4, 0.6, 5, 3]
 OF_MIRRORS = ('dload', 'dstore', 'todev', 'tosys', 'snap', 'exclusive', 'dadd', 'detach')
 
@@ -17,8 +17,8 @@ HEAD = 'hmm 2\nframes 512\ndevice 0 256\ndevice 1 256\nactor 0\n'
 
 
 class Draw:
-    """`ops` has the operations. A hidden one is for the model alone: the kernel's driver evicts its device by itself when
-    a file is closed, so there each `detach` is followed by a hidden `evict`."""
+    """`ops` has the operations. A hidden one is for the model alone: the kernel's driver evicts its device by itself
+    when a file is closed, so a hidden `evict` follows each `detach`."""
 
     def __init__(self, seed):
         r = self.random = random.Random(seed * 2 + 1)
@@ -112,7 +112,7 @@ class Draw:
         else:
             offset = r.randint(0, 3)
             at, count = page * 4096 + offset, r.randint(1, 4 - offset)
-        self.add(f'load {process} {at:#x} {count}' if kind == 'load' else f'store {process} {at:#x} {self.hexes(count)}')
+        self.add(f'{kind} {process} {at:#x} {count if kind == "load" else self.hexes(count)}')
 
     def by_mirror(self, kind):
         r = self.random

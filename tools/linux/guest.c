@@ -1,18 +1,18 @@
-// The guest's only program, its init. It makes the operations of scripts in hmmrun's language with real system calls and
-// the calls of the kernel's test driver, lib/test_hmm.c. It reads /in and writes to the second serial line, /dev/ttyS1;
-// then it switches the machine off. What /in may hold:
+// The guest's only program, its init. It makes the operations of scripts in hmmrun's language with real system calls
+// and the calls of the kernel's test driver, lib/test_hmm.c. It reads /in and writes to the second serial line,
+// /dev/ttyS1; then it switches the machine off. What /in may hold:
 //
 //   selftests                          run the kernel's own hmm-tests, and pass on what they write
 //   delay N | take_all N               set this parameter of the changed driver (edit_driver.py)
 //   seed N                             begin the random waits of races from this number
 //   script NAME, operations, end       make them one after the other, and write their answers
-//   race NAME RUNS WAIT SECONDS        run this race at most RUNS times and SECONDS long. Before each operation a thread
-//     set-up, `actor N`, operations,   waits a random number of turns of a loop, at most WAIT. Then write each outcome
-//     .., end                          with how often it came.
+//   race NAME RUNS WAIT SECONDS        run this race at most RUNS times and SECONDS long. Before each operation a
+//     set-up, `actor N`, operations,   thread waits a random number of turns of a loop, at most WAIT. Then write each
+//     .., end                          outcome with how often it came.
 //
-// A process of a script is a process of the guest. Its page N lies at BASE + N * 4096. It makes its own system calls and
-// accesses; calls of the driver are made by the runner, which has the files of all mirrors. In a race each actor has a
-// thread in each process that it works in.
+// A process of a script is a process of the guest. Its page N lies at BASE + N * 4096. It makes its own system calls
+// and accesses; calls of the driver are made by the runner, which has the files of all mirrors. In a race each actor
+// has a thread in each process that it works in.
 #define _GNU_SOURCE
 #include <errno.h>
 #include <fcntl.h>
@@ -307,7 +307,10 @@ static void do_mirror(struct op *o, char *ans)
 			if (!e) { add(ans, "added m%ld 0x%lx %02x %02x\n", o->a, o->b, io[0], io[1]); break; }
 			if (e != EAGAIN || k > 10000) { add(ans, "failed m%ld 0x%lx 1 %s\n", o->a, o->b, cause_of(e, cb)); break; }
 			e = cmd(fd, HMM_DMIRROR_EXCLUSIVE, o->b / PSZ, 1, buf, &c);
-			if (e && e != EBUSY && e != ENOENT) { add(ans, "failed m%ld 0x%lx 1 %s\n", o->a, o->b, cause_of(e, cb)); break; }
+			if (e && e != EBUSY && e != ENOENT) {
+				add(ans, "failed m%ld 0x%lx 1 %s\n", o->a, o->b, cause_of(e, cb));
+				break;
+			}
 			if (e == EBUSY && k > 1000) { add(ans, "failed m%ld 0x%lx 1 e16\n", o->a, o->b); break; }
 		}
 		break;
@@ -721,7 +724,10 @@ static void race(const char *name, long iters, unsigned maxdelay, struct prog *s
 	}
 	if (up) cleanup();
 	fprintf(out, "race %s runs %ld seconds %.1f outcomes %d\n", name, it, now() - t0, nkeys);
-	for (int k = 0; k < nkeys; k++) { fprintf(out, "outcome %ld first %ld %s\n", keys[k].n, keys[k].firstseed, keys[k].s); free(keys[k].s); }
+	for (int k = 0; k < nkeys; k++) {
+		fprintf(out, "outcome %ld first %ld %s\n", keys[k].n, keys[k].firstseed, keys[k].s);
+		free(keys[k].s);
+	}
 	fprintf(out, "end\n");
 	fflush(out);
 }
@@ -761,8 +767,13 @@ int main(int argc, char **argv)
 	mount("none", "/tmp", "tmpfs", 0, NULL);
 	int fd = open("/dev/ttyS1", O_RDWR | O_NOCTTY);
 	struct termios t;
-	if (fd >= 0) { tcgetattr(fd, &t); cfmakeraw(&t); cfsetspeed(&t, B115200); tcsetattr(fd, TCSANOW, &t); out = fdopen(fd, "w"); }
-	else out = stdout;
+	if (fd >= 0) {
+		tcgetattr(fd, &t);
+		cfmakeraw(&t);
+		cfsetspeed(&t, B115200);
+		tcsetattr(fd, TCSANOW, &t);
+		out = fdopen(fd, "w");
+	} else out = stdout;
 	static char obuf[65536];
 	setvbuf(out, obuf, _IOFBF, sizeof obuf);
 	struct sigaction sa = { 0 };
@@ -792,7 +803,10 @@ int main(int argc, char **argv)
 		if (!strcmp(line, "selftests")) { selftests(); continue; }
 		if (!strncmp(line, "delay ", 6)) { set_param("race_delay", line + 6); continue; }
 		if (!strncmp(line, "take_all ", 9)) { set_param("take_all", line + 9); continue; }
-		if (!strncmp(line, "seed ", 5)) { rng = strtoull(line + 5, NULL, 10) * 2654435761ULL + 88172645463325252ULL; continue; }
+		if (!strncmp(line, "seed ", 5)) {
+			rng = strtoull(line + 5, NULL, 10) * 2654435761ULL + 88172645463325252ULL;
+			continue;
+		}
 		if (devctl[0] < 0 && (!strncmp(line, "script ", 7) || !strncmp(line, "race ", 5))) {
 			devctl[0] = open("/dev/hmm_dmirror0", O_RDWR | O_CLOEXEC);
 			devctl[1] = open("/dev/hmm_dmirror1", O_RDWR | O_CLOEXEC);

@@ -13,5 +13,6 @@ def boot(work, kernel, text, name, seconds, cpus=2):
     with open(given, 'w') as file:
         file.write(text)
     environment = dict(os.environ, CPUS=os.environ.get('CPUS', str(cpus)))
-    subprocess.run([os.path.join(HERE, 'boot.sh'), work, kernel, given, told, str(seconds)], env=environment, check=True)
+    command = [os.path.join(HERE, 'boot.sh'), work, kernel, given, told, str(seconds)]
+    subprocess.run(command, env=environment, check=True)
     return told

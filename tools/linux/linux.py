@@ -32,7 +32,8 @@ SLOW = 400              # microseconds that a slow device may wait
 
 
 def selftests(options):
-    scripts = sorted(name[:-len('.hmm')] for name in os.listdir(os.path.join(DATA, 'selftests')) if name.endswith('.hmm'))
+    files = sorted(os.listdir(os.path.join(DATA, 'selftests')))
+    scripts = [name[:-len('.hmm')] for name in files if name.endswith('.hmm')]
     return kernel_tests.show(kernel_tests.run(options.work), scripts)
 
 

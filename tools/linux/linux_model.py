@@ -3,10 +3,9 @@ makes it answer as Linux does there; with all of them it answers as the kernel d
 
 The names are those of docs/LINUX.md, which tells each one.
 """
-from collections import Counter
-
-DIFFERENCES = ['no-area-code', 'exclusive-code', 'exclusive-errno', 'own-read-only', 'protect-hole', 'protected-exclusive',
-               'exclusive-read', 'protect-upgrades', 'protect-invalidates', 'fork-of-untouched', 'one-entry-more']
+DIFFERENCES = ['no-area-code', 'exclusive-code', 'exclusive-errno', 'own-read-only', 'protect-hole',
+               'protected-exclusive', 'exclusive-read', 'protect-upgrades', 'protect-invalidates', 'fork-of-untouched',
+               'one-entry-more']
 
 
 class Entry:

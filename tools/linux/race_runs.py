@@ -14,9 +14,19 @@ import guest_runs
 FOLDER = os.path.join(answers.TOP, 'crates', 'linux_examples', 'data', 'races')
 WAIT = 20000            # the longest random wait before an operation, in turns of a loop
 
-# The race of a store that the kernel's own driver loses runs with that driver as it is (stock), and with the changed one
-# that takes (1) or leaves out (0) the invalidations of its own migrations.
+# The race of a store that the kernel's own driver loses runs with that driver as it is (stock), and with the changed
+# one that takes (1) or leaves out (0) the invalidations of its own migrations.
 SPECIAL = {'lost_store': ('stock', 1), 'lost_store_take_all_0': ('changed', 0), 'lost_store_take_all_1': ('changed', 1)}
+
+
+OTHER_WORDS = [
+    (r'^(a\d+) migrated \d+ e9$', r'\1 refused 4'),                # a closed file
+    (r'^(a\d+ migrated \d+) e\d+$', r'\1'),                        # migrate-answer: an error number besides
+    (r'^(a\d+ failed .*) e9$', r'\1 4'),
+    (r'^(a\d+ seen m\d+ \d+) (ff|e22)$', r'\1 00'),                # no-area-code
+    (r'^(a\d+ excluded m\d+ \d+) e2$', r'\1'),                     # it was had and lost again
+    (r'^(a\d+ failed m\d+ 0x[0-9a-f]+ 1) e16$', r'\1 2')]          # exclusive-errno, of a `dadd`
+STOCK_WORDS = [(r'^(a\d+ migrated) \d+$', r'\1 *')]                # the number is not told
 
 
 class Race:
@@ -51,7 +61,7 @@ class Race:
 
 
 def without_evicts(ops):
-    """The guest's driver evicts its device by itself when a file is closed, so the `evict` after a `detach` is left out."""
+    """The guest's driver evicts its device by itself when a file is closed: an `evict` after a `detach` is left out."""
     return [op for i, op in enumerate(ops) if not (op.startswith('evict') and i and ops[i - 1].startswith('detach'))]
 
 
@@ -63,14 +73,8 @@ def in_words_of_the_model(outcome, is_stock):
     """An outcome of the guest, where the driver has another word for what a script calls the same."""
     said = []
     for answer in outcome.strip('|').split('|'):
-        answer = re.sub(r'^(a\d+) migrated \d+ e9$', r'\1 refused 4', answer)               # a closed file
-        answer = re.sub(r'^(a\d+ migrated \d+) e\d+$', r'\1', answer)                       # and an error number besides
-        answer = re.sub(r'^(a\d+ failed .*) e9$', r'\1 4', answer)
-        answer = re.sub(r'^(a\d+ seen m\d+ \d+) (ff|e22)$', r'\1 00', answer)               # no-area-code
-        answer = re.sub(r'^(a\d+ excluded m\d+ \d+) e2$', r'\1', answer)                    # it was had and lost again
-        answer = re.sub(r'^(a\d+ failed m\d+ 0x[0-9a-f]+ 1) e16$', r'\1 2', answer)         # exclusive-errno, of a `dadd`
-        if is_stock:
-            answer = re.sub(r'^(a\d+ migrated) \d+$', r'\1 *', answer)                      # the number is not told
+        for pattern, other in OTHER_WORDS + (STOCK_WORDS if is_stock else []):
+            answer = re.sub(pattern, other, answer)
         said.append(answer)
         if re.match(r'a\d+ detached', answer):
             said.append(answer.split()[0] + ' evicted *')
@@ -135,16 +139,22 @@ def outcomes_of(text):
 
 
 def run(work, names, runs, seconds, delay, seed):
-    """Lets the guest run these races; gives the paths of what it wrote."""
+    """Lets the guest run these races; gives the paths of what it wrote. If the kernel stops in a race, that one is left
+    out, and said, and the guest is booted again for those after it."""
     told, races = [], [Race(name) for name in names]
     for setting in sorted({(race.kernel, race.take_all) for race in races}):
-        group = [race for race in races if (race.kernel, race.take_all) == setting]
-        head = f'seed {seed}\n'
-        if setting[0] == 'changed':
-            head += f'delay {delay}\ntake_all {setting[1]}\n'
-        text = head + ''.join(race.guest_input(runs, seconds) for race in group)
-        name = f'races-{setting[0]}-{setting[1]}-{delay}-{seed}'
-        told.append(guest_runs.boot(work, setting[0], text, name, 120 + (seconds + 30) * len(group)))
+        left = [race for race in races if (race.kernel, race.take_all) == setting]
+        kernel, take_all = setting
+        head = f'seed {seed}\n' + (f'delay {delay}\ntake_all {take_all}\n' if kernel == 'changed' else '')
+        while left:
+            text = head + ''.join(race.guest_input(runs, seconds) for race in left)
+            name = f'races-{kernel}-{take_all}-{delay}-{seed}-{left[0].name}'
+            path = guest_runs.boot(work, kernel, text, name, 120 + (seconds + 30) * len(left))
+            told.append(path)
+            done = read_outcomes(path)[0]
+            left = [race for race in left if race.name not in done]
+            if left:
+                print(f'!! the kernel stopped in {left.pop(0).name}: see {path}.console')
     return told
 
 
@@ -156,7 +166,7 @@ class Judged:
         counts = Counter()
         for outcome, count in seen.items():
             counts[in_words_of_the_model(outcome, race.kernel == 'stock')] += count
-        listed_as = {}          # an outcome as it is kept, with `*` for what the guest does not tell -> how often it came
+        listed_as = {}          # an outcome as it is kept, `*` for what the guest does not tell -> how often it came
         for one in listed:
             like = next((other for other in counts if is_like(one, other)), one)
             listed_as[like] = counts[like]

@@ -2,8 +2,8 @@
 """The kernel's own selftests of HMM as scripts: those of tools/testing/selftests/vm/hmm-tests.c of Linux 6.1 that the
 script language can say.
 
-    selftest_scripts.py            writes each into crates/linux_examples/data/selftests: NAME.hmm, and NAME.asserts with
-                                   what the test asserts (examples/linux/README.md tells the lines); tests them all first
+    selftest_scripts.py         writes each into crates/linux_examples/data/selftests: NAME.hmm, and NAME.asserts with
+                                what the test asserts (examples/linux/README.md tells the lines); tests them first
 
 A buffer has PAGES pages here, and 1,024 in the kernel's tests. What was left out, and the tests that no script can say,
 stand in docs/LINUX.md.
@@ -41,7 +41,8 @@ def head(pages, devices=1):
 
 
 def fill(process, pages, first=0, more=0):
-    return [f'store {process} {address(page, offset)} {int_bytes(value + more)}' for page, offset, value in ints(pages, first)]
+    return [f'store {process} {address(page, offset)} {int_bytes(value + more)}'
+            for page, offset, value in ints(pages, first)]
 
 
 def read(word, number, pages, first=0):
@@ -92,8 +93,9 @@ def accesses(n):
           f'count {2 * n} loaded p0 * 00000000  # ASSERT_EQ(ptr[i], 0)',
           *(f'has {word} {address(FIRST + page)} {int_bytes(1024 * page + 7)}'
             for word in ('stored m0', 'loaded p0') for page in range(n))])
-    test('anon_write_child', head(n) + ['actor 0', f'map 0 {FIRST} {n} rw'] + fill(0, n) + ['fork 0 1'] + read('load', 1, n)
-         + [f'attach 1 0 1 {FIRST} {n}'] + write(1, n, -1) + read('load', 1, n) + ['detach 1', 'exit 1']
+    test('anon_write_child', head(n) + ['actor 0', f'map 0 {FIRST} {n} rw'] + fill(0, n) + ['fork 0 1']
+         + read('load', 1, n) + [f'attach 1 0 1 {FIRST} {n}'] + write(1, n, -1) + read('load', 1, n)
+         + ['detach 1', 'exit 1']
          + read('load', 0, n) + ['drain'],
          ['count 0 failed  # ASSERT_EQ(ret, 0)', *loaded('p1', n), *loaded('p1', n, sign=-1), *loaded('p0', n)])
     lines, asserts = head(n) + ['actor 0', f'attach 0 0 0 {FIRST} {n}'], []
@@ -127,7 +129,8 @@ def migrations(n):
     test('migrate', in_device(n) + read('dload', 0, n) + ['drain'],
          [f'count {n} committed  # ASSERT_EQ(buffer->cpages, npages)', 'count 0 kept', 'count 0 begin m0  # no fault',
           *loaded('m0', n)])
-    test('migrate_fault', in_device(n) + read('load', 0, half) + [f'todev 0 {FIRST} {n}'] + read('dload', 0, n) + ['drain'],
+    test('migrate_fault', in_device(n) + read('load', 0, half) + [f'todev 0 {FIRST} {n}'] + read('dload', 0, n)
+         + ['drain'],
          [*loaded('p0', half), *loaded('m0', n), f'count {n - half} kept * nothere  # the half that is there already',
           'own-invalidation count 0 begin m0  # ASSERT_EQ(ret, 0): all is read from the table, without a fault'])
     test('migrate_release', in_device(n) + read('dload', 0, n) + ['remove 0'] + read('load', 0, half) + ['drain'],
@@ -143,8 +146,8 @@ def migrations(n):
          f'has kept {FIRST + 5} nothere  # ASSERT_EQ(ret, -ENOENT)', 'count 2 migrated 0'])
     lines = head(n) + ['actor 0', f'attach 0 0 0 {FIRST} {n}']
     for _ in range(10):
-        lines += [f'map 0 {FIRST} {n} rw', *fill(0, n), f'todev 0 {FIRST} {n}', *read('dload', 0, n), *read('load', 0, n),
-                  f'unmap 0 {FIRST} {n}']
+        lines += [f'map 0 {FIRST} {n} rw', *fill(0, n), f'todev 0 {FIRST} {n}', *read('dload', 0, n),
+                  *read('load', 0, n), f'unmap 0 {FIRST} {n}']
     test('migrate_multiple', lines + ['drain'],
          ['count 0 failed', 'count 0 kept', f'count {20 * n} committed  # to the device and home, ten times',
           f'count {20 * n} loaded m0', f'count {20 * n} loaded p0', *loaded('m0', n), *loaded('p0', n)])
@@ -166,8 +169,9 @@ def two_devices():
          f'has seen m0 {FIRST + 4} 02  # ASSERT_EQ(m[4], HMM_DMIRROR_PROT_WRITE)',
          f'has seen m0 {FIRST + 5} 22  # ASSERT_EQ(m[5], DEV_PRIVATE_LOCAL | WRITE)',
          f'has seen m0 {FIRST + 6} 00  # ASSERT_EQ(m[6], HMM_DMIRROR_PROT_NONE)'])
-    test('double_map', head(6, 2) + ['actor 0', f'attach 0 0 0 {FIRST} 6', f'attach 1 1 0 {FIRST} 6', f'map 0 {FIRST} 6 rw']
-         + fill(0, 6) + [f'protect 0 {FIRST} 6 r'] + read('dload', 0, 6) + read('dload', 1, 6) + [f'todev 1 {FIRST} 6']
+    test('double_map', head(6, 2) + ['actor 0', f'attach 0 0 0 {FIRST} 6', f'attach 1 1 0 {FIRST} 6',
+                                     f'map 0 {FIRST} 6 rw'] + fill(0, 6)
+         + [f'protect 0 {FIRST} 6 r'] + read('dload', 0, 6) + read('dload', 1, 6) + [f'todev 1 {FIRST} 6']
          + read('dload', 0, 6) + ['drain'],
          ['count 0 failed', 'has migrated 6  # ASSERT_EQ(buffer->cpages, npages)', 'count 24 loaded m0',
           'count 12 loaded m1', *loaded('m0', 6), *loaded('m1', 6)])
@@ -178,7 +182,8 @@ def exclusives(n):
 
     def increment(process):
         return [line for page in range(n) for line in
-                (f'load {process} {address(FIRST + page)} 4', f'store {process} {address(FIRST + page)} {int_bytes(1024 * page + 1)}')]
+                (f'load {process} {address(FIRST + page)} 4',
+                 f'store {process} {address(FIRST + page)} {int_bytes(1024 * page + 1)}')]
 
     def look(*processes):
         return [f'load {process} {address(FIRST + page)} 4' for process in processes for page in range(n)]

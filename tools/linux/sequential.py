@@ -13,7 +13,10 @@ EACH = 5                # kept scripts of each difference, at the least if so ma
 
 
 def guest_input(seeds):
-    return ''.join(f'script {seed}\n' + ''.join(op + '\n' for op in Draw(seed).shown_texts()) + 'end\n' for seed in seeds)
+    lines = []
+    for seed in seeds:
+        lines += [f'script {seed}', *Draw(seed).shown_texts(), 'end']
+    return ''.join(line + '\n' for line in lines)
 
 
 def ask(work, first, count):
@@ -84,8 +87,8 @@ class Compared:
 
 
 def compare(found, first, count, command=None):
-    """Prints the table of the drawn scripts. Gives those that were compared, how many were not answered or differ without
-    a name, and which scripts need each difference."""
+    """Prints the table of the drawn scripts. Gives those that were compared, how many were not answered or differ
+    without a name, and which scripts need each difference."""
     compared, missing, needed, examples, unnamed = {}, [], Counter(), {}, 0
     for seed in range(first, first + count):
         if seed not in found:
@@ -102,7 +105,7 @@ def compare(found, first, count, command=None):
             needed[name] += 1
             examples.setdefault(name, []).append(seed)
     operations = sum(len(one.draw.shown_texts()) for one in compared.values())
-    print(f'Drawn scripts: {len(compared)} of {operations} operations, from number {first}; no answer of {len(missing)}')
+    print(f'Drawn scripts from number {first}: {len(compared)}, of {operations} operations; {len(missing)} not answered')
     print(f'  as hmmrun answers      {sum(one.is_same() for one in compared.values()):6}')
     print(f'  by named differences   {sum(one.is_explained() and not one.is_same() for one in compared.values()):6}')
     print(f'  not named              {unnamed:6}')
