@@ -19,8 +19,9 @@ case ${ACCEL:-tcg} in
     tcg) accel=tcg,thread=multi ;;
     *) accel=$ACCEL ;;
 esac
+words="console=ttyS0 earlyprintk=ttyS0 quiet panic=-1 no_timer_check rdinit=/runner random.trust_cpu=on"
 timeout "$most" qemu-system-x86_64 -accel "$accel" -cpu "${CPU:-max}" -smp "${CPUS:-2}" -m "${MEM:-768}" \
     -nodefaults -no-user-config -display none -no-reboot -kernel "$kernel" -initrd "$folder/initrd" \
     -serial "file:$out.console" -serial "file:$out" \
-    -append "console=ttyS0 earlyprintk=ttyS0 quiet panic=-1 rdinit=/runner random.trust_cpu=on ${APPEND:-}" \
+    -append "$words ${APPEND:-}" \
     < /dev/null || echo "boot.sh: qemu ended with status $?" >&2

@@ -2,6 +2,7 @@
 import os
 import subprocess
 
+BOOTS = 3               # where a busy machine makes a boot fail
 HERE = os.path.dirname(os.path.abspath(__file__))
 
 
@@ -12,7 +13,12 @@ def boot(work, kernel, text, name, seconds, cpus=2):
     given, told = os.path.join(folder, name + '.in'), os.path.join(folder, name + '.out')
     with open(given, 'w') as file:
         file.write(text)
+    if os.path.exists(told):
+        os.remove(told)
     environment = dict(os.environ, CPUS=os.environ.get('CPUS', str(cpus)))
     command = [os.path.join(HERE, 'boot.sh'), work, kernel, given, told, str(seconds)]
-    subprocess.run(command, env=environment, check=True)
-    return told
+    for _ in range(BOOTS):
+        subprocess.run(command, env=environment, check=True)
+        if os.path.exists(told) and os.path.getsize(told):
+            return told
+    raise SystemExit(f'the guest does not come up: see {told}.console')
