@@ -210,7 +210,7 @@ def is_like(line, pattern):
 
 def rows_of(lines):
     report = answers.report_of('\n'.join(lines) + '\n')
-    assert 'unfinished' not in report
+    assert "unfinished" not in report, report[-200:]
     return [' '.join(line.split(' ')[2:]) for line in report.split('history\n', 1)[1].splitlines() if ' a' in line]
 
 

@@ -15,7 +15,8 @@ use std::io;
 
 fn main(rt: HostRuntime) -> io::Result<()> {
     let names = Names::read(&rt)?;
-    selftests::compare_all(&rt, &names)?;
+    selftests::compare_all(&rt, &names, "selftests")?;
+    selftests::compare_all(&rt, &names, "differences")?;
     drawn::compare_all(&rt, &names)?;
     races::compare_all(&rt, &names)
 }

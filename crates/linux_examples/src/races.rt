@@ -94,7 +94,6 @@ fn is_kept(kept: &str, outcome: &str) -> bool {
 /// Compares the outcomes of one race, and prints those that have no place.
 fn compare(rt: &HostRuntime, names: &Names, stem: &str, counts: &mut Counts) -> io::Result<()> {
     let text = outcomes(rt.alloc(), script(rt, stem)?.as_slice())?;
-    println!(rt; "AT {stem} {}", text.as_str().lines().last().unwrap_or(""))?;
     if !text.as_str().ends_with(" whole\n") {
         println!(rt; "{stem}: hmmraces gave up")?;
     }

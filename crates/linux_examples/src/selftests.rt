@@ -1,4 +1,4 @@
-// The kernel's own selftests as scripts, and what they assert of their answers.
+// Scripts of the kernel's own selftests, and of differences, with what Linux asserts of their reports.
 use crate::files::{beside, script, scripts};
 use crate::lines::{entry, is_like};
 use crate::model::report;
@@ -76,14 +76,14 @@ fn compare(rt: &HostRuntime, names: &Names, stem: &str, counts: &mut Counts) -> 
     Ok(())
 }
 
-/// Judges the assertions of all selftests.
-pub fn compare_all(rt: &HostRuntime, names: &Names) -> io::Result<()> {
+/// Judges the assertions of all scripts of the folder.
+pub fn compare_all(rt: &HostRuntime, names: &Names, folder: &str) -> io::Result<()> {
     let mut counts = Counts { scripts: 0, hold: 0, differ: 0 };
-    for stem in scripts(rt, "selftests")?.iter() {
+    for stem in scripts(rt, folder)?.iter() {
         compare(rt, names, stem.as_str(), &mut counts)?;
     }
     println!(rt;
-        "{} selftests: {} assertions hold, {} differ by name",
+        "{} scripts of {folder}: {} assertions hold, {} differ by name",
         counts.scripts, counts.hold, counts.differ
     )
 }
