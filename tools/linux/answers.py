@@ -12,7 +12,7 @@ WORDS = ('loaded stored failed refused mapped unmapped protected forked exited a
 
 
 def report_of(text, command=None):
-    """The report of a script's run: by the command, or by tools/reference where there is none."""
+    """The report of a script's run: by the command, or by tools/reference if there is none."""
     if command is None:
         status, message, report = reference.replay(text.encode())
     else:

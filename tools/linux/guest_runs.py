@@ -2,7 +2,7 @@
 import os
 import subprocess
 
-BOOTS = 3               # where a busy machine makes a boot fail
+BOOTS = 3               # a busy machine may make a boot fail
 HERE = os.path.dirname(os.path.abspath(__file__))
 
 

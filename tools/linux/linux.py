@@ -4,8 +4,8 @@
     linux.py W [all]                        the three tables, as below with what stands in brackets
     linux.py W selftests                    the kernel's own hmm-tests, in the stock kernel
     linux.py W scripts [FIRST COUNT]        drawn scripts of one actor [1 2000]
-    linux.py W races [RUNS SECONDS [NAME..]]    races, each at most so often and so long, half of the time with a slow
-                                            device [2000 60, all of them]
+    linux.py W races [RUNS SECONDS [NAME..]]    races, each at most RUNS times and SECONDS long, half of that with a
+                                            slow device [2000 60, all of them]
     linux.py W judge FILE..                 the table of races again, of what guests wrote before
     linux.py names                          whether docs/LINUX.md and the gate's table have the same names
 

@@ -26,7 +26,7 @@ OTHER_WORDS = [
     (r'^(a\d+ seen m\d+ \d+) (ff|e22)$', r'\1 00'),                # no-area-code
     (r'^(a\d+ excluded m\d+ \d+) e2$', r'\1'),                     # it was had and lost again
     (r'^(a\d+ failed m\d+ 0x[0-9a-f]+ 1) e16$', r'\1 2')]          # exclusive-errno, of a `dadd`
-STOCK_WORDS = [(r'^(a\d+ migrated) \d+$', r'\1 *')]                # the number is not told
+STOCK_WORDS = [(r'^(a\d+ migrated) \d+$', r'\1 *')]                # the number is not given
 
 
 class Race:
@@ -70,7 +70,7 @@ def all_names():
 
 
 def in_words_of_the_model(outcome, is_stock):
-    """An outcome of the guest, where the driver has another word for what a script calls the same."""
+    """An outcome of the guest, with the script's word for what the driver has another word for."""
     said = []
     for answer in outcome.strip('|').split('|'):
         for pattern, other in OTHER_WORDS + (STOCK_WORDS if is_stock else []):

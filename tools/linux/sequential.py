@@ -9,7 +9,7 @@ from draw import Draw
 
 AT_ONCE = 250           # scripts of one boot
 SECONDS = 3             # of a script, at the most
-EACH = 5                # kept scripts of each difference, at the least if so many need it
+EACH = 5                # kept scripts of each difference, or all that need it if they are fewer
 
 
 def guest_input(seeds):
@@ -125,7 +125,7 @@ def chosen(compared, examples, count):
 
 
 def keep(compared, examples, folder, count):
-    """Writes so many of these scripts into a folder, each with what the kernel answered, in place of those there."""
+    """Writes `count` of these scripts into a folder, each with what the kernel answered, in place of those there."""
     for name in os.listdir(folder):
         os.remove(os.path.join(folder, name))
     for seed in chosen(compared, examples, count):

@@ -1,5 +1,5 @@
 // Compares what Linux answered, as it is kept in the folders below the one that this runs in, with what hmmrun and
-// hmmraces say now. Where they differ, the difference must have a name of the table `differences.txt`.
+// hmmraces say now. If they differ, the difference must have a name of the table `differences.txt`.
 #![tactic(auto)]
 
 mod drawn;

@@ -39,7 +39,7 @@ fn holds(report: &str, assertion: &str) -> Option<bool> {
     }
 }
 
-/// The verdict on a line: an assertion, or one behind the name of a difference, by which it must not hold.
+/// The verdict on a line: an assertion, or one after the name of a difference, by which it must not hold.
 fn judge(report: &str, names: &Names, line: &str) -> Verdict {
     let assertion = match line.split_once("  # ") {
         Some((assertion, _)) => assertion,
