@@ -18,10 +18,19 @@ struct Kept<'a> {
 fn parts(line: &str) -> Kept<'_> {
     match line.split_once(" | ") {
         Some((_, rest)) => match rest.split_once(" | ") {
-            Some((model, names)) => Kept { model, names: Some(names) },
-            None => Kept { model: "", names: Some("") },
+            Some((model, names)) => Kept {
+                model,
+                names: Some(names),
+            },
+            None => Kept {
+                model: "",
+                names: Some(""),
+            },
         },
-        None => Kept { model: line, names: None },
+        None => Kept {
+            model: line,
+            names: None,
+        },
     }
 }
 
@@ -44,7 +53,9 @@ fn compare(rt: &HostRuntime, names: &Names, stem: &str, counts: &mut Counts) -> 
     let mut lines = told.as_str().lines();
     counts.scripts = counts.scripts.saturating_add(1);
     for line in report.as_str().lines() {
-        if let Some(answer) = entry(line) && is_answer(answer) {
+        if let Some(answer) = entry(line)
+            && is_answer(answer)
+        {
             let kept = parts(lines.next().unwrap_or(""));
             if !is_like(answer, kept.model) {
                 return println!(rt; "{stem}: {answer} is not {}", kept.model);
@@ -68,7 +79,11 @@ fn compare(rt: &HostRuntime, names: &Names, stem: &str, counts: &mut Counts) -> 
 
 /// Compares the answers of all drawn scripts.
 pub fn compare_all(rt: &HostRuntime, names: &Names) -> io::Result<()> {
-    let mut counts = Counts { scripts: 0, same: 0, differ: 0 };
+    let mut counts = Counts {
+        scripts: 0,
+        same: 0,
+        differ: 0,
+    };
     for stem in scripts(rt, "drawn")?.iter() {
         compare(rt, names, stem.as_str(), &mut counts)?;
     }

@@ -28,8 +28,23 @@ pub fn entry(line: &str) -> Option<&str> {
 pub fn is_answer(entry: &str) -> bool {
     match entry.split(' ').next() {
         Some(
-            "loaded" | "stored" | "failed" | "refused" | "mapped" | "unmapped" | "protected" | "forked" | "exited"
-            | "attached" | "detached" | "migrated" | "seen" | "evicted" | "removed" | "excluded" | "added",
+            "loaded"
+            | "stored"
+            | "failed"
+            | "refused"
+            | "mapped"
+            | "unmapped"
+            | "protected"
+            | "forked"
+            | "exited"
+            | "attached"
+            | "detached"
+            | "migrated"
+            | "seen"
+            | "evicted"
+            | "removed"
+            | "excluded"
+            | "added",
         ) => true,
         _ => false,
     }

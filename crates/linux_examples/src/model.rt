@@ -41,7 +41,14 @@ pub fn report(alloc: Global, script: &[u8]) -> io::Result<String> {
     let mut sink = MemorySink::new(alloc, ROOM, &[]).map_err(no_memory)?;
     let words = vec![in alloc; String::from_str(alloc, "replay")?]?;
     let leans: BoxedRule = Box::new(alloc, |x: u64, y: u64| x >= 4 && x - 4 >= y)?;
-    let ended = run_alone(alloc, words, &mut source, &mut sink, &skips(alloc)?, &Leans::new(leans));
+    let ended = run_alone(
+        alloc,
+        words,
+        &mut source,
+        &mut sink,
+        &skips(alloc)?,
+        &Leans::new(leans),
+    );
     written(alloc, &ended.status, &sink)
 }
 

@@ -51,7 +51,11 @@ struct Seen<'a> {
 fn parts(line: &str) -> Option<Seen<'_>> {
     let (name, rest) = line.split_once(' ')?;
     let (runs, outcome) = rest.split_once(' ')?;
-    Some(Seen { name, runs: runs.parse::<u64>().ok()?, outcome })
+    Some(Seen {
+        name,
+        runs: runs.parse::<u64>().ok()?,
+        outcome,
+    })
 }
 
 /// How many outcomes were seen and listed, listed alone, and seen by name alone.
@@ -65,7 +69,9 @@ struct Counts {
 
 /// Whether a seen line has its place: it is listed and said to be, or not listed and has a name.
 fn has_place(names: &Names, outcomes: &[String], line: &Seen<'_>) -> bool {
-    let is_listed = outcomes.iter().any(|outcome| is_seen(outcome.as_str(), line.outcome));
+    let is_listed = outcomes
+        .iter()
+        .any(|outcome| is_seen(outcome.as_str(), line.outcome));
     if line.name == "listed" {
         is_listed
     } else {
@@ -119,7 +125,12 @@ fn compare(rt: &HostRuntime, names: &Names, stem: &str, counts: &mut Counts) -> 
 
 /// Compares the outcomes of all races.
 pub fn compare_all(rt: &HostRuntime, names: &Names) -> io::Result<()> {
-    let mut counts = Counts { races: 0, both: 0, listed: 0, named: 0 };
+    let mut counts = Counts {
+        races: 0,
+        both: 0,
+        listed: 0,
+        named: 0,
+    };
     for stem in scripts(rt, "races")?.iter() {
         compare(rt, names, stem.as_str(), &mut counts)?;
     }

@@ -20,7 +20,9 @@ enum Verdict {
 fn count_like(report: &str, pattern: &str) -> u64 {
     let mut count = 0u64;
     for line in report.lines() {
-        if let Some(entry) = entry(line) && is_like(entry, pattern) {
+        if let Some(entry) = entry(line)
+            && is_like(entry, pattern)
+        {
             count = count.saturating_add(1);
         }
     }
@@ -49,7 +51,8 @@ fn judge(report: &str, names: &Names, line: &str) -> Verdict {
         return if held { Verdict::Holds } else { Verdict::Wrong };
     }
     match assertion.split_once(' ') {
-        Some((name, rest)) if names.has(name) && holds(report, rest) == Some(false) => Verdict::Differs,
+        Some((name, rest)) if names.has(name) && holds(report, rest) == Some(false) =>
+            Verdict::Differs,
         _ => Verdict::Wrong,
     }
 }
@@ -78,7 +81,11 @@ fn compare(rt: &HostRuntime, names: &Names, stem: &str, counts: &mut Counts) -> 
 
 /// Judges the assertions of all scripts of the folder.
 pub fn compare_all(rt: &HostRuntime, names: &Names, folder: &str) -> io::Result<()> {
-    let mut counts = Counts { scripts: 0, hold: 0, differ: 0 };
+    let mut counts = Counts {
+        scripts: 0,
+        hold: 0,
+        differ: 0,
+    };
     for stem in scripts(rt, folder)?.iter() {
         compare(rt, names, stem.as_str(), &mut counts)?;
     }
