@@ -1,0 +1,141 @@
+// Races, the outcomes that hmmraces lists, and those that were seen in the kernel.
+use crate::files::{beside, script, scripts};
+use crate::lines::is_like;
+use crate::model::outcomes;
+use crate::names::Names;
+use std::alloc::Global;
+use std::io;
+
+/// The outcomes in what hmmraces writes, each with its answers in one line, `|` between two.
+fn listed(alloc: Global, text: &str) -> io::Result<Vec<String>> {
+    let mut outcomes = Vec::new(alloc);
+    let mut answers = String::new(alloc);
+    for line in text.lines() {
+        if line.starts_with('a') {
+            if !answers.is_empty() {
+                answers.push_str("|")?;
+            }
+            answers.push_str(line)?;
+        } else if !answers.is_empty() {
+            outcomes.push(answers)?;
+            answers = String::new(alloc);
+        }
+    }
+    Ok(outcomes)
+}
+
+/// Whether an outcome is the seen one, in which `*` stands for any word.
+fn is_seen(outcome: &str, seen: &str) -> bool {
+    let mut answers = outcome.split('|');
+    for wanted in seen.split('|') {
+        match answers.next() {
+            Some(answer) => {
+                if !is_like(answer, wanted) {
+                    return false;
+                }
+            }
+            None => return false,
+        }
+    }
+    answers.next().is_none()
+}
+
+/// A line of a seen file: `listed`, or the name of a difference; how many runs ended so; and the outcome.
+#[derive(Drop)]
+struct Seen<'a> {
+    name: &'a str,
+    runs: u64,
+    outcome: &'a str,
+}
+
+fn parts(line: &str) -> Option<Seen<'_>> {
+    let (name, rest) = line.split_once(' ')?;
+    let (runs, outcome) = rest.split_once(' ')?;
+    Some(Seen {
+        name,
+        runs: runs.parse::<u64>().ok()?,
+        outcome,
+    })
+}
+
+/// How many outcomes were seen and listed, listed alone, and seen by name alone.
+#[derive(Drop)]
+struct Counts {
+    races: u64,
+    both: u64,
+    listed: u64,
+    named: u64,
+}
+
+/// Whether a seen line has its place: it is listed and said to be, or not listed and has a name.
+fn has_place(names: &Names, outcomes: &[String], line: &Seen<'_>) -> bool {
+    let is_listed = outcomes
+        .iter()
+        .any(|outcome| is_seen(outcome.as_str(), line.outcome));
+    if line.name == "listed" {
+        is_listed
+    } else {
+        !is_listed && names.has(line.name)
+    }
+}
+
+fn count(line: &Seen<'_>, counts: &mut Counts) {
+    if line.name != "listed" {
+        counts.named = counts.named.saturating_add(1);
+    } else if line.runs == 0 {
+        counts.listed = counts.listed.saturating_add(1);
+    } else {
+        counts.both = counts.both.saturating_add(1);
+    }
+}
+
+/// Whether some line of the kept text is the outcome.
+fn is_kept(kept: &str, outcome: &str) -> bool {
+    kept.lines().any(|line| match parts(line) {
+        Some(line) => line.name == "listed" && is_seen(outcome, line.outcome),
+        None => false,
+    })
+}
+
+/// Compares the outcomes of one race, and prints those that have no place.
+fn compare(rt: &HostRuntime, names: &Names, stem: &str, counts: &mut Counts) -> io::Result<()> {
+    let text = outcomes(rt.alloc(), script(rt, stem)?.as_slice())?;
+    if !text.as_str().ends_with(" whole\n") {
+        println!(rt; "{stem}: hmmraces gave up")?;
+    }
+    let listed = listed(rt.alloc(), text.as_str())?;
+    let kept = beside(rt, stem, "seen")?;
+    counts.races = counts.races.saturating_add(1);
+    for line in kept.as_str().lines() {
+        if let Some(line) = parts(line) {
+            if has_place(names, listed.as_slice(), &line) {
+                count(&line, counts);
+            } else {
+                println!(rt; "{stem}: {} {}", line.name, line.outcome)?;
+            }
+        }
+    }
+    for outcome in listed.iter() {
+        if !is_kept(kept.as_str(), outcome.as_str()) {
+            println!(rt; "{stem}: not kept: {outcome}")?;
+        }
+    }
+    Ok(())
+}
+
+/// Compares the outcomes of all races.
+pub fn compare_all(rt: &HostRuntime, names: &Names) -> io::Result<()> {
+    let mut counts = Counts {
+        races: 0,
+        both: 0,
+        listed: 0,
+        named: 0,
+    };
+    for stem in scripts(rt, "races")?.iter() {
+        compare(rt, names, stem.as_str(), &mut counts)?;
+    }
+    println!(rt;
+        "{} races: {} outcomes are listed and were seen, {} are listed alone, {} were seen by name",
+        counts.races, counts.both, counts.listed, counts.named
+    )
+}

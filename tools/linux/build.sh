@@ -1,0 +1,49 @@
+#!/bin/sh
+# build.sh W [JOBS]: fills the folder W with two kernels and the guest.
+#
+#   bzImage.stock      Linux 6.1 with its test driver as it is
+#   bzImage.changed    the same with the driver as edit_driver.py changes it; mm/ is not touched
+#   base.cpio          the guest: its one program, the kernel's hmm-tests, and a few folders
+#
+# Needs Debian 12 and these packages (as root):
+#   apt-get install linux-source-6.1 build-essential flex bison bc libelf-dev cpio lz4 qemu-system-x86 python3
+# What is there already is not made again; to make all again, remove W.
+set -eu
+here=$(cd "$(dirname "$0")" && pwd)
+work=${1:?a folder to build in}
+jobs=${2:-2}
+mkdir -p "$work"
+work=$(cd "$work" && pwd)
+cd "$work"
+source=$work/linux-source-6.1
+[ -d "$source" ] || tar xf /usr/src/linux-source-6.1.tar.xz
+mkdir -p build
+
+if [ ! -e bzImage.stock ]; then
+    make -s -C "$source" O="$work/build" tinyconfig
+    (cd build && bash "$source/scripts/kconfig/merge_config.sh" -m -O . .config "$here/hmm.config")
+    make -s -C build olddefconfig
+    make -C build -j"$jobs" bzImage
+    cp build/arch/x86/boot/bzImage bzImage.stock
+fi
+if [ ! -e bzImage.changed ]; then
+    python3 "$here/edit_driver.py" "$source"
+    make -C build -j"$jobs" bzImage
+    cp build/arch/x86/boot/bzImage bzImage.changed
+fi
+
+tests=$source/tools/testing/selftests
+gcc -O2 -static -Wall -pthread -I"$source/lib" -o runner "$here/guest.c"
+gcc -O2 -static -pthread -w -I"$tests" -I"$source" -o hmm-tests "$tests/vm/hmm-tests.c"
+gcc -O1 -o gen_init_cpio "$source/usr/gen_init_cpio.c"
+cat > cpio.list <<LIST
+dir /dev 755 0 0
+nod /dev/console 600 0 0 c 5 1
+dir /proc 755 0 0
+dir /sys 755 0 0
+dir /tmp 755 0 0
+file /runner $work/runner 755 0 0
+file /hmm-tests $work/hmm-tests 755 0 0
+LIST
+./gen_init_cpio cpio.list > base.cpio
+sed -n 's/^# Linux.*\(6\.1\.[0-9]*\).*/built: Linux \1/p' build/.config

@@ -1,0 +1,211 @@
+"""Races in the guest, from real threads: each outcome, how often it was seen, and whether hmmraces lists it.
+
+A race is a script with a set-up, as hmmraces reads it, in crates/linux_examples/data/races: NAME.hmm. NAME.seen has the
+outcomes that hmmraces lists, and those that were seen.
+"""
+import os
+import re
+import subprocess
+from collections import Counter
+
+import answers
+import guest_runs
+
+FOLDER = os.path.join(answers.TOP, 'crates', 'linux_examples', 'data', 'races')
+WAIT = 20000            # the longest random wait before an operation, in turns of a loop
+
+# The race of a store that the kernel's own driver loses runs with that driver as it is (stock), and with the changed
+# one that takes (1) or leaves out (0) the invalidations of its own migrations.
+SPECIAL = {'lost_store': ('stock', 1), 'lost_store_take_all_0': ('changed', 0), 'lost_store_take_all_1': ('changed', 1)}
+
+
+OTHER_WORDS = [
+    (r'^(a\d+) migrated \d+ e9$', r'\1 refused 4'),                # a closed file
+    (r'^(a\d+ migrated \d+) e\d+$', r'\1'),                        # migrate-answer: an error number besides
+    (r'^(a\d+ failed .*) e9$', r'\1 4'),
+    (r'^(a\d+ seen m\d+ \d+) (ff|e22)$', r'\1 00'),                # no-area-code
+    (r'^(a\d+ excluded m\d+ \d+) e2$', r'\1'),                     # it was had and lost again
+    (r'^(a\d+ failed m\d+ 0x[0-9a-f]+ 1) e16$', r'\1 2')]          # exclusive-errno, of a `dadd`
+STOCK_WORDS = [(r'^(a\d+ migrated) \d+$', r'\1 *')]                # the number is not given
+
+
+class Race:
+    def __init__(self, name):
+        self.name = name
+        with open(os.path.join(FOLDER, name + '.hmm')) as file:
+            self.text = file.read()
+        self.kernel, self.take_all = SPECIAL.get(name, ('changed', 1))
+        self.setup, self.actors = self.parts()
+
+    def parts(self):
+        """The operations of the set-up, and those of each actor after it, as the guest makes them."""
+        script = answers.reference.scripts.parse(self.text.encode())
+        machine = answers.reference.Machine(script)
+        machine.replay()
+        actors = []
+        for line in self.text.splitlines():
+            word = line.split()[0]
+            if word == 'actor':
+                actors.append([])
+            elif actors and word not in ('turns', 'drain'):
+                actors[-1].append(line)
+        done = machine.ended[0]
+        setup, actors[0] = actors[0][:done], actors[0][done:]
+        return [op for op in setup if not op.startswith('evict')], [without_evicts(ops) for ops in actors]
+
+    def guest_input(self, runs, seconds):
+        lines = [f'race {self.name} {runs} {WAIT} {seconds}', *self.setup]
+        for number, ops in enumerate(self.actors):
+            lines += [f'actor {number}', *ops]
+        return ''.join(line + '\n' for line in lines) + 'end\n'
+
+
+def without_evicts(ops):
+    """The guest's driver evicts its device by itself when a file is closed: an `evict` after a `detach` is left out."""
+    return [op for i, op in enumerate(ops) if not (op.startswith('evict') and i and ops[i - 1].startswith('detach'))]
+
+
+def all_names():
+    return sorted(name[:-len('.hmm')] for name in os.listdir(FOLDER) if name.endswith('.hmm'))
+
+
+def in_words_of_the_model(outcome, is_stock):
+    """An outcome of the guest, with the script's word for what the driver has another word for."""
+    said = []
+    for answer in outcome.strip('|').split('|'):
+        for pattern, other in OTHER_WORDS + (STOCK_WORDS if is_stock else []):
+            answer = re.sub(pattern, other, answer)
+        said.append(answer)
+        if re.match(r'a\d+ detached', answer):
+            said.append(answer.split()[0] + ' evicted *')
+    return '|'.join(said)
+
+
+def is_like(listed, seen):
+    """Whether a seen outcome, which may have `*` for a word, is the listed one."""
+    has, wanted = listed.replace('|', ' | ').split(), seen.replace('|', ' | ').split()
+    return len(has) == len(wanted) and all(b == '*' or a == b for a, b in zip(has, wanted))
+
+
+def name_of(outcome, race, listed):
+    """The name of the difference by which an outcome is not listed, or None."""
+    if race.name.startswith('lost_store') and 'loaded p0 0x10000 41' in outcome:
+        return 'lost-store'
+    if re.search(r'\|?a\d+ refused e16', outcome):
+        return 'exclusive-busy'
+    if re.search(r'failed m\d+ 0x[0-9a-f]+ 1 1', outcome) and any('todev' in op for op in race.setup):
+        return 'own-read-only'
+    if 'migrated 0' in outcome and any(is_like(one, outcome.replace('migrated 0', 'migrated 1')) for one in listed):
+        return 'held-page'
+    return None
+
+
+def read_outcomes(path):
+    """Of each race the number of runs, and how often each outcome came, in what the guest wrote."""
+    runs, seen, name = Counter(), {}, None
+    for line in open(path, errors='replace'):
+        line = line.rstrip('\r\n')
+        words = line.split(' ', 4)
+        if words[0] == 'race':
+            name = words[1]
+            runs[name] += int(words[3])
+            seen.setdefault(name, Counter())
+        elif words[0] == 'outcome' and name:
+            seen[name][words[4]] += int(words[1])
+        elif words[0] == 'stuck':
+            print('!!', line)
+    return runs, seen
+
+
+def listed_outcomes(name, command=None):
+    """What hmmraces lists: as it is kept, or as the command says now."""
+    if command is None:
+        with open(os.path.join(FOLDER, name + '.seen')) as file:
+            return [line.split(' ', 2)[2] for line in file.read().splitlines() if line.startswith('listed ')]
+    with open(os.path.join(FOLDER, name + '.hmm')) as file:
+        return outcomes_of(subprocess.run(command, stdin=file, stdout=subprocess.PIPE, check=True).stdout.decode())
+
+
+def outcomes_of(text):
+    """The outcomes in what hmmraces writes; only if they are all of them."""
+    assert text.splitlines()[-1].endswith(' whole'), text[-100:]
+    outcomes = []
+    for line in text.splitlines():
+        if line.startswith('outcome '):
+            outcomes.append([])
+        elif line.startswith('a'):
+            outcomes[-1].append(line)
+    return ['|'.join(lines) for lines in outcomes]
+
+
+def run(work, names, runs, seconds, delay, seed):
+    """Lets the guest run these races; gives the paths of what it wrote. If the kernel stops in a race, that one is left
+    out, and said, and the guest is booted again for those after it."""
+    told, races = [], [Race(name) for name in names]
+    for setting in sorted({(race.kernel, race.take_all) for race in races}):
+        left = [race for race in races if (race.kernel, race.take_all) == setting]
+        kernel, take_all = setting
+        head = f'seed {seed}\n' + (f'delay {delay}\ntake_all {take_all}\n' if kernel == 'changed' else '')
+        while left:
+            text = head + ''.join(race.guest_input(runs, seconds) for race in left)
+            name = f'races-{kernel}-{take_all}-{delay}-{seed}-{left[0].name}'
+            path = guest_runs.boot(work, kernel, text, name, 120 + (seconds + 30) * len(left))
+            told.append(path)
+            done = read_outcomes(path)[0]
+            left = [race for race in left if race.name not in done]
+            if left:
+                print(f'!! the kernel stopped in {left.pop(0).name}: see {path}.console')
+    return told
+
+
+class Judged:
+    """A race's outcomes: of each the number of runs, and `listed`, the name of a difference, or None."""
+
+    def __init__(self, race, runs, seen, listed):
+        self.race, self.runs, self.rows = race, runs, []
+        counts = Counter()
+        for outcome, count in seen.items():
+            counts[in_words_of_the_model(outcome, race.kernel == 'stock')] += count
+        listed_as = {}          # an outcome as it is kept, `*` for what the guest does not tell -> how often it came
+        for one in listed:
+            like = next((other for other in counts if is_like(one, other)), one)
+            listed_as[like] = counts[like]
+        self.rows += [(one, count, 'listed') for one, count in listed_as.items()]
+        others = [(one, count, name_of(one, race, listed)) for one, count in counts.items() if one not in listed_as]
+        self.rows += sorted(others, key=lambda row: -row[1])
+        self.listed = len(listed_as)
+
+    def kept(self):
+        """The lines of NAME.seen, see examples/linux/README.md."""
+        return f'runs {self.runs}\n' + ''.join(f'{name} {count} {outcome}\n' for outcome, count, name in self.rows)
+
+
+def judge(paths, names, command=None):
+    """Prints the table of the races; gives what was judged, and how many outcomes have no name."""
+    runs, seen = Counter(), {}
+    for path in paths:
+        more, outcomes = read_outcomes(path)
+        runs += more
+        for name, counts in outcomes.items():
+            seen.setdefault(name, Counter()).update(counts)
+    judged, unnamed = [], 0
+    print('Races, outcomes: runs, listed by hmmraces, of these seen; others by the name of their difference')
+    for name in [name for name in names if name in seen]:
+        one = Judged(Race(name), runs[name], seen[name], listed_outcomes(name, command))
+        judged.append(one)
+        others = ', '.join(f'{label or "NOT NAMED"} {count}' for _, count, label in one.rows if label != 'listed')
+        shown = sum(1 for _, count, label in one.rows if label == 'listed' and count)
+        print(f'  {name:36} {one.runs:6} {one.listed:3} {shown:3}  {others}')
+        for outcome, count, label in one.rows:
+            if label is None:
+                unnamed += 1
+                print(f'    NOT NAMED, {count} runs: {outcome}')
+    print(f'  {len(judged)} races, {sum(one.runs for one in judged)} runs, {unnamed} outcomes without a name')
+    return judged, unnamed
+
+
+def keep(judged):
+    """Writes NAME.seen of each race."""
+    for one in judged:
+        with open(os.path.join(FOLDER, one.race.name + '.seen'), 'w') as file:
+            file.write(one.kept())
