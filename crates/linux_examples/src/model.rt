@@ -1,9 +1,10 @@
 // What hmmrun and hmmraces say. All calls of their libraries stand here.
 use hm_base::NoMemory;
+use hm_edge::Status;
 use hm_io::{MemorySink, MemorySource};
 use hm_race_top::races;
-use hm_top::{Status, run_alone};
-use skip_rules::{BoxedRule, Kept, Leans};
+use hm_top::run_alone;
+use skip_rules::{BoxedRule, Kept, Leans, Multiples};
 use std::alloc::Global;
 use std::io;
 
@@ -56,6 +57,6 @@ pub fn report(alloc: Global, script: &[u8]) -> io::Result<String> {
 pub fn outcomes(alloc: Global, script: &[u8]) -> io::Result<String> {
     let mut source = MemorySource::new(alloc, script, PIECE, &[]).map_err(no_memory)?;
     let mut sink = MemorySink::new(alloc, ROOM, &[]).map_err(no_memory)?;
-    let status = races(alloc, &[], &mut source, &mut sink, skips(alloc)?);
+    let status = races(alloc, &[], &mut source, &mut sink, Multiples);
     written(alloc, &status, &sink)
 }
