@@ -65,3 +65,42 @@ fn answers_as_a_plain_list(rt: HostRuntime) -> Result<(), Fail> {
     }
     Ok(())
 }
+
+/// Pages at the ends of tables of 512 entries, of tables of their tables, and the last page of all.
+const ENDS: [u64; 5] = [0, 511, 512, 262_144, 68_719_476_735];
+
+/// What the map holds of the ends: a word for each, where those from `first` on are set.
+fn holds(map: &Radix, first: usize) -> bool {
+    for (at, page) in ENDS.iter().enumerate() {
+        if *page >= 1 << 36 {
+            return false;
+        }
+        let word = if at < first { 0 } else { at as u64 + 1 };
+        if map.get(Page::new(*page)) != word {
+            return false;
+        }
+        let found = next(map, *page);
+        let wanted = ENDS.get(at.max(first)).copied();
+        if found != wanted {
+            return false;
+        }
+    }
+    true
+}
+
+#[test]
+fn pages_at_the_ends_of_tables(rt: HostRuntime) -> Result<(), Fail> {
+    let mut map = Radix::new(rt.alloc());
+    assert!(rt; holds(&map, ENDS.len()));
+    for (at, page) in ENDS.iter().enumerate().rev() {
+        assert!(rt; *page < 1 << 36);
+        set(&mut map, Page::new(*page), at as u64 + 1)?;
+        assert!(rt; holds(&map, at));
+    }
+    for (at, page) in ENDS.iter().enumerate() {
+        assert!(rt; *page < 1 << 36);
+        map.clear(Page::new(*page));
+        assert!(rt; holds(&map, at + 1));
+    }
+    Ok(())
+}

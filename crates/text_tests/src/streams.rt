@@ -4,6 +4,7 @@ use hm_io::{
     SureSink, SureSource,
 };
 use std::io::{self, ErrorKind, Write};
+use std::sync::atomic::{AtomicU64, Ordering};
 
 // What the next read into three bytes comes to, and the bytes that are then there.
 fn read<S: Source>(source: &mut S) -> (Got, [u8; 3]) {
@@ -112,4 +113,52 @@ fn a_flush_is_the_writers_own(rt: HostRuntime) {
     assert_eq!(rt; sink.flush(), Flushed::Failed);
     assert_eq!(rt; sink.flush(), Flushed::Done);
     assert_eq!(rt; (sink.faults(), sink.wants()), (1, 0));
+}
+
+/// A writer that keeps what it takes, and hands it on to what lies below only at a flush. Where that is broken, a flush
+/// fails, and hands on nothing.
+#[derive(Drop)]
+struct Keeper<'a> {
+    kept: u64,
+    below: &'a AtomicU64,
+    is_broken: bool,
+}
+
+impl Write for Keeper<'_> {
+    fn write(&mut self, from: &[u8]) -> io::Result<usize> {
+        self.kept = self.kept.saturating_add(from.len() as u64);
+        Ok(from.len())
+    }
+
+    fn flush(&mut self) -> io::Result<()> {
+        if self.is_broken {
+            return Err(io::Error::from(ErrorKind::Other));
+        }
+        let before = self.below.load(Ordering::SeqCst);
+        let after = before.saturating_add(self.kept);
+        self.below.store(after, Ordering::SeqCst);
+        self.kept = 0;
+        Ok(())
+    }
+}
+
+#[test]
+fn a_flush_hands_on_what_was_written(rt: HostRuntime) {
+    let below = AtomicU64::new(0);
+    for (is_broken, flushed, handed_on, faults) in [
+        (true, Flushed::Failed, 0, 1),
+        (false, Flushed::Done, 4, 0),
+    ] {
+        let mut sink = StreamSink::new(Keeper {
+            kept: 0,
+            below: &below,
+            is_broken,
+        });
+        assert_eq!(rt; write(&mut sink, b"ab"), Put::Took(2));
+        assert_eq!(rt; write(&mut sink, b"cd"), Put::Took(2));
+        assert_eq!(rt; below.load(Ordering::SeqCst), 0);
+        assert_eq!(rt; sink.flush(), flushed);
+        assert_eq!(rt; below.load(Ordering::SeqCst), handed_on);
+        assert_eq!(rt; (sink.faults(), sink.wants()), (faults, 0));
+    }
 }

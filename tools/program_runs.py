@@ -1,0 +1,105 @@
+#!/usr/bin/env python3
+"""Runs the built programs, and compares their exit codes, what they write and what they say with the documents.
+
+    tools/program_runs.py [--hmmrun PATH] [--hmmraces PATH] [--hmmview PATH]
+
+A path is crates/NAME/out/NAME unless it is given. Each run has a line, `ok` or `differs`. Ends with 1 if one differs.
+A report that is too long has 268,435,457 bytes, so such a run takes some seconds and some hundred MiB of memory.
+"""
+import argparse
+import os
+import subprocess
+import sys
+import threading
+
+TOP = os.path.dirname(os.path.dirname(os.path.abspath(__file__)))
+EMPTY = b'hmm 1\nframes 0\n'
+EMPTY_REPORT = EMPTY + b'history\nend 0\n'
+SCRIPT_BYTES = 4_194_304
+REPORT_BYTES = 268_435_456
+RUN_USAGE = ('usage: hmmrun replay | threads | generate N | trial N | upgrade | check | peek P ADDR LEN | advise | why')
+RACE_USAGE = 'usage: hmmraces [MOST]'
+VIEW_USAGE = 'usage: hmmview [FROM TO]'
+NO_ROWS = 'no such rows: FROM is after TO, or after the end of the report'
+REFUSED = 'script line 1: bad header'
+ANY = object()          # what a run writes, where it is not compared
+FULL = object()         # standard output is the full device
+
+
+# Program, words, input (bytes, or a number of bytes), exit code, what it writes, what it says.
+RUNS = [
+    ('hmmrun', 'replay', EMPTY, 0, EMPTY_REPORT, ''),
+    ('hmmrun', 'threads', EMPTY, 0, EMPTY_REPORT, ''),
+    ('hmmrun', 'check', EMPTY_REPORT, 0, ANY, ''),
+    ('hmmrun', 'why', EMPTY_REPORT, 0, b'end 0\n', ''),
+    ('hmmrun', 'check', EMPTY, 1, b'bad 3\n', 'not legal'),
+    ('hmmrun', 'why', EMPTY, 1, b'bad 3\n', 'not legal'),
+    ('hmmrun', '', EMPTY, 2, b'', RUN_USAGE),
+    ('hmmrun', 'replay now', EMPTY, 2, b'', RUN_USAGE),
+    ('hmmrun', 'replay', b'', 3, b'', REFUSED),
+    ('hmmrun', 'replay', EMPTY, 5, FULL, 'write fault'),
+    ('hmmrun', 'replay', SCRIPT_BYTES + 1, 8, b'', 'script too long'),
+    ('hmmrun', 'check', REPORT_BYTES + 1, 8, b'', 'report too long'),
+    ('hmmrun', 'why', REPORT_BYTES + 1, 8, b'', 'report too long'),
+    ('hmmraces', '', EMPTY, 0, ANY, ''),
+    ('hmmraces', 'many', EMPTY, 2, b'', RACE_USAGE),
+    ('hmmraces', '', b'', 3, b'', REFUSED),
+    ('hmmraces', '', EMPTY, 5, FULL, 'write fault'),
+    ('hmmraces', '', SCRIPT_BYTES + 1, 8, b'', 'script too long'),
+    ('hmmview', '', EMPTY_REPORT, 0, ANY, ''),
+    ('hmmview', '', EMPTY, 1, b'', 'not legal'),
+    ('hmmview', '1', EMPTY_REPORT, 2, b'', VIEW_USAGE),
+    ('hmmview', '', EMPTY_REPORT, 5, FULL, 'write fault'),
+    ('hmmview', '', REPORT_BYTES + 1, 8, b'', 'report too long'),
+    ('hmmview', '1 0', EMPTY_REPORT, 9, b'', NO_ROWS),
+    ('hmmview', '1 2', EMPTY_REPORT, 9, b'', NO_ROWS),
+]
+
+
+def feed(pipe, given):
+    """Writes the input, or that many bytes piece by piece, as far as the program reads."""
+    try:
+        if isinstance(given, bytes):
+            pipe.write(given)
+        else:
+            while given > 0:
+                given -= pipe.write(b'#' * min(given, 1 << 20))
+        pipe.close()
+    except BrokenPipeError:
+        pass
+
+
+def run(path, words, given, wanted):
+    """The exit code of a run, what it writes and what it says."""
+    output = open('/dev/full', 'wb') if wanted is FULL else subprocess.PIPE
+    process = subprocess.Popen([path] + words.split(), stdin=subprocess.PIPE, stdout=output, stderr=subprocess.PIPE)
+    feeder = threading.Thread(target=feed, args=(process.stdin, given))
+    feeder.start()
+    process.stdin, keep = None, process.stdin
+    written, said = process.communicate()
+    feeder.join()
+    del keep
+    return process.returncode, written, said.decode()
+
+
+def agrees(path, case):
+    name, words, given, code, wanted, message = case
+    got_code, written, said = run(path, words, given, wanted)
+    line = f'{name}: {message}\n' if message else ''
+    same = got_code == code and said == line and (wanted in (ANY, FULL) or written == wanted)
+    size = f'{given} bytes' if isinstance(given, int) else repr(given.decode())
+    print('ok     ' if same else 'differs', code, name, words, '<', size, '' if same else (got_code, written, said))
+    return same
+
+
+def main():
+    parser = argparse.ArgumentParser(description=__doc__, formatter_class=argparse.RawDescriptionHelpFormatter)
+    for name in ('hmmrun', 'hmmraces', 'hmmview'):
+        parser.add_argument(f'--{name}', default=os.path.join(TOP, 'crates', name, 'out', name), metavar='PATH')
+    paths = vars(parser.parse_args())
+    results = [agrees(paths[case[0]], case) for case in RUNS]
+    sys.exit(0 if all(results) else 1)
+
+
+if __name__ == '__main__':
+    main()
