@@ -1,3 +1,4 @@
+pub mod Beginning
 pub mod Came
 pub mod NotRead
 mod Saying

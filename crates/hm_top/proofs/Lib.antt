@@ -4,7 +4,6 @@ pub mod Room
 pub mod Trial
 pub mod Idle
 pub mod Calls
-pub mod Sending
 pub mod Advising
 pub mod Replaying
 pub mod Peeking

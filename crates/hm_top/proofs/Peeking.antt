@@ -155,6 +155,6 @@ peeked p at n io r saw e s is read same whole over some seen none shows answers 
     ran = came s r.history.entries r.full whole over;
     right = right_so p at n r.history.entries saw r.full seen none;
     text_is = text ∙ ap (λ x. peeked_text saw x r.history.entries) is;
-  }) w faults;
+  }) w faults flushed;
   peeks = seen_at p at n r saw e e.status shows answers seen none;
 }

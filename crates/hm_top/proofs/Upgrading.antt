@@ -27,9 +27,9 @@ none_upgraded b a script Status.Usage n e = n
 none_upgraded b a script (Status.NotLegal l) n e = n
 none_upgraded b a script (Status.Refused r) n e = e
 none_upgraded b a script Status.ScriptTooLong n e = e
-none_upgraded b a script Status.ReportTooLong n e = n
-none_upgraded b a script Status.NoRows n e = n
-none_upgraded b a script Status.TooManyRows n e = n
+none_upgraded b a script Status.ReportTooLong n e = absurd n
+none_upgraded b a script Status.NoRows n e = absurd n
+none_upgraded b a script Status.TooManyRows n e = absurd n
 none_upgraded b a script Status.ReadFault n e = e
 none_upgraded b a script Status.NoMemory n e = e
 
@@ -93,9 +93,9 @@ module _ (b a : SourceState) (u : Program) (script : Option Program) (h : List E
   script_made (Status.NotLegal l) made = made
   script_made (Status.Refused x) made = absurd made
   script_made Status.ScriptTooLong made = absurd made
-  script_made Status.ReportTooLong made = made
-  script_made Status.NoRows made = made
-  script_made Status.TooManyRows made = made
+  script_made Status.ReportTooLong made = absurd made
+  script_made Status.NoRows made = absurd made
+  script_made Status.TooManyRows made = absurd made
   script_made Status.ReadFault made = absurd made
 
   history_made : (status : Status) → HasMade (IsAlone u) script h status → h ≡ []

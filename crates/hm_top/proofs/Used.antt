@@ -27,6 +27,9 @@ is_used io e (Command.Alone x) does usage = is_used_alone io e x does usage
 is_used io e Command.Threads does usage = subst (HasRead (IsItsText e.script) io.source io.source_after) usage does.read
 is_used io e (Command.Peek asked) does usage = subst (HasRead (IsItsText e.script) io.source io.source_after) usage does.threads.read
 
+pub does_alone_so : (io : Traffic) (e : Ended) (x y : Alone) → x ≡ y → DoesAlone y io e → DoesAlone x io e
+does_alone_so io e x y is does = subst (λ z. DoesAlone z io e) (sym is) does
+
 pub does_so : (io : Traffic) (e : Ended) (x : Option Command) (c : Command) → x ≡ Some c → Does (Some c) io e → Does x io e
 does_so io e x c is does = subst (λ y. Does y io e) (sym is) does
 

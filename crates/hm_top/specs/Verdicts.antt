@@ -1,19 +1,12 @@
 -- From a source to a verdict, and from a verdict to how the call ends.
-use Rattle.std.specs.Prelude.{◌≡◌, ℕ, ◌≤◌, List, length, Some, None}
-use Rattle.hm_base.specs.Program.{Program}
-use Rattle.hm_check.specs.FirstBad.{IsLegalReport}
-use Rattle.hm_check.specs.Judged.{IsYes, Judged}
+use Rattle.std.specs.Prelude.{◌≡◌, ℕ, List, length, Some, None}
 use Rattle.hm_check.specs.declared.verdict.Report.{Report}
 use Rattle.hm_check.specs.declared.verdict.Verdict.{Verdict}
 use Rattle.hm_check.specs.declared.verdict.Verdict.TheVariants.{Yes, No}
 use Rattle.hm_history.specs.declared.Entry.{Entry}
 use Rattle.hm_report.specs.declared.written.Written.{Written}
-use Rattle.hm_check.specs.Judging.{IsLegalReportOf}
 use Rattle.hm_top.specs.Checks.{bad_line, legal_line}
 use Rattle.hm_top.specs.Ran.{HasNothing}
-use Rattle.hm_edge.specs.Input.{CameWhole}
-use Rattle.hm_io.specs.Streams.{SourceState}
-use Rattle.hm_top.specs.declared.check.TheConstants.{MOST_REPORT_BYTES}
 use Rattle.hm_top.specs.declared.ended.Ended.{Ended}
 use Rattle.hm_edge.specs.declared.status.Status.{Status}
 

@@ -1,7 +1,7 @@
 // The program hmmrun, but for the real streams: its arguments, one call, and what it says and ends with.
 ghost use Rattle.std.specs.Prelude.{◌≡◌, map, string_bytes, IfOk, OnErr};
 ghost use Rattle.std.specs.Vec.Iter.{into_iter_items};
-ghost use Rattle.hm_edge.specs.Exits.{Exits, arguments};
+ghost use Rattle.hm_edge.specs.Exits.{Begins, Exits, arguments};
 ghost use Rattle.hm_edge.specs.Traffic.{IsUntouched, traffic};
 ghost use Rattle.hm_top.specs.Runs.{Runs, name, usage};
 
@@ -55,6 +55,27 @@ fn call<R: Threads + Wait + Sync, S: Source, K: Sink>(
     Ok(ended.status)
 }
 
+/// Makes the call with the words after the program's name, if they are there.
+fn begin<R: Threads + Wait + Sync, S: Source, K: Sink>(
+    rt: &R,
+    alloc: Global,
+    args: io::Result<Args>,
+    source: &mut S,
+    sink: &mut K,
+) -> Status
+    ensures { Begins Runs (arguments (λ x. map string_bytes (into_iter_items x)) args)
+        (traffic S.state K.state source.old source.new sink.old sink.new) result }
+{
+    let words = match words_after_name(alloc, args) {
+        Ok(words) => words,
+        Err(status) => return status,
+    };
+    match call(rt, alloc, words, source, sink) {
+        Ok(status) => status,
+        Err(NoMemory) => Status::NoMemory,
+    }
+}
+
 /// Does what the arguments ask for, whose first is the program's name, and says on the error stream how it ended if not
 /// all was done. Gives the exit code.
 pub fn program<R: Threads + Wait + Sync, S: Source, K: Sink, E: Sink>(
@@ -69,12 +90,6 @@ pub fn program<R: Threads + Wait + Sync, S: Source, K: Sink, E: Sink>(
         (traffic S.state K.state source.old source.new sink.old sink.new) (E.state errors.old) (E.state errors.new)
         result }
 {
-    let status = match words_after_name(alloc, args) {
-        Ok(words) => match call(rt, alloc, words, source, sink) {
-            Ok(status) => status,
-            Err(NoMemory) => Status::NoMemory,
-        },
-        Err(status) => status,
-    };
+    let status = begin(rt, alloc, args, source, sink);
     finish(alloc, NAME, USAGE, &status, errors)
 }

@@ -3,12 +3,14 @@ use Rattle.std.specs.Prelude.{◌≡◌, ◌⊎◌, ℕ, ◌≤◌, true, false,
 use Rattle.hm_base.specs.Program.{Program}
 use Rattle.hm_check.specs.FirstBad.{IsFirstBad, IsLegalReport}
 use Rattle.hm_history.specs.declared.Entry.{Entry}
-use Rattle.hm_io.specs.Streams.{Rose, Adds, AddsFront, SinkState, SourceState}
+use Rattle.hm_io.specs.Streams.{Rose, Adds, AddsFront, SinkState}
 use Rattle.hm_view.specs.Asked.{first, behind, is_there, fits}
 use Rattle.hm_view.specs.Page.{page_text}
 use Rattle.hm_edge.specs.Input.{LeftOver}
 use Rattle.hm_check.specs.Judging.{IsLegalReportOf}
 use Rattle.hm_edge.specs.Reading.{ReadFaulted}
+use Rattle.hm_edge.specs.Traffic.{Traffic}
+use Rattle.hm_edge.specs.Writing.{WriteFaulted}
 use Rattle.hm_view.specs.declared.asked.Asked.{Asked}
 use Rattle.hm_edge.specs.declared.status.Status.{Status}
 
