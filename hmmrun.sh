@@ -8,7 +8,7 @@
 # Words are looked at before anything is built. What this script says itself goes to standard error. The program is
 # hmmrun; with `--program NAME` first it is that of the crate NAME, as hmmraces.sh and hmmview.sh call it.
 set -u
-top=$(cd "$(dirname "${BASH_SOURCE[0]}")" && pwd)
+top=$(cd "$(dirname "$(realpath "${BASH_SOURCE[0]}")")" && pwd)
 logic=dac8208d650f15bf              # of the kits that prove this repository
 name=hmmrun
 if [ "${1-}" = --program ]; then

@@ -1,3 +1,3 @@
 #!/usr/bin/env bash
 # Runs the program hmmview as hmmrun.sh runs hmmrun: see there.
-exec "$(dirname "${BASH_SOURCE[0]}")/hmmrun.sh" --program hmmview "$@"
+exec "$(dirname "$(realpath "${BASH_SOURCE[0]}")")/hmmrun.sh" --program hmmview "$@"

@@ -4,7 +4,7 @@
     tools/campaign.py KIND FIRST COUNT FOLDER [--program FILE] [--judge]
 
 | KIND    | What is run, for COUNT numbers from FIRST on |
-| trial   | `generate N`, `replay` of that script, `check` of that report, `trial N`: all tell the same number of entries |
+| trial   | `generate N`, `replay` of that script, `check` of that report, `trial N`: all say the same number of entries |
 | threads | `threads` of the script of N: it ends whole, and `check` says that its report is legal |
 | races   | COUNT drawn races of seed FIRST, by tools/race_outcomes.py: hmmraces finds what every order of turns gives |
 | peeks   | COUNT drawn scripts of seed FIRST, by tools/peek_runs.py: each copy that a watcher took is right |

@@ -173,7 +173,7 @@ def print_history(history, waits, fold):
         for said in waits.get(at, []):
             print(f'..    {said}')
         count = folded(history, at) if fold else 1
-        # a wait between two parts is told above the second one
+        # a wait between two parts stands above the second one
         count = next((n for n in range(1, count) if waits.get(at + n)), count)
         line = history[at]
         word, *words = line.split(' ')[2:]

@@ -616,7 +616,7 @@ def exact_text(data, runs):
 
 # What is said.
 
-def told(trouble, data, name):
+def shown_as(trouble, data, name):
     lines = decoded(data).split('\n')
     text = lines[trouble.line - 1] if trouble.line and trouble.line <= len(lines) else ''
     text = text.rstrip('\r').replace('\t', ' ')
@@ -641,7 +641,7 @@ def explained(data, name):
             said.line = line
         except Trouble as trouble:
             said = trouble
-        return f'hmmrun says: script line {line}: {reason}\n{told(said, data, name)}\n', True
+        return f'hmmrun says: script line {line}: {reason}\n{shown_as(said, data, name)}\n', True
     operations = sum(map(len, script.actors))
     said = f'{name} is a script: {len(script.actors)} actors, {operations} operations\n'
     said += ''.join(f'note: {note}\n' for note in read(data, True).notes())
@@ -652,7 +652,7 @@ def translate(data, name, runs):
     try:
         text, notes = exact_text(data, runs)
     except Trouble as trouble:
-        print(f'hmm.py: {told(trouble, data, name)}', file=sys.stderr)
+        print(f'hmm.py: {shown_as(trouble, data, name)}', file=sys.stderr)
         return 3
     sys.stdout.write(text)
     for note in notes:
@@ -704,7 +704,7 @@ def tell_due(data, name):
         sys.stdout.write(due_text(data, name))
         return 0
     except Trouble as trouble:
-        print(told(trouble, data, name))
+        print(shown_as(trouble, data, name))
         return 1
 
 
@@ -723,7 +723,7 @@ def test(folder):
             got = explained(data, name)[0] if end == '.said' else due_text(data, name) if end == '.due' else exact_text(
                 data, Runs(None))[0]
         except Trouble as trouble:
-            got = told(trouble, data, name) + '\n'
+            got = shown_as(trouble, data, name) + '\n'
         count += 1
         if got != wanted:
             wrong += 1
