@@ -56,7 +56,10 @@ def races(options, runs=2000, seconds=60, *names):
 
 
 def judge(options, *paths):
-    judged, unnamed = race_runs.judge(paths, race_runs.all_names(), options.hmmraces)
+    names = race_runs.all_names()
+    if options.hmmraces:
+        names += [name[:-len('.hmm')] for name in os.listdir(race_runs.LARGE)]
+    judged, unnamed = race_runs.judge(paths, names, options.hmmraces)
     if options.keep:
         race_runs.keep(judged)
     return unnamed
