@@ -92,7 +92,7 @@ def main():
     parser.add_argument('--seed', type=int, default=0)
     parser.add_argument('--hmmrun', type=str.split)
     parser.add_argument('--hmmraces', type=str.split)
-    options = parser.parse_args()
+    options = parser.parse_intermixed_args()
     commands = {'all': all_tables, 'selftests': selftests, 'scripts': scripts, 'races': races, 'judge': judge}
     return 1 if commands[options.what](options, *options.rest) else 0
 

@@ -39,7 +39,8 @@ class Race:
         self.kernel, self.take_all = SPECIAL.get(name, ('changed', 1))
         self.setup, self.actors = self.parts()
         has_adds = any(op.startswith('dadd') for ops in self.actors for op in ops)
-        self.other_words = OTHER_WORDS + (ADDS_WORDS if has_adds else []) + (STOCK_WORDS if self.kernel == 'stock' else [])
+        is_stock = self.kernel == 'stock'
+        self.other_words = OTHER_WORDS + (ADDS_WORDS if has_adds else []) + (STOCK_WORDS if is_stock else [])
 
     def parts(self):
         """The operations of the set-up, and those of each actor after it, as the guest makes them."""
@@ -128,11 +129,18 @@ def read_outcomes(path):
     return runs, seen
 
 
+def kept_lines(name):
+    path = os.path.join(FOLDER, name + '.seen')
+    if not os.path.exists(path):
+        return []
+    with open(path) as file:
+        return file.read().splitlines()
+
+
 def listed_outcomes(name, command=None):
     """What hmmraces lists: as it is kept, or as the command says now."""
     if command is None:
-        with open(os.path.join(FOLDER, name + '.seen')) as file:
-            return [line.split(' ', 2)[2] for line in file.read().splitlines() if line.startswith('listed ')]
+        return [line.split(' ', 2)[2] for line in kept_lines(name) if line.startswith('listed ')]
     with open(script_path(name)) as file:
         return outcomes_of(subprocess.run(command, stdin=file, stdout=subprocess.PIPE, check=True).stdout.decode())
 
@@ -188,12 +196,13 @@ class Judged:
 
     def kept(self):
         """The lines of NAME.seen, see examples/linux/README.md. Those of earlier runs stay."""
-        path = os.path.join(FOLDER, self.race.name + '.seen')
-        earlier = []
-        if os.path.exists(path):
-            with open(path) as file:
-                earlier = [line.rstrip('\n') for line in file if line.startswith('earlier')]
-        lines = [f'runs {self.runs}', *earlier, *(f'{name} {count} {outcome}' for outcome, count, name in self.rows)]
+        lines = [f'runs {self.runs}']
+        lines += [line for line in kept_lines(self.race.name) if line.startswith('earlier')]
+        lines += [f'{name} {count} {outcome}' for outcome, count, name in self.rows]
+        shown = {outcome for outcome, _, _ in self.rows}
+        for line in kept_lines(self.race.name):
+            if line.split()[0] not in ('runs', 'earlier', 'listed') and line.split(' ', 2)[2] not in shown:
+                lines.append(' '.join([line.split()[0], '0', line.split(' ', 2)[2]]))
         return ''.join(line + '\n' for line in lines)
 
 
