@@ -233,5 +233,6 @@ def judge(paths, names, command=None):
 def keep(judged):
     """Writes NAME.seen of each race."""
     for one in judged:
+        text = one.kept()
         with open(os.path.join(FOLDER, one.race.name + '.seen'), 'w') as file:
-            file.write(one.kept())
+            file.write(text)
