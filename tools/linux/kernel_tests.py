@@ -12,7 +12,7 @@ CANNOT = {
 
 def run(work):
     """The path of what the tests wrote."""
-    return guest_runs.boot(work, 'stock', 'selftests\n', 'selftests', 300)
+    return guest_runs.boot(work, 'stock', 'selftests\n', 'selftests', 1200)
 
 
 def results(path):
