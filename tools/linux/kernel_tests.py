@@ -12,18 +12,19 @@ CANNOT = {
 
 def run(work):
     """The path of what the tests wrote."""
-    return guest_runs.boot(work, 'stock', 'selftests\n', 'selftests', 300)
+    return guest_runs.boot(work, 'stock', 'selftests\n', 'selftests', 1200)
 
 
 def results(path):
     """Of each test `ok`, `skipped` or `failed`."""
     found, is_skipped = {}, False
     for line in open(path, errors='replace'):
-        is_skipped = is_skipped or 'SKIP' in line
-        match = re.match(r'(ok|not ok) \d+ (\S+)', line)
-        if match:
-            found[match[2]] = 'failed' if match[1] == 'not ok' else 'skipped' if is_skipped else 'ok'
+        if re.match(r'# +RUN ', line):
             is_skipped = False
+        is_skipped = is_skipped or re.match(r'# +SKIP ', line) is not None
+        match = re.match(r'# +(OK|FAIL) +(\S+)', line)
+        if match:
+            found[match[2]] = 'failed' if match[1] == 'FAIL' else 'skipped' if is_skipped else 'ok'
     return found
 
 

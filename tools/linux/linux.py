@@ -56,7 +56,10 @@ def races(options, runs=2000, seconds=60, *names):
 
 
 def judge(options, *paths):
-    judged, unnamed = race_runs.judge(paths, race_runs.all_names(), options.hmmraces)
+    names = race_runs.all_names()
+    if options.hmmraces:
+        names += [name[:-len('.hmm')] for name in os.listdir(race_runs.LARGE)]
+    judged, unnamed = race_runs.judge(paths, names, options.hmmraces)
     if options.keep:
         race_runs.keep(judged)
     return unnamed
@@ -89,7 +92,7 @@ def main():
     parser.add_argument('--seed', type=int, default=0)
     parser.add_argument('--hmmrun', type=str.split)
     parser.add_argument('--hmmraces', type=str.split)
-    options = parser.parse_args()
+    options = parser.parse_intermixed_args()
     commands = {'all': all_tables, 'selftests': selftests, 'scripts': scripts, 'races': races, 'judge': judge}
     return 1 if commands[options.what](options, *options.rest) else 0
 

@@ -1,7 +1,8 @@
 """Races in the guest, from real threads: each outcome, how often it was seen, and whether hmmraces lists it.
 
 A race is a script with a set-up, as hmmraces reads it, in crates/linux_examples/data/races: NAME.hmm. NAME.seen has the
-outcomes that hmmraces lists, and those that were seen.
+outcomes that hmmraces lists, and those that were seen. Six more, in large, have too many states for the gate: no
+outcomes of theirs are kept, so hmmraces must be asked.
 """
 import os
 import re
@@ -12,6 +13,7 @@ import answers
 import guest_runs
 
 FOLDER = os.path.join(answers.TOP, 'crates', 'linux_examples', 'data', 'races')
+LARGE = os.path.join(answers.TOP, 'tools', 'linux', 'large')
 WAIT = 20000            # the longest random wait before an operation, in turns of a loop
 
 # The race of a store that the kernel's own driver loses runs with that driver as it is (stock), and with the changed
@@ -24,18 +26,21 @@ OTHER_WORDS = [
     (r'^(a\d+ migrated \d+) e\d+$', r'\1'),                        # migrate-answer: an error number besides
     (r'^(a\d+ failed .*) e9$', r'\1 4'),
     (r'^(a\d+ seen m\d+ \d+) (ff|e22)$', r'\1 00'),                # no-area-code
-    (r'^(a\d+ excluded m\d+ \d+) e2$', r'\1'),                     # it was had and lost again
-    (r'^(a\d+ failed m\d+ 0x[0-9a-f]+ 1) e16$', r'\1 2')]          # exclusive-errno, of a `dadd`
+    (r'^(a\d+ excluded m\d+ \d+) e2$', r'\1')]                     # it was had and lost again
+ADDS_WORDS = [(r'^(a\d+ failed m\d+ 0x[0-9a-f]+ 1) e16$', r'\1 2')]    # exclusive-errno, of a `dadd`
 STOCK_WORDS = [(r'^(a\d+ migrated) \d+$', r'\1 *')]                # the number is not given
 
 
 class Race:
     def __init__(self, name):
         self.name = name
-        with open(os.path.join(FOLDER, name + '.hmm')) as file:
+        with open(script_path(name)) as file:
             self.text = file.read()
         self.kernel, self.take_all = SPECIAL.get(name, ('changed', 1))
         self.setup, self.actors = self.parts()
+        has_adds = any(op.startswith('dadd') for ops in self.actors for op in ops)
+        is_stock = self.kernel == 'stock'
+        self.other_words = OTHER_WORDS + (ADDS_WORDS if has_adds else []) + (STOCK_WORDS if is_stock else [])
 
     def parts(self):
         """The operations of the set-up, and those of each actor after it, as the guest makes them."""
@@ -60,6 +65,11 @@ class Race:
         return ''.join(line + '\n' for line in lines) + 'end\n'
 
 
+def script_path(name):
+    path = os.path.join(FOLDER, name + '.hmm')
+    return path if os.path.exists(path) else os.path.join(LARGE, name + '.hmm')
+
+
 def without_evicts(ops):
     """The guest's driver evicts its device by itself when a file is closed: an `evict` after a `detach` is left out."""
     return [op for i, op in enumerate(ops) if not (op.startswith('evict') and i and ops[i - 1].startswith('detach'))]
@@ -69,11 +79,11 @@ def all_names():
     return sorted(name[:-len('.hmm')] for name in os.listdir(FOLDER) if name.endswith('.hmm'))
 
 
-def in_words_of_the_model(outcome, is_stock):
+def in_words_of_the_model(outcome, race):
     """An outcome of the guest, with the script's word for what the driver has another word for."""
     said = []
     for answer in outcome.strip('|').split('|'):
-        for pattern, other in OTHER_WORDS + (STOCK_WORDS if is_stock else []):
+        for pattern, other in race.other_words:
             answer = re.sub(pattern, other, answer)
         said.append(answer)
         if re.match(r'a\d+ detached', answer):
@@ -91,8 +101,10 @@ def name_of(outcome, race, listed):
     """The name of the difference by which an outcome is not listed, or None."""
     if race.name.startswith('lost_store') and 'loaded p0 0x10000 41' in outcome:
         return 'lost-store'
-    if re.search(r'\|?a\d+ refused e16', outcome):
+    if re.search(r'a\d+ refused e16', outcome):
         return 'exclusive-busy'
+    if re.search(r'a\d+ failed m\d+ 0x[0-9a-f]+ \d+ e16', outcome):
+        return 'no-time-out'
     if re.search(r'failed m\d+ 0x[0-9a-f]+ 1 1', outcome) and any('todev' in op for op in race.setup):
         return 'own-read-only'
     if 'migrated 0' in outcome and any(is_like(one, outcome.replace('migrated 0', 'migrated 1')) for one in listed):
@@ -117,12 +129,19 @@ def read_outcomes(path):
     return runs, seen
 
 
+def kept_lines(name):
+    path = os.path.join(FOLDER, name + '.seen')
+    if not os.path.exists(path):
+        return []
+    with open(path) as file:
+        return file.read().splitlines()
+
+
 def listed_outcomes(name, command=None):
     """What hmmraces lists: as it is kept, or as the command says now."""
     if command is None:
-        with open(os.path.join(FOLDER, name + '.seen')) as file:
-            return [line.split(' ', 2)[2] for line in file.read().splitlines() if line.startswith('listed ')]
-    with open(os.path.join(FOLDER, name + '.hmm')) as file:
+        return [line.split(' ', 2)[2] for line in kept_lines(name) if line.startswith('listed ')]
+    with open(script_path(name)) as file:
         return outcomes_of(subprocess.run(command, stdin=file, stdout=subprocess.PIPE, check=True).stdout.decode())
 
 
@@ -165,7 +184,7 @@ class Judged:
         self.race, self.runs, self.rows = race, runs, []
         counts = Counter()
         for outcome, count in seen.items():
-            counts[in_words_of_the_model(outcome, race.kernel == 'stock')] += count
+            counts[in_words_of_the_model(outcome, race)] += count
         listed_as = {}          # an outcome as it is kept, `*` for what the guest does not tell -> how often it came
         for one in listed:
             like = next((other for other in counts if is_like(one, other)), one)
@@ -176,8 +195,15 @@ class Judged:
         self.listed = len(listed_as)
 
     def kept(self):
-        """The lines of NAME.seen, see examples/linux/README.md."""
-        return f'runs {self.runs}\n' + ''.join(f'{name} {count} {outcome}\n' for outcome, count, name in self.rows)
+        """The lines of NAME.seen, see examples/linux/README.md. Those of earlier runs stay."""
+        lines = [f'runs {self.runs}']
+        lines += [line for line in kept_lines(self.race.name) if line.startswith('earlier')]
+        lines += [f'{name} {count} {outcome}' for outcome, count, name in self.rows]
+        shown = {outcome for outcome, _, _ in self.rows}
+        for line in kept_lines(self.race.name):
+            if line.split()[0] not in ('runs', 'earlier', 'listed') and line.split(' ', 2)[2] not in shown:
+                lines.append(' '.join([line.split()[0], '0', line.split(' ', 2)[2]]))
+        return ''.join(line + '\n' for line in lines)
 
 
 def judge(paths, names, command=None):
@@ -190,7 +216,7 @@ def judge(paths, names, command=None):
             seen.setdefault(name, Counter()).update(counts)
     judged, unnamed = [], 0
     print('Races, outcomes: runs, listed by hmmraces, of these seen; others by the name of their difference')
-    for name in [name for name in names if name in seen]:
+    for name in sorted(set(names) & set(seen)):
         one = Judged(Race(name), runs[name], seen[name], listed_outcomes(name, command))
         judged.append(one)
         others = ', '.join(f'{label or "NOT NAMED"} {count}' for _, count, label in one.rows if label != 'listed')
@@ -207,5 +233,6 @@ def judge(paths, names, command=None):
 def keep(judged):
     """Writes NAME.seen of each race."""
     for one in judged:
+        text = one.kept()
         with open(os.path.join(FOLDER, one.race.name + '.seen'), 'w') as file:
-            file.write(one.kept())
+            file.write(text)

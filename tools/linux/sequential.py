@@ -105,7 +105,7 @@ def compare(found, first, count, command=None):
             needed[name] += 1
             examples.setdefault(name, []).append(seed)
     operations = sum(len(one.draw.shown_texts()) for one in compared.values())
-    print(f'Drawn scripts from number {first}: {len(compared)}, of {operations} operations; {len(missing)} not answered')
+    print(f'Drawn scripts from {first} on: {len(compared)}, of {operations} operations; {len(missing)} not answered')
     print(f'  as hmmrun answers      {sum(one.is_same() for one in compared.values()):6}')
     print(f'  by named differences   {sum(one.is_explained() and not one.is_same() for one in compared.values()):6}')
     print(f'  not named              {unnamed:6}')

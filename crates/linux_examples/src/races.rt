@@ -40,29 +40,29 @@ fn is_seen(outcome: &str, seen: &str) -> bool {
     answers.next().is_none()
 }
 
-/// A line of a seen file: `listed`, or the name of a difference; how many runs ended so; and the outcome.
+/// A line of a seen file: `listed`, or the name of a difference; and the outcome.
 #[derive(Drop)]
 struct Seen<'a> {
     name: &'a str,
-    runs: u64,
     outcome: &'a str,
 }
 
+/// What the line says of an outcome. Lines that begin with `earlier`, and those with one number, count runs alone.
 fn parts(line: &str) -> Option<Seen<'_>> {
     let (name, rest) = line.split_once(' ')?;
     let (runs, outcome) = rest.split_once(' ')?;
-    Some(Seen {
-        name,
-        runs: runs.parse::<u64>().ok()?,
-        outcome,
-    })
+    runs.parse::<u64>().ok()?;
+    if name == "earlier" {
+        None
+    } else {
+        Some(Seen { name, outcome })
+    }
 }
 
-/// How many outcomes were seen and listed, listed alone, and seen by name alone.
+/// How many outcomes are listed, and how many were seen that are not.
 #[derive(Drop)]
 struct Counts {
     races: u64,
-    both: u64,
     listed: u64,
     named: u64,
 }
@@ -80,12 +80,10 @@ fn has_place(names: &Names, outcomes: &[String], line: &Seen<'_>) -> bool {
 }
 
 fn count(line: &Seen<'_>, counts: &mut Counts) {
-    if line.name != "listed" {
-        counts.named = counts.named.saturating_add(1);
-    } else if line.runs == 0 {
+    if line.name == "listed" {
         counts.listed = counts.listed.saturating_add(1);
     } else {
-        counts.both = counts.both.saturating_add(1);
+        counts.named = counts.named.saturating_add(1);
     }
 }
 
@@ -127,7 +125,6 @@ fn compare(rt: &HostRuntime, names: &Names, stem: &str, counts: &mut Counts) -> 
 pub fn compare_all(rt: &HostRuntime, names: &Names) -> io::Result<()> {
     let mut counts = Counts {
         races: 0,
-        both: 0,
         listed: 0,
         named: 0,
     };
@@ -135,7 +132,7 @@ pub fn compare_all(rt: &HostRuntime, names: &Names) -> io::Result<()> {
         compare(rt, names, stem.as_str(), &mut counts)?;
     }
     println!(rt;
-        "{} races: {} outcomes are listed and were seen, {} are listed alone, {} were seen by name",
-        counts.races, counts.both, counts.listed, counts.named
+        "{} races: {} outcomes are listed, {} were seen by name alone",
+        counts.races, counts.listed, counts.named
     )
 }
