@@ -10,32 +10,36 @@
       --log FILE                 the log (out/edits.jsonl unless given)
 
 An edit must be refused: a check of the crate with that edit must leave a goal of the edited function that is not
-proved. Edits of different functions are tried in one check. Each of these counts as refused only if a goal of its own
-function is open. What is left is tried alone, and then any refusal counts. A line for each edit tells where it was
-refused:
+proved. Edits that change the bodies of different functions are tried in one check. Each of these counts as refused only
+if a goal of its own function is open. What is left is tried alone, and then any refusal counts. A line for each edit
+tells where it was refused:
 
-    at its clause      a goal that comes from the code or a contract is open
-    at a proof text    only a proof file does not fit the changed code; this says little of the contract
-    at a limit         the prover gave up with no verdict
-    bad                the edit does not apply, or the edited code cannot be read
-    NOT REFUSED        the crate is still proved: a wrong body meets the contract, or the edit changes nothing
-    not tried          nothing is known, since a check ended early
+    at its clause        a goal that comes from the code and a contract is open, or has values at which it is false
+    at a written answer  the written answer of such a goal proves it no longer: look whether the goal is false
+    at a proof text      only names in a proof file are gone, so this says little of the contract
+    at a limit           the prover gave up with no verdict
+    bad                  the edit does not apply, or the edited code cannot be read
+    NOT REFUSED          the crate is still proved: a wrong body meets the contract, or the edit changes nothing
+    not tried            nothing is known, since a check ended early
 
 Each result goes to the log, one JSON value a line, with a sum of all that it stands on: the kit, the crate, those below
 it, and the edit. A later run takes what the log has of the same sum. The status is 0 if each edit was refused at its
-clause, 1 if some were not, and 2 if the words are wrong or a crate is not proved as it stands.
+clause or at a written answer, 1 if some were not, and 2 if the words are wrong or a crate is not proved as it stands.
 """
 import argparse, collections, hashlib, importlib.machinery, importlib.util, json, os, re, resource, shutil, sys
 import tempfile, time
 
 TOP = os.path.dirname(os.path.dirname(os.path.abspath(__file__)))
 
-CLAUSE, TEXT, LIMIT, BAD = 'at its clause', 'at a proof text', 'at a limit', 'bad'
-MISSED, UNTRIED = 'NOT REFUSED', 'not tried'
-ORDER = [CLAUSE, TEXT, LIMIT, BAD, MISSED, UNTRIED]
+CLAUSE, ANSWER, TEXT = 'at its clause', 'at a written answer', 'at a proof text'
+LIMIT, BAD, MISSED, UNTRIED = 'at a limit', 'bad', 'NOT REFUSED', 'not tried'
+ORDER = [CLAUSE, ANSWER, TEXT, LIMIT, BAD, MISSED, UNTRIED]
+WELL = {CLAUSE, ANSWER}
 
 FUNCTION = re.compile(r'\s*(?:pub(?:\([a-z]+\))?\s+)?(?:const\s+)?fn\s+([a-z_0-9]+)')
 TOLD = re.compile(r'(?:note: )?(?:\./)?(\S+?):(\d+):\d+:')
+# of a goal: from the code, or with values at which it is false
+OPEN = re.compile(r'(note: )?(\./)?(src|specs)/|.* and the (goal|part) fails')
 # where a proof file names what the edit took away
 NAMES = re.compile(r'(note: )?(\./)?proofs/.*(has no field|is not in scope|has no `|was not admitted)')
 
@@ -68,24 +72,39 @@ def read(path):
 
 
 def function_at(text, number):
-    """Returns the name of the function that line `number` of the text is in, and the line that begins it."""
+    """Returns the name of the function that line `number` of the text is in, the line that begins it, and whether the
+    line is of its body; no name where the line is outside of all functions."""
     lines = text.split('\n')
-    for at in range(min(number, len(lines)) - 1, -1, -1):
-        found = FUNCTION.match(lines[at])
-        if found:
-            return found[1], at + 1
-    return None, 0
+    begins = next((at for at in range(min(number, len(lines)) - 1, -1, -1) if FUNCTION.match(lines[at])), None)
+    if begins is None:
+        return None, 0, False
+    name, indent = FUNCTION.match(lines[begins])[1], lines[begins][:len(lines[begins]) - len(lines[begins].lstrip())]
+    if lines[begins].endswith('}'):
+        return (name, begins + 1, True) if number == begins + 1 else (None, 0, False)
+    opens = next(at for at in range(begins, len(lines)) if opens_body(lines[at], indent, at == begins))
+    ends = next(at for at in range(opens, len(lines)) if lines[at] == indent + '}')
+    return (name, begins + 1, number > opens + 1) if number <= ends + 1 else (None, 0, False)
+
+
+def opens_body(line, indent, is_first):
+    """Returns whether the line opens the body of a function with this indentation, or ends its declaration."""
+    ends_signature = is_first or line.startswith(indent + ')')
+    return line == indent + '{' or line.endswith('{') and ends_signature or line.endswith(';')
 
 
 def places_of(folder, text):
-    """Returns the functions that an edit changes: for each the file, the line and the name."""
+    """Returns the functions whose bodies an edit changes: for each the file, the line and the name. None where it
+    changes something else, such as a contract or a constant, so that goals of other functions may be open too."""
     path, places = '', set()
     for line in text.split('\n'):
         if line.startswith('file: '):
             path = line[len('file: '):].strip()
         elif line.startswith('old: '):
             code = read(f'{folder}/{path}')
-            name, begins = function_at(code, code.count('\n', 0, code.find(line[len('old: '):])) + 1)
+            number = code.count('\n', 0, code.find(line[len('old: '):])) + 1
+            name, begins, is_body = function_at(code, number) if path.startswith('src/') else (None, 0, False)
+            if not is_body:
+                return None
             places.add((path, begins, name))
     return frozenset(places)
 
@@ -108,16 +127,17 @@ def edits_of(kit, crate, stamp, folders, only):
 
 
 def in_batches(edits, most):
-    """Returns the edits in groups; no two edits of a group change one function."""
+    """Returns the edits in groups; no two edits of a group change one function, and each changes bodies alone."""
     groups = []
     for edit in edits:
         for group in groups:
-            if len(group) < most and not any(edit.places & other.places for other in group):
+            if edit.places and len(group) < most and not any(edit.places & other.places for other in group):
                 group.append(edit)
                 break
         else:
-            groups.append([edit])
-    return groups
+            if edit.places:
+                groups.append([edit])
+    return groups + [[edit] for edit in edits if not edit.places]
 
 
 def goals_told(said):
@@ -127,13 +147,13 @@ def goals_told(said):
 
 
 def goals_by_function(lines, texts, folder):
-    """Returns these lines by what each is about: (file, line, name) of a function, or the name of a function's folder of proofs."""
+    """Returns these lines by what each is about: (file, line, name) of a function, or the name of its folder of proofs."""
     found = collections.defaultdict(list)
     for line in lines:
         told = TOLD.match(line)
         path, number = told[1], int(told[2])
         if path.startswith('src/'):
-            name, begins = function_at(texts.get(path) or read(f'{folder}/{path}'), number)
+            name, begins, _ = function_at(texts.get(path) or read(f'{folder}/{path}'), number)
             found[path, begins, name].append(line)
         elif path.startswith('proofs/') and path.count('/') > 1:
             found[path.split('/')[-2]].append(line)
@@ -142,9 +162,11 @@ def goals_by_function(lines, texts, folder):
 
 def kind_of(lines):
     """Returns the kind of a refusal that these lines tell, and the line that shows it best."""
-    at_goals = [it for it in lines if not NAMES.match(it)]
-    best = next((it for it in at_goals if 'src/' in it or 'specs/' in it), (at_goals or lines)[0])
-    return (CLAUSE if at_goals else TEXT), best
+    for kind, tells in ((CLAUSE, OPEN.match), (ANSWER, lambda line: not NAMES.match(line))):
+        best = next((it for it in lines if tells(it)), None)
+        if best:
+            return kind, best
+    return TEXT, lines[0]
 
 
 class Trier:
@@ -204,7 +226,8 @@ class Trier:
             own = [line for place in edit.places for line in found.get(place, [])]
             # (a folder of proofs has only the function's name: it counts where no other edit is of such a name)
             own += [line for _, _, name in edit.places if named[name] == 1 for line in found.get(name, [])]
-            if own:
+            # (names that are gone may be gone by another edit)
+            if own and kind_of(own)[0] in WELL:
                 results[edit.name] = Result(*kind_of(own), len(group), each)
         return results
 
@@ -220,7 +243,8 @@ class Trier:
 
         self.kit.checked = noted
         try:
-            (kind, told), took = self.over_seed(lambda over: self.kit.must_fail(self.crate, edit.file, self.flags, over))
+            tried, took = self.over_seed(lambda over: self.kit.must_fail(self.crate, edit.file, self.flags, over))
+            kind, told = tried
         finally:
             self.kit.checked = made
         kinds = {self.kit.AT_LIMIT: LIMIT, self.kit.BAD: BAD, self.kit.MISSED: MISSED, self.kit.UNSURE: UNTRIED}
@@ -278,7 +302,7 @@ def try_left(kit, crate, asked, left, results, log):
         if why:
             print(f'{crate.name}: {why}', flush=True)
             return False
-        print(f'{crate.name}: {len(left)} edits to try; the crate as it stands took {seconds() - begun:.0f} s', flush=True)
+        print(f'{crate.name}: {len(left)} edits to try, after {seconds() - begun:.0f} s for the crate itself', flush=True)
 
         def settle(edit, result):
             results[edit.name] = result
@@ -298,7 +322,11 @@ def try_left(kit, crate, asked, left, results, log):
 def summary(name, results):
     counts = collections.Counter(result.kind for result in results.values())
     took = sum(result.seconds for result in results.values())
-    return f'{name}: {len(results)} edits, {took:.0f} s: ' + ', '.join(f'{counts[it]} {it}' for it in ORDER if counts[it])
+    return f'{name}: {len(results)} edits, {took:.0f} s: {counted(counts)}'
+
+
+def counted(counts):
+    return ', '.join(f'{counts[it]} {it}' for it in ORDER if counts[it])
 
 
 def words():
@@ -340,8 +368,8 @@ def main():
     if unproved:
         print('not proved as they stand, so their edits were not tried: ' + ', '.join(unproved))
         return 2
-    print(f'{sum(total.values())} edits: ' + ', '.join(f'{total[it]} {it}' for it in ORDER if total[it]))
-    return 0 if set(total) <= {CLAUSE} else 1
+    print(f'{sum(total.values())} edits: {counted(total)}')
+    return 0 if set(total) <= WELL else 1
 
 
 if __name__ == '__main__':
