@@ -40,6 +40,7 @@ FUNCTION = re.compile(r'\s*(?:pub(?:\([a-z]+\))?\s+)?(?:const\s+)?fn\s+([a-z_0-9
 TOLD = re.compile(r'(?:note: )?(?:\./)?(\S+?):(\d+):\d+:')
 # of a goal: from the code, or with values at which it is false
 OPEN = re.compile(r'(note: )?(\./)?(src|specs)/|.* and the (goal|part) fails')
+ENSURED = 'what the function ensures'
 # where a proof file names what the edit took away
 NAMES = re.compile(r'(note: )?(\./)?proofs/.*(has no field|is not in scope|has no `|was not admitted)')
 
@@ -147,7 +148,7 @@ def goals_told(said):
 
 
 def goals_by_function(lines, texts, folder):
-    """Returns these lines by what each is about: (file, line, name) of a function, or the name of its folder of proofs."""
+    """Returns these lines by what each is about: (file, line, name) of a function, or the name of its proofs' folder."""
     found = collections.defaultdict(list)
     for line in lines:
         told = TOLD.match(line)
@@ -162,11 +163,11 @@ def goals_by_function(lines, texts, folder):
 
 def kind_of(lines):
     """Returns the kind of a refusal that these lines tell, and the line that shows it best."""
-    for kind, tells in ((CLAUSE, OPEN.match), (ANSWER, lambda line: not NAMES.match(line))):
-        best = next((it for it in lines if tells(it)), None)
-        if best:
-            return kind, best
-    return TEXT, lines[0]
+    opened = [it for it in lines if OPEN.match(it)]
+    if opened:
+        return CLAUSE, next((it for it in opened if ENSURED in it), opened[0])
+    unfit = [it for it in lines if not NAMES.match(it)]
+    return (ANSWER, unfit[0]) if unfit else (TEXT, lines[0])
 
 
 class Trier:
@@ -302,7 +303,8 @@ def try_left(kit, crate, asked, left, results, log):
         if why:
             print(f'{crate.name}: {why}', flush=True)
             return False
-        print(f'{crate.name}: {len(left)} edits to try, after {seconds() - begun:.0f} s for the crate itself', flush=True)
+        took = seconds() - begun
+        print(f'{crate.name}: {len(left)} edits to try, after {took:.0f} s for the crate itself', flush=True)
 
         def settle(edit, result):
             results[edit.name] = result
