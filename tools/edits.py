@@ -36,7 +36,7 @@ LIMIT, BAD, MISSED, UNTRIED = 'at a limit', 'bad', 'NOT REFUSED', 'not tried'
 ORDER = [CLAUSE, ANSWER, TEXT, LIMIT, BAD, MISSED, UNTRIED]
 WELL = {CLAUSE, ANSWER}
 
-FUNCTION = re.compile(r'\s*(?:pub(?:\([a-z]+\))?\s+)?(?:const\s+)?fn\s+([a-z_0-9]+)')
+FUNCTION = re.compile(r'(\s*)(?:pub(?:\([a-z]+\))?\s+)?(?:const\s+)?fn\s+([a-z_0-9]+)')
 TOLD = re.compile(r'(?:note: )?(?:\./)?(\S+?):(\d+):\d+:')
 # of a goal: from the code, or with values at which it is false
 OPEN = re.compile(r'(note: )?(\./)?(src|specs)/|.* and the (goal|part) fails')
@@ -79,18 +79,21 @@ def function_at(text, number):
     begins = next((at for at in range(min(number, len(lines)) - 1, -1, -1) if FUNCTION.match(lines[at])), None)
     if begins is None:
         return None, 0, False
-    name, indent = FUNCTION.match(lines[begins])[1], lines[begins][:len(lines[begins]) - len(lines[begins].lstrip())]
-    if lines[begins].endswith('}'):
-        return (name, begins + 1, True) if number == begins + 1 else (None, 0, False)
-    opens = next(at for at in range(begins, len(lines)) if opens_body(lines[at], indent, at == begins))
-    ends = next(at for at in range(opens, len(lines)) if lines[at] == indent + '}')
-    return (name, begins + 1, number > opens + 1) if number <= ends + 1 else (None, 0, False)
+    found = FUNCTION.match(lines[begins])
+    indent, name, last = found[1], found[2], len(lines) - 1
+    opens = next((at for at in range(begins, last) if opens_body(lines[at], indent, at == begins)), last)
+    is_whole = lines[opens].endswith((';', '}'))
+    ends = opens if is_whole else next((at for at in range(opens, last) if lines[at] == indent + '}'), last)
+    if number > ends + 1:
+        return None, 0, False
+    return name, begins + 1, number > opens + 1 or is_whole and lines[opens].endswith('}')
 
 
 def opens_body(line, indent, is_first):
-    """Returns whether the line opens the body of a function with this indentation, or ends its declaration."""
+    """Returns whether the line opens the body of a function with this indentation, or has all of it, or ends a
+    declaration that has none."""
     ends_signature = is_first or line.startswith(indent + ')')
-    return line == indent + '{' or line.endswith('{') and ends_signature or line.endswith(';')
+    return line == indent + '{' or line.endswith(('{', '}')) and ends_signature or line.endswith(';')
 
 
 def places_of(folder, text):
