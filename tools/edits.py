@@ -80,20 +80,25 @@ def function_at(text, number):
     if begins is None:
         return None, 0, False
     found = FUNCTION.match(lines[begins])
-    indent, name, last = found[1], found[2], len(lines) - 1
-    opens = next((at for at in range(begins, last) if opens_body(lines[at], indent, at == begins)), last)
-    is_whole = lines[opens].endswith((';', '}'))
-    ends = opens if is_whole else next((at for at in range(opens, last) if lines[at] == indent + '}'), last)
-    if number > ends + 1:
-        return None, 0, False
-    return name, begins + 1, number > opens + 1 or is_whole and lines[opens].endswith('}')
+    opens, ends = ends_of(lines, begins, found[1])
+    return (found[2], begins + 1, number > opens + 1) if number <= ends + 1 else (None, 0, False)
 
 
-def opens_body(line, indent, is_first):
-    """Returns whether the line opens the body of a function with this indentation, or has all of it, or ends a
-    declaration that has none."""
-    ends_signature = is_first or line.startswith(indent + ')')
-    return line == indent + '{' or line.endswith(('{', '}')) and ends_signature or line.endswith(';')
+def ends_of(lines, begins, indent):
+    """Returns the place of the last line of the signature and contract of the function that begins there, with the
+    brace of its body, and that of its own last line."""
+    depth = 0
+    for at in range(begins, len(lines)):
+        line = lines[at]
+        if at == begins and line.endswith('}'):
+            return at - 1, at
+        ends_signature = at == begins or line.startswith(indent + ')')
+        if depth == 0 and (line == indent + '{' or line.endswith('{') and ends_signature):
+            return at, next((k for k in range(at, len(lines)) if lines[k] == indent + '}'), at)
+        depth += line.count('{') - line.count('}')
+        if depth == 0 and line.endswith(';'):
+            return at, at
+    return len(lines), len(lines)
 
 
 def places_of(folder, text):
@@ -151,7 +156,7 @@ def goals_told(said):
 
 
 def goals_by_function(lines, texts, folder):
-    """Returns these lines by what each is about: (file, line, name) of a function, or the name of its proofs' folder."""
+    """Returns these lines by what each is about: (file, line, name) of a function, or the name of its proof folder."""
     found = collections.defaultdict(list)
     for line in lines:
         told = TOLD.match(line)
