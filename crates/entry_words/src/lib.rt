@@ -10,7 +10,8 @@ ghost use Rattle.entry_words.specs.Reading.{field, pool_from, place_from, place_
 use hm_base::{Actor, Dev, Frame, Place, PoolId};
 
 /// The word of no place: a reserved bit is set, or its fields do not go together.
-#[derive(Clone, Copy, PartialEq, Eq, Debug)]
+#[derive(Clone, Copy, PartialEq, Eq, Debug, thiserror::Error)]
+#[error("the word is that of no place")]
 pub struct BadWord;
 
 const SYS: u64 = 2;

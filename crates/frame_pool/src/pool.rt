@@ -21,7 +21,8 @@ pub enum Piece {
 }
 
 /// The frame is locked, and by this actor (`folio_trylock` of include/linux/pagemap.h).
-#[derive(Clone, Copy, PartialEq, Eq, Debug)]
+#[derive(Clone, Copy, PartialEq, Eq, Debug, thiserror::Error)]
+#[error("actor {} has the frame locked", .0.number())]
 pub struct Held(pub Actor);
 
 /// Frames of 4,096 bytes by their numbers, in one row: the system's, or a device's own

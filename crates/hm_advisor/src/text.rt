@@ -3,7 +3,6 @@ ghost use Rattle.std.specs.Prelude.{◌≡◌, ◌≤◌, [], ◌∷◌, ◌++�
 ghost use Rattle.std.specs.Fmt.{decimal};
 ghost use Rattle.std.specs.List.{flat_map};
 ghost use Rattle.hm_script.specs.Spelling.{line};
-ghost use Rattle.hm_report.specs.SinkState.{sink_state};
 ghost use Rattle.hm_report.specs.Written.{Writes, SentOn, FaultCause, ReportWants};
 ghost use Rattle.hm_advisor.specs.Text.{count_line, move_line, end_line, advice_text};
 
@@ -102,11 +101,11 @@ pub fn advice_text(alloc: Global, advice: &Advice) -> Result<Text, NoMemory>
 
 /// Writes that text and flushes the sink. The text is made whole before anything is written.
 pub fn write_advice<K: Sink>(alloc: Global, advice: &Advice, sink: &mut K) -> Written
-    ensures text { Writes (K.held sink.old) (K.held sink.new) (advice_text advice.now) result }
-    ensures sent { SentOn (K.pending sink.new) result }
-    ensures faults { FaultCause (K.failures sink.old) (K.failures sink.new) result }
-    ensures wants { ReportWants (sink_state K.held K.failures K.wanted sink.old)
-        (sink_state K.held K.failures K.wanted sink.new) result }
+    ensures text { Writes (K.state sink.old).held (K.state sink.new).held (advice_text advice.now) result }
+    ensures sent { SentOn (K.state sink.new).pending result }
+    ensures faults { FaultCause (K.state sink.old).faults (K.state sink.new).faults result }
+    ensures wants { ReportWants (K.state sink.old)
+        (K.state sink.new) result }
 {
     match advice_text(alloc, advice) {
         Ok(text) => write_text(alloc, &text, sink),

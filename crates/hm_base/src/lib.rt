@@ -18,15 +18,16 @@ mod snap;
 pub use area::Area;
 pub use cause::Cause;
 pub use limits::{
-    MOST_ACTORS, MOST_AREAS, MOST_DEVICES, MOST_ENTRIES, MOST_MIRRORS, MOST_PROCESSES,
-    MOST_SCRIPT_BYTES, PAGE_BYTES,
+    MOST_ACTORS, MOST_AREAS, MOST_DEVICE_FRAMES, MOST_DEVICES, MOST_ENTRIES, MOST_MIRRORS, MOST_OPERATIONS,
+    MOST_PROCESSES, MOST_REPORT_BYTES, MOST_SCHEDULE_LINES, MOST_SCRIPT_BYTES, MOST_SYSTEM_FRAMES, PAGE_BYTES,
 };
 pub use lists::{ActorLists, Bytes, DeviceList, ListOf, MaskList, Masks, OpList, Schedule, Text};
 pub use ops::{Op, Rights, ScheduleLine, Script, Version};
 pub use snap::snap_code;
 
-/// Want of memory: the allocator gave none, and the value that was asked is as it was.
-#[derive(Clone, Copy, PartialEq, Eq, Debug)]
+/// The allocator gave no memory, and the value that was asked is as it was.
+#[derive(Clone, Copy, PartialEq, Eq, Debug, thiserror::Error)]
+#[error("out of memory")]
 pub struct NoMemory;
 
 impl From<AllocError> for NoMemory {

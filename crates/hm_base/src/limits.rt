@@ -7,6 +7,21 @@ pub const MOST_ENTRIES: u64 = 2_000_000;
 /// As many bytes as a script has at most.
 pub const MOST_SCRIPT_BYTES: u64 = 4_194_304;
 
+/// As many bytes as a report that is read has at most.
+pub const MOST_REPORT_BYTES: u64 = 268_435_456;
+
+/// As many operations as a script has at most.
+pub const MOST_OPERATIONS: u64 = 100_000;
+
+/// As many schedule lines as a script has at most.
+pub const MOST_SCHEDULE_LINES: u64 = 100_000;
+
+/// As many frames of the system as a script has at most.
+pub const MOST_SYSTEM_FRAMES: u64 = 16_384;
+
+/// As many frames of a device as a script has at most.
+pub const MOST_DEVICE_FRAMES: u64 = 8_192;
+
 /// As many actors as a script has at most.
 pub const MOST_ACTORS: u32 = 16;
 

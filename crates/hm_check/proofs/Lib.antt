@@ -3,4 +3,5 @@ pub mod Follow
 pub mod Hex
 pub mod Loops
 pub mod Naming
+pub mod NotJudged
 pub mod ReportLines

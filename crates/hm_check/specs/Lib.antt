@@ -1,3 +1,4 @@
 pub mod FirstBad
 pub mod Judged
+pub mod Judging
 pub mod Parts

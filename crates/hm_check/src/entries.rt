@@ -8,12 +8,12 @@ ghost use Rattle.hm_check.specs.Parts.{TakesLine, TakesAll};
 
 use crate::actor::actor_in;
 use crate::lines::strip_front;
-use crate::skips::Multiples;
 use hm_base::{MOST_ENTRIES, NoMemory};
 use hm_history::{Entry, Kind, Progress};
 use hm_report::{Buffer, digit, put_front};
 use hm_script::cut_line;
 use hm_world::World;
+use skip_rules::Multiples;
 use std::alloc::Global;
 
 /// What follows the two digits of a byte, where the text begins with them.

@@ -3,9 +3,11 @@
 
 mod actor;
 mod entries;
+mod judging;
 mod lines;
-mod skips;
 mod tail;
 mod verdict;
 
+pub use judging::check_source;
+pub use tail::put_tail;
 pub use verdict::{Report, Verdict, check};

@@ -1,4 +1,4 @@
--- What the calls of sources and sinks do to the bytes that are told, and to the counts.
+-- What sources and sinks tell of themselves, and what their calls do to that.
 use Rattle.std.specs.Prelude.{◌≡◌, ℕ, ◌+◌, ◌-◌, ◌^◌, ◌≤◌, min, Bool, false, List, [], ◌++◌, take, Option, Some, None}
 use Rattle.hm_io.specs.declared.Got.{Got}
 use Rattle.hm_io.specs.declared.Got.TheVariants as got
@@ -6,6 +6,23 @@ use Rattle.hm_io.specs.declared.Put.{Put}
 use Rattle.hm_io.specs.declared.Put.TheVariants as put
 use Rattle.hm_io.specs.declared.Flushed.{Flushed}
 use Rattle.hm_io.specs.declared.Flushed.TheVariants as flushed
+
+-- ---- what a stream tells of itself
+
+-- a source: the bytes that are left in it, if they are known, and how often a read has failed
+pub record SourceState : Type 0 where
+  pub left : Option (List ℕ)
+  pub faults : ℕ
+
+-- a sink: the bytes that it holds, if they are known, how often a write or a flush has failed, how often it ran out of
+-- memory, and whether bytes that it took may not have gone on yet
+pub record SinkState : Type 0 where
+  pub held : Option (List ℕ)
+  pub faults : ℕ
+  pub wants : ℕ
+  pub pending : Bool
+
+-- ---- what the calls do
 
 -- one more, up to the last value of a u64
 abbrev pub raised : ℕ → ℕ
@@ -24,7 +41,7 @@ GotCount (got.Bytes n) room = IsCount n room
 GotCount got.Ended room = Unit {0}
 GotCount got.Failed room = Unit {0}
 
--- the front of what was left came, and the rest is left; where nothing is told of what was left, nothing is
+-- the front of what was left came, and the rest is left; if what was left is not known, nothing is said
 abbrev pub Reads : Option (List ℕ) → Option (List ℕ) → Got → List ℕ → Type 0
 Reads None after g into = Unit {0}
 Reads (Some left) after (got.Bytes n) into = (rest : List ℕ) × (left ≡ take n into ++ rest) × (after ≡ Some rest)
@@ -42,7 +59,7 @@ PutCount (put.Took n) room = IsCount n room
 PutCount put.Failed room = Unit {0}
 PutCount put.NoMemory room = Unit {0}
 
--- these bytes were added to what is held; where nothing is told of what is held, nothing is
+-- these bytes were added to what is held; if what is held is not known, nothing is said
 abbrev pub Adds : Option (List ℕ) → Option (List ℕ) → List ℕ → Type 0
 Adds None after more = Unit {0}
 Adds (Some held) after more = after ≡ Some (held ++ more)
@@ -51,7 +68,7 @@ Adds (Some held) after more = after ≡ Some (held ++ more)
 abbrev pub AddsFront : Option (List ℕ) → Option (List ℕ) → List ℕ → Type 0
 AddsFront before after text = (front rest : List ℕ) × (text ≡ front ++ rest) × Adds before after front
 
--- what is held, where it is told, is as it was
+-- what is held, if it is known, is as it was
 abbrev pub Stays : Option (List ℕ) → Option (List ℕ) → Type 0
 Stays None after = Unit {0}
 Stays (Some held) after = after ≡ Some held

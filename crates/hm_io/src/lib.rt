@@ -1,7 +1,7 @@
 // Where scripts come from and where texts go: sources and sinks that count their faults.
 #![tactic(auto)]
 
-ghost use Rattle.std.specs.Prelude.{◌≡◌, ℕ, ◌<◌, Bool, List, length, Option};
+ghost use Rattle.std.specs.Prelude.{◌≡◌, ◌<◌, length};
 
 mod memory;
 mod plan;
@@ -30,7 +30,7 @@ pub enum Put {
     Took(usize),
     /// It failed, and what is held is as it was.
     Failed,
-    /// It wanted memory, and what is held is as it was.
+    /// It ran out of memory, and what is held is as it was.
     NoMemory,
 }
 
@@ -45,62 +45,53 @@ pub enum Flushed {
 
 /// Bytes that come one piece after another.
 pub trait Source {
-    ghost use Rattle.hm_io.specs.Streams.{GotCount, Reads, ReadCause};
+    ghost use Rattle.hm_io.specs.Streams.{SourceState, GotCount, Reads, ReadCause};
 
-    /// The bytes that are left, where they are told: in memory, or by a reader whose own contract tells them.
-    ghost left: { Self → Option (List ℕ) };
-
-    /// How often a read has failed.
-    ghost failures: { Self → ℕ };
+    /// The bytes that are left, if they are known: in memory, or of a reader whose own contract says them; and how often
+    /// a read has failed.
+    ghost state: { Self → SourceState };
 
     /// Puts the front of what is left at the front of the buffer.
     fn read(&mut self, into: &mut [u8]) -> Got
         requires { 0 < length into.old }
         ensures count { GotCount result (length into.old) }
-        ensures bytes { Reads (left self.old) (left self.new) result into.new }
-        ensures cause { ReadCause (failures self.old) (failures self.new) result };
+        ensures bytes { Reads (state self.old).left (state self.new).left result into.new }
+        ensures cause { ReadCause (state self.old).faults (state self.new).faults result };
 
     /// How often a read has failed, up to 2^64 - 1.
     fn faults(&self) -> u64
-        ensures { result ≡ failures self.now };
+        ensures { result ≡ (state self.now).faults };
 }
 
 /// Where bytes go, one piece after another.
 pub trait Sink {
-    ghost use Rattle.hm_io.specs.Streams.{PutCount, Writes, WriteCause, WantCause, Stays, IsSentOn, FlushCause};
+    ghost use Rattle.hm_io.specs.Streams.{SinkState, PutCount, Writes, WriteCause, WantCause, Stays, IsSentOn, FlushCause};
 
-    /// The bytes that it holds, where they are told: in memory, or by a writer whose own contract tells them.
-    ghost held: { Self → Option (List ℕ) };
-
-    /// How often a write or a flush has failed.
-    ghost failures: { Self → ℕ };
-
-    /// How often it has wanted memory.
-    ghost wanted: { Self → ℕ };
-
-    /// Whether bytes that it took may not have gone on yet to where they are to go.
-    ghost pending: { Self → Bool };
+    /// The bytes that it holds, if they are known: in memory, or of a writer whose own contract says them; how often a
+    /// write or a flush has failed; how often it ran out of memory; and whether bytes that it took may not have gone on
+    /// yet to where they are to go.
+    ghost state: { Self → SinkState };
 
     /// Adds a front of these bytes to what it holds.
     fn write(&mut self, from: &[u8]) -> Put
         requires { 0 < length from.now }
         ensures count { PutCount result (length from.now) }
-        ensures bytes { Writes (held self.old) (held self.new) result from.now }
-        ensures cause { WriteCause (failures self.old) (failures self.new) result }
-        ensures want { WantCause (wanted self.old) (wanted self.new) result };
+        ensures bytes { Writes (state self.old).held (state self.new).held result from.now }
+        ensures cause { WriteCause (state self.old).faults (state self.new).faults result }
+        ensures want { WantCause (state self.old).wants (state self.new).wants result };
 
     /// Sends on all that was taken.
     fn flush(&mut self) -> Flushed
-        ensures bytes { Stays (held self.old) (held self.new) }
-        ensures done { IsSentOn (pending self.new) result }
-        ensures cause { FlushCause (failures self.old) (failures self.new) result }
-        ensures want { wanted self.new ≡ wanted self.old };
+        ensures bytes { Stays (state self.old).held (state self.new).held }
+        ensures done { IsSentOn (state self.new).pending result }
+        ensures cause { FlushCause (state self.old).faults (state self.new).faults result }
+        ensures want { (state self.new).wants ≡ (state self.old).wants };
 
     /// How often a write or a flush has failed, up to 2^64 - 1.
     fn faults(&self) -> u64
-        ensures { result ≡ failures self.now };
+        ensures { result ≡ (state self.now).faults };
 
-    /// How often it has wanted memory, up to 2^64 - 1.
+    /// How often it ran out of memory, up to 2^64 - 1.
     fn wants(&self) -> u64
-        ensures { result ≡ wanted self.now };
+        ensures { result ≡ (state self.now).wants };
 }

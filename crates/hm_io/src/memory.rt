@@ -53,9 +53,7 @@ impl Source for MemorySource {
     ghost use Rattle.hm_io.specs.Streams.{GotCount, Reads, ReadCause};
     ghost use Rattle.hm_io.specs.Memory.{feed_gives, feed_after};
 
-    ghost left = { λ s. Some s.left };
-
-    ghost failures = { λ s. s.plan.faults };
+    ghost state = { λ s. record { left = Some s.left; faults = s.plan.faults } };
 
     fn read(&mut self, into: &mut [u8]) -> Got
         requires { 0 < length into.old }
@@ -128,13 +126,7 @@ impl Sink for MemorySink {
     ghost use Rattle.hm_io.specs.Streams.{PutCount, Writes, WriteCause, WantCause};
     ghost use Rattle.hm_io.specs.Memory.{store_gives, store_after};
 
-    ghost held = { λ s. Some s.bytes };
-
-    ghost failures = { λ s. s.plan.faults };
-
-    ghost wanted = { λ _. 0 };
-
-    ghost pending = { λ _. false };
+    ghost state = { λ s. record { held = Some s.bytes; faults = s.plan.faults; wants = 0; pending = false } };
 
     fn write(&mut self, from: &[u8]) -> Put
         requires { 0 < length from.now }

@@ -25,9 +25,7 @@ impl<R: Read> StreamSource<R> {
 }
 
 impl<R: Read> Source for StreamSource<R> {
-    ghost left = { λ s. R.remaining s.from };
-
-    ghost failures = { λ s. s.faults };
+    ghost state = { λ s. record { left = R.remaining s.from; faults = s.faults } };
 
     fn read(&mut self, into: &mut [u8]) -> Got {
         match self.from.read(into) {
@@ -70,13 +68,12 @@ impl<W: Write> StreamSink<W> {
 }
 
 impl<W: Write> Sink for StreamSink<W> {
-    ghost held = { λ s. W.contents s.to };
-
-    ghost failures = { λ s. s.faults };
-
-    ghost wanted = { λ _. 0 };
-
-    ghost pending = { λ s. s.pending };
+    ghost state = { λ s. record {
+        held = W.contents s.to;
+        faults = s.faults;
+        wants = 0;
+        pending = s.pending;
+    } };
 
     fn write(&mut self, from: &[u8]) -> Put {
         match self.to.write(from) {

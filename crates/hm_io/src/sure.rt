@@ -36,9 +36,7 @@ impl SureSource {
 }
 
 impl Source for SureSource {
-    ghost left = { λ s. Some s };
-
-    ghost failures = { λ _. 0 };
+    ghost state = { λ s. record { left = Some s; faults = 0 } };
 
     fn read(&mut self, into: &mut [u8]) -> Got {
         let left = &self.bytes.as_slice()[self.at..];
@@ -56,7 +54,7 @@ impl Source for SureSource {
     }
 }
 
-/// A sink in memory that grows, and counts how often it wanted memory.
+/// A sink in memory that grows, and counts how often it ran out of memory.
 #[derive(Drop)]
 pub struct SureSink {
     text: Text,
@@ -91,13 +89,7 @@ impl SureSink {
 }
 
 impl Sink for SureSink {
-    ghost held = { λ s. Some s.bytes };
-
-    ghost failures = { λ _. 0 };
-
-    ghost wanted = { λ s. s.wants };
-
-    ghost pending = { λ _. false };
+    ghost state = { λ s. record { held = Some s.bytes; faults = 0; wants = s.wants; pending = false } };
 
     fn write(&mut self, from: &[u8]) -> Put {
         match self.text.extend(from) {

@@ -1,6 +1,5 @@
 // The text of a search, made whole and then written.
 ghost use Rattle.std.specs.Prelude.{◌≡◌, ◌∷◌, ◌++◌, [], IfOk, OnOk};
-ghost use Rattle.hm_report.specs.SinkState.{sink_state};
 ghost use Rattle.hm_report.specs.Written.{Writes, SentOn, FaultCause, ReportWants};
 ghost use Rattle.hm_race_text.specs.Text.{outcome_line, block_text, blocks_text, states_line, outcomes_text};
 
@@ -66,11 +65,11 @@ pub fn write_outcomes<K: Sink>(
     whole: bool,
     sink: &mut K,
 ) -> Written
-    ensures text { Writes (K.held sink.old) (K.held sink.new) (outcomes_text blocks.now states whole) result }
-    ensures sent { SentOn (K.pending sink.new) result }
-    ensures faults { FaultCause (K.failures sink.old) (K.failures sink.new) result }
-    ensures wants { ReportWants (sink_state K.held K.failures K.wanted sink.old)
-        (sink_state K.held K.failures K.wanted sink.new) result }
+    ensures text { Writes (K.state sink.old).held (K.state sink.new).held (outcomes_text blocks.now states whole) result }
+    ensures sent { SentOn (K.state sink.new).pending result }
+    ensures faults { FaultCause (K.state sink.old).faults (K.state sink.new).faults result }
+    ensures wants { ReportWants (K.state sink.old)
+        (K.state sink.new) result }
 {
     match outcomes_text(alloc, blocks, states, whole) {
         Ok(text) => write_text(alloc, &text, sink),

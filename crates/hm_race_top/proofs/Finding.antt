@@ -5,10 +5,10 @@ use Rattle.hm_history.specs.Run.{run}
 use Rattle.hm_race_search.specs.Known.{KnownValue, AreKnown}
 use Rattle.hm_race_text.specs.Laws.{lines_of, AreDistinct}
 use Rattle.hm_race_text.specs.Text.{blocks_of, outcomes_text}
-use Rattle.hm_report.specs.SinkState.{SinkState}
+use Rattle.hm_io.specs.Streams.{SinkState}
 use Rattle.hm_script.specs.Built.{has_drain}
-use Rattle.hm_top.specs.Writing.{HasWritten}
-use Rattle.hm_top.specs.declared.status.Status.{Status}
+use Rattle.hm_edge.specs.Writing.{HasWritten}
+use Rattle.hm_edge.specs.declared.status.Status.{Status}
 use Rattle.hm_race_top.specs.Races.{told, Found, HasWrittenWays, HasFound}
 use Rattle.hm_race_top.specs.Ways.{ways_by, blocks_known, AreTrue, HaveAll}
 
@@ -42,7 +42,10 @@ module _ (most : ℕ) (c : Program) (known : List KnownValue) (whole : Bool) (ho
   has_found Status.Usage w = absurd w
   has_found (Status.NotLegal n) w = absurd w
   has_found (Status.Refused r) w = absurd w
-  has_found Status.TooLong w = absurd w
+  has_found Status.ScriptTooLong w = absurd w
+  has_found Status.ReportTooLong w = absurd w
+  has_found Status.NoRows w = absurd w
+  has_found Status.TooManyRows w = absurd w
   has_found Status.ReadFault w = absurd w
 
   -- so of as many actors and states as the script and the search have

@@ -1,18 +1,16 @@
 -- What a call comes to: what was read, and what was written of its race.
 use Rattle.std.specs.Prelude.{◌≡◌, ◌⊎◌, ◌<◌, ℕ, Bool, true, false, List, length, Option, Some, None, IfSome}
 use Rattle.hm_base.specs.Program.{Program}
-use Rattle.hm_base.specs.declared.limits.TheConstants.{MOST_SCRIPT_BYTES}
 use Rattle.hm_history.specs.Run.{run}
 use Rattle.hm_history.specs.declared.StepError.{StepError}
 use Rattle.hm_race_search.specs.Known.{KnownValue, AreKnown, MayFail}
 use Rattle.hm_race_text.specs.Laws.{lines_of, AreDistinct}
 use Rattle.hm_race_text.specs.Text.{outcomes_text}
-use Rattle.hm_report.specs.SinkState.{SinkState}
-use Rattle.hm_top.specs.Complete.{IsGiven, NoFault}
-use Rattle.hm_top.specs.Reading.{HasNotRead, IsTextOf, ReadAs, ReadFaulted}
-use Rattle.hm_top.specs.Traffic.{Traffic}
-use Rattle.hm_top.specs.Writing.{HasWritten, WriteFaulted}
-use Rattle.hm_top.specs.declared.status.Status.{Status}
+use Rattle.hm_io.specs.Streams.{SinkState}
+use Rattle.hm_edge.specs.Reading.{IsGiven, HasNotRead, IsTextOf, ReadAs, ReadFaulted}
+use Rattle.hm_edge.specs.Traffic.{NoFault, Traffic}
+use Rattle.hm_edge.specs.Writing.{HasWritten, WriteFaulted}
+use Rattle.hm_edge.specs.declared.status.Status.{Status}
 use Rattle.hm_race_top.specs.Ways.{blocks_known, AreTrue, HaveAll}
 
 -- what is written of the states that a search knows
@@ -55,7 +53,7 @@ HasFound most c before after _ = ⊥
 -- a script was read, and its race searched
 pub record Searched (most : ℕ) (io : Traffic) (status : Status) : Type 0 where
   pub script : Program
-  pub read : ReadAs MOST_SCRIPT_BYTES (IsTextOf script) io.source io.source_after
+  pub read : ReadAs 4194304 (IsTextOf script) io.source io.source_after
   pub found : HasFound most script io.sink io.sink_after status
 
 -- no script was read, and nothing written
@@ -77,6 +75,8 @@ pub record Searches (most : ℕ) (io : Traffic) (status : Status) : Type 0 where
   -- `ReadFault` comes only where the source counted a fault, and `WriteFault` where the sink did.
   pub read_faults : ReadFaulted io.source.faults io.source_after.faults status
   pub write_faults : WriteFaulted io.sink.faults io.sink_after.faults status
+  -- What was written at `Done`, the sink sent on.
+  pub flushed : status ≡ Status.Done → io.sink_after.pending ≡ false
   -- Where neither stream counted a fault, and the bytes are the text of a script.
   pub sure : NoFault io → IfSome io.source.left (λ bytes. (s : Program) → IsGiven s bytes → IsSure status)
 

@@ -1,5 +1,5 @@
 // The top call: reads a script, searches its race, and writes the outcomes.
-ghost use Rattle.std.specs.Prelude.{◌≡◌, ◌≤◌, length, map, string_bytes};
+ghost use Rattle.std.specs.Prelude.{◌≡◌, ◌≤◌, false, length, map, string_bytes};
 ghost use Rattle.hm_base.specs.Program.{IsScript};
 ghost use Rattle.hm_race_forms.specs.Form.{form_in};
 ghost use Rattle.hm_race_search.specs.Values.{all_known};
@@ -7,15 +7,15 @@ ghost use Rattle.hm_race_text.specs.Text.{blocks_of, outcomes_text};
 ghost use Rattle.hm_race_top.specs.Asked.{most_of};
 ghost use Rattle.hm_race_top.specs.Races.{HasFound, HasWrittenWays, Races, Searches};
 ghost use Rattle.hm_race_top.specs.Ways.{ways_by};
-ghost use Rattle.hm_report.specs.SinkState.{sink_state};
-ghost use Rattle.hm_top.specs.Traffic.{source_state, traffic};
-ghost use Rattle.hm_top.specs.Writing.{WriteFaulted};
+ghost use Rattle.hm_edge.specs.Traffic.{traffic};
+ghost use Rattle.hm_edge.specs.Writing.{WriteFaulted};
+ghost use Rattle.hm_edge.specs.declared.status.Status.{Status};
 
 use crate::asked::most_of;
-use crate::input::read_script;
 use crate::laws::{complete_is_all, known_is_true};
 use crate::ways::{blocks_of, has_drain};
 use hm_base::{NoMemory, Script};
+use hm_edge::{Status, read_script};
 use hm_history::StepError;
 use hm_io::{Sink, Source};
 use hm_race_forms::key::Key;
@@ -23,7 +23,6 @@ use hm_race_run::search;
 use hm_race_search::Explored;
 use hm_race_text::write_outcomes;
 use hm_report::Written;
-use hm_top::Status;
 use skip_rules::SkipRule;
 use std::alloc::Global;
 
@@ -39,8 +38,9 @@ fn write_ways<K: Sink>(
     ensures written { HasWrittenWays
         (outcomes_text (blocks_of (ways_by actors drains (all_known form_in found.now.known.items)))
         (length found.now.known.items) found.now.whole)
-        (sink_state K.held K.failures K.wanted sink.old) (sink_state K.held K.failures K.wanted sink.new) result }
-    ensures faults { WriteFaulted (K.failures sink.old) (K.failures sink.new) result }
+        (K.state sink.old) (K.state sink.new) result }
+    ensures faults { WriteFaulted (K.state sink.old).faults (K.state sink.new).faults result }
+    ensures flushed { result ≡ Status.Done → (K.state sink.new).pending ≡ false }
 {
     let Ok(blocks) = blocks_of(alloc, actors, drains, found.known.as_slice()) else {
         return Status::NoMemory;
@@ -61,9 +61,9 @@ fn find<R: SkipRule, K: Sink>(
     most: u64,
     sink: &mut K,
 ) -> Status
-    ensures found { HasFound most script (sink_state K.held K.failures K.wanted sink.old)
-        (sink_state K.held K.failures K.wanted sink.new) result }
-    ensures faults { WriteFaulted (K.failures sink.old) (K.failures sink.new) result }
+    ensures found { HasFound most script (K.state sink.old) (K.state sink.new) result }
+    ensures faults { WriteFaulted (K.state sink.old).faults (K.state sink.new).faults result }
+    ensures flushed { result ≡ Status.Done → (K.state sink.new).pending ≡ false }
 {
     script.facts();
     known_is_true();
@@ -87,8 +87,7 @@ fn read_and_find<R: SkipRule, S: Source, K: Sink>(
     rule: R,
 ) -> Status
     ensures { Searches most
-        (traffic (source_state S.left S.failures) (sink_state K.held K.failures K.wanted) source.old source.new sink.old
-        sink.new) result }
+        (traffic S.state K.state source.old source.new sink.old sink.new) result }
 {
     match read_script(alloc, source) {
         Ok(script) => find(alloc, script, rule, most, sink),
@@ -107,8 +106,7 @@ pub fn races<R: SkipRule, S: Source, K: Sink>(
     rule: R,
 ) -> Status
     ensures { Races (most_of (map string_bytes words.now))
-        (traffic (source_state S.left S.failures) (sink_state K.held K.failures K.wanted) source.old source.new sink.old
-        sink.new) result }
+        (traffic S.state K.state source.old source.new sink.old sink.new) result }
 {
     match most_of(words) {
         Some(most) => read_and_find(alloc, most, source, sink, rule),

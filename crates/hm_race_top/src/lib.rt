@@ -3,12 +3,11 @@
 
 mod asked;
 mod call;
-mod input;
 mod laws;
-mod messages;
+mod program;
 mod ways;
 
 pub use asked::MOST_STATES;
 pub use call::races;
 pub use laws::{complete_is_all, drain_is_last, known_is_true, ways_are_outcomes};
-pub use messages::{finish, message};
+pub use program::{NAME, USAGE, program};

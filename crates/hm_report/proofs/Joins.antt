@@ -2,7 +2,8 @@
 use Rattle.std.proofs.Common.{◌≡◌, ℕ, List, [], ◌++◌, refl, sym, ap, ◌∙◌}
 use Rattle.std.proofs.lemmas.List.{append_assoc, append-nil}
 use Rattle.hm_report.specs.declared.outlet.Stop.{Stop}
-use Rattle.hm_report.specs.SinkState.{SinkState, GoesOn, Stops}
+use Rattle.hm_io.specs.Streams.{SinkState}
+use Rattle.hm_report.specs.Sends.{GoesOn, Stops}
 use Rattle.hm_report.proofs.Sending.{stops_before, goes_nothing, goes_put, goes_more, goes_settled, goes_stops}
 
 -- the first call, and what was put before it

@@ -1,9 +1,9 @@
 -- What goes out piece by piece goes out in whole.
 use Rattle.std.proofs.Common.{◌≡◌, ℕ, ◌+◌, List, [], ◌++◌, take, drop, take-add, Option, Some, None, refl, sym, ap, ◌∙◌}
 use Rattle.std.proofs.lemmas.List.{append_assoc, append-nil, take-append-drop}
-use Rattle.hm_io.specs.Streams.{Adds, Stays}
+use Rattle.hm_io.specs.Streams.{Adds, Stays, SinkState}
 use Rattle.hm_report.specs.declared.outlet.Stop.{Stop}
-use Rattle.hm_report.specs.SinkState.{SinkState, Sends, GoesOn, Stops, StopCause}
+use Rattle.hm_report.specs.Sends.{Sends, GoesOn, Stops, StopCause}
 
 adds_none : (held : Option (List ℕ)) → Adds held held []
 adds_none None = tt

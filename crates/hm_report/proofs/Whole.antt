@@ -6,7 +6,8 @@ use Rattle.hm_history.specs.declared.Entry.{Entry}
 use Rattle.hm_script.specs.Spelling.{text}
 use Rattle.hm_report.specs.declared.outlet.Stop.{Stop}
 use Rattle.hm_report.specs.Report.{history_line, entry_lines, unfinished_lines, end_line, report_by}
-use Rattle.hm_report.specs.SinkState.{SinkState, Sends, GoesOn, Stops}
+use Rattle.hm_io.specs.Streams.{SinkState}
+use Rattle.hm_report.specs.Sends.{Sends, GoesOn, Stops}
 use Rattle.hm_report.proofs.Sending.{stops_before, stops_after, goes_more, goes_stops, sends_more}
 
 -- the script's text and the lines of the entries

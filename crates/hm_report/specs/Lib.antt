@@ -4,6 +4,6 @@ pub mod Kinds
 pub mod Line
 pub mod Report
 pub mod Summary
-pub mod SinkState
+pub mod Sends
 pub mod Words
 pub mod Written

@@ -1,7 +1,6 @@
 -- What a write of a text does to a sink.
 use Rattle.std.specs.Prelude.{◌≡◌, ℕ, ◌≤◌, Bool, false, List, Option, ◌⊎◌}
-use Rattle.hm_io.specs.Streams.{Rose, Adds, AddsFront}
-use Rattle.hm_report.specs.SinkState.{SinkState}
+use Rattle.hm_io.specs.Streams.{Rose, Adds, AddsFront, SinkState}
 use Rattle.hm_report.specs.declared.written.Written.{Written}
 
 -- the text was added, or a front of it

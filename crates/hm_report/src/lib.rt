@@ -18,7 +18,7 @@ pub use ended::{op_count, operations_ended};
 pub use kinds::put_front;
 pub use laws::ends_are_counted;
 pub use numerals::{digit, put_decimal};
-pub use outlet::{Stop, write_last};
+pub use outlet::{Stop, send_on, write_all, write_last};
 pub use report::{put_end, put_unfinished_line, write_report, write_text};
 pub use totals::summary;
 pub use written::Written;

@@ -1,7 +1,7 @@
 // From a buffer to a sink, in whole pieces.
 ghost use Rattle.std.specs.Prelude.{◌≡◌, ◌+◌, ◌≤◌, ◌<◌, ◌∷◌, ◌++◌, [], false, length, OnOk, IfErr};
 ghost use Rattle.hm_script.specs.Spelling.{hex_text};
-ghost use Rattle.hm_report.specs.SinkState.{sink_state, Sends, GoesOn, Stops};
+ghost use Rattle.hm_report.specs.Sends.{Sends, GoesOn, Stops};
 
 use crate::buffer::{Buffer, PIECE, ROOM};
 use crate::numerals::put_byte;
@@ -17,11 +17,11 @@ pub enum Stop {
 /// Writes these bytes, and again what the sink did not take.
 pub fn write_all<K: Sink>(sink: &mut K, bytes: &[u8]) -> Result<(), Stop>
     ensures ok { OnOk result
-        (Sends (sink_state K.held K.failures K.wanted sink.old)
-        (sink_state K.held K.failures K.wanted sink.new) bytes.now) }
+        (Sends (K.state sink.old)
+        (K.state sink.new) bytes.now) }
     ensures err { IfErr result
-        (Stops (sink_state K.held K.failures K.wanted sink.old)
-        (sink_state K.held K.failures K.wanted sink.new) bytes.now) }
+        (Stops (K.state sink.old)
+        (K.state sink.new) bytes.now) }
 {
     let mut at = 0;
     while at < bytes.len() {
@@ -37,11 +37,11 @@ pub fn write_all<K: Sink>(sink: &mut K, bytes: &[u8]) -> Result<(), Stop>
 /// Writes these bytes in pieces.
 fn write_pieces<K: Sink>(sink: &mut K, bytes: &[u8]) -> Result<(), Stop>
     ensures ok { OnOk result
-        (Sends (sink_state K.held K.failures K.wanted sink.old)
-        (sink_state K.held K.failures K.wanted sink.new) bytes.now) }
+        (Sends (K.state sink.old)
+        (K.state sink.new) bytes.now) }
     ensures err { IfErr result
-        (Stops (sink_state K.held K.failures K.wanted sink.old)
-        (sink_state K.held K.failures K.wanted sink.new) bytes.now) }
+        (Stops (K.state sink.old)
+        (K.state sink.new) bytes.now) }
 {
     let mut at = 0;
     while at < bytes.len() {
@@ -53,14 +53,14 @@ fn write_pieces<K: Sink>(sink: &mut K, bytes: &[u8]) -> Result<(), Stop>
 }
 
 /// Has the sink send on all that it took.
-fn send_on<K: Sink>(sink: &mut K) -> Result<(), Stop>
+pub fn send_on<K: Sink>(sink: &mut K) -> Result<(), Stop>
     ensures ok { OnOk result
-        (Sends (sink_state K.held K.failures K.wanted sink.old)
-        (sink_state K.held K.failures K.wanted sink.new) []) }
-    ensures sent { OnOk result (K.pending sink.new ≡ false) }
+        (Sends (K.state sink.old)
+        (K.state sink.new) []) }
+    ensures sent { OnOk result ((K.state sink.new).pending ≡ false) }
     ensures err { IfErr result
-        (Stops (sink_state K.held K.failures K.wanted sink.old)
-        (sink_state K.held K.failures K.wanted sink.new) []) }
+        (Stops (K.state sink.old)
+        (K.state sink.new) []) }
 {
     match sink.flush() {
         Flushed::Done => Ok(()),
@@ -71,12 +71,12 @@ fn send_on<K: Sink>(sink: &mut K) -> Result<(), Stop>
 /// Writes these bytes, the last of a text, in pieces, and has the sink send them on.
 pub fn write_last<K: Sink>(sink: &mut K, bytes: &[u8]) -> Result<(), Stop>
     ensures ok { OnOk result
-        (Sends (sink_state K.held K.failures K.wanted sink.old)
-        (sink_state K.held K.failures K.wanted sink.new) bytes.now) }
-    ensures sent { OnOk result (K.pending sink.new ≡ false) }
+        (Sends (K.state sink.old)
+        (K.state sink.new) bytes.now) }
+    ensures sent { OnOk result ((K.state sink.new).pending ≡ false) }
     ensures err { IfErr result
-        (Stops (sink_state K.held K.failures K.wanted sink.old)
-        (sink_state K.held K.failures K.wanted sink.new) bytes.now) }
+        (Stops (K.state sink.old)
+        (K.state sink.new) bytes.now) }
 {
     write_pieces(sink, bytes)?;
     send_on(sink)
@@ -87,12 +87,12 @@ pub fn write_last<K: Sink>(sink: &mut K, bytes: &[u8]) -> Result<(), Stop>
 pub fn settle<K: Sink>(out: &mut Buffer, sink: &mut K) -> Result<(), Stop>
     requires { length out.old ≤ ROOM }
     ensures ok { OnOk result
-        (GoesOn (sink_state K.held K.failures K.wanted sink.old)
-        (sink_state K.held K.failures K.wanted sink.new) out.old out.new []) }
+        (GoesOn (K.state sink.old)
+        (K.state sink.new) out.old out.new []) }
     ensures room { OnOk result (length out.new ≤ PIECE) }
     ensures err { IfErr result
-        (Stops (sink_state K.held K.failures K.wanted sink.old)
-        (sink_state K.held K.failures K.wanted sink.new) out.old) }
+        (Stops (K.state sink.old)
+        (K.state sink.new) out.old) }
 {
     if out.len() >= PIECE {
         write_all(sink, out.piece())?;
@@ -105,11 +105,11 @@ pub fn settle<K: Sink>(out: &mut Buffer, sink: &mut K) -> Result<(), Stop>
 pub fn put_text<K: Sink>(out: &mut Buffer, sink: &mut K, text: &[u8]) -> Result<(), Stop>
     requires { length out.old ≤ PIECE }
     ensures ok { OnOk result
-        (GoesOn (sink_state K.held K.failures K.wanted sink.old)
-        (sink_state K.held K.failures K.wanted sink.new) out.old out.new text.now) }
+        (GoesOn (K.state sink.old)
+        (K.state sink.new) out.old out.new text.now) }
     ensures room { OnOk result (length out.new ≤ PIECE) }
     ensures err { IfErr result
-        (Stops (sink_state K.held K.failures K.wanted sink.old) (sink_state K.held K.failures K.wanted sink.new)
+        (Stops (K.state sink.old) (K.state sink.new)
         (out.old ++ text.now)) }
 {
     let mut at = 0;
@@ -126,11 +126,11 @@ pub fn put_text<K: Sink>(out: &mut Buffer, sink: &mut K, text: &[u8]) -> Result<
 pub fn put_hex<K: Sink>(out: &mut Buffer, sink: &mut K, bytes: &[u8]) -> Result<(), Stop>
     requires { length out.old + 1 < ROOM }
     ensures ok { OnOk result
-        (GoesOn (sink_state K.held K.failures K.wanted sink.old)
-        (sink_state K.held K.failures K.wanted sink.new) out.old out.new (32 ∷ hex_text bytes.now)) }
+        (GoesOn (K.state sink.old)
+        (K.state sink.new) out.old out.new (32 ∷ hex_text bytes.now)) }
     ensures room { OnOk result (length out.new < ROOM) }
     ensures err { IfErr result
-        (Stops (sink_state K.held K.failures K.wanted sink.old) (sink_state K.held K.failures K.wanted sink.new)
+        (Stops (K.state sink.old) (K.state sink.new)
         (out.old ++ 32 ∷ hex_text bytes.now)) }
 {
     out.push(b' ');

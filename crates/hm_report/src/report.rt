@@ -5,7 +5,7 @@ ghost use Rattle.hm_report.specs.Counted.{counted};
 ghost use Rattle.hm_script.specs.Spelling.{text as script_text};
 ghost use Rattle.hm_report.specs.Words.{tail_text};
 ghost use Rattle.hm_report.specs.Report.{entry_line, entry_lines, history_line, unfinished_line, unfinished_lines, end_line, report_by, report};
-ghost use Rattle.hm_report.specs.SinkState.{sink_state, Sends, GoesOn, Stops};
+ghost use Rattle.hm_report.specs.Sends.{Sends, GoesOn, Stops};
 ghost use Rattle.hm_report.specs.Written.{Writes, SentOn, FaultCause, TextWants, ReportWants};
 
 use crate::buffer::{Buffer, PIECE, ROOM};
@@ -25,11 +25,11 @@ use std::alloc::Global;
 fn put_tail<K: Sink>(out: &mut Buffer, sink: &mut K, kind: &Kind) -> Result<(), Stop>
     requires { length out.old + 1 < ROOM }
     ensures ok { OnOk result
-        (GoesOn (sink_state K.held K.failures K.wanted sink.old)
-        (sink_state K.held K.failures K.wanted sink.new) out.old out.new (tail_text kind.now)) }
+        (GoesOn (K.state sink.old)
+        (K.state sink.new) out.old out.new (tail_text kind.now)) }
     ensures room { OnOk result (length out.new < ROOM) }
     ensures err { IfErr result
-        (Stops (sink_state K.held K.failures K.wanted sink.old) (sink_state K.held K.failures K.wanted sink.new)
+        (Stops (K.state sink.old) (K.state sink.new)
         (out.old ++ tail_text kind.now)) }
 {
     match kind {
@@ -56,11 +56,11 @@ fn put_tail<K: Sink>(out: &mut Buffer, sink: &mut K, kind: &Kind) -> Result<(), 
 fn put_entry<K: Sink>(out: &mut Buffer, sink: &mut K, at: u64, entry: &Entry) -> Result<(), Stop>
     requires { length out.old ≤ 5000 }
     ensures ok { OnOk result
-        (GoesOn (sink_state K.held K.failures K.wanted sink.old)
-        (sink_state K.held K.failures K.wanted sink.new) out.old out.new (entry_line at entry.now)) }
+        (GoesOn (K.state sink.old)
+        (K.state sink.new) out.old out.new (entry_line at entry.now)) }
     ensures room { OnOk result (length out.new ≤ 5000) }
     ensures err { IfErr result
-        (Stops (sink_state K.held K.failures K.wanted sink.old) (sink_state K.held K.failures K.wanted sink.new)
+        (Stops (K.state sink.old) (K.state sink.new)
         (out.old ++ entry_line at entry.now)) }
 {
     put_front(out, at, entry);
@@ -73,11 +73,11 @@ fn put_entry<K: Sink>(out: &mut Buffer, sink: &mut K, at: u64, entry: &Entry) ->
 fn put_entries<K: Sink>(out: &mut Buffer, sink: &mut K, entries: &[Entry]) -> Result<(), Stop>
     requires { length out.old ≤ 5000 }
     ensures ok { OnOk result
-        (GoesOn (sink_state K.held K.failures K.wanted sink.old)
-        (sink_state K.held K.failures K.wanted sink.new) out.old out.new (entry_lines 0 entries.now)) }
+        (GoesOn (K.state sink.old)
+        (K.state sink.new) out.old out.new (entry_lines 0 entries.now)) }
     ensures room { OnOk result (length out.new ≤ 5000) }
     ensures err { IfErr result
-        (Stops (sink_state K.held K.failures K.wanted sink.old) (sink_state K.held K.failures K.wanted sink.new)
+        (Stops (K.state sink.old) (K.state sink.new)
         (out.old ++ entry_lines 0 entries.now)) }
 {
     for (at, entry) in entries.iter().enumerate() {
@@ -110,12 +110,12 @@ fn put_unfinished<K: Sink>(
     requires room { length out.old ≤ 5000 }
     requires ended { length script.now.actors ≤ length ended.now }
     ensures ok { OnOk result
-        (GoesOn (sink_state K.held K.failures K.wanted sink.old)
-        (sink_state K.held K.failures K.wanted sink.new) out.old out.new
+        (GoesOn (K.state sink.old)
+        (K.state sink.new) out.old out.new
         (unfinished_lines script.now (λ a. slice_index ended.now a))) }
     ensures room { OnOk result (length out.new ≤ 5000) }
     ensures err { IfErr result
-        (Stops (sink_state K.held K.failures K.wanted sink.old) (sink_state K.held K.failures K.wanted sink.new)
+        (Stops (K.state sink.old) (K.state sink.new)
         (out.old ++ unfinished_lines script.now (λ a. slice_index ended.now a))) }
 {
     for actor in 0..script.actors.len() {
@@ -135,12 +135,12 @@ fn put_lines<K: Sink>(
 ) -> Result<(), Stop>
     requires { length out.old ≤ PIECE }
     ensures ok { OnOk result
-        (GoesOn (sink_state K.held K.failures K.wanted sink.old)
-        (sink_state K.held K.failures K.wanted sink.new) out.old out.new
+        (GoesOn (K.state sink.old)
+        (K.state sink.new) out.old out.new
         (text.now ++ (history_line ++ entry_lines 0 entries.now))) }
     ensures room { OnOk result (length out.new ≤ 5000) }
     ensures err { IfErr result
-        (Stops (sink_state K.held K.failures K.wanted sink.old) (sink_state K.held K.failures K.wanted sink.new)
+        (Stops (K.state sink.old) (K.state sink.new)
         (out.old ++ (text.now ++ (history_line ++ entry_lines 0 entries.now)))) }
 {
     put_text(out, sink, text)?;
@@ -163,11 +163,11 @@ pub fn put_end(out: &mut Buffer, count: u64)
 fn write_end<K: Sink>(out: &mut Buffer, sink: &mut K, count: u64) -> Result<(), Stop>
     requires { length out.old ≤ 5000 }
     ensures ok { OnOk result
-        (Sends (sink_state K.held K.failures K.wanted sink.old) (sink_state K.held K.failures K.wanted sink.new)
+        (Sends (K.state sink.old) (K.state sink.new)
         (out.old ++ end_line count)) }
-    ensures sent { OnOk result (K.pending sink.new ≡ false) }
+    ensures sent { OnOk result ((K.state sink.new).pending ≡ false) }
     ensures err { IfErr result
-        (Stops (sink_state K.held K.failures K.wanted sink.old) (sink_state K.held K.failures K.wanted sink.new)
+        (Stops (K.state sink.old) (K.state sink.new)
         (out.old ++ end_line count)) }
 {
     put_end(out, count);
@@ -185,11 +185,11 @@ fn write_lines<K: Sink>(
     requires empty { out.old ≡ [] }
     requires text { text.now ≡ script_text script.now }
     ensures ok { OnOk result
-        (Sends (sink_state K.held K.failures K.wanted sink.old) (sink_state K.held K.failures K.wanted sink.new)
+        (Sends (K.state sink.old) (K.state sink.new)
         (report_by script.now history.now.entries (counted script.now history.now.entries))) }
-    ensures sent { OnOk result (K.pending sink.new ≡ false) }
+    ensures sent { OnOk result ((K.state sink.new).pending ≡ false) }
     ensures err { IfErr result
-        (Stops (sink_state K.held K.failures K.wanted sink.old) (sink_state K.held K.failures K.wanted sink.new)
+        (Stops (K.state sink.old) (K.state sink.new)
         (report_by script.now history.now.entries (counted script.now history.now.entries))) }
 {
     script.facts();
@@ -208,12 +208,12 @@ pub(crate) fn write_counted<K: Sink>(
     history: &History,
     sink: &mut K,
 ) -> Written
-    ensures text { Writes (K.held sink.old) (K.held sink.new)
+    ensures text { Writes (K.state sink.old).held (K.state sink.new).held
         (report_by script.now history.now.entries (counted script.now history.now.entries)) result }
-    ensures sent { SentOn (K.pending sink.new) result }
-    ensures faults { FaultCause (K.failures sink.old) (K.failures sink.new) result }
-    ensures wants { ReportWants (sink_state K.held K.failures K.wanted sink.old)
-        (sink_state K.held K.failures K.wanted sink.new) result }
+    ensures sent { SentOn (K.state sink.new).pending result }
+    ensures faults { FaultCause (K.state sink.old).faults (K.state sink.new).faults result }
+    ensures wants { ReportWants (K.state sink.old)
+        (K.state sink.new) result }
 {
     let Ok(text) = print(alloc, script) else {
         return Written::NoMemory;
@@ -237,11 +237,11 @@ pub fn write_report<K: Sink>(
     sink: &mut K,
 ) -> Written
     requires { Legal script.now history.now.entries }
-    ensures text { Writes (K.held sink.old) (K.held sink.new) (report script.now history.now.entries) result }
-    ensures sent { SentOn (K.pending sink.new) result }
-    ensures faults { FaultCause (K.failures sink.old) (K.failures sink.new) result }
-    ensures wants { ReportWants (sink_state K.held K.failures K.wanted sink.old)
-        (sink_state K.held K.failures K.wanted sink.new) result }
+    ensures text { Writes (K.state sink.old).held (K.state sink.new).held (report script.now history.now.entries) result }
+    ensures sent { SentOn (K.state sink.new).pending result }
+    ensures faults { FaultCause (K.state sink.old).faults (K.state sink.new).faults result }
+    ensures wants { ReportWants (K.state sink.old)
+        (K.state sink.new) result }
 {
     ends_are_counted();
     write_counted(alloc, script, history, sink)
@@ -249,10 +249,10 @@ pub fn write_report<K: Sink>(
 
 /// Writes the text, piece by piece, and flushes the sink. It takes no memory itself.
 pub fn write_text<K: Sink>(_alloc: Global, text: &Text, sink: &mut K) -> Written
-    ensures text { Writes (K.held sink.old) (K.held sink.new) text.now result }
-    ensures sent { SentOn (K.pending sink.new) result }
-    ensures faults { FaultCause (K.failures sink.old) (K.failures sink.new) result }
-    ensures wants { TextWants (K.wanted sink.old) (K.wanted sink.new) result }
+    ensures text { Writes (K.state sink.old).held (K.state sink.new).held text.now result }
+    ensures sent { SentOn (K.state sink.new).pending result }
+    ensures faults { FaultCause (K.state sink.old).faults (K.state sink.new).faults result }
+    ensures wants { TextWants (K.state sink.old).wants (K.state sink.new).wants result }
 {
     match write_last(sink, text.as_slice()) {
         Ok(_) => Written::Done,

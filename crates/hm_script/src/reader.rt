@@ -14,12 +14,11 @@ use crate::op_line::OpLine;
 use crate::part::Part;
 use crate::reason::{LineError, Reason};
 use crate::words::Words;
-use hm_base::{Actor, ActorLists, DeviceList, OpList, Schedule, ScheduleLine, Script, Version};
+use hm_base::{
+    Actor, ActorLists, DeviceList, MOST_ACTORS, MOST_DEVICE_FRAMES, MOST_DEVICES, MOST_OPERATIONS, MOST_SCHEDULE_LINES,
+    MOST_SYSTEM_FRAMES, OpList, Schedule, ScheduleLine, Script, Version,
+};
 use std::alloc::Global;
-
-const MAX_OPERATIONS: u64 = 100_000;
-
-const MAX_SCHEDULE_LINES: u64 = 100_000;
 
 /// The script so far, and the part that has been reached.
 #[derive(Drop)]
@@ -82,7 +81,7 @@ impl Reader {
     {
         words.shape(2)?;
         let frames = number(words.get(1))?;
-        if frames > 16_384 {
+        if frames > MOST_SYSTEM_FRAMES {
             return Err(LineError::Bad(Reason::Range));
         }
         self.frames = frames as u32;
@@ -97,7 +96,7 @@ impl Reader {
         words.shape(3)?;
         let device = number(words.get(1))?;
         let frames = number(words.get(2))?;
-        if device != self.devices.len() || device >= 4 || frames > 8_192 {
+        if device != self.devices.len() || device >= u64::from(MOST_DEVICES) || frames > MOST_DEVICE_FRAMES {
             return Err(LineError::Bad(Reason::Range));
         }
         self.devices.push(frames as u32)?;
@@ -125,7 +124,7 @@ impl Reader {
     {
         words.shape(2)?;
         let actor = number(words.get(1))?;
-        if actor != self.actors.len() || actor >= 16 {
+        if actor != self.actors.len() || actor >= u64::from(MOST_ACTORS) {
             return Err(LineError::Bad(Reason::Range));
         }
         self.actors.push(OpList::new(alloc))?;
@@ -146,7 +145,7 @@ impl Reader {
         if actor >= self.actors.len() {
             return Err(LineError::Bad(Reason::Undeclared));
         }
-        if self.schedule_lines >= MAX_SCHEDULE_LINES {
+        if self.schedule_lines >= MOST_SCHEDULE_LINES {
             return Err(LineError::Bad(Reason::Limit));
         }
         self.schedule.push(ScheduleLine::Run {
@@ -178,7 +177,7 @@ impl Reader {
             devices: self.devices.len() as u32,
         };
         let op = line.read(alloc, op)?;
-        if self.operations >= MAX_OPERATIONS {
+        if self.operations >= MOST_OPERATIONS {
             return Err(LineError::Bad(Reason::Limit));
         }
         self.actors.push_to_last(op)?;

@@ -82,7 +82,9 @@ impl fmt::Display for Refused {
     }
 }
 
-/// Why bytes were not read as a script: a bad line, or want of memory.
+impl Error for Refused {}
+
+/// Why bytes were not read as a script: a bad line, or memory ran out.
 #[derive(Debug, Drop)]
 pub enum ScriptError {
     Refused(Refused),

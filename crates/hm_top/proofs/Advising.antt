@@ -6,13 +6,13 @@ use Rattle.hm_advisor.specs.Text.{advice_text}
 use Rattle.hm_advisor.specs.declared.advice.Advice.{Advice}
 use Rattle.hm_base.specs.Program.{Program}
 use Rattle.hm_history.specs.declared.Entry.{Entry}
-use Rattle.hm_report.specs.SinkState.{SinkState}
+use Rattle.hm_io.specs.Streams.{SinkState}
 use Rattle.hm_report.specs.Written.{ReportWants, Writes}
 use Rattle.hm_report.specs.declared.written.Written.{Written}
 use Rattle.hm_top.specs.Advises.{advice_on}
 use Rattle.hm_top.specs.Ran.{shown_status}
-use Rattle.hm_top.specs.Writing.{HasWritten}
-use Rattle.hm_top.specs.declared.status.Status.{Status}
+use Rattle.hm_edge.specs.Writing.{HasWritten}
+use Rattle.hm_edge.specs.declared.status.Status.{Status}
 
 pub same_text : (s : Program) (h : List Entry) (a : Advice) → IsAdvice h a → advice_text a ≡ advice_on s h
 same_text s h a is = ap (λ cs. advice_text (record { counts = cs; moves = a.moves })) is.counts_are ∙ ap (λ ms. advice_text (record { counts = counts h; moves = ms })) is.moves_are

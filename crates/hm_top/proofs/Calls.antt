@@ -3,13 +3,13 @@ use Rattle.std.proofs.Common.{◌≡◌, ℕ, ◌<◌, ◌≤◌, inl, Some, Non
 use Rattle.std.specs.Prelude.{IfSome}
 use Rattle.hm_base.specs.Program.{Program}
 use Rattle.hm_history.specs.declared.Entry.{Entry}
-use Rattle.hm_report.specs.SinkState.{SinkState}
-use Rattle.hm_top.specs.Complete.{IsComplete, IsGiven, NoFault}
-use Rattle.hm_top.specs.Reading.{HasNotRead, HasRead, ReadFaulted}
+use Rattle.hm_io.specs.Streams.{SinkState, SourceState}
+use Rattle.hm_top.specs.Complete.{IsComplete}
+use Rattle.hm_edge.specs.Reading.{IsGiven, HasNotRead, HasRead, ReadFaulted}
+use Rattle.hm_edge.specs.Traffic.{NoFault, Traffic}
 use Rattle.hm_top.specs.Running.{AnsweredNone, HasRun}
-use Rattle.hm_top.specs.Traffic.{SourceState, Traffic}
-use Rattle.hm_top.specs.Writing.{HasWritten, WriteFaulted}
-use Rattle.hm_top.specs.declared.status.Status.{Status}
+use Rattle.hm_edge.specs.Writing.{HasWritten, WriteFaulted}
+use Rattle.hm_edge.specs.declared.status.Status.{Status}
 
 pub not_read : (Are : List ℕ → Type 0) (b a : SourceState) (status : Status) → HasNotRead b a status → HasRead Are b a status
 not_read Are b a Status.Done n = absurd n
@@ -18,7 +18,10 @@ not_read Are b a Status.WriteFault n = absurd n
 not_read Are b a Status.Usage n = absurd n
 not_read Are b a (Status.NotLegal l) n = absurd n
 not_read Are b a (Status.Refused r) n = n
-not_read Are b a Status.TooLong n = n
+not_read Are b a Status.ScriptTooLong n = n
+not_read Are b a Status.ReportTooLong n = absurd n
+not_read Are b a Status.NoRows n = absurd n
+not_read Are b a Status.TooManyRows n = absurd n
 not_read Are b a Status.ReadFault n = n
 not_read Are b a Status.NoMemory n = n
 
@@ -29,31 +32,12 @@ none_run b a script h Status.WriteFault n none = absurd n
 none_run b a script h Status.Usage n none = absurd n
 none_run b a script h (Status.NotLegal l) n none = absurd n
 none_run b a script h (Status.Refused r) n none = none
-none_run b a script h Status.TooLong n none = none
+none_run b a script h Status.ScriptTooLong n none = none
+none_run b a script h Status.ReportTooLong n none = absurd n
+none_run b a script h Status.NoRows n none = absurd n
+none_run b a script h Status.TooManyRows n none = absurd n
 none_run b a script h Status.ReadFault n none = none
 none_run b a script h Status.NoMemory n none = none
-
-pub none_written : (b a : SourceState) (text : List ℕ) (Goes : List ℕ → Type 0) (k k' : SinkState) (status : Status) → HasNotRead b a status → k' ≡ k → HasWritten text Goes k k' status
-none_written b a text Goes k k' Status.Done n same = absurd n
-none_written b a text Goes k k' Status.HistoryFull n same = absurd n
-none_written b a text Goes k k' Status.WriteFault n same = absurd n
-none_written b a text Goes k k' Status.Usage n same = absurd n
-none_written b a text Goes k k' (Status.NotLegal l) n same = absurd n
-none_written b a text Goes k k' (Status.Refused r) n same = ap (λ x. x.held) same
-none_written b a text Goes k k' Status.TooLong n same = ap (λ x. x.held) same
-none_written b a text Goes k k' Status.ReadFault n same = ap (λ x. x.held) same
-none_written b a text Goes k k' Status.NoMemory n same = inl (ap (λ x. x.held) same)
-
-pub none_failed : (b a : SourceState) (n n' : ℕ) (status : Status) → HasNotRead b a status → n' ≡ n → WriteFaulted n n' status
-none_failed b a n n' Status.Done x same = absurd x
-none_failed b a n n' Status.HistoryFull x same = absurd x
-none_failed b a n n' Status.WriteFault x same = absurd x
-none_failed b a n n' Status.Usage x same = absurd x
-none_failed b a n n' (Status.NotLegal l) x same = absurd x
-none_failed b a n n' (Status.Refused r) x same = same
-none_failed b a n n' Status.TooLong x same = same
-none_failed b a n n' Status.ReadFault x same = same
-none_failed b a n n' Status.NoMemory x same = same
 
 long : (bytes : List ℕ) → 4194304 < length bytes → length bytes ≤ 4194304 → ⊥
 long bytes l m = omega (arith, l, m)
@@ -72,9 +56,7 @@ short_of_memory io status bytes s e n faults none given = by (io.source.left) st
     by (Some bs) (Status.NotLegal l) e n faults = n
     by (Some bs) (Status.Refused r) e n faults = let same : bs ≡ bytes = cc in n.bytes_are.no_text s given.text_is.in_range (sym given.text_is.spells ∙ sym same)
     by (Some bs) Status.ReadFault e n faults = none.reads faults
-    by (Some bs) Status.TooLong e n faults = let same : bs ≡ bytes = cc in long bytes (subst (λ x. 4194304 < length x) same n) given.short
-
--- what is shown of the bytes that are left, where a source tells them
-pub given : {P : List ℕ → Type 0} (left : Option (List ℕ)) → ((bytes : List ℕ) → left ≡ Some bytes → P bytes) → IfSome left P
-given None f = tt
-given (Some bytes) f = f bytes refl
+    by (Some bs) Status.ScriptTooLong e n faults = let same : bs ≡ bytes = cc in long bytes (subst (λ x. 4194304 < length x) same n) given.short
+    by (Some bs) Status.ReportTooLong e n faults = n
+    by (Some bs) Status.NoRows e n faults = n
+    by (Some bs) Status.TooManyRows e n faults = n

@@ -8,20 +8,20 @@ use Rattle.hm_check.specs.declared.verdict.Report.{Report}
 use Rattle.hm_check.specs.declared.verdict.Verdict.{Verdict}
 use Rattle.hm_check.specs.declared.verdict.Verdict.TheVariants.{Yes, No}
 use Rattle.hm_history.specs.declared.Entry.{Entry}
-use Rattle.hm_io.specs.Streams.{Adds, AddsFront}
-use Rattle.hm_report.specs.SinkState.{SinkState}
-use Rattle.hm_top.specs.Checks.{SaysOfReport, Finds, HasJudged, HasNotJudged, HasReport, HasTold, IsAsAnswered, IsItsReport, IsJudged, IsLegalReportOf, Tells, TellsBad, WroteFrontFor, bad_line}
-use Rattle.hm_top.specs.Complete.{NoFault}
+use Rattle.hm_io.specs.Streams.{Adds, AddsFront, SinkState, SourceState}
+use Rattle.hm_top.specs.Checks.{SaysOfReport, Finds, HasJudged, HasReport, HasTold, IsAsAnswered, IsItsReport, IsJudged, Tells, TellsBad, WroteFrontFor, bad_line}
+use Rattle.hm_check.specs.Judging.{HasNotJudged, IsLegalReportOf, IsVerdictOn}
+use Rattle.hm_edge.specs.Traffic.{NoFault, Traffic}
 use Rattle.hm_top.specs.Ran.{HasNothing}
-use Rattle.hm_top.specs.Reading.{ReadAs, ReadFaulted}
+use Rattle.hm_edge.specs.Reading.{ReadAs, ReadFaulted}
 use Rattle.hm_top.specs.Running.{Answered, AnsweredNone}
-use Rattle.hm_top.specs.Streams.{CameWhole}
-use Rattle.hm_top.specs.Traffic.{SourceState, Traffic}
-use Rattle.hm_top.specs.Verdicts.{EndsAt, HasReportOf, IsVerdictOn, verdict_text}
-use Rattle.hm_top.specs.Writing.{HasWritten, WriteFaulted}
+use Rattle.hm_edge.specs.Input.{CameWhole}
+use Rattle.hm_top.specs.Verdicts.{EndsAt, HasReportOf, verdict_text}
+use Rattle.hm_edge.specs.Writing.{HasWritten, IsFlushed, WriteFaulted}
 use Rattle.hm_top.specs.declared.ended.Ended.{Ended}
-use Rattle.hm_top.specs.declared.status.Status.{Status}
-use Rattle.hm_top.proofs.Calls.{given}
+use Rattle.hm_edge.specs.declared.status.Status.{Status}
+use Rattle.hm_check.proofs.NotJudged.{none_failed, none_flushed, short_of_memory}
+use Rattle.hm_edge.proofs.Came.{came_as, came_bytes, given}
 
 -- ---- where there is no verdict
 
@@ -32,7 +32,10 @@ not_judged script h b a Status.WriteFault n = absurd n
 not_judged script h b a Status.HistoryFull n = n
 not_judged script h b a Status.Usage n = n
 not_judged script h b a (Status.Refused r) n = n
-not_judged script h b a Status.TooLong n = n
+not_judged script h b a Status.ReportTooLong n = n
+not_judged script h b a Status.ScriptTooLong n = n
+not_judged script h b a Status.NoRows n = n
+not_judged script h b a Status.TooManyRows n = n
 not_judged script h b a Status.ReadFault n = n
 not_judged script h b a Status.NoMemory n = n
 
@@ -43,7 +46,10 @@ none_answered b a script h Status.WriteFault n none = absurd n
 none_answered b a script h Status.HistoryFull n none = none
 none_answered b a script h Status.Usage n none = none
 none_answered b a script h (Status.Refused r) n none = none
-none_answered b a script h Status.TooLong n none = none
+none_answered b a script h Status.ReportTooLong n none = none
+none_answered b a script h Status.ScriptTooLong n none = none
+none_answered b a script h Status.NoRows n none = none
+none_answered b a script h Status.TooManyRows n none = none
 none_answered b a script h Status.ReadFault n none = none
 none_answered b a script h Status.NoMemory n none = none
 
@@ -54,39 +60,12 @@ none_told say b a from script h k k' Status.WriteFault n same = absurd n
 none_told say b a from script h k k' Status.HistoryFull n same = absurd n
 none_told say b a from script h k k' Status.Usage n same = absurd n
 none_told say b a from script h k k' (Status.Refused r) n same = absurd n
-none_told say b a from script h k k' Status.TooLong n same = ap (λ x. x.held) same
+none_told say b a from script h k k' Status.ReportTooLong n same = ap (λ x. x.held) same
+none_told say b a from script h k k' Status.ScriptTooLong n same = absurd n
+none_told say b a from script h k k' Status.NoRows n same = absurd n
+none_told say b a from script h k k' Status.TooManyRows n same = absurd n
 none_told say b a from script h k k' Status.ReadFault n same = ap (λ x. x.held) same
 none_told say b a from script h k k' Status.NoMemory n same = inl (ap (λ x. x.held) same)
-
-none_failed : (b a : SourceState) (n n' : ℕ) (status : Status) → HasNotJudged b a status → n' ≡ n → WriteFaulted n n' status
-none_failed b a n n' Status.Done x same = absurd x
-none_failed b a n n' (Status.NotLegal l) x same = absurd x
-none_failed b a n n' Status.WriteFault x same = absurd x
-none_failed b a n n' Status.HistoryFull x same = absurd x
-none_failed b a n n' Status.Usage x same = absurd x
-none_failed b a n n' (Status.Refused r) x same = absurd x
-none_failed b a n n' Status.TooLong x same = same
-none_failed b a n n' Status.ReadFault x same = same
-none_failed b a n n' Status.NoMemory x same = same
-
-long : (bytes : List ℕ) → 268435456 < length bytes → length bytes ≤ 268435456 → ⊥
-long bytes l m = omega (arith, l, m)
-
--- where there are no more bytes than the limit and no fault was counted, it is for want of memory
-short_of_memory : (io : Traffic) (status : Status) (bytes : List ℕ) → io.source.left ≡ Some bytes → HasNotJudged io.source io.source_after status → ReadFaulted io.source.faults io.source_after.faults status → NoFault io → length bytes ≤ 268435456 → status ≡ Status.NoMemory
-short_of_memory io status bytes e n faults none short = by io.source.left status e n faults
-  where
-    by : (left : Option (List ℕ)) (status : Status) → left ≡ Some bytes → HasNotJudged (record io.source { left = left }) io.source_after status → ReadFaulted io.source.faults io.source_after.faults status → status ≡ Status.NoMemory
-    by None status e n faults = cc
-    by (Some bs) Status.NoMemory e n faults = refl
-    by (Some bs) Status.Done e n faults = absurd n
-    by (Some bs) (Status.NotLegal l) e n faults = absurd n
-    by (Some bs) Status.HistoryFull e n faults = absurd n
-    by (Some bs) Status.WriteFault e n faults = absurd n
-    by (Some bs) Status.Usage e n faults = absurd n
-    by (Some bs) (Status.Refused r) e n faults = absurd n
-    by (Some bs) Status.ReadFault e n faults = absurd (none.reads faults)
-    by (Some bs) Status.TooLong e n faults = let same : bs ≡ bytes = cc in absurd (long bytes (subst (λ x. 268435456 < length x) same n) short)
 
 -- it had nothing to tell
 pub stopped : (say : List Entry → List ℕ) (io : Traffic) (e : Ended) → HasNotJudged io.source io.source_after e.status → ReadFaulted io.source.faults io.source_after.faults e.status → HasNothing e → io.sink_after ≡ io.sink → SaysOfReport say io e
@@ -96,24 +75,17 @@ stopped say io e n faults none same = record {
   answer = none_answered io.source io.source_after e.script e.history.entries e.status n none.none;
   written = none_told say io.source io.source_after io.source e.script e.history.entries io.sink io.sink_after e.status n same;
   write_faults = none_failed io.source io.source_after io.sink.faults io.sink_after.faults e.status n (ap (λ k. k.faults) same);
+  flushed = none_flushed io.source io.source_after io.sink_after.pending e.status n;
   receipt = none.receipt_is;
-  complete = λ no_fault. given io.source.left (λ bytes at short. subst IsJudged (sym (short_of_memory io e.status bytes at n faults no_fault short)) tt);
-  finds = λ no_fault. given io.source.left (λ bytes at short c h is. subst (Finds c h e) (sym (short_of_memory io e.status bytes at n faults no_fault short)) tt);
+  complete = λ no_fault. given io.source.left (λ bytes at short. subst IsJudged (sym (short_of_memory io.source io.source_after e.status bytes n faults no_fault.reads at short)) tt);
+  finds = λ no_fault. given io.source.left (λ bytes at short c h is. subst (Finds c h e) (sym (short_of_memory io.source io.source_after e.status bytes n faults no_fault.reads at short)) tt);
 }
 
 -- ---- where there is one
 
-came_as : (P : List ℕ → Type 0) (left after : Option (List ℕ)) (bytes : List ℕ) → CameWhole left after bytes → P bytes → IfSome left P
-came_as P None after bytes came p = tt
-came_as P (Some l) after bytes came p = subst P (sym came.0) p
-
 came_rest : (left after : Option (List ℕ)) (bytes : List ℕ) → CameWhole left after bytes → IfSome left (λ l. after ≡ Some [])
 came_rest None after bytes came = tt
 came_rest (Some l) after bytes came = came.1
-
-came_bytes : (left after : Option (List ℕ)) (bytes all : List ℕ) → CameWhole left after bytes → left ≡ Some all → all ≡ bytes
-came_bytes None after bytes all came e = cc
-came_bytes (Some l) after bytes all came e = let same : l ≡ all = cc in sym same ∙ came.0
 
 answered : (Is : Program → List Entry → Type 0) (r : Report) (e : Ended) → HasReportOf r e → Is r.script r.history.entries → Answered Is e.script e.history.entries
 answered Is r e has is = subst (λ s. Answered Is s e.history.entries) (sym has.script_is) (subst (Is r.script) (sym has.history_is) is)
@@ -145,7 +117,10 @@ module _ (b a : SourceState) (e : Ended) where
   read_judged v Status.HistoryFull ends x = ends
   read_judged v Status.Usage ends x = ends
   read_judged v (Status.Refused r) ends x = ends
-  read_judged v Status.TooLong ends x = absurd ends
+  read_judged v Status.ReportTooLong ends x = absurd ends
+  read_judged v Status.ScriptTooLong ends x = ends
+  read_judged v Status.NoRows ends x = ends
+  read_judged v Status.TooManyRows ends x = ends
   read_judged v Status.ReadFault ends x = tt
 
   answer_judged : (v : Verdict) (status : Status) → EndsAt v e status → IsVerdictOn b a v → HasReport e.script e.history.entries status
@@ -159,7 +134,10 @@ module _ (b a : SourceState) (e : Ended) where
   answer_judged v Status.HistoryFull ends x = absurd ends
   answer_judged v Status.Usage ends x = absurd ends
   answer_judged v (Status.Refused r) ends x = absurd ends
-  answer_judged v Status.TooLong ends x = absurd ends
+  answer_judged v Status.ReportTooLong ends x = absurd ends
+  answer_judged v Status.ScriptTooLong ends x = absurd ends
+  answer_judged v Status.NoRows ends x = absurd ends
+  answer_judged v Status.TooManyRows ends x = absurd ends
   answer_judged v Status.ReadFault ends x = absurd ends
 
   tells_bad : (n : ℕ) → IsVerdictOn b a (No n) → TellsBad b (bad_line n)
@@ -187,7 +165,10 @@ module _ (b a : SourceState) (e : Ended) where
   told say k k' v Status.HistoryFull ends x w = absurd ends
   told say k k' v Status.Usage ends x w = absurd ends
   told say k k' v (Status.Refused r) ends x w = absurd ends
-  told say k k' v Status.TooLong ends x w = absurd ends
+  told say k k' v Status.ReportTooLong ends x w = absurd ends
+  told say k k' v Status.ScriptTooLong ends x w = absurd ends
+  told say k k' v Status.NoRows ends x w = absurd ends
+  told say k k' v Status.TooManyRows ends x w = absurd ends
   told say k k' v Status.ReadFault ends x w = absurd ends
 
   faults_judged : (n n' : ℕ) (v : Verdict) (status : Status) → EndsAt v e status → n' ≡ n → ReadFaulted n n' status
@@ -198,7 +179,10 @@ module _ (b a : SourceState) (e : Ended) where
   faults_judged n n' v Status.HistoryFull ends same = same
   faults_judged n n' v Status.Usage ends same = same
   faults_judged n n' v (Status.Refused r) ends same = same
-  faults_judged n n' v Status.TooLong ends same = same
+  faults_judged n n' v Status.ReportTooLong ends same = same
+  faults_judged n n' v Status.ScriptTooLong ends same = same
+  faults_judged n n' v Status.NoRows ends same = same
+  faults_judged n n' v Status.TooManyRows ends same = same
   faults_judged n n' v Status.ReadFault ends same = absurd ends
 
   judged_whole : (io : Traffic) (v : Verdict) (status : Status) → EndsAt v e status → WriteFaulted io.sink.faults io.sink_after.faults status → NoFault io → IsJudged status
@@ -209,7 +193,10 @@ module _ (b a : SourceState) (e : Ended) where
   judged_whole io v Status.HistoryFull ends w none = ends
   judged_whole io v Status.Usage ends w none = ends
   judged_whole io v (Status.Refused r) ends w none = ends
-  judged_whole io v Status.TooLong ends w none = ends
+  judged_whole io v Status.ReportTooLong ends w none = ends
+  judged_whole io v Status.ScriptTooLong ends w none = ends
+  judged_whole io v Status.NoRows ends w none = ends
+  judged_whole io v Status.TooManyRows ends w none = ends
   judged_whole io v Status.ReadFault ends w none = ends
 
   found : (io : Traffic) (c : Program) (h : List Entry) (v : Verdict) (status : Status) → EndsAt v e status → IsYes c h v → WriteFaulted io.sink.faults io.sink_after.faults status → NoFault io → Finds c h e status
@@ -222,18 +209,22 @@ module _ (b a : SourceState) (e : Ended) where
   found io c h v Status.HistoryFull ends mine w none = ends
   found io c h v Status.Usage ends mine w none = ends
   found io c h v (Status.Refused r) ends mine w none = ends
-  found io c h v Status.TooLong ends mine w none = ends
+  found io c h v Status.ReportTooLong ends mine w none = ends
+  found io c h v Status.ScriptTooLong ends mine w none = ends
+  found io c h v Status.NoRows ends mine w none = ends
+  found io c h v Status.TooManyRows ends mine w none = ends
   found io c h v Status.ReadFault ends mine w none = ends
 
 -- it came to a verdict
 pub judged : (say : List Entry → List ℕ) (io : Traffic) (e : Ended) (v : Verdict) → IsVerdictOn io.source io.source_after v → io.source_after.faults ≡ io.source.faults → EndsAt v e e.status
-    → HasWritten (verdict_text say v) (λ t. t ≡ verdict_text say v) io.sink io.sink_after e.status → WriteFaulted io.sink.faults io.sink_after.faults e.status → e.receipt ≡ None → SaysOfReport say io e
-judged say io e v x same ends w faults receipt = record {
+    → HasWritten (verdict_text say v) (λ t. t ≡ verdict_text say v) io.sink io.sink_after e.status → WriteFaulted io.sink.faults io.sink_after.faults e.status → IsFlushed io.sink_after.pending e.status → e.receipt ≡ None → SaysOfReport say io e
+judged say io e v x same ends w faults flushed receipt = record {
   read = read_judged io.source io.source_after e v e.status ends x;
   read_faults = faults_judged io.source io.source_after e io.source.faults io.source_after.faults v e.status ends same;
   answer = answer_judged io.source io.source_after e v e.status ends x;
   written = told io.source io.source_after e say io.sink io.sink_after v e.status ends x w;
   write_faults = faults;
+  flushed = flushed;
   receipt = receipt;
   complete = λ none. given io.source.left (λ bytes at short. judged_whole io.source io.source_after e io v e.status ends faults none);
   finds = λ none. given io.source.left (λ bytes at short c h is.

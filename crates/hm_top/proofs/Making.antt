@@ -4,18 +4,18 @@ use Rattle.hm_base.specs.Program.{Program}
 use Rattle.hm_history.specs.Overrun.{overruns}
 use Rattle.hm_history.specs.Run.{run}
 use Rattle.hm_history.specs.declared.Entry.{Entry}
-use Rattle.hm_report.specs.SinkState.{SinkState}
+use Rattle.hm_io.specs.Streams.{SinkState}
 use Rattle.hm_report.specs.Summary.{summary}
 use Rattle.hm_script.specs.Generator.{generated}
 use Rattle.hm_script.specs.Spelling.{text}
 use Rattle.hm_top.specs.Generates.{Generates, HasMade, IsAlone, IsTried, Tries}
 use Rattle.hm_top.specs.Ran.{HasNothing, IsRan}
 use Rattle.hm_top.specs.Running.{Answered, AnsweredNone, RanFull, RanWhole}
-use Rattle.hm_top.specs.Traffic.{Traffic}
-use Rattle.hm_top.specs.Writing.{HasWritten, WriteFaulted}
+use Rattle.hm_edge.specs.Traffic.{Traffic}
+use Rattle.hm_edge.specs.Writing.{HasWritten, IsFlushed, WriteFaulted}
 use Rattle.hm_top.specs.declared.ended.Ended.{Ended}
 use Rattle.hm_top.specs.declared.schedule.Ran.{Ran}
-use Rattle.hm_top.specs.declared.status.Status.{Status}
+use Rattle.hm_edge.specs.declared.status.Status.{Status}
 use Rattle.hm_top.proofs.Trial.{trial_fits}
 
 -- memory ran out before anything was written
@@ -28,12 +28,16 @@ none_written text Goes k k' status e same = subst (HasWritten text Goes k k') (s
 none_failed : (n n' : ℕ) (status : Status) → status ≡ Status.NoMemory → n' ≡ n → WriteFaulted n n' status
 none_failed n n' status e same = subst (WriteFaulted n n') (sym e) same
 
+none_flushed : (pending : Bool) (status : Status) → status ≡ Status.NoMemory → IsFlushed pending status
+none_flushed pending status e = subst (IsFlushed pending) (sym e) tt
+
 pub no_text : (n : ℕ) (io : Traffic) (e : Ended) → io.source_after ≡ io.source → io.sink_after ≡ io.sink → e.status ≡ Status.NoMemory → HasNothing e → Generates n io e
 no_text n io e unread same none answer = record {
   unread = unread;
   made = made_none (IsAlone (generated n)) e.script e.history.entries e.status none answer.none;
   written = none_written (text (generated n)) (λ t. t ≡ text (generated n)) io.sink io.sink_after e.status none same;
   write_faults = none_failed io.sink.faults io.sink_after.faults e.status none (ap (λ k. k.faults) same);
+  flushed = none_flushed io.sink_after.pending e.status none;
   receipt = answer.receipt_is;
 }
 
@@ -43,17 +47,19 @@ no_trial n io e unread same none answer = record {
   ran = made_none (IsTried (generated n)) e.script e.history.entries e.status none answer.none;
   written = none_written (summary n (generated n) (run (generated n))) (λ t. t ≡ summary n (generated n) (run (generated n))) io.sink io.sink_after e.status none same;
   write_faults = none_failed io.sink.faults io.sink_after.faults e.status none (ap (λ k. k.faults) same);
+  flushed = none_flushed io.sink_after.pending e.status none;
   receipt = answer.receipt_is;
 }
 
 -- the script's text was written
 pub texts : (n : ℕ) (io : Traffic) (e : Ended) (s : Program) → s ≡ generated n → io.source_after ≡ io.source → HasMade (IsAlone s) e.script e.history.entries e.status
-    → HasWritten (text s) (λ t. t ≡ text s) io.sink io.sink_after e.status → WriteFaulted io.sink.faults io.sink_after.faults e.status → e.receipt ≡ None → Generates n io e
-texts n io e s is unread made written faults receipt = record {
+    → HasWritten (text s) (λ t. t ≡ text s) io.sink io.sink_after e.status → WriteFaulted io.sink.faults io.sink_after.faults e.status → IsFlushed io.sink_after.pending e.status → e.receipt ≡ None → Generates n io e
+texts n io e s is unread made written faults flushed receipt = record {
   unread = unread;
   made = subst (λ x. HasMade (IsAlone x) e.script e.history.entries e.status) is made;
   written = subst (λ x. HasWritten (text x) (λ t. t ≡ text x) io.sink io.sink_after e.status) is written;
   write_faults = faults;
+  flushed = flushed;
   receipt = receipt;
 }
 
@@ -75,25 +81,29 @@ tried r t script h (Status.NotLegal l) is ran made = made
 tried r t script h (Status.Refused x) is ran made = made
 tried r t script h Status.ReadFault is ran made = made
 tried r t script h Status.HistoryFull is ran made = made
-tried r t script h Status.TooLong is ran made = made
+tried r t script h Status.ScriptTooLong is ran made = made
+tried r t script h Status.ReportTooLong is ran made = made
+tried r t script h Status.NoRows is ran made = made
+tried r t script h Status.TooManyRows is ran made = made
 
 -- the summary was written
 pub summaries : (n : ℕ) (io : Traffic) (e : Ended) (r : Ran) → r.script ≡ generated n → io.source_after ≡ io.source → (r.full ≡ false → RanWhole r.script r.history.entries) → (r.full ≡ true → RanFull r.script r.history.entries)
     → HasMade (IsRan r) e.script e.history.entries e.status → HasWritten (summary n r.script r.history.entries) (λ t. t ≡ summary n r.script r.history.entries) io.sink io.sink_after e.status
-    → WriteFaulted io.sink.faults io.sink_after.faults e.status → e.receipt ≡ None → Tries n io e
-summaries n io e r is unread whole over made written faults receipt =
+    → WriteFaulted io.sink.faults io.sink_after.faults e.status → IsFlushed io.sink_after.pending e.status → e.receipt ≡ None → Tries n io e
+summaries n io e r is unread whole over made written faults flushed receipt =
     let ran = never_full r.script r.history.entries n r.full is whole over in
     let same : summary n r.script r.history.entries ≡ summary n (generated n) (run (generated n)) = ap (summary n r.script) (ran.ran.run_is) ∙ ap (λ s. summary n s (run s)) is in record {
       unread = unread;
       ran = tried r (generated n) e.script e.history.entries e.status is ran made;
       written = subst (λ x. HasWritten x (λ t. t ≡ x) io.sink io.sink_after e.status) same written;
       write_faults = faults;
+      flushed = flushed;
       receipt = receipt;
     }
 
 -- so of the script that was drawn
 pub summaries_for : (n : ℕ) (io : Traffic) (e : Ended) (r : Ran) (s : Program) → r.script ≡ s → s ≡ generated n → io.source_after ≡ io.source → (r.full ≡ false → RanWhole s r.history.entries) → (r.full ≡ true → RanFull s r.history.entries)
     → HasMade (IsRan r) e.script e.history.entries e.status → HasWritten (summary n r.script r.history.entries) (λ t. t ≡ summary n r.script r.history.entries) io.sink io.sink_after e.status
-    → WriteFaulted io.sink.faults io.sink_after.faults e.status → e.receipt ≡ None → Tries n io e
-summaries_for n io e r s is drawn unread whole over made written faults none =
-    summaries n io e r (is ∙ drawn) unread (λ f. subst (λ x. RanWhole x r.history.entries) (sym is) (whole f)) (λ f. subst (λ x. RanFull x r.history.entries) (sym is) (over f)) made written faults none
+    → WriteFaulted io.sink.faults io.sink_after.faults e.status → IsFlushed io.sink_after.pending e.status → e.receipt ≡ None → Tries n io e
+summaries_for n io e r s is drawn unread whole over made written faults flushed none =
+    summaries n io e r (is ∙ drawn) unread (λ f. subst (λ x. RanWhole x r.history.entries) (sym is) (whole f)) (λ f. subst (λ x. RanFull x r.history.entries) (sym is) (over f)) made written faults flushed none

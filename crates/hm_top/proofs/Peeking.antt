@@ -5,9 +5,8 @@ use Rattle.hm_history.specs.After.{after}
 use Rattle.hm_history.specs.Laws.{DueFrom}
 use Rattle.hm_history.specs.Locks.{writer}
 use Rattle.hm_history.specs.declared.Entry.{Entry}
-use Rattle.hm_io.specs.Streams.{Adds, AddsFront}
+use Rattle.hm_io.specs.Streams.{Adds, AddsFront, SinkState, SourceState}
 use Rattle.hm_machine.proofs.Unlocked.{nobody_writes}
-use Rattle.hm_report.specs.SinkState.{SinkState}
 use Rattle.hm_report.specs.Written.{FaultCause, ReportWants, TextWants, Writes}
 use Rattle.hm_report.specs.declared.written.Written.{Written}
 use Rattle.hm_turns.specs.Looking.{all_have_areas, looked_after}
@@ -18,13 +17,13 @@ use Rattle.hm_workers.specs.declared.peeks.Peek.{Peek}
 use Rattle.hm_world.specs.WorldValue.{WorldValue}
 use Rattle.hm_top.specs.Peeks.{AnswersPeeks, HasSeen, IsPeekedReport, RunsPeeked, SawAll, peeked_text}
 use Rattle.hm_top.specs.Ran.{HasNothing, Shows, ShowsAt, shown_status}
-use Rattle.hm_top.specs.Reading.{HasNotRead, IsTextOf, ReadAs, ReadFaulted}
+use Rattle.hm_edge.specs.Reading.{HasNotRead, IsTextOf, ReadAs, ReadFaulted}
 use Rattle.hm_top.specs.RunsThreads.{AllEnded, StoppedFull}
-use Rattle.hm_top.specs.Traffic.{SourceState, Traffic}
-use Rattle.hm_top.specs.Writing.{HasWritten, WriteFaulted}
+use Rattle.hm_edge.specs.Traffic.{Traffic}
+use Rattle.hm_edge.specs.Writing.{HasWritten, IsFlushed, WriteFaulted}
 use Rattle.hm_top.specs.declared.ended.Ended.{Ended}
 use Rattle.hm_top.specs.declared.schedule.Ran.{Ran}
-use Rattle.hm_top.specs.declared.status.Status.{Status}
+use Rattle.hm_edge.specs.declared.status.Status.{Status}
 use Rattle.hm_top.proofs.Threading.{came, shown_for, stopped}
 
 -- ---- nothing was run
@@ -36,7 +35,10 @@ none_seen p at n h xs b a Status.WriteFault read none = inr none
 none_seen p at n h xs b a Status.Usage read none = none
 none_seen p at n h xs b a (Status.NotLegal l) read none = none
 none_seen p at n h xs b a (Status.Refused r) read none = none
-none_seen p at n h xs b a Status.TooLong read none = none
+none_seen p at n h xs b a Status.ScriptTooLong read none = none
+none_seen p at n h xs b a Status.ReportTooLong read none = none
+none_seen p at n h xs b a Status.NoRows read none = none
+none_seen p at n h xs b a Status.TooManyRows read none = none
 none_seen p at n h xs b a Status.ReadFault read none = none
 none_seen p at n h xs b a Status.NoMemory read none = none
 
@@ -123,7 +125,10 @@ seen_at p at n r saw e Status.NoMemory shows same whole none = same
 seen_at p at n r saw e Status.Usage shows same whole none = absurd shows
 seen_at p at n r saw e (Status.NotLegal l) shows same whole none = absurd shows
 seen_at p at n r saw e (Status.Refused x) shows same whole none = absurd shows
-seen_at p at n r saw e Status.TooLong shows same whole none = absurd shows
+seen_at p at n r saw e Status.ScriptTooLong shows same whole none = absurd shows
+seen_at p at n r saw e Status.ReportTooLong shows same whole none = absurd shows
+seen_at p at n r saw e Status.NoRows shows same whole none = absurd shows
+seen_at p at n r saw e Status.TooManyRows shows same whole none = absurd shows
 seen_at p at n r saw e Status.ReadFault shows same whole none = absurd shows
 
 no_peeks : (p at n : ℕ) (h : List Entry) → ArePeeks p at n (IsPlain h) []
@@ -140,8 +145,8 @@ right_so p at n h saw true whole none = subst (ArePeeks p at n (IsPlain h)) (sym
 pub peeked : (p at n : ℕ) (io : Traffic) (r : Ran) (saw : List Peek) (e : Ended) (s : Program) → r.script ≡ s → ReadAs 4194304 (IsTextOf s) io.source io.source_after → io.source_after.faults ≡ io.source.faults
     → (r.full ≡ false → AllEnded s r.history.entries) → (r.full ≡ true → StoppedFull s r.history.entries) → r.receipt ≡ Some r.history.entries
     → (r.full ≡ false → SawAll p at n r.history.entries saw) → (r.full ≡ true → saw ≡ []) → Shows r e → AnswersPeeks saw e.peeks e.status
-    → HasWritten (peeked_text e.peeks r.script r.history.entries) (λ t. t ≡ peeked_text saw r.script r.history.entries) io.sink io.sink_after e.status → WriteFaulted io.sink.faults io.sink_after.faults e.status → RunsPeeked p at n io e
-peeked p at n io r saw e s is read same whole over some seen none shows answers w faults = record {
+    → HasWritten (peeked_text e.peeks r.script r.history.entries) (λ t. t ≡ peeked_text saw r.script r.history.entries) io.sink io.sink_after e.status → WriteFaulted io.sink.faults io.sink_after.faults e.status → IsFlushed io.sink_after.pending e.status → RunsPeeked p at n io e
+peeked p at n io r saw e s is read same whole over some seen none shows answers w faults flushed = record {
   threads = shown_for (peeked_text e.peeks) (λ t. t ≡ peeked_text saw r.script r.history.entries) (IsPeekedReport p at n io.source) io r e s is read same whole over some shows (λ t text. record {
     script = s;
     history = r.history.entries;

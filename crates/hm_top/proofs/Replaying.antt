@@ -4,21 +4,22 @@ use Rattle.std.specs.Prelude.{IfSome}
 use Rattle.hm_base.specs.Program.{Program, IsScript}
 use Rattle.hm_history.specs.Overrun.{overruns}
 use Rattle.hm_history.specs.declared.Entry.{Entry}
-use Rattle.hm_io.specs.Streams.{Adds, AddsFront}
+use Rattle.hm_io.specs.Streams.{Adds, AddsFront, SinkState, SourceState}
 use Rattle.hm_quiet.specs.Quiet.{DrainAloneHasRoom}
-use Rattle.hm_report.specs.SinkState.{SinkState}
 use Rattle.hm_script.specs.Spelling.{text}
-use Rattle.hm_top.specs.Complete.{IsComplete, NoFault}
+use Rattle.hm_top.specs.Complete.{IsComplete}
+use Rattle.hm_edge.specs.Traffic.{NoFault, Traffic}
 use Rattle.hm_top.specs.Ran.{HasAll, HasNothing, Shows, ShowsAt}
-use Rattle.hm_top.specs.Reading.{HasNotRead, HasRead, IsTextOf, ReadAs, ReadFaulted}
+use Rattle.hm_edge.specs.Reading.{HasNotRead, HasRead, IsTextOf, ReadAs, ReadFaulted}
 use Rattle.hm_top.specs.Replays.{IsItsText, IsToldOfRun, TellsOfRun}
 use Rattle.hm_top.specs.Running.{Answered, HasRun, RanFull, RanSo, RanWhole, told_of}
-use Rattle.hm_top.specs.Traffic.{SourceState, Traffic}
-use Rattle.hm_top.specs.Writing.{HasWritten, WriteFaulted}
+use Rattle.hm_edge.specs.Writing.{HasWritten, IsFlushed, WriteFaulted}
 use Rattle.hm_top.specs.declared.ended.Ended.{Ended}
 use Rattle.hm_top.specs.declared.schedule.Ran.{Ran}
-use Rattle.hm_top.specs.declared.status.Status.{Status}
-use Rattle.hm_top.proofs.Calls.{given, none_failed, none_run, none_written, not_read, short_of_memory}
+use Rattle.hm_edge.specs.declared.status.Status.{Status}
+use Rattle.hm_edge.proofs.Came.{given}
+use Rattle.hm_edge.proofs.NotRead.{none_failed, none_flushed, none_written}
+use Rattle.hm_top.proofs.Calls.{none_run, not_read, short_of_memory}
 use Rattle.hm_top.proofs.Room.{room_fits}
 
 -- it had nothing to show
@@ -29,6 +30,7 @@ stopped tell io e n faults none same = record {
   ran = none_run io.source io.source_after e.script e.history.entries e.status n none.none;
   written = none_written io.source io.source_after (told_of tell e.script e.history.entries) (IsToldOfRun tell io.source) io.sink io.sink_after e.status n same;
   write_faults = none_failed io.source io.source_after io.sink.faults io.sink_after.faults e.status n (ap (λ k. k.faults) same);
+  flushed = none_flushed io.source io.source_after io.sink_after.pending e.status n;
   receipt = none.receipt_is;
   complete = λ no_fault. given io.source.left (λ bytes at s is_given room. short_of_memory io e.status bytes s at n faults no_fault is_given);
 }
@@ -41,7 +43,10 @@ read_shown r e b a Status.NoMemory shows read = tt
 read_shown r e b a Status.Usage shows read = absurd shows
 read_shown r e b a (Status.NotLegal l) shows read = absurd shows
 read_shown r e b a (Status.Refused x) shows read = absurd shows
-read_shown r e b a Status.TooLong shows read = absurd shows
+read_shown r e b a Status.ScriptTooLong shows read = absurd shows
+read_shown r e b a Status.ReportTooLong shows read = absurd shows
+read_shown r e b a Status.NoRows shows read = absurd shows
+read_shown r e b a Status.TooManyRows shows read = absurd shows
 read_shown r e b a Status.ReadFault shows read = tt
 
 pub faults_shown : (r : Ran) (e : Ended) (n n' : ℕ) (status : Status) → ShowsAt r e status → n' ≡ n → ReadFaulted n n' status
@@ -53,7 +58,10 @@ faults_shown r e n n' Status.NoMemory shows same = same
 faults_shown r e n n' Status.Usage shows same = same
 faults_shown r e n n' (Status.NotLegal l) shows same = same
 faults_shown r e n n' (Status.Refused x) shows same = same
-faults_shown r e n n' Status.TooLong shows same = same
+faults_shown r e n n' Status.ScriptTooLong shows same = same
+faults_shown r e n n' Status.ReportTooLong shows same = same
+faults_shown r e n n' Status.NoRows shows same = same
+faults_shown r e n n' Status.TooManyRows shows same = same
 
 pub answered : (Is : Program → List Entry → Type 0) (r : Ran) (e : Ended) → HasAll r e → Is r.script r.history.entries → Answered Is e.script e.history.entries
 answered Is r e all is = subst (λ x. Answered Is x e.history.entries) (sym all.script_is) (subst (Is r.script) (sym all.history_is) is)
@@ -71,7 +79,10 @@ run_shown r e Status.NoMemory shows whole over = shows.none
 run_shown r e Status.Usage shows whole over = absurd shows
 run_shown r e (Status.NotLegal l) shows whole over = absurd shows
 run_shown r e (Status.Refused x) shows whole over = absurd shows
-run_shown r e Status.TooLong shows whole over = absurd shows
+run_shown r e Status.ScriptTooLong shows whole over = absurd shows
+run_shown r e Status.ReportTooLong shows whole over = absurd shows
+run_shown r e Status.NoRows shows whole over = absurd shows
+run_shown r e Status.TooManyRows shows whole over = absurd shows
 run_shown r e Status.ReadFault shows whole over = absurd shows
 
 same_text : (tell : Program → List Entry → List ℕ) (r : Ran) (e : Ended) → HasAll r e → tell r.script r.history.entries ≡ told_of tell e.script e.history.entries
@@ -87,7 +98,10 @@ text_shown tell Own Goes r e k k' Status.NoMemory shows goes (inr w) = inr (reco
 text_shown tell Own Goes r e k k' Status.Usage shows goes w = absurd shows
 text_shown tell Own Goes r e k k' (Status.NotLegal l) shows goes w = absurd shows
 text_shown tell Own Goes r e k k' (Status.Refused x) shows goes w = absurd shows
-text_shown tell Own Goes r e k k' Status.TooLong shows goes w = absurd shows
+text_shown tell Own Goes r e k k' Status.ScriptTooLong shows goes w = absurd shows
+text_shown tell Own Goes r e k k' Status.ReportTooLong shows goes w = absurd shows
+text_shown tell Own Goes r e k k' Status.NoRows shows goes w = absurd shows
+text_shown tell Own Goes r e k k' Status.TooManyRows shows goes w = absurd shows
 text_shown tell Own Goes r e k k' Status.ReadFault shows goes w = absurd shows
 
 abbrev pub OneText : Type 0
@@ -105,7 +119,10 @@ ends io r e Status.HistoryFull s shows w none same room over = let b = (over sho
 ends io r e Status.Usage s shows w none same room over = shows
 ends io r e (Status.NotLegal l) s shows w none same room over = shows
 ends io r e (Status.Refused x) s shows w none same room over = shows
-ends io r e Status.TooLong s shows w none same room over = shows
+ends io r e Status.ScriptTooLong s shows w none same room over = shows
+ends io r e Status.ReportTooLong s shows w none same room over = shows
+ends io r e Status.NoRows s shows w none same room over = shows
+ends io r e Status.TooManyRows s shows w none same room over = shows
 ends io r e Status.ReadFault s shows w none same room over = shows
 
 receipt_shown : (r : Ran) (e : Ended) (status : Status) → ShowsAt r e status → r.receipt ≡ None → e.receipt ≡ None
@@ -116,14 +133,17 @@ receipt_shown r e Status.NoMemory shows none = shows.receipt_is
 receipt_shown r e Status.Usage shows none = absurd shows
 receipt_shown r e (Status.NotLegal l) shows none = absurd shows
 receipt_shown r e (Status.Refused x) shows none = absurd shows
-receipt_shown r e Status.TooLong shows none = absurd shows
+receipt_shown r e Status.ScriptTooLong shows none = absurd shows
+receipt_shown r e Status.ReportTooLong shows none = absurd shows
+receipt_shown r e Status.NoRows shows none = absurd shows
+receipt_shown r e Status.TooManyRows shows none = absurd shows
 receipt_shown r e Status.ReadFault shows none = absurd shows
 
 -- it has shown a run
 pub shown : (tell : Program → List Entry → List ℕ) → OneText → DrainAloneHasRoom → (io : Traffic) (r : Ran) (e : Ended) → ReadAs 4194304 (IsTextOf r.script) io.source io.source_after → io.source_after.faults ≡ io.source.faults
     → (r.full ≡ false → RanWhole r.script r.history.entries) → (r.full ≡ true → RanFull r.script r.history.entries) → Shows r e
-    → HasWritten (tell r.script r.history.entries) (λ t. t ≡ tell r.script r.history.entries) io.sink io.sink_after e.status → WriteFaulted io.sink.faults io.sink_after.faults e.status → r.receipt ≡ None → TellsOfRun tell io e
-shown tell one alone io r e read same whole over shows w faults no_receipt = record {
+    → HasWritten (tell r.script r.history.entries) (λ t. t ≡ tell r.script r.history.entries) io.sink io.sink_after e.status → WriteFaulted io.sink.faults io.sink_after.faults e.status → IsFlushed io.sink_after.pending e.status → r.receipt ≡ None → TellsOfRun tell io e
+shown tell one alone io r e read same whole over shows w faults flushed no_receipt = record {
   read = read_shown r e io.source io.source_after e.status shows read;
   read_faults = faults_shown r e io.source.faults io.source_after.faults e.status shows same;
   ran = run_shown r e e.status shows whole over;
@@ -135,6 +155,7 @@ shown tell one alone io r e read same whole over shows w faults no_receipt = rec
     text_is = is;
   }) w;
   write_faults = faults;
+  flushed = flushed;
   receipt = receipt_shown r e e.status shows no_receipt;
   complete = λ none. given io.source.left (λ bytes at s is_given room.
       let mine = its_text (IsTextOf r.script) io.source.left bytes at read.bytes_are in
@@ -145,6 +166,6 @@ shown tell one alone io r e read same whole over shows w faults no_receipt = rec
 -- so of the script that was read
 pub shown_for : (tell : Program → List Entry → List ℕ) → OneText → DrainAloneHasRoom → (io : Traffic) (r : Ran) (e : Ended) (s : Program) → r.script ≡ s → ReadAs 4194304 (IsTextOf s) io.source io.source_after → io.source_after.faults ≡ io.source.faults
     → (r.full ≡ false → RanWhole s r.history.entries) → (r.full ≡ true → RanFull s r.history.entries) → Shows r e
-    → HasWritten (tell r.script r.history.entries) (λ t. t ≡ tell r.script r.history.entries) io.sink io.sink_after e.status → WriteFaulted io.sink.faults io.sink_after.faults e.status → r.receipt ≡ None → TellsOfRun tell io e
-shown_for tell one alone io r e s is read same whole over shows w faults none =
-    shown tell one alone io r e (subst (λ x. ReadAs 4194304 (IsTextOf x) io.source io.source_after) (sym is) read) same (λ f. subst (λ x. RanWhole x r.history.entries) (sym is) (whole f)) (λ f. subst (λ x. RanFull x r.history.entries) (sym is) (over f)) shows w faults none
+    → HasWritten (tell r.script r.history.entries) (λ t. t ≡ tell r.script r.history.entries) io.sink io.sink_after e.status → WriteFaulted io.sink.faults io.sink_after.faults e.status → IsFlushed io.sink_after.pending e.status → r.receipt ≡ None → TellsOfRun tell io e
+shown_for tell one alone io r e s is read same whole over shows w faults flushed none =
+    shown tell one alone io r e (subst (λ x. ReadAs 4194304 (IsTextOf x) io.source io.source_after) (sym is) read) same (λ f. subst (λ x. RanWhole x r.history.entries) (sym is) (whole f)) (λ f. subst (λ x. RanFull x r.history.entries) (sym is) (over f)) shows w faults flushed none

@@ -3,18 +3,21 @@ use Rattle.std.proofs.Common.{◌≡◌, ℕ, inl, inr, Bool, true, false, Some,
 use Rattle.hm_base.specs.Program.{Program}
 use Rattle.hm_history.specs.declared.Entry.{Entry}
 use Rattle.hm_report.specs.Report.{report}
-use Rattle.hm_top.specs.Complete.{IsComplete, NoFault}
+use Rattle.hm_top.specs.Complete.{IsComplete}
+use Rattle.hm_edge.specs.Traffic.{NoFault, Traffic}
 use Rattle.hm_top.specs.Ran.{HasAll, HasNothing, Shows, ShowsAt}
-use Rattle.hm_top.specs.Reading.{HasNotRead, IsTextOf, ReadAs, ReadFaulted}
+use Rattle.hm_edge.specs.Reading.{HasNotRead, IsTextOf, ReadAs, ReadFaulted}
 use Rattle.hm_top.specs.Replays.{IsItsText}
 use Rattle.hm_top.specs.Running.{told_of}
 use Rattle.hm_top.specs.RunsThreads.{AllEnded, CameToEnd, HasReceipt, HasRunThreads, IsCompleteOrFull, IsThreadsReport, StoppedFull, TellsOfThreads}
-use Rattle.hm_top.specs.Traffic.{SourceState, Traffic}
-use Rattle.hm_top.specs.Writing.{HasWritten, WriteFaulted}
+use Rattle.hm_io.specs.Streams.{SourceState}
+use Rattle.hm_edge.specs.Writing.{HasWritten, IsFlushed, WriteFaulted}
 use Rattle.hm_top.specs.declared.ended.Ended.{Ended}
 use Rattle.hm_top.specs.declared.schedule.Ran.{Ran}
-use Rattle.hm_top.specs.declared.status.Status.{Status}
-use Rattle.hm_top.proofs.Calls.{given, none_failed, none_written, not_read, short_of_memory}
+use Rattle.hm_edge.specs.declared.status.Status.{Status}
+use Rattle.hm_edge.proofs.Came.{given}
+use Rattle.hm_edge.proofs.NotRead.{none_failed, none_flushed, none_written}
+use Rattle.hm_top.proofs.Calls.{not_read, short_of_memory}
 use Rattle.hm_top.proofs.Replaying.{answered, faults_shown, read_shown, text_shown}
 
 none_run : (b a : SourceState) (e : Ended) (status : Status) → HasNotRead b a status → HasNothing e → HasRunThreads e.script e.history.entries status
@@ -24,7 +27,10 @@ none_run b a e Status.WriteFault n none = absurd n
 none_run b a e Status.Usage n none = none.none
 none_run b a e (Status.NotLegal l) n none = absurd n
 none_run b a e (Status.Refused r) n none = none.none
-none_run b a e Status.TooLong n none = none.none
+none_run b a e Status.ScriptTooLong n none = none.none
+none_run b a e Status.ReportTooLong n none = none.none
+none_run b a e Status.NoRows n none = none.none
+none_run b a e Status.TooManyRows n none = none.none
 none_run b a e Status.ReadFault n none = none.none
 none_run b a e Status.NoMemory n none = none.none
 
@@ -35,7 +41,10 @@ none_received b a e Status.WriteFault n none = absurd n
 none_received b a e Status.Usage n none = none.receipt_is
 none_received b a e (Status.NotLegal l) n none = none.receipt_is
 none_received b a e (Status.Refused r) n none = none.receipt_is
-none_received b a e Status.TooLong n none = none.receipt_is
+none_received b a e Status.ScriptTooLong n none = none.receipt_is
+none_received b a e Status.ReportTooLong n none = none.receipt_is
+none_received b a e Status.NoRows n none = none.receipt_is
+none_received b a e Status.TooManyRows n none = none.receipt_is
 none_received b a e Status.ReadFault n none = none.receipt_is
 none_received b a e Status.NoMemory n none = none.receipt_is
 
@@ -47,7 +56,10 @@ or_full Status.WriteFault e = e
 or_full Status.Usage e = e
 or_full (Status.NotLegal l) e = e
 or_full (Status.Refused r) e = e
-or_full Status.TooLong e = e
+or_full Status.ScriptTooLong e = e
+or_full Status.ReportTooLong e = e
+or_full Status.NoRows e = e
+or_full Status.TooManyRows e = e
 or_full Status.ReadFault e = e
 
 -- it had nothing to show
@@ -59,6 +71,7 @@ stopped tell Goes io e n faults none same = record {
   receipt = none_received io.source io.source_after e e.status n none;
   written = none_written io.source io.source_after (told_of tell e.script e.history.entries) Goes io.sink io.sink_after e.status n same;
   write_faults = none_failed io.source io.source_after io.sink.faults io.sink_after.faults e.status n (ap (λ k. k.faults) same);
+  flushed = none_flushed io.source io.source_after io.sink_after.pending e.status n;
   complete = λ no_fault. given io.source.left (λ bytes at s is_given. or_full e.status (short_of_memory io e.status bytes s at n faults no_fault is_given));
 }
 
@@ -74,7 +87,10 @@ run_shown r e Status.NoMemory shows whole over = shows.none
 run_shown r e Status.Usage shows whole over = absurd shows
 run_shown r e (Status.NotLegal l) shows whole over = absurd shows
 run_shown r e (Status.Refused x) shows whole over = absurd shows
-run_shown r e Status.TooLong shows whole over = absurd shows
+run_shown r e Status.ScriptTooLong shows whole over = absurd shows
+run_shown r e Status.ReportTooLong shows whole over = absurd shows
+run_shown r e Status.NoRows shows whole over = absurd shows
+run_shown r e Status.TooManyRows shows whole over = absurd shows
 run_shown r e Status.ReadFault shows whole over = absurd shows
 
 receipt_of : (r : Ran) (e : Ended) → HasAll r e → r.receipt ≡ Some r.history.entries → e.receipt ≡ Some e.history.entries
@@ -88,7 +104,10 @@ receipt_shown r e Status.NoMemory shows some = shows.receipt_is
 receipt_shown r e Status.Usage shows some = absurd shows
 receipt_shown r e (Status.NotLegal l) shows some = absurd shows
 receipt_shown r e (Status.Refused x) shows some = absurd shows
-receipt_shown r e Status.TooLong shows some = absurd shows
+receipt_shown r e Status.ScriptTooLong shows some = absurd shows
+receipt_shown r e Status.ReportTooLong shows some = absurd shows
+receipt_shown r e Status.NoRows shows some = absurd shows
+receipt_shown r e Status.TooManyRows shows some = absurd shows
 receipt_shown r e Status.ReadFault shows some = absurd shows
 
 ends : (io : Traffic) (r : Ran) (e : Ended) (status : Status) → ShowsAt r e status → WriteFaulted io.sink.faults io.sink_after.faults status → NoFault io → IsCompleteOrFull status
@@ -99,29 +118,33 @@ ends io r e Status.WriteFault shows w none = none.writes w
 ends io r e Status.Usage shows w none = shows
 ends io r e (Status.NotLegal l) shows w none = shows
 ends io r e (Status.Refused x) shows w none = shows
-ends io r e Status.TooLong shows w none = shows
+ends io r e Status.ScriptTooLong shows w none = shows
+ends io r e Status.ReportTooLong shows w none = shows
+ends io r e Status.NoRows shows w none = shows
+ends io r e Status.TooManyRows shows w none = shows
 ends io r e Status.ReadFault shows w none = shows
 
 -- it has shown what its threads did
 pub shown : (tell : Program → List Entry → List ℕ) (Own Goes : List ℕ → Type 0) (io : Traffic) (r : Ran) (e : Ended) → ReadAs 4194304 (IsTextOf r.script) io.source io.source_after → io.source_after.faults ≡ io.source.faults
     → (r.full ≡ false → AllEnded r.script r.history.entries) → (r.full ≡ true → StoppedFull r.script r.history.entries) → r.receipt ≡ Some r.history.entries → Shows r e → ((t : List ℕ) → Own t → Goes t)
-    → HasWritten (tell r.script r.history.entries) Own io.sink io.sink_after e.status → WriteFaulted io.sink.faults io.sink_after.faults e.status → TellsOfThreads tell Goes io e
-shown tell Own Goes io r e read same whole over some shows goes w faults = record {
+    → HasWritten (tell r.script r.history.entries) Own io.sink io.sink_after e.status → WriteFaulted io.sink.faults io.sink_after.faults e.status → IsFlushed io.sink_after.pending e.status → TellsOfThreads tell Goes io e
+shown tell Own Goes io r e read same whole over some shows goes w faults flushed = record {
   read = read_shown r e io.source io.source_after e.status shows read;
   read_faults = faults_shown r e io.source.faults io.source_after.faults e.status shows same;
   ran = run_shown r e e.status shows whole over;
   receipt = receipt_shown r e e.status shows some;
   written = text_shown tell Own Goes r e io.sink io.sink_after e.status shows goes w;
   write_faults = faults;
+  flushed = flushed;
   complete = λ none. given io.source.left (λ bytes at s is_given. ends io r e e.status shows faults none);
 }
 
 -- so of the script that was read
 pub shown_for : (tell : Program → List Entry → List ℕ) (Own Goes : List ℕ → Type 0) (io : Traffic) (r : Ran) (e : Ended) (s : Program) → r.script ≡ s → ReadAs 4194304 (IsTextOf s) io.source io.source_after → io.source_after.faults ≡ io.source.faults
     → (r.full ≡ false → AllEnded s r.history.entries) → (r.full ≡ true → StoppedFull s r.history.entries) → r.receipt ≡ Some r.history.entries → Shows r e → ((t : List ℕ) → Own t → Goes t)
-    → HasWritten (tell r.script r.history.entries) Own io.sink io.sink_after e.status → WriteFaulted io.sink.faults io.sink_after.faults e.status → TellsOfThreads tell Goes io e
-shown_for tell Own Goes io r e s is read same whole over some shows goes w faults =
-    shown tell Own Goes io r e (subst (λ x. ReadAs 4194304 (IsTextOf x) io.source io.source_after) (sym is) read) same (λ f. subst (λ x. AllEnded x r.history.entries) (sym is) (whole f)) (λ f. subst (λ x. StoppedFull x r.history.entries) (sym is) (over f)) some shows goes w faults
+    → HasWritten (tell r.script r.history.entries) Own io.sink io.sink_after e.status → WriteFaulted io.sink.faults io.sink_after.faults e.status → IsFlushed io.sink_after.pending e.status → TellsOfThreads tell Goes io e
+shown_for tell Own Goes io r e s is read same whole over some shows goes w faults flushed =
+    shown tell Own Goes io r e (subst (λ x. ReadAs 4194304 (IsTextOf x) io.source io.source_after) (sym is) read) same (λ f. subst (λ x. AllEnded x r.history.entries) (sym is) (whole f)) (λ f. subst (λ x. StoppedFull x r.history.entries) (sym is) (over f)) some shows goes w faults flushed
 
 -- the report of what the threads did
 pub reported : (from after : SourceState) (r : Ran) (s : Program) → r.script ≡ s → ReadAs 4194304 (IsTextOf s) from after → (r.full ≡ false → AllEnded s r.history.entries) → (r.full ≡ true → StoppedFull s r.history.entries) → (t : List ℕ) → t ≡ report r.script r.history.entries → IsThreadsReport from t

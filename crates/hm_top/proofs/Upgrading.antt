@@ -3,20 +3,21 @@ use Rattle.std.proofs.Common.{◌≡◌, ℕ, inl, inr, Some, None, Option, List
 use Rattle.std.specs.Prelude.{IfSome}
 use Rattle.hm_base.specs.Program.{Program}
 use Rattle.hm_history.specs.declared.Entry.{Entry}
-use Rattle.hm_io.specs.Streams.{Adds, AddsFront}
-use Rattle.hm_report.specs.SinkState.{SinkState}
+use Rattle.hm_io.specs.Streams.{Adds, AddsFront, SinkState, SourceState}
 use Rattle.hm_script.specs.Spelling.{text}
-use Rattle.hm_top.specs.Complete.{IsComplete, NoFault}
+use Rattle.hm_top.specs.Complete.{IsComplete}
+use Rattle.hm_edge.specs.Traffic.{NoFault, Traffic}
 use Rattle.hm_top.specs.Generates.{HasMade, IsAlone}
-use Rattle.hm_top.specs.Reading.{HasNotRead, HasRead, IsTextOf, ReadAs, ReadFaulted}
+use Rattle.hm_edge.specs.Reading.{HasNotRead, HasRead, IsTextOf, ReadAs, ReadFaulted}
 use Rattle.hm_top.specs.Ran.{HasNothing}
 use Rattle.hm_top.specs.Running.{Answered}
-use Rattle.hm_top.specs.Traffic.{SourceState, Traffic}
 use Rattle.hm_top.specs.Upgrades.{HasUpgraded, IsItsUpgrade, IsUpgradedText, IsUpgradeOf, Upgrades, text_for, upgraded}
-use Rattle.hm_top.specs.Writing.{HasWritten, WriteFaulted}
+use Rattle.hm_edge.specs.Writing.{HasWritten, IsFlushed, WriteFaulted}
 use Rattle.hm_top.specs.declared.ended.Ended.{Ended}
-use Rattle.hm_top.specs.declared.status.Status.{Status}
-use Rattle.hm_top.proofs.Calls.{given, none_failed, none_written, not_read, short_of_memory}
+use Rattle.hm_edge.specs.declared.status.Status.{Status}
+use Rattle.hm_edge.proofs.Came.{given}
+use Rattle.hm_edge.proofs.NotRead.{none_failed, none_flushed, none_written}
+use Rattle.hm_top.proofs.Calls.{not_read, short_of_memory}
 
 none_upgraded : (b a : SourceState) (script : Option Program) (status : Status) → HasNotRead b a status → script ≡ None → HasUpgraded script status
 none_upgraded b a script Status.Done n e = absurd n
@@ -25,7 +26,10 @@ none_upgraded b a script Status.WriteFault n e = absurd n
 none_upgraded b a script Status.Usage n e = n
 none_upgraded b a script (Status.NotLegal l) n e = n
 none_upgraded b a script (Status.Refused r) n e = e
-none_upgraded b a script Status.TooLong n e = e
+none_upgraded b a script Status.ScriptTooLong n e = e
+none_upgraded b a script Status.ReportTooLong n e = n
+none_upgraded b a script Status.NoRows n e = n
+none_upgraded b a script Status.TooManyRows n e = n
 none_upgraded b a script Status.ReadFault n e = e
 none_upgraded b a script Status.NoMemory n e = e
 
@@ -38,6 +42,7 @@ stopped io e n faults none same = record {
   history = none.none.history_is;
   written = none_written io.source io.source_after (text_for e.script) (IsUpgradedText io.source) io.sink io.sink_after e.status n same;
   write_faults = none_failed io.source io.source_after io.sink.faults io.sink_after.faults e.status n (ap (λ k. k.faults) same);
+  flushed = none_flushed io.source io.source_after io.sink_after.pending e.status n;
   receipt = none.receipt_is;
   complete = λ no_fault. given io.source.left (λ bytes at s is_given. short_of_memory io e.status bytes s at n faults no_fault is_given);
 }
@@ -59,7 +64,10 @@ module _ (b a : SourceState) (u : Program) (script : Option Program) (h : List E
   read_made Status.Usage made read = absurd made
   read_made (Status.NotLegal l) made read = absurd made
   read_made (Status.Refused x) made read = absurd made
-  read_made Status.TooLong made read = absurd made
+  read_made Status.ScriptTooLong made read = absurd made
+  read_made Status.ReportTooLong made read = absurd made
+  read_made Status.NoRows made read = absurd made
+  read_made Status.TooManyRows made read = absurd made
   read_made Status.ReadFault made read = tt
 
   faults_made : (n n' : ℕ) (status : Status) → HasMade (IsAlone u) script h status → n' ≡ n → ReadFaulted n n' status
@@ -71,7 +79,10 @@ module _ (b a : SourceState) (u : Program) (script : Option Program) (h : List E
   faults_made n n' Status.Usage made same = same
   faults_made n n' (Status.NotLegal l) made same = same
   faults_made n n' (Status.Refused x) made same = same
-  faults_made n n' Status.TooLong made same = same
+  faults_made n n' Status.ScriptTooLong made same = same
+  faults_made n n' Status.ReportTooLong made same = same
+  faults_made n n' Status.NoRows made same = same
+  faults_made n n' Status.TooManyRows made same = same
 
   script_made : (status : Status) → HasMade (IsAlone u) script h status → HasUpgraded script status
   script_made Status.Done made = (u, the_script u script h made)
@@ -81,7 +92,10 @@ module _ (b a : SourceState) (u : Program) (script : Option Program) (h : List E
   script_made Status.Usage made = made
   script_made (Status.NotLegal l) made = made
   script_made (Status.Refused x) made = absurd made
-  script_made Status.TooLong made = absurd made
+  script_made Status.ScriptTooLong made = absurd made
+  script_made Status.ReportTooLong made = made
+  script_made Status.NoRows made = made
+  script_made Status.TooManyRows made = made
   script_made Status.ReadFault made = absurd made
 
   history_made : (status : Status) → HasMade (IsAlone u) script h status → h ≡ []
@@ -92,7 +106,10 @@ module _ (b a : SourceState) (u : Program) (script : Option Program) (h : List E
   history_made Status.Usage made = absurd made
   history_made (Status.NotLegal l) made = absurd made
   history_made (Status.Refused x) made = absurd made
-  history_made Status.TooLong made = absurd made
+  history_made Status.ScriptTooLong made = absurd made
+  history_made Status.ReportTooLong made = absurd made
+  history_made Status.NoRows made = absurd made
+  history_made Status.TooManyRows made = absurd made
   history_made Status.ReadFault made = absurd made
 
   its_text : Answered (IsAlone u) script h → text u ≡ text_for script
@@ -107,7 +124,10 @@ module _ (b a : SourceState) (u : Program) (script : Option Program) (h : List E
   text_made k k' Status.Usage made goes w = absurd made
   text_made k k' (Status.NotLegal l) made goes w = absurd made
   text_made k k' (Status.Refused x) made goes w = absurd made
-  text_made k k' Status.TooLong made goes w = absurd made
+  text_made k k' Status.ScriptTooLong made goes w = absurd made
+  text_made k k' Status.ReportTooLong made goes w = absurd made
+  text_made k k' Status.NoRows made goes w = absurd made
+  text_made k k' Status.TooManyRows made goes w = absurd made
   text_made k k' Status.ReadFault made goes w = absurd made
 
   ends_made : (io : Traffic) (status : Status) → HasMade (IsAlone u) script h status → WriteFaulted io.sink.faults io.sink_after.faults status → NoFault io → IsComplete status
@@ -118,7 +138,10 @@ module _ (b a : SourceState) (u : Program) (script : Option Program) (h : List E
   ends_made io Status.Usage made w none = made
   ends_made io (Status.NotLegal l) made w none = made
   ends_made io (Status.Refused x) made w none = made
-  ends_made io Status.TooLong made w none = made
+  ends_made io Status.ScriptTooLong made w none = made
+  ends_made io Status.ReportTooLong made w none = made
+  ends_made io Status.NoRows made w none = made
+  ends_made io Status.TooManyRows made w none = made
   ends_made io Status.ReadFault made w none = made
 
 upgrade_of : (left : Option (List ℕ)) (s u : Program) → u ≡ upgraded s → IfSome left (IsTextOf s) → IfSome left (IsUpgradeOf u)
@@ -127,8 +150,8 @@ upgrade_of (Some bytes) s u is x = record { script = s; text_is = x; upgrade = i
 
 -- the text in version 2 was written
 pub written : (io : Traffic) (e : Ended) (s u : Program) → ReadAs 4194304 (IsTextOf s) io.source io.source_after → io.source_after.faults ≡ io.source.faults → u ≡ upgraded s
-    → HasMade (IsAlone u) e.script e.history.entries e.status → HasWritten (text u) (λ t. t ≡ text u) io.sink io.sink_after e.status → WriteFaulted io.sink.faults io.sink_after.faults e.status → e.receipt ≡ None → Upgrades io e
-written io e s u read same is made w faults receipt =
+    → HasMade (IsAlone u) e.script e.history.entries e.status → HasWritten (text u) (λ t. t ≡ text u) io.sink io.sink_after e.status → WriteFaulted io.sink.faults io.sink_after.faults e.status → IsFlushed io.sink_after.pending e.status → e.receipt ≡ None → Upgrades io e
+written io e s u read same is made w faults flushed receipt =
     let mine = upgrade_of io.source.left s u is read.bytes_are in record {
       read = read_made io.source io.source_after u e.script e.history.entries e.status made (record { bytes_are = mine; whole = read.whole });
       read_faults = faults_made io.source io.source_after u e.script e.history.entries io.source.faults io.source_after.faults e.status made same;
@@ -136,6 +159,7 @@ written io e s u read same is made w faults receipt =
       history = history_made io.source io.source_after u e.script e.history.entries e.status made;
       written = text_made io.source io.source_after u e.script e.history.entries io.sink io.sink_after e.status made (record { script = u; read = mine; text_is = refl }) w;
       write_faults = faults;
+      flushed = flushed;
       receipt = receipt;
       complete = λ none. given io.source.left (λ bytes at t is_given. ends_made io.source io.source_after u e.script e.history.entries io e.status made faults none);
     }

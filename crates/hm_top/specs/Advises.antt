@@ -7,7 +7,7 @@ use Rattle.hm_advisor.specs.Text.{advice_text}
 use Rattle.hm_base.specs.Program.{Program}
 use Rattle.hm_history.specs.declared.Entry.{Entry}
 use Rattle.hm_top.specs.Replays.{TellsOfRun}
-use Rattle.hm_top.specs.Traffic.{Traffic}
+use Rattle.hm_edge.specs.Traffic.{Traffic}
 use Rattle.hm_top.specs.declared.ended.Ended.{Ended}
 
 -- the counts of the history and the moves that follow from them, as lines

@@ -4,18 +4,15 @@ use Rattle.std.specs.Fmt.{decimal}
 use Rattle.hm_base.specs.Program.{Program}
 use Rattle.hm_check.specs.FirstBad.{IsFirstBad, IsLegalReport}
 use Rattle.hm_history.specs.declared.Entry.{Entry}
-use Rattle.hm_io.specs.Streams.{Adds, AddsFront}
+use Rattle.hm_io.specs.Streams.{Adds, AddsFront, SinkState, SourceState}
 use Rattle.hm_report.specs.Report.{report}
-use Rattle.hm_report.specs.SinkState.{SinkState}
-use Rattle.hm_top.specs.Complete.{NoFault}
-use Rattle.hm_top.specs.Reading.{ReadAs, ReadFaulted}
+use Rattle.hm_edge.specs.Traffic.{NoFault, Traffic}
+use Rattle.hm_edge.specs.Reading.{ReadAs, ReadFaulted}
 use Rattle.hm_top.specs.Running.{Answered, AnsweredNone}
-use Rattle.hm_top.specs.Streams.{LeftOver}
-use Rattle.hm_top.specs.Traffic.{SourceState, Traffic}
-use Rattle.hm_top.specs.Writing.{WantedIn, WriteFaulted}
+use Rattle.hm_edge.specs.Input.{LeftOver}
+use Rattle.hm_edge.specs.Writing.{WantedIn, IsFlushed, WriteFaulted}
 use Rattle.hm_top.specs.declared.ended.Ended.{Ended}
-use Rattle.hm_top.specs.declared.check.TheConstants.{MOST_REPORT_BYTES}
-use Rattle.hm_top.specs.declared.status.Status.{Status}
+use Rattle.hm_edge.specs.declared.status.Status.{Status}
 use Rattle.hm_why.specs.Loads.{why_text}
 
 -- ---- the two lines
@@ -29,11 +26,6 @@ abbrev pub bad_line : ℕ → List ℕ
 bad_line n = codes "bad " ++ (decimal n ++ 10 ∷ [])
 
 -- ---- what the bytes are
-
--- the bytes are the report of this script and this history, which is legal for it
-pub record IsLegalReportOf (c : Program) (h : List Entry) (bytes : List ℕ) : Type 0 where
-  pub legal : IsLegalReport c h
-  pub text_is : bytes ≡ report c h
 
 -- they are that of the script and the history in the answer
 abbrev pub IsItsReport : Option Program → List Entry → List ℕ → Type 0
@@ -51,19 +43,12 @@ IsAsAnswered (Some c) h bytes = IsLegalReportOf c h bytes
 
 -- ---- by how the call ends
 
--- how a call ends that comes to no verdict
-abbrev pub HasNotJudged : SourceState → SourceState → Status → Type 0
-HasNotJudged before after Status.TooLong = LeftOver before.left MOST_REPORT_BYTES
-HasNotJudged before after Status.ReadFault = Unit {0}
-HasNotJudged before after Status.NoMemory = Unit {0}
-HasNotJudged before after _ = ⊥
-
 -- what was read
 abbrev pub HasJudged : Option Program → List Entry → SourceState → SourceState → Status → Type 0
-HasJudged script h before after Status.Done = ReadAs MOST_REPORT_BYTES (IsItsReport script h) before after
+HasJudged script h before after Status.Done = ReadAs 268435456 (IsItsReport script h) before after
 HasJudged script h before after (Status.NotLegal n) =
-    ReadAs MOST_REPORT_BYTES (λ bytes. IsFirstBad bytes n) before after
-HasJudged script h before after Status.WriteFault = ReadAs MOST_REPORT_BYTES (IsAsAnswered script h) before after
+    ReadAs 268435456 (λ bytes. IsFirstBad bytes n) before after
+HasJudged script h before after Status.WriteFault = ReadAs 268435456 (IsAsAnswered script h) before after
 HasJudged script h before after status = HasNotJudged before after status
 
 -- what the answer has
@@ -142,13 +127,15 @@ pub record SaysOfReport (say : List Entry → List ℕ) (io : Traffic) (ended : 
   pub written : HasTold say io.source ended.script ended.history.entries io.sink io.sink_after ended.status
   -- `WriteFault` comes only where the sink counted a fault.
   pub write_faults : WriteFaulted io.sink.faults io.sink_after.faults ended.status
+  -- If the text went out whole, the sink sent all of it on.
+  pub flushed : IsFlushed io.sink_after.pending ended.status
   pub receipt : ended.receipt ≡ None
   -- Where neither stream counted a fault, and there are no more bytes than the limit, a verdict is told, or memory runs
   -- out.
   pub complete : NoFault io
-      → IfSome io.source.left (λ bytes. length bytes ≤ MOST_REPORT_BYTES → IsJudged ended.status)
+      → IfSome io.source.left (λ bytes. length bytes ≤ 268435456 → IsJudged ended.status)
   -- Where the bytes are then the report of a script and of a history that is legal for it, these are found.
-  pub finds : NoFault io → IfSome io.source.left (λ bytes. length bytes ≤ MOST_REPORT_BYTES
+  pub finds : NoFault io → IfSome io.source.left (λ bytes. length bytes ≤ 268435456
       → (c : Program) (h : List Entry) → IsLegalReportOf c h bytes → Finds c h ended ended.status)
 
 -- the text is a line with the number of entries

@@ -4,26 +4,27 @@ use Rattle.std.specs.Str.{bytes_eq}
 use Rattle.hm_script.specs.Numerals.{address, number}
 use Rattle.hm_script.specs.declared.reason.Reason.{Reason}
 use Rattle.hm_turns.specs.Looking.{IsLook}
+use Rattle.hm_top.specs.declared.command.Alone.{Alone}
 use Rattle.hm_top.specs.declared.command.Command.{Command}
 
 -- the command that takes a number, where the word spells one: decimal, without leading zeros, below 2 ^ 64
-abbrev pub numbered : (ℕ → Command) → Result ℕ Reason → Option Command
-numbered command (Ok n) = Some (command n)
+abbrev pub numbered : (ℕ → Alone) → Result ℕ Reason → Option Command
+numbered command (Ok n) = Some (Command.Alone (command n))
 numbered command (Err why) = None
 
 -- the command of one word
 abbrev pub plain_command : List ℕ → Option Command
-plain_command w = if bytes_eq w (codes "replay") then Some Command.Replay
+plain_command w = if bytes_eq w (codes "replay") then Some (Command.Alone Alone.Replay)
     else (if bytes_eq w (codes "threads") then Some Command.Threads
-    else (if bytes_eq w (codes "upgrade") then Some Command.Upgrade
-    else (if bytes_eq w (codes "check") then Some Command.Check
-    else (if bytes_eq w (codes "advise") then Some Command.Advise
-    else (if bytes_eq w (codes "why") then Some Command.Why else None)))))
+    else (if bytes_eq w (codes "upgrade") then Some (Command.Alone Alone.Upgrade)
+    else (if bytes_eq w (codes "check") then Some (Command.Alone Alone.Check)
+    else (if bytes_eq w (codes "advise") then Some (Command.Alone Alone.Advise)
+    else (if bytes_eq w (codes "why") then Some (Command.Alone Alone.Why) else None)))))
 
 -- the command of a word and a number
 abbrev pub numbered_command : List ℕ → List ℕ → Option Command
-numbered_command w n = if bytes_eq w (codes "generate") then numbered Command.Generate (number n)
-    else (if bytes_eq w (codes "trial") then numbered Command.Trial (number n) else None)
+numbered_command w n = if bytes_eq w (codes "generate") then numbered Alone.Generate (number n)
+    else (if bytes_eq w (codes "trial") then numbered Alone.Trial (number n) else None)
 
 -- a peek of so many bytes of a process from an address on: 1 to 256 of them, that end at or below 2 ^ 48
 abbrev pub peek_at : ℕ → ℕ → ℕ → Option Command
@@ -42,11 +43,10 @@ peek_of (Err why) at n = None
 abbrev pub peek_command : List ℕ → List ℕ → List ℕ → List ℕ → Option Command
 peek_command w p at n = if bytes_eq w (codes "peek") then peek_of (number p) (address at) (number n) else None
 
--- the command may wait for threads
-abbrev pub waits : Option Command → Bool
-waits (Some Command.Threads) = true
-waits (Some (Command.Peek asked)) = true
-waits _ = false
+-- the command, if the calling thread does it alone
+abbrev pub alone : Option Command → Option Command
+alone (Some (Command.Alone x)) = Some (Command.Alone x)
+alone _ = None
 
 -- a peek is of 1 to 256 bytes that end at or below 2 ^ 48
 abbrev pub Looks : Option Command → Type 0

@@ -7,9 +7,9 @@ use Rattle.hm_history.specs.Overrun.{overruns}
 use Rattle.hm_io.specs.Streams.{Rose}
 use Rattle.hm_quiet.specs.Quiet.{IsDrainAlone}
 use Rattle.hm_script.specs.Built.{has_drain}
-use Rattle.hm_top.specs.Reading.{IsTextOf}
-use Rattle.hm_top.specs.Traffic.{Traffic}
-use Rattle.hm_top.specs.declared.status.Status.{Status}
+use Rattle.hm_edge.specs.Reading.{IsTextOf}
+use Rattle.hm_edge.specs.Traffic.{Traffic}
+use Rattle.hm_edge.specs.declared.status.Status.{Status}
 
 -- the turns of a schedule, those of a `drain` left out
 abbrev pub turn_count : List ScheduleLine → ℕ
@@ -32,13 +32,3 @@ abbrev pub IsComplete : Status → Type 0
 IsComplete Status.Done = Unit {0}
 IsComplete Status.NoMemory = Unit {0}
 IsComplete _ = ⊥
-
--- neither stream counted a fault
-pub record NoFault (io : Traffic) : Type 0 where
-  pub reads : ¬ Rose io.source.faults io.source_after.faults
-  pub writes : ¬ Rose io.sink.faults io.sink_after.faults
-
--- the bytes are the text of this script, and no more than a script has
-pub record IsGiven (s : Program) (bytes : List ℕ) : Type 0 where
-  pub text_is : IsTextOf s bytes
-  pub short : length bytes ≤ MOST_SCRIPT_BYTES

@@ -8,10 +8,10 @@ use Rattle.hm_script.specs.Spelling.{text}
 use Rattle.hm_base.specs.Program.{Program}
 use Rattle.hm_history.specs.declared.Entry.{Entry}
 use Rattle.hm_top.specs.Running.{Answered, AnsweredNone, RanWhole}
-use Rattle.hm_top.specs.Traffic.{Traffic}
-use Rattle.hm_top.specs.Writing.{HasWritten, WriteFaulted}
+use Rattle.hm_edge.specs.Traffic.{Traffic}
+use Rattle.hm_edge.specs.Writing.{HasWritten, IsFlushed, WriteFaulted}
 use Rattle.hm_top.specs.declared.ended.Ended.{Ended}
-use Rattle.hm_top.specs.declared.status.Status.{Status}
+use Rattle.hm_edge.specs.declared.status.Status.{Status}
 
 -- this holds of the script and the history in the answer at `Done` and `WriteFault`; at `NoMemory` the answer has none;
 -- and there is no other status
@@ -33,6 +33,8 @@ pub record Generates (n : ℕ) (io : Traffic) (ended : Ended) : Type 0 where
   -- Its text goes out; a front of it at `WriteFault`, and at `NoMemory` where the sink itself wanted memory.
   pub written : HasWritten (text (generated n)) (λ t. t ≡ text (generated n)) io.sink io.sink_after ended.status
   pub write_faults : WriteFaulted io.sink.faults io.sink_after.faults ended.status
+  -- If the text went out whole, the sink sent all of it on.
+  pub flushed : IsFlushed io.sink_after.pending ended.status
   pub receipt : ended.receipt ≡ None
 
 -- the script is this one, and its history is its run, which is legal, and never full
@@ -49,4 +51,6 @@ pub record Tries (n : ℕ) (io : Traffic) (ended : Ended) : Type 0 where
   pub written : HasWritten (summary n (generated n) (run (generated n)))
       (λ t. t ≡ summary n (generated n) (run (generated n))) io.sink io.sink_after ended.status
   pub write_faults : WriteFaulted io.sink.faults io.sink_after.faults ended.status
+  -- If the text went out whole, the sink sent all of it on.
+  pub flushed : IsFlushed io.sink_after.pending ended.status
   pub receipt : ended.receipt ≡ None

@@ -1,14 +1,11 @@
 pub mod Commands
-pub mod Streams
-pub mod Traffic
-pub mod Reading
-pub mod Writing
 pub mod Drained
 pub mod Running
 pub mod Ran
 pub mod Complete
 pub mod Replays
 pub mod Advises
+pub mod Runs
 pub mod RunsThreads
 pub mod Peeks
 pub mod Generates
@@ -17,4 +14,3 @@ pub mod Checks
 pub mod Verdicts
 pub mod Usage
 pub mod Does
-pub mod Messages

@@ -11,11 +11,12 @@ use Rattle.hm_script.specs.Spelling.{hex_text}
 use Rattle.hm_turns.specs.Looking.{all_have_areas}
 use Rattle.hm_workers.specs.Peeking.{ArePeeks, IsPlain, last_count}
 use Rattle.hm_workers.specs.declared.peeks.Peek.{Peek}
-use Rattle.hm_top.specs.Reading.{IsTextOf}
+use Rattle.hm_edge.specs.Reading.{IsTextOf}
 use Rattle.hm_top.specs.RunsThreads.{CameToEnd, TellsOfThreads}
-use Rattle.hm_top.specs.Traffic.{SourceState, Traffic}
+use Rattle.hm_io.specs.Streams.{SourceState}
+use Rattle.hm_edge.specs.Traffic.{Traffic}
 use Rattle.hm_top.specs.declared.ended.Ended.{Ended}
-use Rattle.hm_top.specs.declared.status.Status.{Status}
+use Rattle.hm_edge.specs.declared.status.Status.{Status}
 
 -- the line of a peek: its process and address, after how many entries it was so, and the bytes
 abbrev pub peek_line : Peek → List ℕ

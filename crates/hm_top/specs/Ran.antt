@@ -10,7 +10,7 @@ use Rattle.hm_world.specs.WorldValue.{WorldValue}
 use Rattle.hm_top.specs.Running.{AnsweredNone}
 use Rattle.hm_top.specs.declared.ended.Ended.{Ended}
 use Rattle.hm_top.specs.declared.schedule.Ran.{Ran}
-use Rattle.hm_top.specs.declared.status.Status.{Status}
+use Rattle.hm_edge.specs.declared.status.Status.{Status}
 
 -- a machine after its schedule's turns, and whether one of them found an entry due and the history full
 pub record Replayed (before after : WorldValue) (full : Bool) : Type 0 where

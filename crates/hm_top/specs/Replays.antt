@@ -3,11 +3,12 @@ use Rattle.std.specs.Prelude.{◌≡◌, ℕ, List, Option, Some, None, IfSome}
 use Rattle.hm_base.specs.Program.{Program}
 use Rattle.hm_history.specs.declared.Entry.{Entry}
 use Rattle.hm_report.specs.Report.{report}
-use Rattle.hm_top.specs.Complete.{HasRoom, IsComplete, IsGiven, NoFault}
-use Rattle.hm_top.specs.Reading.{HasRead, IsTextOf, ReadFaulted}
+use Rattle.hm_top.specs.Complete.{HasRoom, IsComplete}
+use Rattle.hm_edge.specs.Reading.{IsGiven, HasRead, IsTextOf, ReadFaulted}
+use Rattle.hm_edge.specs.Traffic.{NoFault, Traffic}
 use Rattle.hm_top.specs.Running.{HasRun, RanSo, told_of}
-use Rattle.hm_top.specs.Traffic.{SourceState, Traffic}
-use Rattle.hm_top.specs.Writing.{HasWritten, WriteFaulted}
+use Rattle.hm_io.specs.Streams.{SourceState}
+use Rattle.hm_edge.specs.Writing.{HasWritten, IsFlushed, WriteFaulted}
 use Rattle.hm_top.specs.declared.ended.Ended.{Ended}
 
 -- the bytes are the text of the script in the answer
@@ -40,6 +41,8 @@ pub record TellsOfRun (tell : Program → List Entry → List ℕ) (io : Traffic
       io.sink_after ended.status
   -- `WriteFault` comes only where the sink counted a fault.
   pub write_faults : WriteFaulted io.sink.faults io.sink_after.faults ended.status
+  -- If the text went out whole, the sink sent all of it on.
+  pub flushed : IsFlushed io.sink_after.pending ended.status
   pub receipt : ended.receipt ≡ None
   -- Where neither stream counted a fault, and the bytes are the text of a script whose history has room, the text is
   -- written, or memory runs out.

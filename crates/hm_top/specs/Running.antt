@@ -8,7 +8,7 @@ use Rattle.hm_history.specs.declared.Entry.{Entry}
 use Rattle.hm_report.specs.Report.{report}
 use Rattle.hm_world.specs.WorldValue.{HasDue}
 use Rattle.hm_top.specs.Drained.{IsDrained}
-use Rattle.hm_top.specs.declared.status.Status.{Status}
+use Rattle.hm_edge.specs.declared.status.Status.{Status}
 
 -- the history is the script's run, and legal for it
 pub record IsRun (s : Program) (h : List Entry) : Type 0 where

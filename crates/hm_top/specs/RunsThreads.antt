@@ -6,15 +6,15 @@ use Rattle.hm_history.specs.Legal.{Legal}
 use Rattle.hm_history.specs.declared.Entry.{Entry}
 use Rattle.hm_report.specs.Report.{report}
 use Rattle.hm_world.specs.WorldValue.{HasDue}
-use Rattle.hm_top.specs.Complete.{IsGiven, NoFault}
+use Rattle.hm_edge.specs.Reading.{IsGiven, HasRead, IsTextOf, ReadFaulted}
+use Rattle.hm_edge.specs.Traffic.{NoFault, Traffic}
 use Rattle.hm_top.specs.Drained.{IsDone}
-use Rattle.hm_top.specs.Reading.{HasRead, IsTextOf, ReadFaulted}
 use Rattle.hm_top.specs.Replays.{IsItsText}
 use Rattle.hm_top.specs.Running.{Answered, AnsweredNone, told_of}
-use Rattle.hm_top.specs.Traffic.{SourceState, Traffic}
-use Rattle.hm_top.specs.Writing.{HasWritten, WriteFaulted}
+use Rattle.hm_io.specs.Streams.{SourceState}
+use Rattle.hm_edge.specs.Writing.{HasWritten, IsFlushed, WriteFaulted}
 use Rattle.hm_top.specs.declared.ended.Ended.{Ended}
-use Rattle.hm_top.specs.declared.status.Status.{Status}
+use Rattle.hm_edge.specs.declared.status.Status.{Status}
 
 -- the history is legal, and after it every operation has ended
 pub record AllEnded (s : Program) (h : List Entry) : Type 0 where
@@ -76,6 +76,8 @@ pub record TellsOfThreads (tell : Program → List Entry → List ℕ) (Goes : L
   -- What is written is as for `replay`.
   pub written : HasWritten (told_of tell ended.script ended.history.entries) Goes io.sink io.sink_after ended.status
   pub write_faults : WriteFaulted io.sink.faults io.sink_after.faults ended.status
+  -- If the text went out whole, the sink sent all of it on.
+  pub flushed : IsFlushed io.sink_after.pending ended.status
   -- Where neither stream counted a fault, and the bytes are the text of a script, the text is written, or memory runs
   -- out.
   pub complete : NoFault io

@@ -3,12 +3,13 @@ use Rattle.std.specs.Prelude.{◌≡◌, ℕ, List, [], Option, Some, None, IfSo
 use Rattle.hm_base.specs.Program.{Program}
 use Rattle.hm_base.specs.declared.ops.Version.TheVariants.{Two}
 use Rattle.hm_script.specs.Spelling.{text}
-use Rattle.hm_top.specs.Complete.{IsComplete, IsGiven, NoFault}
-use Rattle.hm_top.specs.Reading.{HasRead, IsTextOf, ReadFaulted}
-use Rattle.hm_top.specs.Traffic.{SourceState, Traffic}
-use Rattle.hm_top.specs.Writing.{HasWritten, WriteFaulted}
+use Rattle.hm_top.specs.Complete.{IsComplete}
+use Rattle.hm_edge.specs.Reading.{IsGiven, HasRead, IsTextOf, ReadFaulted}
+use Rattle.hm_edge.specs.Traffic.{NoFault, Traffic}
+use Rattle.hm_io.specs.Streams.{SourceState}
+use Rattle.hm_edge.specs.Writing.{HasWritten, IsFlushed, WriteFaulted}
 use Rattle.hm_top.specs.declared.ended.Ended.{Ended}
-use Rattle.hm_top.specs.declared.status.Status.{Status}
+use Rattle.hm_edge.specs.declared.status.Status.{Status}
 
 -- the same script in version 2
 abbrev pub upgraded : Program → Program
@@ -57,6 +58,8 @@ pub record Upgrades (io : Traffic) (ended : Ended) : Type 0 where
   -- memory.
   pub written : HasWritten (text_for ended.script) (IsUpgradedText io.source) io.sink io.sink_after ended.status
   pub write_faults : WriteFaulted io.sink.faults io.sink_after.faults ended.status
+  -- If the text went out whole, the sink sent all of it on.
+  pub flushed : IsFlushed io.sink_after.pending ended.status
   pub receipt : ended.receipt ≡ None
   -- Where neither stream counted a fault, and the bytes are the text of a script, it is done, or memory runs out.
   pub complete : NoFault io

@@ -1,7 +1,7 @@
--- A call whose words ask for nothing that there is.
+-- A call whose words ask for nothing that it does.
 use Rattle.std.specs.Prelude.{◌≡◌, None}
 use Rattle.hm_top.specs.Running.{AnsweredNone}
-use Rattle.hm_top.specs.Traffic.{Traffic}
+use Rattle.hm_edge.specs.Traffic.{Traffic}
 use Rattle.hm_top.specs.declared.ended.Ended.{Ended}
 
 -- it reads and writes nothing, and answers nothing

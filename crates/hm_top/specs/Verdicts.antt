@@ -8,21 +8,14 @@ use Rattle.hm_check.specs.declared.verdict.Verdict.{Verdict}
 use Rattle.hm_check.specs.declared.verdict.Verdict.TheVariants.{Yes, No}
 use Rattle.hm_history.specs.declared.Entry.{Entry}
 use Rattle.hm_report.specs.declared.written.Written.{Written}
-use Rattle.hm_top.specs.Checks.{IsLegalReportOf, bad_line, legal_line}
+use Rattle.hm_check.specs.Judging.{IsLegalReportOf}
+use Rattle.hm_top.specs.Checks.{bad_line, legal_line}
 use Rattle.hm_top.specs.Ran.{HasNothing}
-use Rattle.hm_top.specs.Streams.{CameWhole}
-use Rattle.hm_top.specs.Traffic.{SourceState}
+use Rattle.hm_edge.specs.Input.{CameWhole}
+use Rattle.hm_io.specs.Streams.{SourceState}
 use Rattle.hm_top.specs.declared.check.TheConstants.{MOST_REPORT_BYTES}
 use Rattle.hm_top.specs.declared.ended.Ended.{Ended}
-use Rattle.hm_top.specs.declared.status.Status.{Status}
-
--- all that was left in the source came, and this is the verdict on it
-pub record IsVerdictOn (before after : SourceState) (v : Verdict) : Type 0 where
-  pub bytes : List ℕ
-  pub short : length bytes ≤ MOST_REPORT_BYTES
-  pub whole : CameWhole before.left after.left bytes
-  pub judged : Judged bytes v
-  pub only : (c : Program) (h : List Entry) → IsLegalReportOf c h bytes → IsYes c h v
+use Rattle.hm_edge.specs.declared.status.Status.{Status}
 
 -- the text of a verdict, by what is said of a legal report
 abbrev pub verdict_text : (List Entry → List ℕ) → Verdict → List ℕ
@@ -32,11 +25,6 @@ verdict_text say (No n) = bad_line n
 -- the line of a verdict
 abbrev pub verdict_line : Verdict → List ℕ
 verdict_line = verdict_text (λ h. legal_line (length h))
-
--- the report that was found is legal
-abbrev pub IsSound : Verdict → Type 0
-IsSound (Yes r) = IsLegalReport r.script r.history.entries
-IsSound (No n) = Unit {0}
 
 -- the status of a call whose line went out
 abbrev pub verdict_status : Verdict → Status

@@ -1,17 +1,15 @@
 // The word `advise`.
 ghost use Rattle.std.specs.Prelude.{◌≡◌, []};
-ghost use Rattle.hm_report.specs.SinkState.{sink_state};
 ghost use Rattle.hm_top.specs.Advises.{Advises, advice_on};
 ghost use Rattle.hm_top.specs.Ran.{Shows};
-ghost use Rattle.hm_top.specs.Traffic.{source_state, traffic};
-ghost use Rattle.hm_top.specs.Writing.{HasWritten, WriteFaulted};
+ghost use Rattle.hm_edge.specs.Traffic.{traffic};
+ghost use Rattle.hm_edge.specs.Writing.{HasWritten, IsFlushed, WriteFaulted};
 
 use crate::ended::Ended;
-use crate::input::read_script;
 use crate::output::show_run;
 use crate::schedule::{Ran, run_script};
-use crate::status::Status;
 use hm_advisor::write_advice;
+use hm_edge::{Status, read_script};
 use hm_io::{Sink, Source};
 use hm_script::one_text;
 use skip_rules::{Kept, Leans};
@@ -21,9 +19,9 @@ use std::alloc::Global;
 fn advise_on<K: Sink>(alloc: Global, ran: Ran, sink: &mut K, leans: &Leans) -> Ended
     ensures shows { Shows ran result }
     ensures written { HasWritten (advice_on ran.script ran.history.entries)
-        (λ t. t ≡ advice_on ran.script ran.history.entries) (sink_state K.held K.failures K.wanted sink.old)
-        (sink_state K.held K.failures K.wanted sink.new) result.status }
-    ensures write_faults { WriteFaulted (K.failures sink.old) (K.failures sink.new) result.status }
+        (λ t. t ≡ advice_on ran.script ran.history.entries) (K.state sink.old) (K.state sink.new) result.status }
+    ensures write_faults { WriteFaulted (K.state sink.old).faults (K.state sink.new).faults result.status }
+    ensures flushed { IsFlushed (K.state sink.new).pending result.status }
     ensures peeks { result.peeks ≡ [] }
 {
     let Ok(advice) = hm_advisor::advise(alloc, &ran.history, leans) else {
@@ -43,8 +41,7 @@ pub fn advise<S: Source, K: Sink>(
     leans: &Leans,
 ) -> Ended
     ensures does { Advises
-        (traffic (source_state S.left S.failures) (sink_state K.held K.failures K.wanted) source.old source.new sink.old
-        sink.new) result }
+        (traffic S.state K.state source.old source.new sink.old sink.new) result }
     ensures peeks { result.peeks ≡ [] }
 {
     one_text();

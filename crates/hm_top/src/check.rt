@@ -1,46 +1,20 @@
 // The word `check`.
-ghost use Rattle.std.specs.Prelude.{◌≡◌, [], None, IfOk, IfErr, OnOk};
-ghost use Rattle.hm_report.specs.SinkState.{sink_state};
-ghost use Rattle.hm_top.specs.Checks.{Checks, HasNotJudged, bad_line};
-ghost use Rattle.hm_top.specs.Reading.{ReadFaulted};
-ghost use Rattle.hm_top.specs.Traffic.{source_state, traffic};
-ghost use Rattle.hm_top.specs.Verdicts.{AnswersTo, EndsAt, IsSound, IsVerdictOn, told_status, verdict_line, verdict_status};
-ghost use Rattle.hm_top.specs.Writing.{HasWritten, WriteFaulted};
+ghost use Rattle.std.specs.Prelude.{◌≡◌, [], None, IfOk};
+ghost use Rattle.hm_top.specs.Checks.{Checks, bad_line};
+ghost use Rattle.hm_check.specs.Judging.{HasNotJudged, IsSound, IsVerdictOn};
+ghost use Rattle.hm_edge.specs.Reading.{ReadFaulted};
+ghost use Rattle.hm_edge.specs.Traffic.{traffic};
+ghost use Rattle.hm_top.specs.Verdicts.{AnswersTo, EndsAt, told_status, verdict_line, verdict_status};
+ghost use Rattle.hm_edge.specs.Writing.{HasWritten, IsFlushed, WriteFaulted};
 
 use crate::ended::Ended;
-use crate::input::{Input, read_all};
-use crate::status::Status;
 use hm_base::{NoMemory, Text};
-use hm_check::Verdict;
+use hm_check::{Verdict, check_source};
+use hm_edge::Status;
 use hm_io::{Sink, Source};
 use hm_report::{Written, write_text};
 use hm_workers::PeekList;
 use std::alloc::Global;
-
-/// As many bytes as a report that is checked has at most.
-pub const MOST_REPORT_BYTES: u64 = 268_435_456;
-
-/// The verdict on all that the source has, or how a call ends that comes to none.
-pub fn judge<S: Source>(alloc: Global, source: &mut S) -> Result<Verdict, Status>
-    ensures sound { IfOk result IsSound }
-    ensures verdict { IfOk result
-        (IsVerdictOn (source_state S.left S.failures source.old) (source_state S.left S.failures source.new)) }
-    ensures none { IfErr result
-        (HasNotJudged (source_state S.left S.failures source.old) (source_state S.left S.failures source.new)) }
-    ensures faults { OnOk result (S.failures source.new ≡ S.failures source.old) }
-    ensures fault { IfErr result (ReadFaulted (S.failures source.old) (S.failures source.new)) }
-{
-    let text = match read_all(alloc, source, MOST_REPORT_BYTES) {
-        Input::Whole(text) => text,
-        Input::Fault => return Err(Status::ReadFault),
-        Input::TooLong => return Err(Status::TooLong),
-        Input::NoMemory => return Err(Status::NoMemory),
-    };
-    match hm_check::check(alloc, text.as_slice()) {
-        Ok(verdict) => Ok(verdict),
-        Err(NoMemory) => Err(Status::NoMemory),
-    }
-}
 
 /// The line on bytes with this first bad line.
 pub fn bad_line(alloc: Global, line: u64) -> Result<Text, NoMemory>
@@ -105,9 +79,10 @@ fn write_verdict<K: Sink>(alloc: Global, verdict: Verdict, sink: &mut K) -> Ende
     ensures ends { EndsAt verdict result result.status }
     ensures receipt { result.receipt ≡ None }
     ensures written { HasWritten (verdict_line verdict) (λ t. t ≡ verdict_line verdict)
-        (sink_state K.held K.failures K.wanted sink.old) (sink_state K.held K.failures K.wanted sink.new)
+        (K.state sink.old) (K.state sink.new)
         result.status }
-    ensures write_faults { WriteFaulted (K.failures sink.old) (K.failures sink.new) result.status }
+    ensures write_faults { WriteFaulted (K.state sink.old).faults (K.state sink.new).faults result.status }
+    ensures flushed { IsFlushed (K.state sink.new).pending result.status }
     ensures peeks { result.peeks ≡ [] }
 {
     let Ok(line) = verdict_line(alloc, &verdict) else {
@@ -120,11 +95,10 @@ fn write_verdict<K: Sink>(alloc: Global, verdict: Verdict, sink: &mut K) -> Ende
 /// Reads a report, and writes the verdict on it.
 pub fn check<S: Source, K: Sink>(alloc: Global, source: &mut S, sink: &mut K) -> Ended
     ensures does { Checks
-        (traffic (source_state S.left S.failures) (sink_state K.held K.failures K.wanted) source.old source.new sink.old
-        sink.new) result }
+        (traffic S.state K.state source.old source.new sink.old sink.new) result }
     ensures peeks { result.peeks ≡ [] }
 {
-    match judge(alloc, source) {
+    match check_source(alloc, source) {
         Ok(verdict) => write_verdict(alloc, verdict, sink),
         Err(status) => Ended::stopped(alloc, status),
     }

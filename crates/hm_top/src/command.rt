@@ -14,13 +14,11 @@ pub struct Asked {
     pub len: u32,
 }
 
-/// What the program does, by its words.
+/// What the program does on the calling thread alone.
 #[derive(Clone, Copy, Debug, PartialEq, Eq)]
-pub enum Command {
+pub enum Alone {
     /// Runs a script by its schedule, and writes the report.
     Replay,
-    /// Runs each actor of a script from a thread of its own, and writes the report.
-    Threads,
     /// Writes the text of a generated script.
     Generate(u64),
     /// Runs a generated script, and writes the summary.
@@ -33,6 +31,15 @@ pub enum Command {
     Advise,
     /// Reads a report, and writes for each load the entries that its bytes came from.
     Why,
+}
+
+/// What the program does, by its words.
+#[derive(Clone, Copy, Debug, PartialEq, Eq)]
+pub enum Command {
+    /// What the calling thread does alone, which waits for nobody.
+    Alone(Alone),
+    /// Runs each actor of a script from a thread of its own, and writes the report.
+    Threads,
     /// Does what `threads` does, with a watcher that looks at bytes of a process, and writes what it saw too.
     Peek(Asked),
 }
@@ -42,22 +49,22 @@ fn plain_command(word: &str) -> Option<Command>
     ensures looks { spec.Looks result }
 {
     if word == "replay" {
-        return Some(Command::Replay);
+        return Some(Command::Alone(Alone::Replay));
     }
     if word == "threads" {
         return Some(Command::Threads);
     }
     if word == "upgrade" {
-        return Some(Command::Upgrade);
+        return Some(Command::Alone(Alone::Upgrade));
     }
     if word == "check" {
-        return Some(Command::Check);
+        return Some(Command::Alone(Alone::Check));
     }
     if word == "advise" {
-        return Some(Command::Advise);
+        return Some(Command::Alone(Alone::Advise));
     }
     if word == "why" {
-        return Some(Command::Why);
+        return Some(Command::Alone(Alone::Why));
     }
     None
 }
@@ -68,13 +75,13 @@ fn numbered_command(word: &str, numeral: &str) -> Option<Command>
 {
     if word == "generate" {
         return match number(numeral.as_bytes()) {
-            Ok(number) => Some(Command::Generate(number)),
+            Ok(number) => Some(Command::Alone(Alone::Generate(number))),
             Err(_) => None,
         };
     }
     if word == "trial" {
         return match number(numeral.as_bytes()) {
-            Ok(number) => Some(Command::Trial(number)),
+            Ok(number) => Some(Command::Alone(Alone::Trial(number))),
             Err(_) => None,
         };
     }

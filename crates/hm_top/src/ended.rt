@@ -1,8 +1,8 @@
 // How a call ended, and what it ran.
 ghost use Rattle.std.specs.Prelude.{◌≡◌, None, []};
 
-use crate::status::Status;
 use hm_base::Script;
+use hm_edge::Status;
 use hm_history::History;
 use hm_turns::Receipt;
 use hm_workers::PeekList;

@@ -2,17 +2,16 @@
 ghost use Rattle.std.specs.Prelude.{◌≡◌, [], None};
 ghost use Rattle.hm_history.specs.Legal.{Legal};
 ghost use Rattle.hm_report.specs.Report.{report};
-ghost use Rattle.hm_report.specs.SinkState.{sink_state};
 ghost use Rattle.hm_report.specs.Summary.{summary};
 ghost use Rattle.hm_script.specs.Spelling.{text};
 ghost use Rattle.hm_top.specs.Generates.{HasMade, IsAlone};
 ghost use Rattle.hm_top.specs.Ran.{IsRan, Shows, shown_status};
-ghost use Rattle.hm_top.specs.Writing.{HasWritten, WriteFaulted};
+ghost use Rattle.hm_edge.specs.Writing.{HasWritten, IsFlushed, WriteFaulted};
 
 use crate::ended::Ended;
 use crate::schedule::Ran;
-use crate::status::Status;
 use hm_base::Script;
+use hm_edge::Status;
 use hm_history::History;
 use hm_io::Sink;
 use hm_report::{Written, summary, write_report, write_text};
@@ -46,9 +45,9 @@ pub fn report_run<K: Sink>(alloc: Global, ran: Ran, sink: &mut K) -> Ended
     requires { Legal ran.script ran.history.entries }
     ensures shows { Shows ran result }
     ensures written { HasWritten (report ran.script ran.history.entries)
-        (λ t. t ≡ report ran.script ran.history.entries) (sink_state K.held K.failures K.wanted sink.old)
-        (sink_state K.held K.failures K.wanted sink.new) result.status }
-    ensures write_faults { WriteFaulted (K.failures sink.old) (K.failures sink.new) result.status }
+        (λ t. t ≡ report ran.script ran.history.entries) (K.state sink.old) (K.state sink.new) result.status }
+    ensures write_faults { WriteFaulted (K.state sink.old).faults (K.state sink.new).faults result.status }
+    ensures flushed { IsFlushed (K.state sink.new).pending result.status }
     ensures peeks { result.peeks ≡ [] }
 {
     let written = write_report(alloc, &ran.script, &ran.history, sink);
@@ -59,10 +58,11 @@ pub fn report_run<K: Sink>(alloc: Global, ran: Ran, sink: &mut K) -> Ended
 pub fn write_script<K: Sink>(alloc: Global, script: Script, sink: &mut K) -> Ended
     ensures made { HasMade (IsAlone script) result.script result.history.entries result.status }
     ensures written { HasWritten (text script) (λ t. t ≡ text script)
-        (sink_state K.held K.failures K.wanted sink.old) (sink_state K.held K.failures K.wanted sink.new)
+        (K.state sink.old) (K.state sink.new)
         result.status }
     ensures receipt { result.receipt ≡ None }
-    ensures write_faults { WriteFaulted (K.failures sink.old) (K.failures sink.new) result.status }
+    ensures write_faults { WriteFaulted (K.state sink.old).faults (K.state sink.new).faults result.status }
+    ensures flushed { IsFlushed (K.state sink.new).pending result.status }
     ensures peeks { result.peeks ≡ [] }
 {
     let Ok(text) = print(alloc, &script) else {
@@ -87,10 +87,10 @@ pub fn write_summary<K: Sink>(alloc: Global, number: u64, ran: Ran, sink: &mut K
     requires { Legal ran.script ran.history.entries }
     ensures made { HasMade (IsRan ran) result.script result.history.entries result.status }
     ensures written { HasWritten (summary number ran.script ran.history.entries)
-        (λ t. t ≡ summary number ran.script ran.history.entries) (sink_state K.held K.failures K.wanted sink.old)
-        (sink_state K.held K.failures K.wanted sink.new) result.status }
+        (λ t. t ≡ summary number ran.script ran.history.entries) (K.state sink.old) (K.state sink.new) result.status }
     ensures receipt { result.receipt ≡ None }
-    ensures write_faults { WriteFaulted (K.failures sink.old) (K.failures sink.new) result.status }
+    ensures write_faults { WriteFaulted (K.state sink.old).faults (K.state sink.new).faults result.status }
+    ensures flushed { IsFlushed (K.state sink.new).pending result.status }
     ensures peeks { result.peeks ≡ [] }
 {
     let Ran {

@@ -3,23 +3,21 @@ ghost use Rattle.std.specs.Prelude.{◌≡◌, [], ◌++◌, IfOk, OnOk, Some, t
 ghost use Rattle.std.specs.List.{flat_map};
 ghost use Rattle.hm_history.specs.Legal.{Legal};
 ghost use Rattle.hm_report.specs.Report.{report};
-ghost use Rattle.hm_report.specs.SinkState.{sink_state};
-ghost use Rattle.hm_report.specs.Written.{FaultCause, ReportWants, Writes};
+ghost use Rattle.hm_report.specs.Written.{FaultCause, ReportWants, SentOn, Writes};
 ghost use Rattle.hm_script.specs.Spelling.{hex_text};
 ghost use Rattle.hm_turns.specs.Looking.{IsLook};
 ghost use Rattle.hm_top.specs.Peeks.{AnswersPeeks, RunsPeeked, SawAll, peek_line, peeked_text};
 ghost use Rattle.hm_top.specs.Ran.{Shows, shown_status};
 ghost use Rattle.hm_top.specs.RunsThreads.{AllEnded, StoppedFull};
-ghost use Rattle.hm_top.specs.Traffic.{source_state, traffic};
-ghost use Rattle.hm_top.specs.Writing.{HasWritten, WriteFaulted};
+ghost use Rattle.hm_edge.specs.Traffic.{traffic};
+ghost use Rattle.hm_edge.specs.Writing.{HasWritten, IsFlushed, WriteFaulted};
 
 use crate::command::Asked;
 use crate::ended::Ended;
-use crate::input::read_script;
 use crate::output::show_run;
 use crate::schedule::Ran;
-use crate::status::Status;
 use hm_base::{NoMemory, Script, Text};
+use hm_edge::{Status, read_script};
 use hm_history::{History, StepError};
 use hm_io::{Sink, Source};
 use hm_machine::Machine;
@@ -136,11 +134,11 @@ fn write_with<K: Sink>(
     sink: &mut K,
 ) -> Written
     requires { Legal script.now history.now.entries }
-    ensures text { Writes (K.held sink.old) (K.held sink.new)
+    ensures text { Writes (K.state sink.old).held (K.state sink.new).held
         (report script.now history.now.entries ++ lines.now) result }
-    ensures faults { FaultCause (K.failures sink.old) (K.failures sink.new) result }
-    ensures wants { ReportWants (sink_state K.held K.failures K.wanted sink.old)
-        (sink_state K.held K.failures K.wanted sink.new) result }
+    ensures sent { SentOn (K.state sink.new).pending result }
+    ensures faults { FaultCause (K.state sink.old).faults (K.state sink.new).faults result }
+    ensures wants { ReportWants (K.state sink.old) (K.state sink.new) result }
 {
     match write_report(alloc, script, history, sink) {
         Written::Done => write_text(alloc, lines, sink),
@@ -158,11 +156,11 @@ fn write_peeked<K: Sink>(
     sink: &mut K,
 ) -> Written
     requires { Legal script.now history.now.entries }
-    ensures text { Writes (K.held sink.old) (K.held sink.new)
+    ensures text { Writes (K.state sink.old).held (K.state sink.new).held
         (peeked_text peeks.now script.now history.now.entries) result }
-    ensures faults { FaultCause (K.failures sink.old) (K.failures sink.new) result }
-    ensures wants { ReportWants (sink_state K.held K.failures K.wanted sink.old)
-        (sink_state K.held K.failures K.wanted sink.new) result }
+    ensures sent { SentOn (K.state sink.new).pending result }
+    ensures faults { FaultCause (K.state sink.old).faults (K.state sink.new).faults result }
+    ensures wants { ReportWants (K.state sink.old) (K.state sink.new) result }
 {
     match peek_lines(alloc, peeks) {
         Ok(lines) => write_with(alloc, script, history, &lines, sink),
@@ -193,9 +191,10 @@ fn report_peeked<K: Sink>(alloc: Global, peeked: Peeked, sink: &mut K) -> Ended
     ensures peeks { AnswersPeeks peeked.peeks result.peeks result.status }
     ensures written { HasWritten (peeked_text result.peeks peeked.ran.script peeked.ran.history.entries)
         (λ t. t ≡ peeked_text peeked.peeks peeked.ran.script peeked.ran.history.entries)
-        (sink_state K.held K.failures K.wanted sink.old) (sink_state K.held K.failures K.wanted sink.new)
+        (K.state sink.old) (K.state sink.new)
         result.status }
-    ensures write_faults { WriteFaulted (K.failures sink.old) (K.failures sink.new) result.status }
+    ensures write_faults { WriteFaulted (K.state sink.old).faults (K.state sink.new).faults result.status }
+    ensures flushed { IsFlushed (K.state sink.new).pending result.status }
 {
     let written = write_peeked(
         alloc,
@@ -220,8 +219,7 @@ pub fn peek<R: Threads + Wait + Sync, S: Source, K: Sink, G: Gate + Sync>(
 ) -> Ended
     requires { IsLook asked.now.addr asked.now.len }
     ensures { RunsPeeked asked.now.proc asked.now.addr asked.now.len
-        (traffic (source_state S.left S.failures) (sink_state K.held K.failures K.wanted) source.old source.new sink.old
-        sink.new) result }
+        (traffic S.state K.state source.old source.new sink.old sink.new) result }
 {
     let script = match read_script(alloc, source) {
         Ok(script) => script,

@@ -1,14 +1,12 @@
 // The word `replay`.
 ghost use Rattle.std.specs.Prelude.{◌≡◌, []};
-ghost use Rattle.hm_report.specs.SinkState.{sink_state};
 ghost use Rattle.hm_top.specs.Replays.{Replays};
-ghost use Rattle.hm_top.specs.Traffic.{source_state, traffic};
+ghost use Rattle.hm_edge.specs.Traffic.{traffic};
 
 use crate::ended::Ended;
-use crate::input::read_script;
 use crate::output::report_run;
 use crate::schedule::run_script;
-use crate::status::Status;
+use hm_edge::{Status, read_script};
 use hm_io::{Sink, Source};
 use hm_script::one_text;
 use skip_rules::Kept;
@@ -17,8 +15,7 @@ use std::alloc::Global;
 /// Reads a script, makes its schedule's turns and writes the report.
 pub fn replay<S: Source, K: Sink>(alloc: Global, source: &mut S, sink: &mut K, skip: &Kept) -> Ended
     ensures does { Replays
-        (traffic (source_state S.left S.failures) (sink_state K.held K.failures K.wanted) source.old source.new sink.old
-        sink.new) result }
+        (traffic S.state K.state source.old source.new sink.old sink.new) result }
     ensures peeks { result.peeks ≡ [] }
 {
     one_text();

@@ -2,16 +2,14 @@
 ghost use Rattle.std.specs.Prelude.{◌≡◌, [], IfOk, Some, true, false};
 ghost use Rattle.hm_base.specs.Program.{IsScript};
 ghost use Rattle.hm_history.specs.Legal.{Legal};
-ghost use Rattle.hm_report.specs.SinkState.{sink_state};
 ghost use Rattle.hm_top.specs.RunsThreads.{AllEnded, RunsThreads, StoppedFull};
-ghost use Rattle.hm_top.specs.Traffic.{source_state, traffic};
+ghost use Rattle.hm_edge.specs.Traffic.{traffic};
 
 use crate::ended::Ended;
-use crate::input::read_script;
 use crate::output::report_run;
 use crate::schedule::Ran;
-use crate::status::Status;
 use hm_base::{NoMemory, Script};
+use hm_edge::{Status, read_script};
 use hm_history::StepError;
 use hm_io::{Sink, Source};
 use hm_machine::Machine;
@@ -66,8 +64,7 @@ pub fn threads<R: Threads + Wait + Sync, S: Source, K: Sink, G: Gate + Sync>(
     skip: &Kept,
 ) -> Ended
     ensures does { RunsThreads
-        (traffic (source_state S.left S.failures) (sink_state K.held K.failures K.wanted) source.old source.new sink.old
-        sink.new) result }
+        (traffic S.state K.state source.old source.new sink.old sink.new) result }
     ensures peeks { result.peeks ≡ [] }
 {
     let script = match read_script(alloc, source) {

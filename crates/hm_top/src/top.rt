@@ -1,22 +1,21 @@
 // `run`: does what the words after the program's name ask for.
-ghost use Rattle.std.specs.Prelude.{◌≡◌, ◌↔◌, [], None, false, map, string_bytes};
-ghost use Rattle.hm_report.specs.SinkState.{sink_state};
-ghost use Rattle.hm_top.specs.Commands.{IsNoPeek, command_of, waits};
-ghost use Rattle.hm_top.specs.Does.{Does};
-ghost use Rattle.hm_top.specs.Traffic.{source_state, traffic};
-ghost use Rattle.hm_top.specs.declared.status.Status.{Status};
+ghost use Rattle.std.specs.Prelude.{◌≡◌, ◌↔◌, [], None, map, string_bytes};
+ghost use Rattle.hm_edge.specs.Traffic.{traffic};
+ghost use Rattle.hm_edge.specs.declared.status.Status.{Status};
+ghost use Rattle.hm_top.specs.Commands.{IsNoPeek, alone, command_of};
+ghost use Rattle.hm_top.specs.Does.{Does, DoesAlone};
 
 use crate::advise::advise;
 use crate::check::check;
-use crate::command::Command;
+use crate::command::{Alone, Command};
 use crate::ended::Ended;
 use crate::generate::{generate, trial};
 use crate::peek::peek;
 use crate::replay::replay;
-use crate::status::Status;
 use crate::threads::threads;
 use crate::upgrade::upgrade;
 use crate::why::why;
+use hm_edge::Status;
 use hm_io::{Sink, Source};
 use hm_workers::Gate;
 use skip_rules::{Kept, Leans};
@@ -24,9 +23,32 @@ use std::alloc::Global;
 use std::sync::Wait;
 use std::thread::Threads;
 
-/// Does what the words after the program's name ask for, where that is neither `threads` nor `peek`: reads from the
-/// source, runs, and writes to the sink. It waits for nobody. The rules are the caller's: which pages a migration
-/// skips, and where a page should live.
+/// Does what the calling thread does alone.
+fn do_alone<S: Source, K: Sink>(
+    alloc: Global,
+    what: Alone,
+    source: &mut S,
+    sink: &mut K,
+    skip: &Kept,
+    leans: &Leans,
+) -> Ended
+    ensures peeks { result.peeks ≡ [] }
+    ensures does { DoesAlone what (traffic S.state K.state source.old source.new sink.old sink.new) result }
+{
+    match what {
+        Alone::Replay => replay(alloc, source, sink, skip),
+        Alone::Generate(number) => generate(alloc, number, sink),
+        Alone::Trial(number) => trial(alloc, number, sink, skip),
+        Alone::Upgrade => upgrade(alloc, source, sink),
+        Alone::Check => check(alloc, source, sink),
+        Alone::Advise => advise(alloc, source, sink, skip, leans),
+        Alone::Why => why(alloc, source, sink),
+    }
+}
+
+/// Does what the words after the program's name ask for, if that is neither `threads` nor `peek`, which are none of its
+/// forms: reads from the source, runs, and writes to the sink. It waits for nobody. The rules are the caller's: which
+/// pages a migration skips, and where a page should live.
 pub fn run_alone<S: Source, K: Sink>(
     alloc: Global,
     words: Vec<String>,
@@ -35,24 +57,14 @@ pub fn run_alone<S: Source, K: Sink>(
     skip: &Kept,
     leans: &Leans,
 ) -> Ended
-    requires { waits (command_of (map string_bytes words.items)) ≡ false }
-    ensures usage { (result.status ≡ Status.Usage) ↔ (command_of (map string_bytes words.items) ≡ None) }
+    ensures usage { (result.status ≡ Status.Usage) ↔ (alone (command_of (map string_bytes words.items)) ≡ None) }
     ensures peeks { result.peeks ≡ [] }
-    ensures does { Does (command_of (map string_bytes words.items))
-        (traffic (source_state S.left S.failures) (sink_state K.held K.failures K.wanted) source.old source.new sink.old
-        sink.new) result }
+    ensures does { Does (alone (command_of (map string_bytes words.items)))
+        (traffic S.state K.state source.old source.new sink.old sink.new) result }
 {
     match Command::of(words.as_slice()) {
-        Some(Command::Replay) => replay(alloc, source, sink, skip),
-        Some(Command::Threads) => unreachable!(),
-        Some(Command::Peek(_)) => unreachable!(),
-        Some(Command::Generate(number)) => generate(alloc, number, sink),
-        Some(Command::Trial(number)) => trial(alloc, number, sink, skip),
-        Some(Command::Upgrade) => upgrade(alloc, source, sink),
-        Some(Command::Check) => check(alloc, source, sink),
-        Some(Command::Advise) => advise(alloc, source, sink, skip, leans),
-        Some(Command::Why) => why(alloc, source, sink),
-        None => Ended::stopped(alloc, Status::Usage),
+        Some(Command::Alone(what)) => do_alone(alloc, what, source, sink, skip, leans),
+        _ => Ended::stopped(alloc, Status::Usage),
     }
 }
 
@@ -69,18 +81,18 @@ pub fn run<R: Threads + Wait + Sync, S: Source, K: Sink, G: Gate + Sync>(
     skip: &Kept,
     leans: &Leans,
 ) -> Ended
-    // `Usage` comes exactly where the words are none of the forms.
+    // `Usage` comes exactly if the words are none of the forms.
     ensures usage { (result.status ≡ Status.Usage) ↔ (command_of (map string_bytes words.items) ≡ None) }
     // What each word does is a record of its own, whose fields say what is read, run and written by how the call ends.
     ensures does { Does (command_of (map string_bytes words.items))
-        (traffic (source_state S.left S.failures) (sink_state K.held K.failures K.wanted) source.old source.new sink.old
-        sink.new) result }
+        (traffic S.state K.state source.old source.new sink.old sink.new) result }
     // Only `peek` answers peeks.
     ensures peeks { IsNoPeek (command_of (map string_bytes words.items)) → result.peeks ≡ [] }
 {
     match Command::of(words.as_slice()) {
         Some(Command::Peek(asked)) => peek(rt, alloc, source, sink, gate, skip, &asked),
         Some(Command::Threads) => threads(rt, alloc, source, sink, gate, skip),
-        _ => run_alone(alloc, words, source, sink, skip, leans),
+        Some(Command::Alone(what)) => do_alone(alloc, what, source, sink, skip, leans),
+        None => Ended::stopped(alloc, Status::Usage),
     }
 }

@@ -1,5 +1,5 @@
 -- Which rows are asked for.
-use Rattle.std.specs.Prelude.{ℕ, ◌-◌, List, [], ◌∷◌, Bool, ◌&&◌, nat_le, if◌then◌else◌, Option, Some, None, Result, Ok, Err}
+use Rattle.std.specs.Prelude.{ℕ, ◌-◌, List, [], ◌∷◌, Bool, nat_le, if◌then◌else◌, Option, Some, None, Result, Ok, Err}
 use Rattle.hm_script.specs.Numerals.{number}
 use Rattle.hm_script.specs.declared.reason.Reason.{Reason}
 use Rattle.hm_view.specs.declared.asked.Asked.{Asked}
@@ -24,11 +24,15 @@ abbrev pub first : Asked → ℕ
 first Asked.All = 0
 first (Asked.Part from to) = from
 
--- the position behind the last, of so many
+-- the position after the last, of n
 abbrev pub behind : Asked → ℕ → ℕ
 behind Asked.All n = n
 behind (Asked.Part from to) n = if nat_le to n then to else n
 
--- the rows are there, and few enough for a page
+-- the rows are there, of n
+abbrev pub is_there : Asked → ℕ → Bool
+is_there x n = nat_le (first x) (behind x n)
+
+-- they are few enough for a page
 abbrev pub fits : Asked → ℕ → Bool
-fits x n = nat_le (first x) (behind x n) && nat_le (behind x n - first x) 20000
+fits x n = nat_le (behind x n - first x) 20000

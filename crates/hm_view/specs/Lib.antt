@@ -3,7 +3,6 @@ pub mod Changes
 pub mod Rows
 pub mod Page
 pub mod Asked
-pub mod Messages
 pub mod Laws
-pub mod Reading
 pub mod Views
+pub mod Runs

@@ -3,44 +3,36 @@ use Rattle.std.specs.Prelude.{◌≡◌, ◌⊎◌, ℕ, ◌≤◌, true, false,
 use Rattle.hm_base.specs.Program.{Program}
 use Rattle.hm_check.specs.FirstBad.{IsFirstBad, IsLegalReport}
 use Rattle.hm_history.specs.declared.Entry.{Entry}
-use Rattle.hm_io.specs.Streams.{Rose, Adds, AddsFront}
-use Rattle.hm_report.specs.SinkState.{SinkState}
-use Rattle.hm_view.specs.Asked.{first, behind, fits}
+use Rattle.hm_io.specs.Streams.{Rose, Adds, AddsFront, SinkState, SourceState}
+use Rattle.hm_view.specs.Asked.{first, behind, is_there, fits}
 use Rattle.hm_view.specs.Page.{page_text}
-use Rattle.hm_view.specs.Reading.{SourceState, LeftOver, IsLegalReportOf, ReadFaulted}
+use Rattle.hm_edge.specs.Input.{LeftOver}
+use Rattle.hm_check.specs.Judging.{IsLegalReportOf}
+use Rattle.hm_edge.specs.Reading.{ReadFaulted}
 use Rattle.hm_view.specs.declared.asked.Asked.{Asked}
-use Rattle.hm_view.specs.declared.status.Status.{Status}
-
--- the streams of a call, before and after it
-pub record Traffic : Type 0 where
-  pub source : SourceState
-  pub source_after : SourceState
-  pub sink : SinkState
-  pub sink_after : SinkState
-
-abbrev pub traffic : {S K : Type 0} → (S → SourceState) → (K → SinkState) → S → S → K → K → Traffic
-traffic source sink s s' k k' =
-    record { source = source s; source_after = source s'; sink = sink k; sink_after = sink k' }
+use Rattle.hm_edge.specs.declared.status.Status.{Status}
 
 -- the page of the rows that are asked for
 abbrev pub page : Asked → Program → List Entry → List ℕ
 page x c h = page_text c h (first x) (behind x (length h))
 
+-- the rows are there, and few enough for a page
+pub record CanBeDrawn (x : Asked) (n : ℕ) : Type 0 where
+  pub there : is_there x n ≡ true
+  pub few : fits x n ≡ true
+
 -- what was drawn of a report, by how it ends: its page, a front of it, or nothing. It ends in no other way
 abbrev pub HasDrawn : Asked → Program → List Entry → SinkState → SinkState → Status → Type 0
 HasDrawn x c h before after Status.Done =
-    (fits x (length h) ≡ true) × Adds before.held after.held (page x c h)
+    CanBeDrawn x (length h) × Adds before.held after.held (page x c h)
 HasDrawn x c h before after Status.WriteFault =
-    (fits x (length h) ≡ true) × AddsFront before.held after.held (page x c h)
-HasDrawn x c h before after Status.NoMemory = (fits x (length h) ≡ true)
+    CanBeDrawn x (length h) × AddsFront before.held after.held (page x c h)
+HasDrawn x c h before after Status.NoMemory = CanBeDrawn x (length h)
     × ((after ≡ before) ⊎ (AddsFront before.held after.held (page x c h) × Rose before.wants after.wants))
-HasDrawn x c h before after Status.NoRows = (fits x (length h) ≡ false) × (after ≡ before)
+HasDrawn x c h before after Status.NoRows = (is_there x (length h) ≡ false) × (after ≡ before)
+HasDrawn x c h before after Status.TooManyRows =
+    (is_there x (length h) ≡ true) × ((fits x (length h) ≡ false) × (after ≡ before))
 HasDrawn x c h before after _ = ⊥
-
--- the sink's count of faults rose at `WriteFault`, and is as it was at every other status
-abbrev pub WriteFaulted : ℕ → ℕ → Status → Type 0
-WriteFaulted before after Status.WriteFault = Rose before after
-WriteFaulted before after _ = after ≡ before
 
 -- a legal report was read, and this was drawn of it
 pub record Drew (x : Asked) (io : Traffic) (status : Status) : Type 0 where
@@ -52,15 +44,16 @@ pub record Drew (x : Asked) (io : Traffic) (status : Status) : Type 0 where
 
 -- what was read and drawn, by how the call ends
 abbrev pub HasSeen : Asked → Traffic → Status → Type 0
-HasSeen x io Status.Usage = ⊥
 HasSeen x io (Status.NotLegal n) =
     IfSome io.source.left (λ bytes. IsFirstBad bytes n) × (io.sink_after ≡ io.sink)
-HasSeen x io Status.TooLong = LeftOver io.source.left 268435456 × (io.sink_after ≡ io.sink)
+HasSeen x io Status.ReportTooLong = LeftOver io.source.left 268435456 × (io.sink_after ≡ io.sink)
 HasSeen x io Status.ReadFault = io.sink_after ≡ io.sink
 HasSeen x io Status.NoMemory = (io.sink_after ≡ io.sink) ⊎ Drew x io Status.NoMemory
 HasSeen x io Status.Done = Drew x io Status.Done
 HasSeen x io Status.WriteFault = Drew x io Status.WriteFault
 HasSeen x io Status.NoRows = Drew x io Status.NoRows
+HasSeen x io Status.TooManyRows = Drew x io Status.TooManyRows
+HasSeen x io _ = ⊥
 
 -- the report of this script and this history was found to be theirs, or memory ran out
 abbrev pub Finds : Asked → Program → List Entry → Traffic → Status → Type 0
@@ -71,6 +64,8 @@ pub record Draws (x : Asked) (io : Traffic) (status : Status) : Type 0 where
   pub seen : HasSeen x io status
   pub read_faults : ReadFaulted io.source.faults io.source_after.faults status
   pub write_faults : WriteFaulted io.sink.faults io.sink_after.faults status
+  -- What was written at `Done`, the sink sent on.
+  pub flushed : status ≡ Status.Done → io.sink_after.pending ≡ false
   -- Where the source counted no fault, and had no more bytes than the limit, and they are a legal report, it is drawn.
   pub finds : (Rose io.source.faults io.source_after.faults → ⊥)
       → IfSome io.source.left (λ bytes. length bytes ≤ 268435456

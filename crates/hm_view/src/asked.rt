@@ -51,7 +51,7 @@ impl Asked {
         }
     }
 
-    /// The position behind the last row, of so many.
+    /// The position after the last row, of n.
     pub fn behind(self, count: u64) -> u64
         ensures same { result ≡ spec.behind self count }
         ensures within { result ≤ count }
@@ -62,11 +62,17 @@ impl Asked {
         }
     }
 
-    /// Whether the rows are there, of so many, and few enough for a page.
+    /// Whether the rows are there, of n.
+    pub fn is_there(self, count: u64) -> bool
+        ensures { result ≡ spec.is_there self count }
+    {
+        self.first() <= self.behind(count)
+    }
+
+    /// Whether the rows are few enough for a page, of n.
     pub fn fits(self, count: u64) -> bool
         ensures { result ≡ spec.fits self count }
     {
-        let (first, behind) = (self.first(), self.behind(count));
-        first <= behind && behind - first <= MOST_ROWS
+        self.behind(count).saturating_sub(self.first()) <= MOST_ROWS
     }
 }

@@ -1,16 +1,15 @@
 // The top call: reads a report, and draws it.
-ghost use Rattle.std.specs.Prelude.{◌≡◌, length, map, string_bytes};
+ghost use Rattle.std.specs.Prelude.{◌≡◌, false, length, map, string_bytes};
 ghost use Rattle.hm_check.specs.FirstBad.{IsLegalReport};
-ghost use Rattle.hm_report.specs.SinkState.{sink_state};
 ghost use Rattle.hm_view.specs.Asked.{asked_of};
-ghost use Rattle.hm_view.specs.Reading.{source_state};
-ghost use Rattle.hm_view.specs.Views.{traffic, HasDrawn, WriteFaulted, Draws, Views};
+ghost use Rattle.hm_edge.specs.Traffic.{traffic};
+ghost use Rattle.hm_view.specs.Views.{HasDrawn, Draws, Views};
+ghost use Rattle.hm_edge.specs.Writing.{WriteFaulted};
 
 use crate::asked::Asked;
 use crate::draw::write_page;
-use crate::input::judge;
-use crate::status::Status;
-use hm_check::{Report, Verdict};
+use hm_check::{Report, Verdict, check_source};
+use hm_edge::Status;
 use hm_io::{Sink, Source};
 use hm_report::Written;
 use std::alloc::Global;
@@ -19,12 +18,16 @@ use std::alloc::Global;
 fn draw<K: Sink>(alloc: Global, report: Report, asked: Asked, sink: &mut K) -> Status
     requires { IsLegalReport report.script report.history.entries }
     ensures drawn { HasDrawn asked report.script report.history.entries
-        (sink_state K.held K.failures K.wanted sink.old) (sink_state K.held K.failures K.wanted sink.new) result }
-    ensures faults { WriteFaulted (K.failures sink.old) (K.failures sink.new) result }
+        (K.state sink.old) (K.state sink.new) result }
+    ensures faults { WriteFaulted (K.state sink.old).faults (K.state sink.new).faults result }
+    ensures flushed { result ≡ Status.Done → (K.state sink.new).pending ≡ false }
 {
     let count = report.history.len();
-    if !asked.fits(count) {
+    if !asked.is_there(count) {
         return Status::NoRows;
+    }
+    if !asked.fits(count) {
+        return Status::TooManyRows;
     }
     match write_page(alloc, report, asked.first(), asked.behind(count), sink) {
         Written::Done => Status::Done,
@@ -41,10 +44,9 @@ fn read_and_draw<S: Source, K: Sink>(
     sink: &mut K,
 ) -> Status
     ensures { Draws asked
-        (traffic (source_state S.left S.failures) (sink_state K.held K.failures K.wanted) source.old source.new sink.old
-        sink.new) result }
+        (traffic S.state K.state source.old source.new sink.old sink.new) result }
 {
-    match judge(alloc, source) {
+    match check_source(alloc, source) {
         Ok(Verdict::Yes(report)) => draw(alloc, report, asked, sink),
         Ok(Verdict::No(line)) => Status::NotLegal(line),
         Err(status) => status,
@@ -60,8 +62,7 @@ pub fn view<S: Source, K: Sink>(
     sink: &mut K,
 ) -> Status
     ensures { Views (asked_of (map string_bytes words.now))
-        (traffic (source_state S.left S.failures) (sink_state K.held K.failures K.wanted) source.old source.new sink.old
-        sink.new) result }
+        (traffic S.state K.state source.old source.new sink.old sink.new) result }
 {
     match Asked::of(words) {
         Some(asked) => read_and_draw(alloc, asked, source, sink),

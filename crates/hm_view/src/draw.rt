@@ -4,17 +4,16 @@ ghost use Rattle.hm_base.specs.declared.limits.TheConstants.{MOST_ENTRIES};
 ghost use Rattle.hm_history.specs.Laws.{DueFrom};
 ghost use Rattle.hm_world.specs.WorldValue.{opening};
 ghost use Rattle.hm_check.specs.FirstBad.{IsLegalReport};
-ghost use Rattle.hm_report.specs.SinkState.{sink_state};
 ghost use Rattle.hm_report.specs.Written.{Writes, SentOn, FaultCause, ReportWants};
 ghost use Rattle.hm_view.specs.Page.{rows_line, front, middle, ending, behind_head, page_head, page_end, page_text};
 
-use crate::findings::{add_findings, put_tail};
+use crate::findings::add_findings;
 use crate::laws::legal_is_due;
 use crate::page::{end, head};
 use crate::rows::add_rows;
 use crate::standing::add_standing_line;
 use hm_base::{NoMemory, Script, Text};
-use hm_check::Report;
+use hm_check::{Report, put_tail};
 use hm_history::{Entry, History};
 use hm_io::Sink;
 use hm_reads::Reads;
@@ -151,12 +150,12 @@ pub fn write_page<K: Sink>(
 ) -> Written
     requires legal { IsLegalReport report.script report.history.entries }
     requires within { to ≤ length report.history.entries }
-    ensures text { Writes (K.held sink.old) (K.held sink.new)
+    ensures text { Writes (K.state sink.old).held (K.state sink.new).held
         (page_text report.script report.history.entries from to) result }
-    ensures sent { SentOn (K.pending sink.new) result }
-    ensures faults { FaultCause (K.failures sink.old) (K.failures sink.new) result }
-    ensures wants { ReportWants (sink_state K.held K.failures K.wanted sink.old)
-        (sink_state K.held K.failures K.wanted sink.new) result }
+    ensures sent { SentOn (K.state sink.new).pending result }
+    ensures faults { FaultCause (K.state sink.old).faults (K.state sink.new).faults result }
+    ensures wants { ReportWants (K.state sink.old)
+        (K.state sink.new) result }
 {
     match page_text(alloc, report, from, to) {
         Ok(text) => write_text(alloc, &text, sink),

@@ -1,15 +1,11 @@
-// The findings of a history, and what follows its entries in a report.
-ghost use Rattle.std.specs.Prelude.{◌≡◌, ◌≤◌, ◌++◌, [], length, OnOk};
-ghost use Rattle.hm_history.specs.Laws.{DueFrom};
-ghost use Rattle.hm_check.specs.Parts.{tail_of};
+// The findings of a history.
+ghost use Rattle.std.specs.Prelude.{◌≡◌, ◌++◌, length, OnOk};
 ghost use Rattle.hm_view.specs.Rows.{is_finding, finding, findings};
 
 use crate::entry_text::add_entry;
-use hm_base::{NoMemory, Script, Text};
-use hm_history::{Entry, History, Kind};
-use hm_report::{
-    Buffer, ends_are_counted, op_count, operations_ended, put_end, put_unfinished_line,
-};
+use hm_base::{NoMemory, Text};
+use hm_history::{Entry, Kind};
+use hm_report::Buffer;
 
 fn is_finding(kind: &Kind) -> bool
     ensures { result ≡ is_finding kind.now }
@@ -43,21 +39,4 @@ pub fn add_findings(text: &mut Text, out: &mut Buffer, entries: &[Entry]) -> Res
         add_finding(text, out, at as u64, &entries[at])?;
     }
     Ok(())
-}
-
-/// Writes the lines of operations that have not ended, and the last line, over the buffer.
-pub fn put_tail(out: &mut Buffer, script: &Script, history: &History)
-    requires { DueFrom script.now [] history.now.entries }
-    ensures text { out.new ≡ tail_of script.now history.now.entries }
-    ensures few { length out.new ≤ 5000 }
-{
-    script.facts();
-    ends_are_counted();
-    let ended = operations_ended(script, history);
-    out.clear();
-    for actor in 0..script.actors.len() {
-        let count = op_count(script, actor);
-        put_unfinished_line(out, actor, ended[actor as usize], count);
-    }
-    put_end(out, history.len());
 }

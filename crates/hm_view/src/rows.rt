@@ -10,12 +10,12 @@ ghost use Rattle.hm_view.specs.Rows.{row, rows};
 
 use crate::changes::{place_before, put_changes};
 use crate::entry_text::add_entry;
-use crate::skips::Multiples;
 use crate::standing::add_standing_line;
 use hm_base::{Actor, NoMemory, Text};
 use hm_history::{Entry, Progress};
 use hm_report::Buffer;
 use hm_world::World;
+use skip_rules::Multiples;
 use std::alloc::Global;
 
 /// Goes on by the entry, which is due.

@@ -6,12 +6,12 @@ ghost use Rattle.hm_history.specs.Run.{actors_of};
 ghost use Rattle.hm_report.specs.Words.{frame_text};
 ghost use Rattle.hm_view.specs.Standing.{why_text, standing_text, standing_of, standing_line};
 
-use crate::skips::Multiples;
 use hm_base::{Actor, Frame, NoMemory, PoolId, Text};
 use hm_history::{Progress, Why};
 use hm_reads::Reads;
 use hm_report::{Buffer, put_decimal};
 use hm_world::World;
+use skip_rules::Multiples;
 use std::alloc::Global;
 
 /// Adds the frame.

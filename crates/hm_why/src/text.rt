@@ -2,7 +2,6 @@
 ghost use Rattle.std.specs.Prelude.{◌≡◌, ℕ, ◌+◌, ◌≤◌, ◌^◌, ◌∷◌, ◌++◌, length, map, IfOk, OnOk};
 ghost use Rattle.hm_history.specs.Words.{numbers};
 ghost use Rattle.hm_report.specs.Line.{spaced};
-ghost use Rattle.hm_report.specs.SinkState.{sink_state};
 ghost use Rattle.hm_report.specs.Written.{Writes, SentOn, FaultCause, ReportWants};
 ghost use Rattle.hm_why.specs.Laws.{IsLegal};
 ghost use Rattle.hm_why.specs.Writers.{source_in, process_in, IsSized};
@@ -120,11 +119,11 @@ pub fn why_text(alloc: Global, history: &History) -> Result<Text, NoMemory>
 /// Writes that text and flushes the sink. The text is made whole before anything is written.
 pub fn write_why<K: Sink>(alloc: Global, history: &History, sink: &mut K) -> Written
     requires { IsLegal history.now.entries }
-    ensures text { Writes (K.held sink.old) (K.held sink.new) (why_text history.now.entries) result }
-    ensures sent { SentOn (K.pending sink.new) result }
-    ensures faults { FaultCause (K.failures sink.old) (K.failures sink.new) result }
-    ensures wants { ReportWants (sink_state K.held K.failures K.wanted sink.old)
-        (sink_state K.held K.failures K.wanted sink.new) result }
+    ensures text { Writes (K.state sink.old).held (K.state sink.new).held (why_text history.now.entries) result }
+    ensures sent { SentOn (K.state sink.new).pending result }
+    ensures faults { FaultCause (K.state sink.old).faults (K.state sink.new).faults result }
+    ensures wants { ReportWants (K.state sink.old)
+        (K.state sink.new) result }
 {
     match why_text(alloc, history) {
         Ok(text) => write_text(alloc, &text, sink),

@@ -1,33 +1,17 @@
-// The program: its words, the real streams, and one call.
+// The program: its arguments, the real streams, and one call.
 #![tactic(auto)]
 
-use hm_base::NoMemory;
 use hm_io::{StreamSink, StreamSource};
-use hm_view::{Status, finish, view};
+use hm_view::program;
 use std::env;
 use std::process::ExitCode;
 
-/// The words after the program's name.
-fn words(rt: &HostRuntime) -> Result<Vec<String>, NoMemory> {
-    let mut words = Vec::new(rt.alloc());
-    let Ok(args) = env::args(rt) else {
-        return Err(NoMemory);
-    };
-    for word in args.skip(1) {
-        words.push(word)?;
-    }
-    Ok(words)
-}
-
 fn main(rt: HostRuntime) -> ExitCode {
-    let status = match words(&rt) {
-        Ok(words) => {
-            let mut source = StreamSource::new(rt.stdin());
-            let mut sink = StreamSink::new(rt.stdout());
-            view(rt.alloc(), words.as_slice(), &mut source, &mut sink)
-        }
-        Err(NoMemory) => Status::NoMemory,
-    };
-    let mut errors = StreamSink::new(rt.stderr());
-    ExitCode::from(finish(&status, &mut errors))
+    ExitCode::from(program(
+        rt.alloc(),
+        env::args(&rt),
+        &mut StreamSource::new(rt.stdin()),
+        &mut StreamSink::new(rt.stdout()),
+        &mut StreamSink::new(rt.stderr()),
+    ))
 }

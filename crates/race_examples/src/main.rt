@@ -3,10 +3,10 @@
 #![tactic(auto)]
 
 use hm_base::NoMemory;
+use hm_edge::Status;
 use hm_io::{MemorySink, MemorySource};
 use hm_race_top::races;
-use hm_top::Status;
-use skip_rules::{BoxedRule, Kept};
+use skip_rules::Multiples;
 use std::{fs, io};
 
 /// So few bytes come at a time that no script of a few lines is read at once.
@@ -42,10 +42,7 @@ fn agrees(rt: &HostRuntime, stem: &str) -> io::Result<bool> {
         no_memory,
     )?;
     let mut sink = MemorySink::new(rt.alloc(), ROOM, &[]).map_err(no_memory)?;
-    let skips: BoxedRule = Box::new(rt.alloc(), |every: u64, page: u64| {
-        every != 0 && page % every == 0
-    })?;
-    let status = races(rt.alloc(), &[], &mut source, &mut sink, Kept::new(skips));
+    let status = races(rt.alloc(), &[], &mut source, &mut sink, Multiples);
     Ok(matches!(&status, Status::Done) && sink.held() == wanted.as_slice())
 }
 

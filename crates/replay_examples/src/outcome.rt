@@ -1,7 +1,8 @@
 // What a script comes to, by a replay and by the files beside it.
 use hm_base::NoMemory;
+use hm_edge::{Status, message};
 use hm_io::{MemorySink, MemorySource};
-use hm_top::{Status, message, run_alone};
+use hm_top::{USAGE, run_alone};
 use skip_rules::{BoxedRule, Kept, Leans};
 use std::alloc::Global;
 use std::{fs, io};
@@ -55,7 +56,7 @@ pub fn replayed(alloc: Global, script: &[u8]) -> io::Result<Outcome> {
     let leans: BoxedRule = Box::new(alloc, |x: u64, y: u64| x >= 4 && x - 4 >= y)?;
     let (skip, leans) = (Kept::new(skips), Leans::new(leans));
     let ended = run_alone(alloc, words, &mut source, &mut sink, &skip, &leans);
-    let message = message(alloc, &ended.status).map_err(no_memory)?;
+    let message = message(alloc, USAGE, &ended.status).map_err(no_memory)?;
     Ok(Outcome {
         code: ended.status.code(),
         message: String::from_str(alloc, text(message.as_slice())?)?,

@@ -1,7 +1,8 @@
 // How the call ends, what it says, and how many bytes it has written.
 use crate::gates::{Meets, Open};
+use hm_edge::message;
 use hm_io::{MemorySink, MemorySource, Sink, Source, SureSink, SureSource};
-use hm_top::{message, run};
+use hm_top::{USAGE, run};
 use hm_workers::Gate;
 use skip_rules::{BoxedRule, Kept, Leans};
 use std::alloc::Global;
@@ -27,9 +28,6 @@ const REPORT: &str =
     turns 0 20\nhistory\n0 a0 wlock p0\n1 a0 mapped p0 16 1 rw\n2 a0 rlock p0\n3 a0 take s0\n\
     4 a0 place p0 16 sys s0 w\n5 a0 runlock p0\n6 a0 stored p0 0x10000 41\n7 a0 loaded p0 0x10000 4100\nend 8\n";
 
-const USAGE: &str =
-    "usage: hmmrun replay | threads | generate N | trial N | upgrade | check | peek P ADDR LEN | advise | why";
-
 fn ends<R: Abort + Threads + Wait + Sync, S: Source, K: Sink, G: Gate + Sync>(
     rt: &R,
     alloc: Global,
@@ -52,7 +50,7 @@ fn ends<R: Abort + Threads + Wait + Sync, S: Source, K: Sink, G: Gate + Sync>(
     let (skip, leans) = (Kept::new(skips), Leans::new(leans));
     let ended = run(rt, alloc, listed, source, sink, gate, &skip, &leans);
     assert_eq!(rt; ended.status.code(), code);
-    assert_eq!(rt; message(alloc, &ended.status)?.as_slice(), text.as_bytes());
+    assert_eq!(rt; message(alloc, USAGE, &ended.status)?.as_slice(), text.as_bytes());
     Ok(())
 }
 

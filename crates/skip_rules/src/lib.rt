@@ -5,12 +5,12 @@
 ghost use Rattle.std.specs.Prelude.{◌≡◌};
 ghost use Rattle.skip_rules.specs.Rules.{divides, outweighs, AnswersBy, MayBeAsked};
 
-/// Says which pages a driver passes over when it gets destinations for a migration to its device (where
-/// lib/test_hmm.c allocates in `dmirror_migrate_alloc_and_copy`). Whatever code it is, it answers the same.
+/// Says which pages a driver passes over when it gets destinations for a migration to its device (in lib/test_hmm.c,
+/// `dmirror_migrate_alloc_and_copy` does so). Whatever code it is, it answers the same.
 pub trait SkipRule: Drop {
     ghost use Rattle.skip_rules.specs.Rules.{divides};
 
-    /// Whether a migration that skips every so manieth page passes over this one. At 0 it passes over none.
+    /// Whether a migration that skips each page whose number `every` divides passes over this one. At 0 it passes over none.
     fn skips(&self, every: u64, page: u64) -> bool
         ensures { result ≡ divides every page };
 }
@@ -24,6 +24,16 @@ pub trait LeanRule: Drop {
     /// both use much the same stays where it is.
     fn leans(&self, x: u64, y: u64) -> bool
         ensures { result ≡ outweighs x y };
+}
+
+/// The rule itself, for a caller that keeps no closure: what the history of a legal run follows.
+#[derive(Drop)]
+pub struct Multiples;
+
+impl SkipRule for Multiples {
+    fn skips(&self, every: u64, page: u64) -> bool {
+        every != 0 && page % every == 0
+    }
 }
 
 /// A closure in a box, which the caller makes. It may own what it captures, and may be asked from several threads.

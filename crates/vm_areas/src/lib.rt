@@ -20,13 +20,16 @@ use std::mem;
 const MOST: usize = 64;
 
 /// Why a change of areas is refused. Where several reasons hold, the first of each call's order is told.
-#[derive(Clone, Copy, PartialEq, Eq, Debug)]
+#[derive(Clone, Copy, PartialEq, Eq, Debug, thiserror::Error)]
 pub enum AreaRefusal {
     /// A page of the span has an area.
+    #[error("a page of the span has an area")]
     Overlap,
     /// The process would have more than 64 areas.
+    #[error("the process would have more than 64 areas")]
     TooMany,
     /// A page of the span has no area.
+    #[error("a page of the span has no area")]
     Unmapped,
 }
 

@@ -1,7 +1,8 @@
 // A history that is full before the operations end.
 use crate::calls::called;
+use hm_edge::message;
 use hm_io::SureSink;
-use hm_top::message;
+use hm_top::USAGE;
 use std::alloc::{AllocError, Global};
 use std::test::Fail;
 
@@ -25,7 +26,7 @@ fn a_full_history(rt: HostRuntime) -> Result<(), Fail> {
     let ended = called(&rt, rt.alloc(), "replay", script.as_bytes(), &mut sink)?;
     assert_eq!(rt; ended.status.code(), 7);
     assert_eq!(rt;
-        message(rt.alloc(), &ended.status)?.as_slice(),
+        message(rt.alloc(), USAGE, &ended.status)?.as_slice(),
         "history full".as_bytes()
     );
     let report = str::from_utf8(sink.held())?;

@@ -3,7 +3,6 @@ use Rattle.std.proofs.lemmas.List.{length-map}
 use Rattle.hm_base.specs.Program.{Program}
 use Rattle.hm_race_forms.specs.Form.{form_in}
 use Rattle.hm_race_search.specs.Values.{all_known, known_of}
-use Rattle.hm_report.specs.SinkState.{sink_state}
 use Rattle.hm_script.specs.Built.{has_drain}
 use Rattle.hm_race_top.specs.Ways.{ways_of}
 use Rattle.hm_race_top.proofs.Finding.{found_of}
@@ -12,7 +11,7 @@ use Rattle.hm_race_top.proofs.call.find.Goals as goal
 pub returns-in-Ok-clause-found : goal.returns-in-Ok-clause-found
 returns-in-Ok-clause-found g c =
     let s = c.args.script in
-    let tells = sink_state g.K.Sink.held g.K.Sink.failures g.K.Sink.wanted in
+    let tells = g.K.Sink.state in
     let states = c.in-Ok.found.known.items in
     let known = all_known form_in states in
     let all : length states ≡ length known = sym (length-map states (known_of form_in)) in

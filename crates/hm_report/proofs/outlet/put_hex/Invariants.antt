@@ -1,6 +1,7 @@
 use Rattle.std.proofs.Common.{◌<◌, ℕ, List, ◌∷◌, length, take}
 use Rattle.hm_script.specs.Spelling.{hex_text}
-use Rattle.hm_report.specs.SinkState.{SinkState, sink_state, GoesOn}
+use Rattle.hm_io.specs.Streams.{SinkState}
+use Rattle.hm_report.specs.Sends.{GoesOn}
 use Rattle.hm_report.proofs.outlet.put_hex.Given as goal
 
 -- the digits so far were added
@@ -10,4 +11,4 @@ pub record SoFar (before now : SinkState) (kept keeps bytes : List ℕ) (count :
 
 abbrev pub invariant-loop-byte : goal.invariant-loop-byte
 invariant-loop-byte g l =
-    SoFar (sink_state g.K.Sink.held g.K.Sink.failures g.K.Sink.wanted l.fn.sink) (sink_state g.K.Sink.held g.K.Sink.failures g.K.Sink.wanted l.sink) l.fn.out l.out l.bytes l.byte-index
+    SoFar (g.K.Sink.state l.fn.sink) (g.K.Sink.state l.sink) l.fn.out l.out l.bytes l.byte-index

@@ -1,5 +1,6 @@
 use Rattle.std.proofs.Common.{◌≤◌, ◌-◌, ℕ, List, length, take}
-use Rattle.hm_report.specs.SinkState.{SinkState, sink_state, GoesOn}
+use Rattle.hm_io.specs.Streams.{SinkState}
+use Rattle.hm_report.specs.Sends.{GoesOn}
 use Rattle.hm_report.proofs.outlet.put_text.Given as goal
 
 -- the bytes so far were added
@@ -10,7 +11,7 @@ pub record SoFar (before now : SinkState) (kept keeps text : List ℕ) (at : ℕ
 
 abbrev pub invariant-loop-at : goal.invariant-loop-at
 invariant-loop-at g l =
-    SoFar (sink_state g.K.Sink.held g.K.Sink.failures g.K.Sink.wanted l.fn.sink) (sink_state g.K.Sink.held g.K.Sink.failures g.K.Sink.wanted l.sink) l.fn.out l.out l.text l.at
+    SoFar (g.K.Sink.state l.fn.sink) (g.K.Sink.state l.sink) l.fn.out l.out l.text l.at
 
 abbrev pub decreases-loop-at : goal.decreases-loop-at
 decreases-loop-at g l = length l.text - l.at

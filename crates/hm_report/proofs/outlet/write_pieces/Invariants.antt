@@ -1,5 +1,6 @@
 use Rattle.std.proofs.Common.{◌≤◌, ◌-◌, ℕ, List, length, take}
-use Rattle.hm_report.specs.SinkState.{SinkState, sink_state, Sends}
+use Rattle.hm_io.specs.Streams.{SinkState}
+use Rattle.hm_report.specs.Sends.{Sends}
 use Rattle.hm_report.proofs.outlet.write_pieces.Given as goal
 
 -- the bytes so far were added
@@ -9,7 +10,7 @@ pub record SoFar (before now : SinkState) (bytes : List ℕ) (at : ℕ) : Type 0
 
 abbrev pub invariant-loop-at : goal.invariant-loop-at
 invariant-loop-at g l =
-    SoFar (sink_state g.K.Sink.held g.K.Sink.failures g.K.Sink.wanted l.fn.sink) (sink_state g.K.Sink.held g.K.Sink.failures g.K.Sink.wanted l.sink) l.bytes l.at
+    SoFar (g.K.Sink.state l.fn.sink) (g.K.Sink.state l.sink) l.bytes l.at
 
 abbrev pub decreases-loop-at : goal.decreases-loop-at
 decreases-loop-at g l = length l.bytes - l.at

@@ -1,7 +1,8 @@
 use Rattle.std.proofs.Common.{◌≤◌, ℕ, List, length, take}
 use Rattle.hm_history.specs.declared.Entry.{Entry}
 use Rattle.hm_report.specs.Report.{entry_lines}
-use Rattle.hm_report.specs.SinkState.{SinkState, sink_state, GoesOn}
+use Rattle.hm_io.specs.Streams.{SinkState}
+use Rattle.hm_report.specs.Sends.{GoesOn}
 use Rattle.hm_report.proofs.report.put_entries.Given as goal
 
 -- the lines so far were added
@@ -11,4 +12,4 @@ pub record SoFar (before now : SinkState) (kept keeps : List ℕ) (entries : Lis
 
 abbrev pub invariant-loop-at : goal.invariant-loop-at
 invariant-loop-at g l =
-    SoFar (sink_state g.K.Sink.held g.K.Sink.failures g.K.Sink.wanted l.fn.sink) (sink_state g.K.Sink.held g.K.Sink.failures g.K.Sink.wanted l.sink) l.fn.out l.out l.entries l.at
+    SoFar (g.K.Sink.state l.fn.sink) (g.K.Sink.state l.sink) l.fn.out l.out l.entries l.at

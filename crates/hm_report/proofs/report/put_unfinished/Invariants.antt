@@ -1,7 +1,8 @@
 use Rattle.std.proofs.Common.{◌≤◌, ℕ, List, length, slice_index}
 use Rattle.hm_base.specs.Program.{Program}
 use Rattle.hm_report.specs.Report.{unfinished_among}
-use Rattle.hm_report.specs.SinkState.{SinkState, sink_state, GoesOn}
+use Rattle.hm_io.specs.Streams.{SinkState}
+use Rattle.hm_report.specs.Sends.{GoesOn}
 use Rattle.hm_report.proofs.report.put_unfinished.Given as goal
 
 -- the lines so far were added
@@ -11,4 +12,4 @@ pub record SoFar (before now : SinkState) (kept keeps : List ℕ) (c : Program) 
 
 abbrev pub invariant-loop-actor : goal.invariant-loop-actor
 invariant-loop-actor g l =
-    SoFar (sink_state g.K.Sink.held g.K.Sink.failures g.K.Sink.wanted l.fn.sink) (sink_state g.K.Sink.held g.K.Sink.failures g.K.Sink.wanted l.sink) l.fn.out l.out l.script (λ a. slice_index l.ended a) l.actor
+    SoFar (g.K.Sink.state l.fn.sink) (g.K.Sink.state l.sink) l.fn.out l.out l.script (λ a. slice_index l.ended a) l.actor

@@ -7,4 +7,4 @@ returns-in-Ok-run_threads-clause-does g c =
     let s = c.in-Ok.ensures in
     let r = c.in-Ok-run_threads.ensures in
     let e = c.report_run.ensures in
-    shown_for report _ _ _ c.in-Ok-run_threads.ran c.report_run.result c.in-Ok.script r.script s.text s.faults r.ended r.full r.receipt e.shows (reported _ _ c.in-Ok-run_threads.ran c.in-Ok.script r.script s.text r.ended r.full) e.written e.write_faults
+    shown_for report _ _ _ c.in-Ok-run_threads.ran c.report_run.result c.in-Ok.script r.script s.text s.faults r.ended r.full r.receipt e.shows (reported _ _ c.in-Ok-run_threads.ran c.in-Ok.script r.script s.text r.ended r.full) e.written e.write_faults e.flushed

@@ -6,4 +6,4 @@ pub returns-in-Ok-clause-does : goal.returns-in-Ok-clause-does
 returns-in-Ok-clause-does g c =
     let s = c.in-Ok.ensures in
     let e = c.write_sources.ensures in
-    judged why_text _ c.write_sources.result c.in-Ok.verdict s.verdict s.faults e.ends e.written e.write_faults e.receipt
+    judged why_text _ c.write_sources.result c.in-Ok.verdict s.verdict s.faults e.ends e.written e.write_faults e.flushed e.receipt

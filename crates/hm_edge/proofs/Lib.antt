@@ -1,0 +1,4 @@
+pub mod Came
+pub mod NotRead
+mod Saying
+pub mod Sending

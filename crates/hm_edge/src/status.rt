@@ -1,0 +1,54 @@
+// How a call ended.
+ghost use Rattle.std.specs.Prelude.{◌≡◌};
+ghost use Rattle.hm_edge.specs.Messages.{code_of};
+
+use hm_script::Refused;
+
+/// How a call of a program ended.
+#[derive(Clone, Copy, Debug, PartialEq, Eq)]
+pub enum Status {
+    /// What the words ask for was done, and its text went out whole.
+    Done,
+    /// The bytes are no legal report: the first bad line.
+    NotLegal(u64),
+    /// The words ask for nothing that there is.
+    Usage,
+    /// No script has the bytes as its text: the first bad line and its reason.
+    Refused(Refused),
+    /// The source failed.
+    ReadFault,
+    /// The sink failed, and a front of the text went out.
+    WriteFault,
+    /// Memory ran out.
+    NoMemory,
+    /// A turn found an entry due and the history full. Of hmmrun's commands, the report went out whole.
+    HistoryFull,
+    /// The source has more bytes than a script.
+    ScriptTooLong,
+    /// The source has more bytes than a report.
+    ReportTooLong,
+    /// The rows that are asked for are not in the report.
+    NoRows,
+    /// More rows are asked for than a page has.
+    TooManyRows,
+}
+
+impl Status {
+    /// The program's exit code.
+    pub fn code(&self) -> u8
+        ensures { result ≡ code_of self.now }
+    {
+        match self {
+            Status::Done => 0,
+            Status::NotLegal(_) => 1,
+            Status::Usage => 2,
+            Status::Refused(_) => 3,
+            Status::ReadFault => 4,
+            Status::WriteFault => 5,
+            Status::NoMemory => 6,
+            Status::HistoryFull => 7,
+            Status::ScriptTooLong | Status::ReportTooLong => 8,
+            Status::NoRows | Status::TooManyRows => 9,
+        }
+    }
+}

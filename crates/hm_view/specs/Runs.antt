@@ -1,0 +1,18 @@
+-- What the program hmmview does with the words after its name.
+use Rattle.std.specs.Prelude.{ℕ, List, codes}
+use Rattle.hm_edge.specs.Traffic.{Traffic}
+use Rattle.hm_edge.specs.declared.status.Status.{Status}
+use Rattle.hm_view.specs.Asked.{asked_of}
+use Rattle.hm_view.specs.Views.{Views}
+
+-- the name that its messages begin with
+abbrev pub name : List ℕ
+name = codes "hmmview"
+
+-- what it says if its words are none of the forms
+abbrev pub usage : List ℕ
+usage = codes "usage: hmmview [FROM TO]"
+
+-- what the words ask for was done
+abbrev pub Runs : List (List ℕ) → Traffic → Status → Type 0
+Runs words = Views (asked_of words)
