@@ -1,5 +1,5 @@
 #!/usr/bin/env python3
-"""Tries edits of the crates' code that turn its meaning, and tells where the prover refuses each.
+"""Tries edits of the crates' code that turn its meaning, and says where the prover refuses each.
 
     tools/edits.py [NAME ..]     tries crates/NAME/edits/*.edit; with no names, those of all crates
       --gate                     also tries crates/NAME/must-fail/*.edit, the edits that the gate tries
@@ -12,7 +12,7 @@
 An edit must be refused: a check of the crate with that edit must leave a goal of the edited function that is not
 proved. Edits that change the bodies of different functions are tried in one check. Each of these counts as refused only
 if a goal of its own function is open. What is left is tried alone, and then any refusal counts. A line for each edit
-tells where it was refused:
+says where it was refused:
 
     at its clause        a goal that comes from the code and a contract is open, or has values at which it is false
     at a written answer  the written answer of such a goal proves it no longer: look whether the goal is false
@@ -37,11 +37,11 @@ ORDER = [CLAUSE, ANSWER, TEXT, LIMIT, BAD, MISSED, UNTRIED]
 WELL = {CLAUSE, ANSWER}
 
 FUNCTION = re.compile(r'(\s*)(?:pub(?:\([a-z]+\))?\s+)?(?:const\s+)?fn\s+([a-z_0-9]+)')
-TOLD = re.compile(r'(?:note: )?(?:\./)?(\S+?):(\d+):\d+:')
+PLACE = re.compile(r'(?:note: )?(?:\./)?(\S+?):(\d+):\d+:')
 # of a goal: from the code, or with values at which it is false
 OPEN = re.compile(r'(note: )?(\./)?(src|specs)/|.* and the (goal|part) fails')
 ENSURED = 'what the function ensures'
-# where a proof file names what the edit took away
+# a line on a proof file that names what the edit took away
 NAMES = re.compile(r'(note: )?(\./)?proofs/.*(has no field|is not in scope|has no `|was not admitted)')
 
 Edit = collections.namedtuple('Edit', 'name file text places sum')
@@ -74,7 +74,7 @@ def read(path):
 
 def function_at(text, number):
     """Returns the name of the function that line `number` of the text is in, the line that begins it, and whether the
-    line is of its body; no name where the line is outside of all functions."""
+    line is of its body; no name if the line is outside of all functions."""
     lines = text.split('\n')
     begins = next((at for at in range(min(number, len(lines)) - 1, -1, -1) if FUNCTION.match(lines[at])), None)
     if begins is None:
@@ -102,7 +102,7 @@ def ends_of(lines, begins, indent):
 
 
 def places_of(folder, text):
-    """Returns the functions whose bodies an edit changes: for each the file, the line and the name. None where it
+    """Returns the functions whose bodies an edit changes: for each the file, the line and the name. None if it
     changes something else, such as a contract or a constant, so that goals of other functions may be open too."""
     path, places = '', set()
     for line in text.split('\n'):
@@ -149,9 +149,9 @@ def in_batches(edits, most):
     return groups + [[edit] for edit in edits if not edit.places]
 
 
-def goals_told(said):
-    """Returns the lines in which a check tells of what is not proved."""
-    lines = [it for it in said.split('\n') if TOLD.match(it)]
+def goal_lines(said):
+    """Returns the lines of what a check said that are about goals which are not proved."""
+    lines = [it for it in said.split('\n') if PLACE.match(it)]
     return [it for it in lines if ': error' in it or it.startswith('note: ')]
 
 
@@ -159,8 +159,8 @@ def goals_by_function(lines, texts, folder):
     """Returns these lines by what each is about: (file, line, name) of a function, or the name of its proof folder."""
     found = collections.defaultdict(list)
     for line in lines:
-        told = TOLD.match(line)
-        path, number = told[1], int(told[2])
+        at = PLACE.match(line)
+        path, number = at[1], int(at[2])
         if path.startswith('src/'):
             name, begins, _ = function_at(texts.get(path) or read(f'{folder}/{path}'), number)
             found[path, begins, name].append(line)
@@ -170,7 +170,7 @@ def goals_by_function(lines, texts, folder):
 
 
 def kind_of(lines):
-    """Returns the kind of a refusal that these lines tell, and the line that shows it best."""
+    """Returns the kind of a refusal that these lines show, and the line that shows it best."""
     opened = [it for it in lines if OPEN.match(it)]
     if opened:
         return CLAUSE, next((it for it in opened if ENSURED in it), opened[0])
@@ -186,13 +186,13 @@ class Trier:
 
     def prepare(self):
         """Builds the libraries below, proves the crate as it stands, and returns what is wrong, or nothing."""
-        with open(f'{self.room}/libraries', 'w+', encoding='utf-8') as told:
+        with open(f'{self.room}/libraries', 'w+', encoding='utf-8') as out:
             for crate in [*self.crate.below(), self.crate]:
-                crate.out = told
+                crate.out = out
             for dep in self.crate.below():
                 if dep.build_rlib(self.flags, anew=False):
-                    told.seek(0)
-                    return f'the library {dep.name} is not built:\n{told.read()[-2000:]}'
+                    out.seek(0)
+                    return f'the library {dep.name} is not built:\n{out.read()[-2000:]}'
             self.kit.adopt(self.crate, is_alone=False)
         start, seed = f'{self.crate.folder}/out/incremental', f'{self.room}/seed'
         if os.path.isdir(start):
@@ -224,7 +224,7 @@ class Trier:
         is_refused = ran.returncode == 1 and lines[-1].startswith('logic=not-proved')
         if not is_refused or any(self.kit.unread(it, texts) for it in lines):
             return {}
-        found = goals_by_function(goals_told(ran.stdout), texts, self.crate.folder)
+        found = goals_by_function(goal_lines(ran.stdout), texts, self.crate.folder)
         return self.own_goals(group, found, took / len(group))
 
     def own_goals(self, group, found, each):
@@ -233,7 +233,7 @@ class Trier:
         results = {}
         for edit in group:
             own = [line for place in edit.places for line in found.get(place, [])]
-            # (a folder of proofs has only the function's name: it counts where no other edit is of such a name)
+            # (a folder of proofs has only the function's name: it counts if no other edit is of such a name)
             own += [line for _, _, name in edit.places if named[name] == 1 for line in found.get(name, [])]
             # (names that are gone may be gone by another edit)
             if own and kind_of(own)[0] in WELL:
@@ -253,15 +253,14 @@ class Trier:
         self.kit.checked = noted
         try:
             tried, took = self.over_seed(lambda over: self.kit.must_fail(self.crate, edit.file, self.flags, over))
-            kind, told = tried
         finally:
             self.kit.checked = made
         kinds = {self.kit.AT_LIMIT: LIMIT, self.kit.BAD: BAD, self.kit.MISSED: MISSED, self.kit.UNSURE: UNTRIED}
-        told = told.partition(': ')[2]
+        kind, words = tried[0], tried[1].partition(': ')[2]
         if kind in kinds:
-            return Result(kinds[kind], told, 1, took)
-        lines = goals_told(said[-1]) if said else []
-        return Result(*(kind_of(lines) if lines else (CLAUSE, told)), 1, took)
+            return Result(kinds[kind], words, 1, took)
+        lines = goal_lines(said[-1]) if said else []
+        return Result(*(kind_of(lines) if lines else (CLAUSE, words)), 1, took)
 
 
 def read_log(path):
@@ -278,7 +277,7 @@ def note(log, crate, edit, result):
     log.flush()
 
 
-def tell(crate, name, result):
+def show(crate, name, result):
     how = f'with {result.beside - 1} more' if result.beside > 1 else 'alone'
     print(f'{result.kind}: {crate.name}/{name}: {result.seconds:.0f} s {how}: {result.said[:240]}', flush=True)
 
@@ -289,12 +288,12 @@ def try_crate(kit, crate, asked, known, log):
     folders = ['edits', 'must-fail'] if asked.gate else ['edits']
     edits, results = edits_of(kit, crate, stamp, folders, asked.only)
     for name, result in results.items():
-        tell(crate, name, result)
+        show(crate, name, result)
     left = []
     for edit in edits:
         if edit.sum in known and not asked.anew:
             results[edit.name] = known[edit.sum]
-            tell(crate, edit.name, results[edit.name])
+            show(crate, edit.name, results[edit.name])
         else:
             left.append(edit)
     if left and not try_left(kit, crate, asked, left, results, log):
@@ -316,7 +315,7 @@ def try_left(kit, crate, asked, left, results, log):
 
         def settle(edit, result):
             results[edit.name] = result
-            tell(crate, edit.name, result)
+            show(crate, edit.name, result)
             if result.kind != UNTRIED:
                 note(log, crate, edit, result)
 
