@@ -212,18 +212,19 @@ class Trier:
             shutil.rmtree(over, ignore_errors=True)
 
     def together(self, group):
-        """Tries the edits in one check, and returns the results of those that are refused for certain."""
+        """Tries the edits in one check, and returns the results of those that are refused for certain; None if the check
+        says nothing of any, as if one of them cannot be read."""
         joint = f'{self.room}/joint.edit'
         with open(joint, 'w', encoding='utf-8') as it:
             it.write('\n'.join(edit.text for edit in group))
         texts, why = self.kit.read_edit(joint, self.crate.folder)
         if why:
-            return {}
+            return None
         ran, took = self.over_seed(lambda over: self.kit.checked(self.crate, texts, self.flags, over))
         lines = ran.stdout.rstrip('\n').split('\n')
         is_refused = ran.returncode == 1 and lines[-1].startswith('logic=not-proved')
         if not is_refused or any(self.kit.unread(it, texts) for it in lines):
-            return {}
+            return None
         found = goals_by_function(goal_lines(ran.stdout), texts, self.crate.folder)
         return self.own_goals(group, found, took / len(group))
 
@@ -319,8 +320,14 @@ def try_left(kit, crate, asked, left, results, log):
             if result.kind != UNTRIED:
                 note(log, crate, edit, result)
 
-        for group in in_batches(left, asked.most):
+        groups = in_batches(left, asked.most)
+        while groups:
+            group = groups.pop(0)
             certain = trier.together(group) if len(group) > 1 else {}
+            if certain is None:
+                half = len(group) // 2
+                groups[:0] = [group[:half], group[half:]]
+                continue
             for edit in group:
                 settle(edit, certain[edit.name] if edit.name in certain else trier.alone(edit))
     finally:
