@@ -212,8 +212,8 @@ class Trier:
             shutil.rmtree(over, ignore_errors=True)
 
     def together(self, group):
-        """Tries the edits in one check, and returns the results of those that are refused for certain; None if the check
-        says nothing of any, as if one of them cannot be read."""
+        """Tries the edits in one check, and returns the results of those that are refused for certain; None if the
+        check says nothing of any, for example since one of them cannot be read."""
         joint = f'{self.room}/joint.edit'
         with open(joint, 'w', encoding='utf-8') as it:
             it.write('\n'.join(edit.text for edit in group))
