@@ -4,10 +4,10 @@
 mod asked;
 mod call;
 mod laws;
-mod program;
+mod process;
 mod ways;
 
 pub use asked::MOST_STATES;
 pub use call::races;
 pub use laws::{complete_is_all, drain_is_last, known_is_true, ways_are_outcomes};
-pub use program::{NAME, USAGE, program};
+pub use process::{NAME, USAGE, program};

@@ -8,7 +8,7 @@ mod ended;
 mod generate;
 mod output;
 mod peek;
-mod program;
+mod process;
 mod replay;
 mod schedule;
 mod threads;
@@ -18,5 +18,5 @@ mod why;
 
 pub use command::{Asked, Command};
 pub use ended::Ended;
-pub use program::{NAME, USAGE, program};
+pub use process::{NAME, USAGE, program};
 pub use top::{run, run_alone};

@@ -10,7 +10,7 @@ mod entry_text;
 mod findings;
 mod laws;
 mod page;
-mod program;
+mod process;
 mod rows;
 mod standing;
 
@@ -18,4 +18,4 @@ pub use asked::{Asked, MOST_ROWS};
 pub use call::view;
 pub use draw::{page_text, write_page};
 pub use laws::{changes_are_told, legal_is_due};
-pub use program::{NAME, USAGE, program};
+pub use process::{NAME, USAGE, program};
