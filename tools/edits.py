@@ -1,5 +1,5 @@
 #!/usr/bin/env python3
-"""Tries edits of the crates' code that turn its meaning, and tells where the prover refuses each.
+"""Tries edits of the crates' code that turn its meaning, and says where the prover refuses each.
 
     tools/edits.py [NAME ..]     tries crates/NAME/edits/*.edit; with no names, those of all crates
       --gate                     also tries crates/NAME/must-fail/*.edit, the edits that the gate tries
@@ -10,33 +10,38 @@
       --log FILE                 the log (out/edits.jsonl unless given)
 
 An edit must be refused: a check of the crate with that edit must leave a goal of the edited function that is not
-proved. Edits of different functions are tried in one check. Each of these counts as refused only if a goal of its own
-function is open. What is left is tried alone, and then any refusal counts. A line for each edit tells where it was
-refused:
+proved. Edits that change the bodies of different functions are tried in one check. Each of these counts as refused only
+if a goal of its own function is open. What is left is tried alone, and then any refusal counts. A line for each edit
+says where it was refused:
 
-    at its clause      a goal that comes from the code or a contract is open
-    at a proof text    only a proof file does not fit the changed code; this says little of the contract
-    at a limit         the prover gave up with no verdict
-    bad                the edit does not apply, or the edited code cannot be read
-    NOT REFUSED        the crate is still proved: a wrong body meets the contract, or the edit changes nothing
-    not tried          nothing is known, since a check ended early
+    at its clause        a goal that comes from the code and a contract is open, or has values at which it is false
+    at a written answer  the written answer of such a goal proves it no longer: look whether the goal is false
+    at a proof text      only names in a proof file are gone, so this says little of the contract
+    at a limit           the prover gave up with no verdict
+    bad                  the edit does not apply, or the edited code cannot be read
+    NOT REFUSED          the crate is still proved: a wrong body meets the contract, or the edit changes nothing
+    not tried            nothing is known, since a check ended early
 
 Each result goes to the log, one JSON value a line, with a sum of all that it stands on: the kit, the crate, those below
 it, and the edit. A later run takes what the log has of the same sum. The status is 0 if each edit was refused at its
-clause, 1 if some were not, and 2 if the words are wrong or a crate is not proved as it stands.
+clause or at a written answer, 1 if some were not, and 2 if the words are wrong or a crate is not proved as it stands.
 """
 import argparse, collections, hashlib, importlib.machinery, importlib.util, json, os, re, resource, shutil, sys
 import tempfile, time
 
 TOP = os.path.dirname(os.path.dirname(os.path.abspath(__file__)))
 
-CLAUSE, TEXT, LIMIT, BAD = 'at its clause', 'at a proof text', 'at a limit', 'bad'
-MISSED, UNTRIED = 'NOT REFUSED', 'not tried'
-ORDER = [CLAUSE, TEXT, LIMIT, BAD, MISSED, UNTRIED]
+CLAUSE, ANSWER, TEXT = 'at its clause', 'at a written answer', 'at a proof text'
+LIMIT, BAD, MISSED, UNTRIED = 'at a limit', 'bad', 'NOT REFUSED', 'not tried'
+ORDER = [CLAUSE, ANSWER, TEXT, LIMIT, BAD, MISSED, UNTRIED]
+WELL = {CLAUSE, ANSWER}
 
-FUNCTION = re.compile(r'\s*(?:pub(?:\([a-z]+\))?\s+)?(?:const\s+)?fn\s+([a-z_0-9]+)')
-TOLD = re.compile(r'(?:note: )?(?:\./)?(\S+?):(\d+):\d+:')
-# where a proof file names what the edit took away
+FUNCTION = re.compile(r'(\s*)(?:pub(?:\([a-z]+\))?\s+)?(?:const\s+)?fn\s+([a-z_0-9]+)')
+PLACE = re.compile(r'(?:note: )?(?:\./)?(\S+?):(\d+):\d+:')
+# of a goal: from the code, or with values at which it is false
+OPEN = re.compile(r'(note: )?(\./)?(src|specs)/|.* and the (goal|part) fails')
+ENSURED = 'what the function ensures'
+# a line on a proof file that names what the edit took away
 NAMES = re.compile(r'(note: )?(\./)?proofs/.*(has no field|is not in scope|has no `|was not admitted)')
 
 Edit = collections.namedtuple('Edit', 'name file text places sum')
@@ -68,24 +73,47 @@ def read(path):
 
 
 def function_at(text, number):
-    """Returns the name of the function that line `number` of the text is in, and the line that begins it."""
+    """Returns the name of the function that line `number` of the text is in, the line that begins it, and whether the
+    line is of its body; no name if the line is outside of all functions."""
     lines = text.split('\n')
-    for at in range(min(number, len(lines)) - 1, -1, -1):
-        found = FUNCTION.match(lines[at])
-        if found:
-            return found[1], at + 1
-    return None, 0
+    begins = next((at for at in range(min(number, len(lines)) - 1, -1, -1) if FUNCTION.match(lines[at])), None)
+    if begins is None:
+        return None, 0, False
+    found = FUNCTION.match(lines[begins])
+    opens, ends = ends_of(lines, begins, found[1])
+    return (found[2], begins + 1, number > opens + 1) if number <= ends + 1 else (None, 0, False)
+
+
+def ends_of(lines, begins, indent):
+    """Returns the place of the last line of the signature and contract of the function that begins there, with the
+    brace of its body, and that of its own last line."""
+    depth = 0
+    for at in range(begins, len(lines)):
+        line = lines[at]
+        if at == begins and line.endswith('}'):
+            return at - 1, at
+        ends_signature = at == begins or line.startswith(indent + ')')
+        if depth == 0 and (line == indent + '{' or line.endswith('{') and ends_signature):
+            return at, next((k for k in range(at, len(lines)) if lines[k] == indent + '}'), at)
+        depth += line.count('{') - line.count('}')
+        if depth == 0 and line.endswith(';'):
+            return at, at
+    return len(lines), len(lines)
 
 
 def places_of(folder, text):
-    """Returns the functions that an edit changes: for each the file, the line and the name."""
+    """Returns the functions whose bodies an edit changes: for each the file, the line and the name. None if it
+    changes something else, such as a contract or a constant, so that goals of other functions may be open too."""
     path, places = '', set()
     for line in text.split('\n'):
         if line.startswith('file: '):
             path = line[len('file: '):].strip()
         elif line.startswith('old: '):
             code = read(f'{folder}/{path}')
-            name, begins = function_at(code, code.count('\n', 0, code.find(line[len('old: '):])) + 1)
+            number = code.count('\n', 0, code.find(line[len('old: '):])) + 1
+            name, begins, is_body = function_at(code, number) if path.startswith('src/') else (None, 0, False)
+            if not is_body:
+                return None
             places.add((path, begins, name))
     return frozenset(places)
 
@@ -108,32 +136,33 @@ def edits_of(kit, crate, stamp, folders, only):
 
 
 def in_batches(edits, most):
-    """Returns the edits in groups; no two edits of a group change one function."""
+    """Returns the edits in groups; no two edits of a group change one function, and each changes bodies alone."""
     groups = []
     for edit in edits:
         for group in groups:
-            if len(group) < most and not any(edit.places & other.places for other in group):
+            if edit.places and len(group) < most and not any(edit.places & other.places for other in group):
                 group.append(edit)
                 break
         else:
-            groups.append([edit])
-    return groups
+            if edit.places:
+                groups.append([edit])
+    return groups + [[edit] for edit in edits if not edit.places]
 
 
-def goals_told(said):
-    """Returns the lines in which a check tells of what is not proved."""
-    lines = [it for it in said.split('\n') if TOLD.match(it)]
+def goal_lines(said):
+    """Returns the lines of what a check said that are about goals which are not proved."""
+    lines = [it for it in said.split('\n') if PLACE.match(it)]
     return [it for it in lines if ': error' in it or it.startswith('note: ')]
 
 
 def goals_by_function(lines, texts, folder):
-    """Returns these lines by what each is about: (file, line, name) of a function, or the name of a function's folder of proofs."""
+    """Returns these lines by what each is about: (file, line, name) of a function, or the name of its proof folder."""
     found = collections.defaultdict(list)
     for line in lines:
-        told = TOLD.match(line)
-        path, number = told[1], int(told[2])
+        at = PLACE.match(line)
+        path, number = at[1], int(at[2])
         if path.startswith('src/'):
-            name, begins = function_at(texts.get(path) or read(f'{folder}/{path}'), number)
+            name, begins, _ = function_at(texts.get(path) or read(f'{folder}/{path}'), number)
             found[path, begins, name].append(line)
         elif path.startswith('proofs/') and path.count('/') > 1:
             found[path.split('/')[-2]].append(line)
@@ -141,10 +170,12 @@ def goals_by_function(lines, texts, folder):
 
 
 def kind_of(lines):
-    """Returns the kind of a refusal that these lines tell, and the line that shows it best."""
-    at_goals = [it for it in lines if not NAMES.match(it)]
-    best = next((it for it in at_goals if 'src/' in it or 'specs/' in it), (at_goals or lines)[0])
-    return (CLAUSE if at_goals else TEXT), best
+    """Returns the kind of a refusal that these lines show, and the line that shows it best."""
+    opened = [it for it in lines if OPEN.match(it)]
+    if opened:
+        return CLAUSE, next((it for it in opened if ENSURED in it), opened[0])
+    unfit = [it for it in lines if not NAMES.match(it)]
+    return (ANSWER, unfit[0]) if unfit else (TEXT, lines[0])
 
 
 class Trier:
@@ -155,13 +186,13 @@ class Trier:
 
     def prepare(self):
         """Builds the libraries below, proves the crate as it stands, and returns what is wrong, or nothing."""
-        with open(f'{self.room}/libraries', 'w+', encoding='utf-8') as told:
+        with open(f'{self.room}/libraries', 'w+', encoding='utf-8') as out:
             for crate in [*self.crate.below(), self.crate]:
-                crate.out = told
+                crate.out = out
             for dep in self.crate.below():
                 if dep.build_rlib(self.flags, anew=False):
-                    told.seek(0)
-                    return f'the library {dep.name} is not built:\n{told.read()[-2000:]}'
+                    out.seek(0)
+                    return f'the library {dep.name} is not built:\n{out.read()[-2000:]}'
             self.kit.adopt(self.crate, is_alone=False)
         start, seed = f'{self.crate.folder}/out/incremental', f'{self.room}/seed'
         if os.path.isdir(start):
@@ -181,19 +212,20 @@ class Trier:
             shutil.rmtree(over, ignore_errors=True)
 
     def together(self, group):
-        """Tries the edits in one check, and returns the results of those that are refused for certain."""
+        """Tries the edits in one check, and returns the results of those that are refused for certain; None if the
+        check says nothing of any, for example since one of them cannot be read."""
         joint = f'{self.room}/joint.edit'
         with open(joint, 'w', encoding='utf-8') as it:
             it.write('\n'.join(edit.text for edit in group))
         texts, why = self.kit.read_edit(joint, self.crate.folder)
         if why:
-            return {}
+            return None
         ran, took = self.over_seed(lambda over: self.kit.checked(self.crate, texts, self.flags, over))
         lines = ran.stdout.rstrip('\n').split('\n')
         is_refused = ran.returncode == 1 and lines[-1].startswith('logic=not-proved')
         if not is_refused or any(self.kit.unread(it, texts) for it in lines):
-            return {}
-        found = goals_by_function(goals_told(ran.stdout), texts, self.crate.folder)
+            return None
+        found = goals_by_function(goal_lines(ran.stdout), texts, self.crate.folder)
         return self.own_goals(group, found, took / len(group))
 
     def own_goals(self, group, found, each):
@@ -202,9 +234,10 @@ class Trier:
         results = {}
         for edit in group:
             own = [line for place in edit.places for line in found.get(place, [])]
-            # (a folder of proofs has only the function's name: it counts where no other edit is of such a name)
+            # (a folder of proofs has only the function's name: it counts if no other edit is of such a name)
             own += [line for _, _, name in edit.places if named[name] == 1 for line in found.get(name, [])]
-            if own:
+            # (names that are gone may be gone by another edit)
+            if own and kind_of(own)[0] in WELL:
                 results[edit.name] = Result(*kind_of(own), len(group), each)
         return results
 
@@ -220,15 +253,15 @@ class Trier:
 
         self.kit.checked = noted
         try:
-            (kind, told), took = self.over_seed(lambda over: self.kit.must_fail(self.crate, edit.file, self.flags, over))
+            tried, took = self.over_seed(lambda over: self.kit.must_fail(self.crate, edit.file, self.flags, over))
         finally:
             self.kit.checked = made
         kinds = {self.kit.AT_LIMIT: LIMIT, self.kit.BAD: BAD, self.kit.MISSED: MISSED, self.kit.UNSURE: UNTRIED}
-        told = told.partition(': ')[2]
+        kind, words = tried[0], tried[1].partition(': ')[2]
         if kind in kinds:
-            return Result(kinds[kind], told, 1, took)
-        lines = goals_told(said[-1]) if said else []
-        return Result(*(kind_of(lines) if lines else (CLAUSE, told)), 1, took)
+            return Result(kinds[kind], words, 1, took)
+        lines = goal_lines(said[-1]) if said else []
+        return Result(*(kind_of(lines) if lines else (CLAUSE, words)), 1, took)
 
 
 def read_log(path):
@@ -245,7 +278,7 @@ def note(log, crate, edit, result):
     log.flush()
 
 
-def tell(crate, name, result):
+def show(crate, name, result):
     how = f'with {result.beside - 1} more' if result.beside > 1 else 'alone'
     print(f'{result.kind}: {crate.name}/{name}: {result.seconds:.0f} s {how}: {result.said[:240]}', flush=True)
 
@@ -256,12 +289,12 @@ def try_crate(kit, crate, asked, known, log):
     folders = ['edits', 'must-fail'] if asked.gate else ['edits']
     edits, results = edits_of(kit, crate, stamp, folders, asked.only)
     for name, result in results.items():
-        tell(crate, name, result)
+        show(crate, name, result)
     left = []
     for edit in edits:
         if edit.sum in known and not asked.anew:
             results[edit.name] = known[edit.sum]
-            tell(crate, edit.name, results[edit.name])
+            show(crate, edit.name, results[edit.name])
         else:
             left.append(edit)
     if left and not try_left(kit, crate, asked, left, results, log):
@@ -278,16 +311,23 @@ def try_left(kit, crate, asked, left, results, log):
         if why:
             print(f'{crate.name}: {why}', flush=True)
             return False
-        print(f'{crate.name}: {len(left)} edits to try; the crate as it stands took {seconds() - begun:.0f} s', flush=True)
+        took = seconds() - begun
+        print(f'{crate.name}: {len(left)} edits to try, after {took:.0f} s for the crate itself', flush=True)
 
         def settle(edit, result):
             results[edit.name] = result
-            tell(crate, edit.name, result)
+            show(crate, edit.name, result)
             if result.kind != UNTRIED:
                 note(log, crate, edit, result)
 
-        for group in in_batches(left, asked.most):
+        groups = in_batches(left, asked.most)
+        while groups:
+            group = groups.pop(0)
             certain = trier.together(group) if len(group) > 1 else {}
+            if certain is None:
+                half = len(group) // 2
+                groups[:0] = [group[:half], group[half:]]
+                continue
             for edit in group:
                 settle(edit, certain[edit.name] if edit.name in certain else trier.alone(edit))
     finally:
@@ -298,7 +338,11 @@ def try_left(kit, crate, asked, left, results, log):
 def summary(name, results):
     counts = collections.Counter(result.kind for result in results.values())
     took = sum(result.seconds for result in results.values())
-    return f'{name}: {len(results)} edits, {took:.0f} s: ' + ', '.join(f'{counts[it]} {it}' for it in ORDER if counts[it])
+    return f'{name}: {len(results)} edits, {took:.0f} s: {counted(counts)}'
+
+
+def counted(counts):
+    return ', '.join(f'{counts[it]} {it}' for it in ORDER if counts[it])
 
 
 def words():
@@ -340,8 +384,8 @@ def main():
     if unproved:
         print('not proved as they stand, so their edits were not tried: ' + ', '.join(unproved))
         return 2
-    print(f'{sum(total.values())} edits: ' + ', '.join(f'{total[it]} {it}' for it in ORDER if total[it]))
-    return 0 if set(total) <= {CLAUSE} else 1
+    print(f'{sum(total.values())} edits: {counted(total)}')
+    return 0 if set(total) <= WELL else 1
 
 
 if __name__ == '__main__':
