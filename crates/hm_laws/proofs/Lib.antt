@@ -7,3 +7,4 @@ pub mod Migration
 pub mod Past
 pub mod Histories
 pub mod Waits
+pub mod Rounds

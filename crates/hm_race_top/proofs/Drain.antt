@@ -20,7 +20,7 @@ use Rattle.hm_history.proofs.RunLemmas.{line_due}
 use Rattle.hm_laws.specs.NeverStuck.{NeverStuck}
 use Rattle.hm_races.specs.Outcomes.{raced}
 use Rattle.hm_script.specs.Built.{has_drain}
-use Rattle.hm_top.proofs.Rounds.{Ends, below, drains_end}
+use Rattle.hm_laws.proofs.Rounds.{Ends, below, drains_end}
 use Rattle.hm_race_top.specs.Laws.{DrainIsLast}
 
 -- where no actor has anything to do, none of these has

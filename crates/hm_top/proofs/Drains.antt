@@ -18,7 +18,7 @@ use Rattle.hm_laws.specs.NeverStuck.{NeverStuck}
 use Rattle.hm_history.specs.Overrun.{overruns_turn, some_overruns, overruns_line, overruns_lines, overruns}
 use Rattle.hm_script.specs.Built.{has_drain}
 use Rattle.hm_top.specs.Drained.{IsDone, IsDrained}
-use Rattle.hm_top.proofs.Rounds.{Ends, below, drains_end}
+use Rattle.hm_laws.proofs.Rounds.{Ends, below, drains_end}
 
 -- no actor has an entry due
 abbrev pub NoneDue : Program → List Entry → Type 0

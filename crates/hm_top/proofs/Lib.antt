@@ -1,4 +1,3 @@
-pub mod Rounds
 pub mod Drains
 pub mod Room
 pub mod Trial
