@@ -41,12 +41,3 @@ pub record Exits (Does : List (List ℕ) → Traffic → Status → Type 0) (nam
   pub code_is : code ≡ code_of status
   -- The line of its status was written to the error stream.
   pub says : Says name usage status errors errors_after
-
--- The exit code is that of some call of the program, of which nothing more is known than what `Exits` says: not which
--- arguments and streams the system gave it.
-pub record EndsWith (Does : List (List ℕ) → Traffic → Status → Type 0) (name usage : List ℕ) (code : ℕ) : Type 0 where
-  pub args : Option (List (List ℕ))
-  pub io : Traffic
-  pub errors : SinkState
-  pub errors_after : SinkState
-  pub exits : Exits Does name usage args io errors errors_after code

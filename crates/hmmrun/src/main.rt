@@ -1,18 +1,12 @@
 // The program: its arguments, the real streams, and one call.
 #![tactic(auto)]
 
-ghost use Rattle.std.specs.Process.{exit_status};
-ghost use Rattle.hm_edge.specs.Exits.{EndsWith};
-ghost use Rattle.hm_top.specs.Runs.{Runs, name, usage};
-
 use hm_io::{StreamSink, StreamSource};
 use hm_top::program;
 use std::env;
 use std::process::ExitCode;
 
-fn main(rt: HostRuntime) -> ExitCode
-    ensures { EndsWith Runs name usage (exit_status result) }
-{
+fn main(rt: HostRuntime) -> ExitCode {
     ExitCode::from(program(
         &rt,
         rt.alloc(),
