@@ -1,5 +1,5 @@
-// A device's memory is emptied, frame by frame: lib/test_hmm.c, `dmirror_device_evict_chunk` and
-// `dmirror_device_remove_chunks`.
+// A device's memory is emptied, frame by frame: lib/test_hmm.c, `dmirror_device_evict_chunk` (which makes each step for
+// all frames of a chunk) and `dmirror_device_remove_chunks`.
 #![tactic(auto)]
 
 ghost use Rattle.std.specs.Prelude.{◌≡◌};

@@ -1,5 +1,5 @@
-// Frames of memory: which are held, what they contain and who has them locked (`alloc_page` and `put_page` of
-// mm/page_alloc.c, `trylock_page` of include/linux/pagemap.h).
+// Frames of memory: which are held, what they contain and who has them locked (`alloc_page` of include/linux/gfp.h,
+// `put_page` of include/linux/mm.h, `trylock_page` of include/linux/pagemap.h).
 #![tactic(auto)]
 
 pub mod bits;

@@ -26,7 +26,7 @@ pub enum Piece {
 pub struct Held(pub Actor);
 
 /// Frames of 4,096 bytes by their numbers, in one row: the system's, or a device's own
-/// (`MEMORY_DEVICE_PRIVATE`, as `dmirror_devmem` of lib/test_hmm.c has them).
+/// (`MEMORY_DEVICE_PRIVATE`, as `struct dmirror_chunk` of lib/test_hmm.c has them).
 #[derive(Drop)]
 pub struct Pool {
     free: NumberSet,

@@ -98,8 +98,8 @@ same_place (Moving f w) (Moving g x) = same_frame f g && (if w then x else not x
 same_place (Exclusive n a) (Exclusive k b) = (n == k) && (a == b)
 same_place _ _ = false
 
--- what a snapshot for device d tells of a place (the codes are this project's; dmirror_mkentry of lib/test_hmm.c has
--- others)
+-- what a snapshot for device d tells of a place (as dmirror_mkentry of lib/test_hmm.c, but for an exclusive page, which
+-- is 00 there, and a page without area, ff)
 abbrev pub snap_code : Place → ℕ → ℕ
 snap_code Empty d = 0
 snap_code Zero d = 0x11

@@ -63,7 +63,8 @@ invalidating s m = Wait (Why.Invalidating m (interval_seq s.sequences m))
 abbrev pub suits : Bool → Place → Bool
 suits writes x = if writes then cpu_writes x else cpu_reads x
 
--- a look-up takes its own device's pages without a fault (`hmm_vma_handle_pte`, mm/hmm.c)
+-- a look-up takes its own device's pages without a fault (`hmm_vma_handle_pte`, mm/hmm.c), for writes the
+-- writable ones; the kernel's takes a read-only one as well, and says that it is no page for writes
 abbrev pub suits_walk : ℕ → Bool → Place → Bool
 suits_walk d writes (Place.Own e n w) = (d == e) && (not writes || w)
 suits_walk d writes x = suits writes x
@@ -166,7 +167,8 @@ take_or_fail c s o k = take_or c s (fails o k Cause.NoFrame)
 abbrev pub is_used_once : After → Frame → Bool
 is_used_once s f = is_none (s.locks.frame f) && (uses s.places f == 1)
 
--- the guard that brings a device page home, once nobody else has its frame locked (`migrate_to_ram`)
+-- the guard that brings a device page home, once nobody else has its frame locked (`migrate_to_ram`; the kernel does
+-- not wait: the fault ends with nothing done, and comes again)
 abbrev pub bring_home : After → ℕ → ℕ → ℕ → Frame → Next
 bring_home s a p v f = elim (other_locker s.locks f a) [
   | None ↦ Do (start_entry s p (one_page v))

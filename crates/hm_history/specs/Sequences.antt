@@ -1,5 +1,5 @@
--- Invalidations, intervals and their sequences: mm/mmu_notifier.c. That mirrors are told in rising number, and the
--- deferred inserts and removes as stated here, are this project's rules.
+-- Invalidations, intervals and their sequences: mm/mmu_notifier.c, with its deferred inserts and removes. That mirrors
+-- are told in rising number is this project's rule.
 use Rattle.std.specs.Prelude.{ℕ, ◌+◌, ◌-◌, ◌%◌, Bool, true, false, not, ◌&&◌, ◌||◌, nat_lt, nat_le, ◌==◌, if◌then◌else◌, Option, Some, None, is_some, is_none, List, [], ◌∷◌, ◌++◌, filter, find, length}
 use Rattle.std.specs.List.{list_any, list_all}
 use Rattle.hm_base.specs.Pages.{Pages, overlap}

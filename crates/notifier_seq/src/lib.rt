@@ -150,8 +150,8 @@ impl Notifiers {
         subscriptions.set_seq(id, seq);
     }
 
-    /// An invalidation ends, and the last one makes the deferred inserts and removes
-    /// (`mn_itree_finish_pass`, `mn_itree_inv_end`). It gives the process's sequence afterwards.
+    /// An invalidation ends, and the last one makes the deferred inserts and removes (`mn_itree_inv_end`). It gives the
+    /// process's sequence afterwards.
     pub fn end(&mut self) -> u64
         requires active { 1 ≤ self.old.active }
         requires seq { self.old.seq < 2 ^ 63 }

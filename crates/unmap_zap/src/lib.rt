@@ -1,5 +1,5 @@
-// Areas made, cut and changed: mm/mmap.c (`do_munmap`, `exit_mmap`), mm/mprotect.c (`change_protection`), and the pages
-// that they empty, mm/memory.c (`zap_page_range`).
+// Areas made, cut and changed: mm/mmap.c (`do_mas_munmap`, `exit_mmap`), mm/mprotect.c (`change_protection`), and the
+// pages that they empty, mm/memory.c (`unmap_vmas`, `zap_pte_range`).
 #![tactic(auto)]
 
 ghost use Rattle.std.specs.Prelude.{◌≡◌, false};
