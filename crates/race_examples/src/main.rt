@@ -1,30 +1,58 @@
-// Searches the race of every script in the folder that it runs in, and compares the outcomes with those in the file
-// beside it.
+// Searches the race of every script in the folder that it runs in, and draws every report there. Compares the outcomes
+// and the pages with those in the files beside them.
 #![tactic(auto)]
 
 use hm_base::NoMemory;
 use hm_edge::Status;
 use hm_io::{MemorySink, MemorySource};
 use hm_race_top::races;
+use hm_view::view;
 use skip_rules::Multiples;
+use std::alloc::Global;
 use std::{fs, io};
 
-/// So few bytes come at a time that no script of a few lines is read at once.
+/// So few bytes come at a time that no text of a few lines is read at once.
 const PIECE: usize = 16;
 
-/// No outcomes of an example take more bytes.
+/// No outcomes and no page of an example take more bytes.
 const ROOM: usize = 1_048_576;
+
+/// What is made of an example.
+#[derive(Clone, Copy)]
+enum Made {
+    /// The outcomes of a script's race.
+    Outcomes,
+    /// The page of a report.
+    Page,
+}
+
+impl Made {
+    /// How the names of such examples end, and those of the files beside them.
+    fn endings(self) -> (&'static str, &'static str) {
+        match self {
+            Made::Outcomes => (".hmm", ".outcomes"),
+            Made::Page => (".report", ".html"),
+        }
+    }
+
+    fn write(self, alloc: Global, source: &mut MemorySource, sink: &mut MemorySink) -> Status {
+        match self {
+            Made::Outcomes => races(alloc, &[], source, sink, Multiples),
+            Made::Page => view(alloc, &[], source, sink),
+        }
+    }
+}
 
 fn no_memory(_: NoMemory) -> io::Error {
     io::Error::from(io::ErrorKind::OutOfMemory)
 }
 
-/// The paths of the scripts, in order and without their `.hmm`.
-fn scripts(rt: &HostRuntime) -> io::Result<Vec<String>> {
+/// The names of the examples, in order and without their ending.
+fn stems(rt: &HostRuntime, ending: &str) -> io::Result<Vec<String>> {
     let mut stems = Vec::new(rt.alloc());
     for entry in fs::read_dir(rt, ".")? {
         let entry = entry?;
-        if let Some(stem) = entry.file_name().strip_suffix(".hmm") {
+        if let Some(stem) = entry.file_name().strip_suffix(ending) {
             stems.push(String::from_str(rt.alloc(), stem)?)?;
         }
     }
@@ -32,28 +60,37 @@ fn scripts(rt: &HostRuntime) -> io::Result<Vec<String>> {
     Ok(stems)
 }
 
-/// Whether all outcomes of the script's race are those in the file beside it.
-fn agrees(rt: &HostRuntime, stem: &str) -> io::Result<bool> {
-    let path = format!(in rt.alloc(); "{stem}.hmm")?;
-    let script = fs::read(rt, path.as_str())?;
-    let path = format!(in rt.alloc(); "{stem}.outcomes")?;
+/// Whether what is made of the example is what the file beside it has.
+fn agrees(rt: &HostRuntime, stem: &str, made: Made) -> io::Result<bool> {
+    let (ending, beside) = made.endings();
+    let path = format!(in rt.alloc(); "{stem}{ending}")?;
+    let example = fs::read(rt, path.as_str())?;
+    let path = format!(in rt.alloc(); "{stem}{beside}")?;
     let wanted = fs::read(rt, path.as_str())?;
-    let mut source = MemorySource::new(rt.alloc(), script.as_slice(), PIECE, &[]).map_err(
+    let mut source = MemorySource::new(rt.alloc(), example.as_slice(), PIECE, &[]).map_err(
         no_memory,
     )?;
     let mut sink = MemorySink::new(rt.alloc(), ROOM, &[]).map_err(no_memory)?;
-    let status = races(rt.alloc(), &[], &mut source, &mut sink, Multiples);
+    let status = made.write(rt.alloc(), &mut source, &mut sink);
     Ok(matches!(&status, Status::Done) && sink.held() == wanted.as_slice())
 }
 
-fn main(rt: HostRuntime) -> io::Result<()> {
+/// How many examples agree; each that does not is named.
+fn compare(rt: &HostRuntime, made: Made) -> io::Result<u64> {
+    let (ending, beside) = made.endings();
     let mut agreeing = 0u64;
-    for stem in scripts(&rt)?.iter() {
-        if agrees(&rt, stem.as_str())? {
+    for stem in stems(rt, ending)?.iter() {
+        if agrees(rt, stem.as_str(), made)? {
             agreeing = agreeing.saturating_add(1);
         } else {
-            println!(rt; "{stem}.hmm has other outcomes")?;
+            println!(rt; "{stem}{ending} does not give {stem}{beside}")?;
         }
     }
-    println!(rt; "{agreeing} races have the outcomes beside them")
+    Ok(agreeing)
+}
+
+fn main(rt: HostRuntime) -> io::Result<()> {
+    let races = compare(&rt, Made::Outcomes)?;
+    let pages = compare(&rt, Made::Page)?;
+    println!(rt; "{races} races have the outcomes beside them, and {pages} report its page")
 }
