@@ -1,18 +1,8 @@
 // The pages that a rule skips, as words that are worked out beforehand.
 use hm_script::parse;
 use skip_masks::masks;
-use skip_rules::SkipRule;
+use skip_rules::Multiples;
 use std::test::Fail;
-
-/// A driver that passes over multiples.
-#[derive(Drop)]
-pub struct Multiples;
-
-impl SkipRule for Multiples {
-    fn skips(&self, every: u64, page: u64) -> bool {
-        every != 0 && page % every == 0
-    }
-}
 
 /// Two actors, of which each migrates pages to a device, from page 6 and from page 16 on. Every fourth page is skipped.
 const MIGRATIONS: &[u8] =
