@@ -29,7 +29,7 @@ pub struct Case<'a> {
 }
 
 /// A run with streams that do not fail.
-pub fn case<'a>(
+pub fn expected<'a>(
     words: &'a str,
     input: &'a str,
     code: u8,
@@ -67,7 +67,7 @@ pub struct Streams {
     pub errors: SureSink,
 }
 
-pub fn streams(alloc: Global, case: &Case<'_>) -> Result<Streams, Fail> {
+pub fn open_streams(alloc: Global, case: &Case<'_>) -> Result<Streams, Fail> {
     Ok(Streams {
         source: MemorySource::new(alloc, case.input, 4096, &[case.bad_read])?,
         sink: MemorySink::new(alloc, 65536, &[case.bad_write])?,

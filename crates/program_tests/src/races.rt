@@ -1,5 +1,5 @@
 // The program hmmraces.
-use crate::cases::{Case, EMPTY, arguments, case, compare, streams};
+use crate::cases::{Case, EMPTY, arguments, compare, expected, open_streams};
 use hm_race_top::program;
 use std::alloc::Global;
 use std::process::Abort;
@@ -8,7 +8,7 @@ use std::test::Fail;
 const USAGE: &str = "hmmraces: usage: hmmraces [MOST]\n";
 
 fn run<R: Abort>(rt: &R, alloc: Global, case: &Case<'_>) -> Result<(), Fail> {
-    let mut streams = streams(alloc, case)?;
+    let mut streams = open_streams(alloc, case)?;
     let args = arguments(alloc, case.words)?;
     let code = program(
         alloc,
@@ -23,13 +23,13 @@ fn run<R: Abort>(rt: &R, alloc: Global, case: &Case<'_>) -> Result<(), Fail> {
 
 #[test]
 fn hmmraces_ends_with_each_code(rt: HostRuntime) -> Result<(), Fail> {
-    let read = case("", EMPTY, 4, "", "hmmraces: read fault\n");
-    let write = case("", EMPTY, 5, "", "hmmraces: write fault\n");
+    let read = expected("", EMPTY, 4, "", "hmmraces: read fault\n");
+    let write = expected("", EMPTY, 5, "", "hmmraces: write fault\n");
     for wanted in [
-        case("", EMPTY, 0, "outcome 1\nstates 1 whole\n", ""),
-        case("many", EMPTY, 2, "", USAGE),
-        case("1 2", EMPTY, 2, "", USAGE),
-        case("", "", 3, "", "hmmraces: script line 1: bad header\n"),
+        expected("", EMPTY, 0, "outcome 1\nstates 1 whole\n", ""),
+        expected("many", EMPTY, 2, "", USAGE),
+        expected("1 2", EMPTY, 2, "", USAGE),
+        expected("", "", 3, "", "hmmraces: script line 1: bad header\n"),
         Case {
             bad_read: 1,
             ..read
@@ -48,7 +48,7 @@ fn hmmraces_ends_with_each_code(rt: HostRuntime) -> Result<(), Fail> {
 fn hmmraces_refuses_too_long_a_script(rt: HostRuntime) -> Result<(), Fail> {
     let mut bytes = Vec::new(rt.alloc());
     bytes.resize(4_194_305, b'h')?;
-    let whole = case("", "", 8, "", "hmmraces: script too long\n");
+    let whole = expected("", "", 8, "", "hmmraces: script too long\n");
     run(
         &rt,
         rt.alloc(),

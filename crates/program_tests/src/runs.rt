@@ -1,5 +1,5 @@
 // The program hmmrun.
-use crate::cases::{Case, EMPTY, EMPTY_REPORT, arguments, case, compare, streams};
+use crate::cases::{Case, EMPTY, EMPTY_REPORT, arguments, compare, expected, open_streams};
 use hm_top::program;
 use std::alloc::Global;
 use std::process::Abort;
@@ -16,7 +16,7 @@ fn run<R: Abort + Threads + Wait + Sync>(
     alloc: Global,
     case: &Case<'_>,
 ) -> Result<(), Fail> {
-    let mut streams = streams(alloc, case)?;
+    let mut streams = open_streams(alloc, case)?;
     let args = arguments(alloc, case.words)?;
     let code = program(
         rt,
@@ -33,13 +33,13 @@ fn run<R: Abort + Threads + Wait + Sync>(
 #[test]
 fn hmmrun_ends_with_each_code(rt: HostRuntime) -> Result<(), Fail> {
     for wanted in [
-        case("replay", EMPTY, 0, EMPTY_REPORT, ""),
-        case("threads", EMPTY, 0, EMPTY_REPORT, ""),
-        case("check", EMPTY_REPORT, 0, "legal 0\n", ""),
-        case("check", EMPTY, 1, "bad 3\n", "hmmrun: not legal\n"),
-        case("", EMPTY, 2, "", USAGE),
-        case("replay now", EMPTY, 2, "", USAGE),
-        case("replay", "", 3, "", "hmmrun: script line 1: bad header\n"),
+        expected("replay", EMPTY, 0, EMPTY_REPORT, ""),
+        expected("threads", EMPTY, 0, EMPTY_REPORT, ""),
+        expected("check", EMPTY_REPORT, 0, "legal 0\n", ""),
+        expected("check", EMPTY, 1, "bad 3\n", "hmmrun: not legal\n"),
+        expected("", EMPTY, 2, "", USAGE),
+        expected("replay now", EMPTY, 2, "", USAGE),
+        expected("replay", "", 3, "", "hmmrun: script line 1: bad header\n"),
     ] {
         run(&rt, rt.alloc(), &wanted)?;
     }
@@ -48,7 +48,7 @@ fn hmmrun_ends_with_each_code(rt: HostRuntime) -> Result<(), Fail> {
 
 #[test]
 fn hmmrun_tells_of_streams_that_fail(rt: HostRuntime) -> Result<(), Fail> {
-    let whole = case("replay", EMPTY, 4, "", "hmmrun: read fault\n");
+    let whole = expected("replay", EMPTY, 4, "", "hmmrun: read fault\n");
     run(
         &rt,
         rt.alloc(),
@@ -57,7 +57,7 @@ fn hmmrun_tells_of_streams_that_fail(rt: HostRuntime) -> Result<(), Fail> {
             ..whole
         },
     )?;
-    let whole = case("replay", EMPTY, 5, "", "hmmrun: write fault\n");
+    let whole = expected("replay", EMPTY, 5, "", "hmmrun: write fault\n");
     run(
         &rt,
         rt.alloc(),
@@ -72,7 +72,7 @@ fn hmmrun_tells_of_streams_that_fail(rt: HostRuntime) -> Result<(), Fail> {
 fn hmmrun_refuses_too_long_a_script(rt: HostRuntime) -> Result<(), Fail> {
     let mut bytes = Vec::new(rt.alloc());
     bytes.resize(4_194_305, b'h')?;
-    let whole = case("replay", "", 8, "", "hmmrun: script too long\n");
+    let whole = expected("replay", "", 8, "", "hmmrun: script too long\n");
     run(
         &rt,
         rt.alloc(),
