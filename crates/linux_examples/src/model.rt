@@ -29,27 +29,18 @@ fn written(alloc: Global, status: &Status, sink: &MemorySink) -> io::Result<Stri
     }
 }
 
-fn skips(alloc: Global) -> io::Result<Kept> {
-    let skips: BoxedRule = Box::new(alloc, |every: u64, page: u64| {
-        every != 0 && page % every == 0
-    })?;
-    Ok(Kept::new(skips))
-}
-
 /// The report of the script's run.
 pub fn report(alloc: Global, script: &[u8]) -> io::Result<String> {
     let mut source = MemorySource::new(alloc, script, PIECE, &[]).map_err(no_memory)?;
     let mut sink = MemorySink::new(alloc, ROOM, &[]).map_err(no_memory)?;
     let words = vec![in alloc; String::from_str(alloc, "replay")?]?;
-    let leans: BoxedRule = Box::new(alloc, |x: u64, y: u64| x >= 4 && x - 4 >= y)?;
-    let ended = run_alone(
+    let skips: BoxedRule = Box::new(
         alloc,
-        words,
-        &mut source,
-        &mut sink,
-        &skips(alloc)?,
-        &Leans::new(leans),
-    );
+        |every: u64, page: u64| every != 0 && page % every == 0,
+    )?;
+    let leans: BoxedRule = Box::new(alloc, |x: u64, y: u64| x >= 4 && x - 4 >= y)?;
+    let (skip, leans) = (Kept::new(skips), Leans::new(leans));
+    let ended = run_alone(alloc, words, &mut source, &mut sink, &skip, &leans);
     written(alloc, &ended.status, &sink)
 }
 
