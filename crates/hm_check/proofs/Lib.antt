@@ -1,6 +1,5 @@
 pub mod Exact
 pub mod Follow
-pub mod Hex
 pub mod Loops
 pub mod Naming
 pub mod NotJudged

@@ -5,9 +5,9 @@ ghost use Rattle.hm_history.specs.declared.Entry.{Entry};
 ghost use Rattle.hm_report.specs.Report.{entry_line};
 ghost use Rattle.hm_check.specs.Parts.{IsNoDigit};
 
-use crate::lines::strip_front;
 use hm_base::Actor;
 use hm_report::{Buffer, put_decimal};
+use hm_report_lines::strip_front;
 
 /// The actor with whose number the bytes begin.
 fn actor_at(digits: &[u8]) -> Option<Actor>

@@ -4,7 +4,6 @@
 mod actor;
 mod entries;
 mod judging;
-mod lines;
 mod tail;
 mod verdict;
 

@@ -1,10 +1,9 @@
 -- The lines of an outcome's answers: as the entries' lines in a report, without their positions.
-use Rattle.std.specs.Prelude.{ℕ, ◌+◌, List, [], ◌∷◌, ◌++◌, codes}
+use Rattle.std.specs.Prelude.{ℕ, ◌+◌, List, [], ◌∷◌, ◌++◌}
 use Rattle.std.specs.List.{flat_map}
-use Rattle.std.specs.Fmt.{decimal}
 use Rattle.hm_history.specs.declared.Kind.{Kind}
 use Rattle.hm_report.specs.Line.{spaced}
-use Rattle.hm_report.specs.Words.{actor_text, mirror_text, device_text, proc_text, head_words, tail_text}
+use Rattle.hm_report.specs.Words.{actor_text, interval_words, head_words, tail_text}
 
 -- the words of an answer, but for bytes that were read or written; of an `attached` its sequence is left out. No
 -- outcome has entries of other kinds
@@ -17,8 +16,7 @@ answer_words (Kind.Unmapped p r) = head_words (Kind.Unmapped p r)
 answer_words (Kind.Protected p r w) = head_words (Kind.Protected p r w)
 answer_words (Kind.Forked p c) = head_words (Kind.Forked p c)
 answer_words (Kind.Exited p) = head_words (Kind.Exited p)
-answer_words (Kind.Attached m d p r q) =
-    codes "attached" ∷ mirror_text m ∷ device_text d ∷ proc_text p ∷ decimal r.first ∷ decimal r.count ∷ []
+answer_words (Kind.Attached m d p r q) = interval_words m d p r
 answer_words (Kind.Detached m) = head_words (Kind.Detached m)
 answer_words (Kind.Refused why) = head_words (Kind.Refused why)
 answer_words (Kind.Migrated n) = head_words (Kind.Migrated n)

@@ -3,10 +3,10 @@
 
 mod answers;
 mod block;
+mod decimal;
 mod laws;
 mod outcomes;
 mod schedule;
-mod words;
 
 pub use answers::answer_lines;
 pub use block::{Block, add_block};

@@ -4,8 +4,8 @@ ghost use Rattle.hm_report.specs.Written.{Writes, SentOn, FaultCause, ReportWant
 ghost use Rattle.hm_race_text.specs.Text.{outcome_line, block_text, blocks_text, states_line, outcomes_text};
 
 use crate::block::Block;
+use crate::decimal::add_decimal;
 use crate::schedule::add_turns;
-use crate::words::add_decimal;
 use hm_base::{NoMemory, Text};
 use hm_io::Sink;
 use hm_report::{Written, write_text};

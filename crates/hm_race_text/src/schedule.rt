@@ -4,7 +4,7 @@ ghost use Rattle.hm_base.specs.declared.ops.ScheduleLine.TheVariants.{Run};
 ghost use Rattle.hm_race_text.specs.Text.{lines_text, turns_text};
 ghost use Rattle.hm_race_text.specs.Schedule.{packed_from};
 
-use crate::words::add_decimal;
+use crate::decimal::add_decimal;
 use hm_base::{Actor, NoMemory, Text};
 use std::alloc::Global;
 

@@ -8,8 +8,6 @@ mod kinds;
 mod laws;
 mod line_words;
 mod reader;
-#[cfg(test)]
-mod tests;
 mod words;
 
 pub use entries::read_entries;

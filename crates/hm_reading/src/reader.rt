@@ -1,14 +1,14 @@
-// The lines of a report behind its script.
-ghost use Rattle.std.specs.Prelude.{◌≡◌, IfOk, OnOk};
-ghost use Rattle.hm_report.specs.Report.{entry_line};
+// The lines of a report after its script.
+ghost use Rattle.std.specs.Prelude.{◌≡◌, IfOk};
 ghost use Rattle.hm_reading.specs.Entries.{IsEnd, IsRead, IsUnfinished, unfinished_text};
 
-use crate::entry::{add_tail, read_words, strip_end};
+use crate::entry::{read_words, strip_end};
 use crate::line_words::LineWords;
 use crate::words::actor;
 use hm_base::{Actor, NoMemory};
 use hm_history::Entry;
-use hm_report::{Buffer, put_end, put_front, put_unfinished_line};
+use hm_report::{Buffer, put_end, put_unfinished_line};
+use hm_report_lines::is_line_of;
 use hm_script::number;
 use std::alloc::Global;
 
@@ -30,36 +30,21 @@ fn put_unfinished(out: &mut Buffer, actor: Actor, index: u64)
     put_unfinished_line(out, u64::from(actor.number()), index, count);
 }
 
-/// Reads the lines of a report behind its script, one at a time, and keeps the memory that this takes. A line comes
+/// Reads the lines of a report after its script, one at a time, and keeps the memory that this takes. A line comes
 /// with its line feed.
 #[derive(Drop)]
 pub struct LineReader {
     front: Buffer,
-    line: Vec<u8>,
 }
 
 impl LineReader {
     pub fn new(alloc: Global) -> Result<LineReader, NoMemory> {
         Ok(LineReader {
             front: Buffer::new(alloc)?,
-            line: Vec::new(alloc),
         })
     }
 
-    /// Makes the line of the entry at this position.
-    fn make_line(&mut self, at: u64, entry: &Entry) -> Result<(), NoMemory>
-        ensures { OnOk result (self.new.line.items ≡ entry_line at entry.now) }
-    {
-        self.front.clear();
-        put_front(&mut self.front, at, entry);
-        self.line.clear();
-        self.line.extend_from_slice(self.front.as_slice())?;
-        add_tail(&mut self.line, &entry.kind)?;
-        self.line.push(b'\n')?;
-        Ok(())
-    }
-
-    /// The entry whose line this is, where it is the line of one at this position, counted from 0.
+    /// The entry whose line this is, if it is the line of one at this position, counted from 0.
     pub fn entry(&mut self, alloc: Global, line: &[u8], at: u64) -> Result<Option<Entry>, NoMemory>
         ensures { IfOk result (IsRead at line.now) }
     {
@@ -69,15 +54,14 @@ impl LineReader {
         let Ok(entry) = read_words(alloc, text)? else {
             return Ok(None);
         };
-        self.make_line(at, &entry)?;
-        if line == self.line.as_slice() {
+        if is_line_of(&mut self.front, line, at, &entry) {
             Ok(Some(entry))
         } else {
             Ok(None)
         }
     }
 
-    /// What the line tells, where it is of an actor with an operation that has not ended.
+    /// What the line tells, if it is of an actor with an operation that has not ended.
     pub fn unfinished(&mut self, line: &[u8]) -> Option<Unfinished>
         ensures { IsUnfinished line.now result }
     {
@@ -99,7 +83,7 @@ impl LineReader {
         }
     }
 
-    /// How many entries the line tells, where it is a last line.
+    /// How many entries the line tells, if it is a last line.
     pub fn end(&mut self, line: &[u8]) -> Option<u64>
         ensures { IsEnd line.now result }
     {

@@ -8,9 +8,7 @@ one_word name x = ap (λ e. 32 ∷ (name ++ 32 ∷ e)) (append-nil x)
 pub two_words : (name x y : List ℕ) → spaced (name ∷ x ∷ y ∷ []) ≡ 32 ∷ (name ++ 32 ∷ (x ++ 32 ∷ y))
 two_words name x y = ap (λ e. 32 ∷ (name ++ 32 ∷ (x ++ 32 ∷ e))) (append-nil y)
 
-pub span_then : (first count seq : List ℕ)
-    → spaced (first ∷ count ∷ []) ++ 32 ∷ seq ≡ spaced (first ∷ count ∷ seq ∷ [])
-span_then first count seq =
-    append_assoc (32 ∷ first) (32 ∷ (count ++ [])) (32 ∷ seq)
-    ∙ ap (λ e. 32 ∷ (first ++ e))
-    (append_assoc (32 ∷ count) [] (32 ∷ seq) ∙ ap (λ e. 32 ∷ (count ++ 32 ∷ e)) (sym (append-nil seq)))
+-- words, and one more
+pub one_more : (words : List (List ℕ)) (x : List ℕ) → spaced words ++ 32 ∷ x ≡ spaced (words ++ x ∷ [])
+one_more [] x = sym (append-nil (32 ∷ x))
+one_more (w ∷ words) x = append_assoc (32 ∷ w) (spaced words) (32 ∷ x) ∙ ap (λ e. (32 ∷ w) ++ e) (one_more words x)

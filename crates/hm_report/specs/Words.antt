@@ -6,6 +6,7 @@ use Rattle.hm_base.specs.declared.PoolId.{PoolId}
 use Rattle.hm_base.specs.declared.cause.Cause.{Cause}
 use Rattle.hm_base.specs.declared.Frame.{Frame}
 use Rattle.hm_base.specs.declared.Place.{Place}
+use Rattle.hm_base.specs.declared.Span.{Span}
 use Rattle.hm_history.specs.declared.Who.{Who}
 use Rattle.hm_history.specs.declared.TableRight.{TableRight}
 use Rattle.hm_history.specs.declared.KeptAt.{KeptAt}
@@ -94,6 +95,11 @@ why_words (KeptWhy.LockedBy b) = codes "locked" ∷ actor_text b ∷ []
 why_words KeptWhy.NoFrame = codes "noframe" ∷ []
 why_words KeptWhy.Skipped = codes "skipped" ∷ []
 why_words KeptWhy.Lost = codes "lost" ∷ []
+
+-- the words of an `attached`, but for its sequence
+abbrev pub interval_words : ℕ → ℕ → ℕ → Span → List (List ℕ)
+interval_words m d p r =
+    codes "attached" ∷ mirror_text m ∷ device_text d ∷ proc_text p ∷ decimal r.first ∷ decimal r.count ∷ []
 
 abbrev pub kind_words : Kind → List (List ℕ)
 kind_words (Kind.Loaded x a bs) = codes "loaded" ∷ who_text x ∷ address_text a ∷ hex_text bs ∷ []

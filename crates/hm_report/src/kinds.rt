@@ -2,7 +2,7 @@
 ghost use Rattle.std.specs.Prelude.{◌≡◌, ◌+◌, ◌≤◌, ◌∷◌, ◌++◌, length};
 ghost use Rattle.std.specs.Fmt.{decimal};
 ghost use Rattle.hm_history.specs.declared.Kind.{Kind as AnyKind};
-ghost use Rattle.hm_report.specs.Words.{place_words, why_words, actor_text, head_words};
+ghost use Rattle.hm_report.specs.Words.{place_words, why_words, actor_text, head_words, interval_words};
 ghost use Rattle.hm_report.specs.Line.{spaced};
 
 use crate::buffer::{Buffer, ROOM};
@@ -71,6 +71,20 @@ fn put_why(out: &mut Buffer, why: &KeptWhy)
     }
 }
 
+/// Adds the words of an interval's coming, but for its sequence.
+#[tactic(auto, using(std::proofs::Common::append_assoc))]
+pub fn put_interval(out: &mut Buffer, mirror: MirrorId, dev: Dev, proc: Proc, window: Span)
+    requires { length out.old + 800 ≤ ROOM }
+    ensures text { out.new ≡ out.old ++ spaced (interval_words mirror dev proc window) }
+    ensures room { length out.new ≤ length out.old + 800 }
+{
+    out.put(b" attached");
+    put_mirror(out, mirror);
+    put_device(out, dev);
+    put_proc(out, proc);
+    put_span(out, window);
+}
+
 /// Adds the words of an interval's coming.
 #[tactic(auto, using(std::proofs::Common::append_assoc))]
 fn put_attached(out: &mut Buffer, mirror: MirrorId, dev: Dev, proc: Proc, window: Span, seq: u64)
@@ -78,17 +92,13 @@ fn put_attached(out: &mut Buffer, mirror: MirrorId, dev: Dev, proc: Proc, window
     ensures text { out.new ≡ out.old ++ spaced (head_words (AnyKind.Attached mirror dev proc window seq)) }
     ensures room { length out.new ≤ length out.old + 1000 }
 {
-    out.put(b" attached");
-    put_mirror(out, mirror);
-    put_device(out, dev);
-    put_proc(out, proc);
-    put_span(out, window);
+    put_interval(out, mirror, dev, proc, window);
     put_number(out, seq);
 }
 
 /// Adds the words of a kind, but for bytes that were read or written.
 #[tactic(auto, using(std::proofs::Common::append_assoc))]
-fn put_head(out: &mut Buffer, kind: &Kind)
+pub fn put_head(out: &mut Buffer, kind: &Kind)
     requires { length out.old + 1000 ≤ ROOM }
     ensures text { out.new ≡ out.old ++ spaced (head_words kind.now) }
     ensures room { length out.new ≤ length out.old + 1000 }

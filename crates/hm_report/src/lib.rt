@@ -4,6 +4,7 @@
 mod buffer;
 mod digits;
 mod ended;
+mod entry_text;
 mod kinds;
 mod laws;
 mod numerals;
@@ -15,7 +16,8 @@ mod written;
 
 pub use buffer::Buffer;
 pub use ended::{op_count, operations_ended};
-pub use kinds::put_front;
+pub use entry_text::{add_entry, add_tail};
+pub use kinds::{put_front, put_head, put_interval};
 pub use laws::ends_are_counted;
 pub use numerals::{digit, put_decimal};
 pub use outlet::{Stop, send_on, write_all, write_last};

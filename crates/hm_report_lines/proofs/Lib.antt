@@ -1,6 +1,7 @@
 pub mod Cutting
 pub mod FirstByte
 pub mod Heads
+pub mod Hex
 pub mod Loops
 pub mod Scripts
 pub mod Shared

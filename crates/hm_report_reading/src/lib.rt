@@ -3,8 +3,6 @@
 
 mod laws;
 mod reading;
-#[cfg(test)]
-mod tests;
 mod unfinished;
 
 pub use laws::{one_report, report_text};

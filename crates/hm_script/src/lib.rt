@@ -21,7 +21,7 @@ pub use keyword::OpWord;
 pub use laws::{is_trial, one_text, upgraded_text, whole_grammar};
 pub use lines::cut_line;
 pub use numeral::{address, number};
-pub use printing::print;
+pub use printing::{extend_hex, print};
 pub use reason::{Reason, Refused, ScriptError};
 pub use script::{parse, parse_words};
 pub use version::upgrade;

@@ -85,15 +85,23 @@ fn hex_digit(value: u8) -> u8
     }
 }
 
+/// Adds two digits for each byte.
+pub fn extend_hex(text: &mut Text, bytes: &[u8]) -> Result<(), NoMemory>
+    ensures { OnOk result (text.new ≡ text.old ++ hex_text bytes.now) }
+{
+    for byte in bytes {
+        text.push(hex_digit(*byte / 16))?;
+        text.push(hex_digit(*byte % 16))?;
+    }
+    Ok(())
+}
+
+/// Bytes after their space.
 fn put_bytes(out: &mut Text, bytes: &[u8]) -> Result<(), NoMemory>
     ensures { OnOk result (out.new ≡ out.old ++ 32 ∷ hex_text bytes.now) }
 {
     out.push(b' ')?;
-    for byte in bytes {
-        out.push(hex_digit(*byte / 16))?;
-        out.push(hex_digit(*byte % 16))?;
-    }
-    Ok(())
+    extend_hex(out, bytes)
 }
 
 fn right_word(rights: Rights) -> &'static [u8]

@@ -4,7 +4,6 @@ ghost use Rattle.std.specs.List.{flat_map};
 ghost use Rattle.hm_history.specs.Legal.{Legal};
 ghost use Rattle.hm_report.specs.Report.{report};
 ghost use Rattle.hm_report.specs.Written.{FaultCause, ReportWants, SentOn, Writes};
-ghost use Rattle.hm_script.specs.Spelling.{hex_text};
 ghost use Rattle.hm_turns.specs.Looking.{IsLook};
 ghost use Rattle.hm_top.specs.Peeks.{AnswersPeeks, RunsPeeked, SawAll, peek_line, peeked_text};
 ghost use Rattle.hm_top.specs.Ran.{Shows, shown_status};
@@ -21,7 +20,8 @@ use hm_edge::{Status, read_script};
 use hm_history::{History, StepError};
 use hm_io::{Sink, Source};
 use hm_machine::Machine;
-use hm_report::{Written, digit, write_report, write_text};
+use hm_report::{Written, write_report, write_text};
+use hm_script::extend_hex;
 use hm_workers::{Gate, Peek, PeekList, peek_all};
 use skip_rules::Kept;
 use std::alloc::Global;
@@ -90,17 +90,6 @@ fn run_peeked<R: Threads + Wait + Sync, G: Gate + Sync>(
     })
 }
 
-/// Adds two digits for each byte.
-fn add_hex(text: &mut Text, bytes: &[u8]) -> Result<(), NoMemory>
-    ensures { OnOk result (text.new ≡ text.old ++ hex_text bytes.now) }
-{
-    for byte in bytes {
-        text.push(digit(*byte / 16))?;
-        text.push(digit(*byte % 16))?;
-    }
-    Ok(())
-}
-
 /// Adds the line of a peek.
 fn add_peek(alloc: Global, text: &mut Text, peek: &Peek) -> Result<(), NoMemory>
     ensures { OnOk result (text.new ≡ text.old ++ peek_line peek.now) }
@@ -110,7 +99,7 @@ fn add_peek(alloc: Global, text: &mut Text, peek: &Peek) -> Result<(), NoMemory>
     let count = peek.count;
     let front = format!(in alloc; "peek p{proc} 0x{addr:x} {count} ")?;
     text.extend(front.as_bytes())?;
-    add_hex(text, peek.bytes.as_slice())?;
+    extend_hex(text, peek.bytes.as_slice())?;
     text.push(b'\n')
 }
 

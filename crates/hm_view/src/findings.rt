@@ -2,10 +2,9 @@
 ghost use Rattle.std.specs.Prelude.{◌≡◌, ◌++◌, length, OnOk};
 ghost use Rattle.hm_view.specs.Rows.{is_finding, finding, findings};
 
-use crate::entry_text::add_entry;
 use hm_base::{NoMemory, Text};
 use hm_history::{Entry, Kind};
-use hm_report::Buffer;
+use hm_report::{Buffer, add_entry};
 
 fn is_finding(kind: &Kind) -> bool
     ensures { result ≡ is_finding kind.now }

@@ -6,7 +6,6 @@ mod asked;
 mod call;
 mod changes;
 mod draw;
-mod entry_text;
 mod findings;
 mod laws;
 mod page;

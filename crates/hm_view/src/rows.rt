@@ -9,11 +9,10 @@ ghost use Rattle.hm_view.specs.Changes.{change_line};
 ghost use Rattle.hm_view.specs.Rows.{row, rows};
 
 use crate::changes::{place_before, put_changes};
-use crate::entry_text::add_entry;
 use crate::standing::add_standing_line;
 use hm_base::{Actor, NoMemory, Text};
 use hm_history::{Entry, Progress};
-use hm_report::Buffer;
+use hm_report::{Buffer, add_entry};
 use hm_world::World;
 use skip_rules::Multiples;
 use std::alloc::Global;

@@ -2,7 +2,11 @@
 #![tactic(auto)]
 
 #[cfg(test)]
+mod lines_read;
+#[cfg(test)]
 mod reports;
+#[cfg(test)]
+mod reports_read;
 #[cfg(test)]
 mod scripts;
 #[cfg(test)]

@@ -1,5 +1,5 @@
-use Rattle.hm_check.proofs.Hex.{line_ends, line_begins}
-use Rattle.hm_check.proofs.entries.is_line_of.Goals as goal
+use Rattle.hm_report_lines.proofs.Hex.{line_ends, line_begins}
+use Rattle.hm_report_lines.proofs.line_of.is_line_of.Goals as goal
 
 pub returns-in-Some : goal.returns-in-Some
 returns-in-Some c = line_ends c.args.line.now c.as_slice.result.now c.in-Some.end.now c.args.at c.args.entry.now c.is_end.result (cc) c.in-Some.ensures c.is_end.ensures

@@ -1,7 +1,7 @@
 // Lines of a report, read.
-use crate::{LineReader, Unfinished, read_entries};
 use hm_base::Actor;
 use hm_history::{KeptWhy, Kind};
+use hm_reading::{LineReader, Unfinished, read_entries};
 use std::test::Fail;
 
 #[test]
@@ -64,7 +64,7 @@ fn why_a_page_was_kept(rt: HostRuntime) -> Result<(), Fail> {
 }
 
 #[test]
-fn lines_behind_a_history(rt: HostRuntime) -> Result<(), Fail> {
+fn lines_after_a_history(rt: HostRuntime) -> Result<(), Fail> {
     let mut reader = LineReader::new(rt.alloc())?;
     let actor = Actor::new(3);
     let unfinished = reader.unfinished(b"unfinished a3 0\n");
