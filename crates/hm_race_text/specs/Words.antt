@@ -5,6 +5,7 @@ use Rattle.hm_script.specs.Spelling.{address_text, right_text}
 use Rattle.hm_report.specs.Words.{byte_text, proc_text, mirror_text, device_text, who_text, cause_number}
 use Rattle.hm_race_text.specs.declared.words.Word.{Word}
 
+-- the text of one word; `Byte` is a hexadecimal one
 abbrev pub word_text : Word → List ℕ
 word_text (Word.Number n) = decimal n
 word_text (Word.Address a) = address_text a
