@@ -16,7 +16,7 @@ use hm_world::World;
 use skip_rules::Multiples;
 use std::alloc::Global;
 
-/// What follows the two digits of a byte, where the text begins with them.
+/// What follows the two digits of a byte, if the text begins with them.
 fn strip_byte(text: &[u8], byte: u8) -> Option<&[u8]>
     ensures { MatchOption result ((rest : List ℕ) → ¬ (text.now ≡ byte_text byte ++ rest))
         (λ rest. text.now ≡ byte_text byte ++ rest.now) }
@@ -25,7 +25,7 @@ fn strip_byte(text: &[u8], byte: u8) -> Option<&[u8]>
     strip_front(text, &digits)
 }
 
-/// What follows the digits of the bytes, where the text begins with them.
+/// What follows the digits of the bytes, if the text begins with them.
 fn strip_hex<'a>(text: &'a [u8], bytes: &[u8]) -> Option<&'a [u8]>
     ensures { MatchOption result ((rest : List ℕ) → ¬ (text.now ≡ hex_text bytes.now ++ rest))
         (λ rest. text.now ≡ hex_text bytes.now ++ rest.now) }
@@ -120,7 +120,7 @@ fn take_line(
     }
 }
 
-/// Adds the entries whose lines these are, as long as each is due, and gives the lines behind them.
+/// Adds the entries whose lines these are, as long as each is due, and gives the lines after them.
 pub fn take_entries<'a>(
     alloc: Global,
     world: &mut World,

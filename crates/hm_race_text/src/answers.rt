@@ -121,7 +121,7 @@ fn add_head(alloc: Global, text: &mut Text, kind: &Kind) -> Result<(), NoMemory>
     }
 }
 
-/// Adds the bytes that an answer tells, where it tells some.
+/// Adds the bytes that an answer tells, if it tells some.
 fn add_tail(text: &mut Text, kind: &Kind) -> Result<(), NoMemory>
     ensures { OnOk result (text.new ≡ text.old ++ tail_text kind.now) }
 {

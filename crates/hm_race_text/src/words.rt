@@ -121,7 +121,7 @@ fn add_word(alloc: Global, text: &mut Text, word: &Word) -> Result<(), NoMemory>
     }
 }
 
-/// Adds a name, and the words behind it, each with its space.
+/// Adds a name, and the words after it, each with its space.
 pub fn add_words(
     alloc: Global,
     text: &mut Text,

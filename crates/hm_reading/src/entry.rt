@@ -26,7 +26,7 @@ fn add_hex(text: &mut Vec<u8>, bytes: &[u8]) -> Result<(), NoMemory>
     Ok(())
 }
 
-/// Adds the bytes of an access, behind a space.
+/// Adds the bytes of an access, after a space.
 fn add_bytes(text: &mut Vec<u8>, bytes: &[u8]) -> Result<(), NoMemory>
     ensures { OnOk result (text.new.items ≡ text.old.items ++ 32 ∷ hex_text bytes.now) }
 {
@@ -34,7 +34,7 @@ fn add_bytes(text: &mut Vec<u8>, bytes: &[u8]) -> Result<(), NoMemory>
     add_hex(text, bytes)
 }
 
-/// Adds the bytes of an access, where the entry tells some.
+/// Adds the bytes of an access, if the entry tells some.
 pub fn add_tail(text: &mut Vec<u8>, kind: &Kind) -> Result<(), NoMemory>
     ensures { OnOk result (text.new.items ≡ text.old.items ++ tail_text kind.now) }
 {
@@ -46,7 +46,7 @@ pub fn add_tail(text: &mut Vec<u8>, kind: &Kind) -> Result<(), NoMemory>
     }
 }
 
-/// What stands before this end, where the text has it.
+/// What stands before this end, if the text has it.
 pub fn strip_end<'a>(text: &'a [u8], end: &[u8]) -> Option<&'a [u8]>
     ensures { MatchOption result ((front : List ℕ) → text.now ≡ front ++ end.now → ⊥)
         (λ front. text.now ≡ front.now ++ end.now) }

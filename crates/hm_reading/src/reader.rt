@@ -1,4 +1,4 @@
-// The lines of a report behind its script.
+// The lines of a report after its script.
 ghost use Rattle.std.specs.Prelude.{◌≡◌, IfOk, OnOk};
 ghost use Rattle.hm_report.specs.Report.{entry_line};
 ghost use Rattle.hm_reading.specs.Entries.{IsEnd, IsRead, IsUnfinished, unfinished_text};
@@ -30,7 +30,7 @@ fn put_unfinished(out: &mut Buffer, actor: Actor, index: u64)
     put_unfinished_line(out, u64::from(actor.number()), index, count);
 }
 
-/// Reads the lines of a report behind its script, one at a time, and keeps the memory that this takes. A line comes
+/// Reads the lines of a report after its script, one at a time, and keeps the memory that this takes. A line comes
 /// with its line feed.
 #[derive(Drop)]
 pub struct LineReader {

@@ -30,7 +30,7 @@ fn read<R: Abort>(rt: &R, alloc: Global, bytes: &[u8]) -> Result<WholeReport, No
     Ok(read_report(alloc, bytes)?.expect(rt, "the bytes are a report's text"))
 }
 
-/// The first bad line; 0 where there is none.
+/// The first bad line; 0 if there is none.
 fn bad_line(alloc: Global, bytes: &[u8]) -> Result<u64, NoMemory> {
     match read_report(alloc, bytes)? {
         Ok(_) => Ok(0),
