@@ -19,7 +19,7 @@ import quiet_share
 import words
 
 TOP = os.path.dirname(os.path.dirname(os.path.abspath(__file__)))
-WORKED = os.path.join(TOP, 'crates', 'replay_examples', 'data')
+EXAMPLES = os.path.join(TOP, 'examples')
 ALPHABET = b'abcdefghijklmnopqrstuvwxyz0123456789 \n\tAXx\x00\xff-+'
 
 
@@ -54,7 +54,7 @@ def scripts():
     """The worked scripts and those of the gallery."""
     found = []
     for folder in ('worked', 'gallery'):
-        at = os.path.join(WORKED, folder)
+        at = os.path.join(EXAMPLES, folder)
         found += [os.path.join(at, name) for name in sorted(os.listdir(at)) if name.endswith('.hmm')]
     return [open(path, 'rb').read() for path in found]
 

@@ -16,7 +16,7 @@ import script as scripts
 import words
 from run import Machine
 
-WORKED = os.path.join(TOP, 'crates', 'replay_examples', 'data', 'worked')
+WORKED = os.path.join(TOP, 'examples', 'worked')
 INDEX = os.path.join(TOP, 'examples', 'worked', 'README.md')
 MARK = '<!-- made by tools/coverage.py -->'
 CAUSES, FAILURES = range(1, 11), range(1, 5)

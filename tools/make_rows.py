@@ -13,7 +13,7 @@ import collections, os, re, sys
 import words
 
 TOP = os.path.dirname(os.path.dirname(os.path.abspath(__file__)))
-WORKED = os.path.join(TOP, 'crates', 'replay_examples', 'data', 'worked')
+WORKED = os.path.join(TOP, 'examples', 'worked')
 PROOFS = os.path.join(TOP, 'crates', 'rows', 'proofs')
 
 OPERATIONS = {'map': 'Map', 'unmap': 'Unmap', 'protect': 'Protect', 'load': 'Load', 'store': 'Store', 'fork': 'Fork',

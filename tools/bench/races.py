@@ -12,7 +12,7 @@ its own and the system's for it, and the memory is the most that it held. Races 
 import argparse, glob, os, re, resource, subprocess, sys
 
 TOP = os.path.dirname(os.path.dirname(os.path.dirname(os.path.abspath(__file__))))
-CRATES = os.path.join(TOP, 'crates')
+EXAMPLES = os.path.join(TOP, 'examples')
 SCHEDULE = re.compile(r'(turns|drain|rounds)\b')
 
 DEEP = '''hmm 2
@@ -73,9 +73,9 @@ def search(program, script, most):
 
 def races():
     """Gives each race's name and script."""
-    for file in sorted(glob.glob(f'{CRATES}/race_examples/data/*.hmm')):
+    for file in sorted(glob.glob(f'{EXAMPLES}/races/*.hmm')):
         yield os.path.basename(file)[:-4], open(file).read()
-    for file in sorted(glob.glob(f'{CRATES}/replay_examples/data/worked/*.hmm')):
+    for file in sorted(glob.glob(f'{EXAMPLES}/worked/*.hmm')):
         lines = open(file).read().split('\n')
         if sum(it.startswith('actor ') for it in lines) in (2, 3):
             yield os.path.basename(file)[:-4], '\n'.join(it for it in lines if not SCHEDULE.match(it))
@@ -85,7 +85,7 @@ def races():
 
 def main():
     words = argparse.ArgumentParser(description=__doc__, formatter_class=argparse.RawDescriptionHelpFormatter)
-    words.add_argument('--program', default=f'{CRATES}/hmmraces/out/hmmraces')
+    words.add_argument('--program', default=f'{TOP}/crates/hmmraces/out/hmmraces')
     words.add_argument('--most', type=int, default=100_000)
     given = words.parse_args()
     if not os.access(given.program, os.X_OK):

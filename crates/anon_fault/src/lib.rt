@@ -50,7 +50,7 @@ fn answer<W: Reads>(
     }
 }
 
-/// What is due at a piece of a load or a store: its answer where the place suits, or else the fault begins.
+/// What is due at a piece of a load or a store: its answer if the place suits, or else the fault begins.
 pub fn step_anon<W: Reads>(
     world: &W,
     alloc: Global,
@@ -83,7 +83,7 @@ pub fn decide<W: Reads>(world: &W, actor: Actor, op: &Op, at: &Wanted) -> Next
     fault(world, actor, op, at, suited)
 }
 
-/// What is due once a frame was taken for a page that had this place: it is dropped where the place changed, and
+/// What is due once a frame was taken for a page that had this place: it is dropped if the place changed, and
 /// else placed, or the old frame is copied to it.
 pub fn taken<W: Reads>(world: &W, at: &Wanted, by: &Frame, over: &Place) -> Next
     ensures { result ≡ spec.due_taken (W.state world.now).after by.now over.now at.now.proc at.now.page }

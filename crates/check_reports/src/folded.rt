@@ -9,7 +9,7 @@ use std::alloc::Global;
 pub struct Folded {
     /// How many entries all three take.
     pub taken: u64,
-    /// The frame of the system that the next `take` gives; the number of all frames where none is free.
+    /// The frame of the system that the next `take` gives; the number of all frames if none is free.
     pub next: u32,
     /// How many pages have a place.
     pub pages: u64,

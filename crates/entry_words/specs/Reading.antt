@@ -5,9 +5,11 @@ use Rattle.hm_base.specs.declared.PoolId.TheVariants.{System, Device}
 use Rattle.hm_base.specs.declared.Place.{Place}
 use Rattle.hm_base.specs.declared.Place.TheVariants.{Empty, Zero, Sys, Own, Moving, Exclusive}
 
+-- some bits of a word, from one on, as a number
 abbrev pub field : ℕ → ℕ → ℕ → ℕ
 field w from bits = w / 2 ^ from % 2 ^ bits
 
+-- the pool of its field
 abbrev pub pool_from : ℕ → PoolId
 pool_from p = if p == 0 then System else Device (p - 1)
 
@@ -21,6 +23,7 @@ place_from kind w pool n rest =
     else if kind == 5 then (if not w && ((pool == 0) && nat_lt rest 16) then Some (Exclusive n rest) else None)
     else None
 
+-- the place that a word's fields say, if they say one
 abbrev pub place_at : ℕ → Option Place
 place_at x =
     if x == 0 then Some Empty

@@ -6,6 +6,7 @@ use Rattle.hm_base.specs.declared.PoolId.TheVariants.{System, Device}
 use Rattle.hm_base.specs.declared.Place.{Place}
 use Rattle.hm_base.specs.declared.Place.TheVariants.{Empty, Zero, Sys, Own, Moving, Exclusive}
 
+-- a word of these fields
 abbrev pub word : ℕ → Bool → ℕ → ℕ → ℕ → ℕ
 word kind writable pool number actor =
     kind + (if writable then 8 else 0) + 16 * pool + 2 ^ 8 * number + 2 ^ 40 * actor
@@ -15,6 +16,7 @@ abbrev pub pool_field : PoolId → ℕ
 pool_field System = 0
 pool_field (Device d) = 1 + d
 
+-- the word of each place; 0 is an empty one, so that a new table needs no writing
 abbrev pub word_of : Place → ℕ
 word_of Empty = 0
 word_of Zero = 1
@@ -28,6 +30,7 @@ abbrev pub pool_fits : PoolId → Bool
 pool_fits System = true
 pool_fits (Device d) = nat_lt d 4
 
+-- the place has a word
 abbrev pub has_word : Place → Bool
 has_word Empty = true
 has_word Zero = true

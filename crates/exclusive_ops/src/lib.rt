@@ -135,7 +135,7 @@ fn fetch<W: Reads>(
     }))
 }
 
-/// What is due to an addition: the byte is read where the actor has the page alone, or else its fault begins.
+/// What is due to an addition: the byte is read if the actor has the page alone, or else its fault begins.
 pub fn add<W: Reads>(
     world: &W,
     alloc: Global,
@@ -158,7 +158,7 @@ pub fn add<W: Reads>(
     }
 }
 
-/// What is due to an addition that has read this byte: it writes the sum where the actor still has the page alone, and
+/// What is due to an addition that has read this byte: it writes the sum if the actor still has the page alone, and
 /// else begins anew.
 pub fn fetched<W: Reads>(
     world: &W,

@@ -60,7 +60,7 @@ pub fn catch<W: Reads>(world: &W, proc: Proc, page: Page, frame: &Frame) -> Opti
     }
 }
 
-/// What is due where no frame was free and the mappings are back: the touch fails, or the removal is refused.
+/// What is due when no frame was free and the mappings are back: the touch fails, or the removal is refused.
 pub fn give_up(op: &Op, touch: &Option<Touch>) -> Kind
     requires { IsTrue (op_in_range op.now) }
     ensures { result ≡ spec.due_give_up op.now touch.now }

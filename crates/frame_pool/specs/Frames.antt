@@ -12,6 +12,7 @@ pub record Frames : Type 0 where
   pub locks : List (Option ℕ)
   pub withdrawn : Bool
 
+-- the lists of a pool fit each other: each frame has its bytes and a place for its lock
 pub record IsFrames (f : Frames) : Type 0 where
   pub bytes_len : length f.bytes ≡ length f.held * 4096
   pub locks_len : length f.locks ≡ length f.held
@@ -22,6 +23,7 @@ abbrev pub fresh : ℕ → Frames
 fresh n =
     record { held = replicate n false; bytes = replicate (n * 4096) 0; locks = replicate n None; withdrawn = false }
 
+-- the frame is held; one that the pool does not have is not
 abbrev pub is_held : Frames → ℕ → Bool
 is_held f n = slice_index_or f.held n false
 
@@ -45,9 +47,11 @@ padded xs n = xs ++ replicate (n - length xs) 0
 unfoldable pub zero_frame : List ℕ
 zero_frame = replicate 4096 0
 
+-- the frame that a take gives; none of a pool that is withdrawn
 abbrev pub lowest_free : Frames → Option ℕ
 lowest_free f = if f.withdrawn then None else position not f.held
 
+-- the frame is held, and shows zeros
 abbrev pub taken : Frames → ℕ → Frames
 taken f n = record f { held = slice_set f.held n true; bytes = overwritten f.bytes (n * 4096) zero_frame }
 
@@ -56,15 +60,19 @@ abbrev pub lowest_taken : Frames → Option ℕ → Frames
 lowest_taken f None = f
 lowest_taken f (Some n) = taken f n
 
+-- the frame is free, and nobody has it locked
 abbrev pub dropped : Frames → ℕ → Frames
 dropped f n = record f { held = slice_set f.held n false; locks = slice_set f.locks n None }
 
+-- the frame's bytes from an offset on are these
 abbrev pub written : Frames → ℕ → ℕ → List ℕ → Frames
 written f n offset ys = record f { bytes = overwritten f.bytes (n * 4096 + offset) ys }
 
+-- the actor has the frame locked
 abbrev pub locked : Frames → ℕ → ℕ → Frames
 locked f n a = record f { locks = slice_set f.locks n (Some a) }
 
+-- nobody has the frame locked
 abbrev pub unlocked : Frames → ℕ → Frames
 unlocked f n = record f { locks = slice_set f.locks n None }
 
@@ -73,10 +81,12 @@ abbrev pub piece_start : Piece → ℕ
 piece_start All = 0
 piece_start (Part k) = k * 512
 
+-- how many bytes a piece has
 abbrev pub piece_len : Piece → ℕ
 piece_len All = 4096
 piece_len (Part k) = 512
 
+-- the whole of a frame, or one of its eight parts
 abbrev pub IsPiece : Piece → Type 0
 IsPiece All = Unit {0}
 IsPiece (Part k) = k < 8

@@ -6,7 +6,7 @@ use Rattle.hm_history.specs.declared.phases.Migrating.{Migrating}
 abbrev pub Rises : List Migrating → Type 0
 Rises xs = (i j : ℕ) (d : Migrating) → i < j → j < length xs → (slice_index_or xs i d).page < (slice_index_or xs j d).page
 
--- so many records at the beginning have pages below this one
+-- the first n records have pages below this one
 abbrev pub IsBefore : ℕ → ℕ → List Migrating → Type 0
 IsBefore page n xs = (i : ℕ) (d : Migrating) → i < n → (slice_index_or xs i d).page < page
 

@@ -108,7 +108,7 @@ impl Actors {
         }
     }
 
-    /// The number of the actor's operation; 0 where there is no such actor.
+    /// The number of the actor's operation; 0 if there is no such actor.
     pub fn index(&self, actor: Actor) -> u64
         ensures { result ≡ (going_of self.now actor).index }
     {
@@ -135,7 +135,7 @@ impl Actors {
         }
     }
 
-    /// The actor's phases, the top first; none where there is no such actor.
+    /// The actor's phases, the top first; none if there is no such actor.
     pub fn phases(&self, actor: Actor) -> Items
         ensures { phases_of result ≡ (going_of self.now actor).stack }
     {

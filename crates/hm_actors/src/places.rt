@@ -31,7 +31,7 @@ pub fn rises_by(records: &[Migrating], rising: bool, page: Page) -> bool
     rising && is_above_all(records, page)
 }
 
-// How many records to pass over for the records from the page on. Where the pages follow each other, as they mostly
+// How many records to pass over for the records from the page on. If the pages follow each other, as they mostly
 // do, the first page tells it.
 fn place_of(records: &[Migrating], page: u64) -> usize
     requires { Rises records.now }

@@ -63,7 +63,7 @@ impl Records {
         self.items.as_slice()
     }
 
-    /// The records from the page on; those before it are among them where the order is not known.
+    /// The records from the page on; those before it are among them if the order is not known.
     pub fn from_page(&self, page: u64) -> &[Migrating]
         ensures { (test : Record → Bool) → first_from test page result.now ≡ first_from test page self.now.items }
     {
@@ -169,7 +169,7 @@ impl Records {
         }
     }
 
-    /// The records after an entry at this phase, where the migration has come to this record.
+    /// The records after an entry at this phase, if the migration has come to this record.
     pub fn step(&mut self, top: &Phase, page: Option<Migrating>, kind: &Kind)
         requires room { adds_at top.now kind.now ≡ true → 1 ≤ self.old.spare }
         ensures { self.new

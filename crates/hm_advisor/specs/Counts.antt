@@ -20,7 +20,7 @@ count_at f m p v = record { mirror = m; page = v; cpu = f (Who.Cpu p) v; dev = f
 abbrev pub is_accessed : Count → Bool
 is_accessed c = not ((c.cpu == 0) && (c.dev == 0))
 
--- the accessed ones of so many pages
+-- the accessed ones of n pages
 abbrev pub pages_counted : (Who → ℕ → ℕ) → ℕ → ℕ → ℕ → ℕ → List Count
 pages_counted f m p from n = filter is_accessed (map (count_at f m p) (numbers from n))
 
@@ -29,7 +29,7 @@ abbrev pub window_counts : (Who → ℕ → ℕ) → ℕ → Option Window → L
 window_counts f m None = []
 window_counts f m (Some w) = pages_counted f m w.proc w.span.first w.span.count
 
--- those of so many mirrors, in rising number
+-- those of the first n mirrors, in rising number
 abbrev pub counts_by : (Who → ℕ → ℕ) → (ℕ → Option Window) → ℕ → List Count
 counts_by f ws n = flat_map (λ m. window_counts f m (ws m)) (numbers 0 n)
 

@@ -22,6 +22,7 @@ move_line m =
 abbrev pub end_line : ℕ → ℕ → List ℕ
 end_line counts moves = line (codes "end" ∷ decimal counts ∷ decimal moves ∷ [])
 
+-- the text of an advice, byte for byte: its counts, its moves, and how many there are
 abbrev pub advice_text : Advice → List ℕ
 advice_text a =
     flat_map count_line a.counts ++ (flat_map move_line a.moves ++ end_line (length a.counts) (length a.moves))

@@ -9,7 +9,7 @@ use Rattle.hm_base.specs.declared.area.Area.{Area}
 abbrev pub last_of : Pages → ℕ
 last_of s = s.first + s.count
 
--- an area from a page up to another, where that is not empty
+-- an area from a page up to another, if that is not empty
 abbrev pub part : ℕ → ℕ → Rights → List Area
 part from upto r =
     if nat_lt from upto then record { span = record { first = from; count = upto - from }; rights = r } ∷ [] else []
@@ -47,6 +47,6 @@ meets r as_ = list_any (λ a. overlap a.span r) as_
 abbrev pub all_mapped : Pages → List Area → Bool
 all_mapped r as_ = sum_by (λ a. min (last_of a.span) (last_of r) - max a.span.first r.first) as_ == r.count
 
--- the right of a page, where it has an area
+-- the right of a page, if it has an area
 abbrev pub rights_at : List Area → ℕ → Option Rights
 rights_at as_ v = option_map (λ a. a.rights) (find (λ a. covers a.span v) as_)

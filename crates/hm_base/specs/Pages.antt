@@ -1,7 +1,7 @@
 -- Pages in a row.
 use Rattle.std.specs.Prelude.{ℕ, ◌+◌, ◌^◌, ◌≤◌, Bool, ◌&&◌, nat_lt, nat_le}
 
--- so many pages from the first on
+-- `count` pages from the first on
 pub record Pages : Type 0 where
   pub first : ℕ
   pub count : ℕ
@@ -11,7 +11,7 @@ pub record IsSpan (s : Pages) : Type 0 where
   pub some : 1 ≤ s.count
   pub ends : s.first + s.count ≤ 2 ^ 36
 
--- the span of so many pages from this one on
+-- the span of `count` pages from this one on
 abbrev pub span : ℕ → ℕ → Pages
 span first count = record { first = first; count = count }
 

@@ -18,11 +18,11 @@ pub record Program : Type 0 where
   pub actors : List (List Op)
   pub schedule : List ScheduleLine
 
--- an access of so many bytes from this address
+-- an access of n bytes from this address
 abbrev pub access_in_range : ℕ → ℕ → Bool
 access_in_range addr n = nat_le 1 n && (nat_le n 256 && nat_le (addr + n) (2 ^ 48))
 
--- a span of at most so many pages
+-- a span of at most `most` pages
 abbrev pub span_in_range : Pages → ℕ → Bool
 span_in_range s most = nat_le 1 s.count && (nat_le s.count most && nat_le (s.first + s.count) (2 ^ 36))
 
@@ -97,6 +97,8 @@ abbrev pub operation_count : List (List Op) → ℕ
 operation_count [] = 0
 operation_count (l ∷ ls) = length l + operation_count ls
 
+-- a script that the grammar can spell: its numbers are in range, and what its lines name is there. Every theorem
+-- about a script asks for it
 pub record IsScript (s : Program) : Type 0 where
   pub frames : s.frames ≤ 16384
   pub devices : list_all (λ n. nat_le n 8192) s.devices ≡ true

@@ -15,7 +15,7 @@ pub enum Rights {
 /// An operation of a script.
 #[derive(Drop)]
 pub enum Op {
-    /// Map fresh zero pages; refused where a page has an area, or at the 65th area.
+    /// Map fresh zero pages; refused if a page has an area, or at the 65th area.
     Map {
         proc: Proc,
         span: Span,

@@ -18,7 +18,7 @@ pub record SharesLines (bytes : List ℕ) (n : ℕ) (c : Program) (h : List Entr
   pub shares : take n (lines (report c h)) ≡ take n (lines bytes)
 
 -- no legal report has the first n lines of the bytes, and some legal report has any fewer; a line that is missing is
--- bad where no legal report ends before it
+-- bad if no legal report ends before it
 pub record IsFirstBad (bytes : List ℕ) (n : ℕ) : Type 0 where
   pub bad : (c : Program) (h : List Entry) → SharesLines bytes n c h → ⊥
   pub before : (k : ℕ) → k < n → (c : Program) × (h : List Entry) × SharesLines bytes k c h

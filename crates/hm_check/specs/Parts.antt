@@ -21,6 +21,7 @@ pub record MayCome (c : Program) (h : List Entry) (e : Entry) : Type 0 where
 abbrev pub IsNoEntry : Program → List Entry → List ℕ → Type 0
 IsNoEntry c h l = (e : Entry) → MayCome c h e → l ≡ entry_line (length h) e → ⊥
 
+-- the first of these lines, if there is one, is that of no entry that may come next
 abbrev pub BeginsNoEntry : Program → List Entry → List (List ℕ) → Type 0
 BeginsNoEntry c h [] = ⊤
 BeginsNoEntry c h (l ∷ ls) = IsNoEntry c h l

@@ -31,7 +31,7 @@ pub enum Verdict {
     /// They are the report of this script and this history, which is legal for it.
     Yes(Report),
     /// They are no legal report. This is the first bad line, from 1: no legal report begins with the lines up to it.
-    /// It is one more than there are lines where a line is missing.
+    /// It is one more than there are lines if a line is missing.
     No(u64),
 }
 
@@ -60,7 +60,7 @@ fn take_history(alloc: Global, script: Script, bytes: &[u8]) -> Result<Taken<'_>
     })
 }
 
-/// The verdict on the lines behind `history`, of which the first has this number.
+/// The verdict on the lines after `history`, of which the first has this number.
 fn judge(alloc: Global, script: Script, first: u64, bytes: &[u8]) -> Result<Verdict, NoMemory>
     requires { first ≤ 2 ^ 63 + 2 }
     ensures { IfOk result (JudgedBehind script first bytes.now) }

@@ -26,7 +26,7 @@ ReadsText most before after input.TooLong = LeftOver before most
 ReadsText most before after input.Fault = Unit {0}
 ReadsText most before after input.NoMemory = Unit {0}
 
--- a fault comes only where the count rose, and else it stays
+-- a fault comes only if the count rose, and else it stays
 abbrev pub ReadFaults : ℕ → ℕ → Input → Type 0
 ReadFaults before now input.Fault = Rose before now
 ReadFaults before now (input.Whole bytes) = now ≡ before

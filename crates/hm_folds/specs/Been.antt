@@ -3,6 +3,7 @@ use Rattle.std.specs.Prelude.{ℕ, Bool, false, List, slice_index_or}
 use Rattle.hm_history.specs.Plain.{plain_start, plain_next}
 use Rattle.hm_history.specs.declared.Kind.{Kind}
 
+-- a process was there at some time; a number past the list was not
 abbrev pub been_of : List Bool → ℕ → Bool
 been_of xs p = slice_index_or xs p false
 

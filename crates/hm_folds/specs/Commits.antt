@@ -8,6 +8,7 @@ use Rattle.hm_folds.specs.TableMap.{pool_of}
 use Rattle.hm_folds.specs.declared.commits.KeptFrame.{KeptFrame}
 use Rattle.hm_folds.specs.declared.commits.PoolCommits.{PoolCommits}
 
+-- the frame of a pair of numbers, which takes less room
 abbrev pub frame_kept : KeptFrame → Frame
 frame_kept x = record { pool = pool_of x.dev; number = x.number }
 
@@ -15,6 +16,7 @@ frame_kept x = record { pool = pool_of x.dev; number = x.number }
 abbrev pub frame_in : PoolCommits → ℕ → Option Frame
 frame_in x n = option_map frame_kept (tree.get nat_cmp x.frames n)
 
+-- the same of a pool that may not be kept
 abbrev pub frame_of : ℕ → Option PoolCommits → Option Frame
 frame_of n None = None
 frame_of n (Some x) = frame_in x n

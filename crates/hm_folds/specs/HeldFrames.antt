@@ -6,6 +6,7 @@ use Rattle.hm_base.specs.PlaceWords.{pool_index}
 use Rattle.hm_folds.specs.Numbers.{has_number}
 use Rattle.hm_folds.specs.declared.held.Held.{Held}
 
+-- the frame of this number is held in a pool that may not be kept
 abbrev pub held_of : ℕ → Option Held → Bool
 held_of n None = false
 held_of n (Some x) = has_number x.held n
@@ -14,6 +15,7 @@ held_of n (Some x) = has_number x.held n
 abbrev pub held_at : List Held → Frame → Bool
 held_at xs f = held_of f.number (slice_get xs (pool_index f.pool))
 
+-- how many frames a pool has that may not be kept
 abbrev pub frames_of : Option Held → ℕ
 frames_of None = 0
 frames_of (Some x) = x.frames

@@ -18,6 +18,7 @@ has_mirror set m = slice_index_or set m false
 abbrev pub mirrors_of : List Bool → List ℕ
 mirrors_of set = filter (has_mirror set) (numbers 0 32)
 
+-- the stage of the definitions that a kept stage stands for
 abbrev pub stage_of : KeptStage → Stage
 stage_of InTree = stage.InTree
 stage_of InsertDeferred = stage.InsertDeferred
@@ -25,6 +26,7 @@ stage_of RemoveDeferred = stage.RemoveDeferred
 stage_of Removed = stage.Removed
 stage_of Out = stage.Out
 
+-- the interval of the definitions that a kept one stands for
 abbrev pub interval_of : Option KeptInterval → Option Interval
 interval_of None = None
 interval_of (Some x) = Some (record { proc = x.proc; window = x.window; seq = x.seq; stage = stage_of x.stage })
@@ -33,10 +35,11 @@ interval_of (Some x) = Some (record { proc = x.proc; window = x.window; seq = x.
 abbrev pub interval_at : List (Option KeptInterval) → ℕ → Option Interval
 interval_at intervals m = interval_of (slice_index_or intervals m None)
 
--- the sequence and the process of an interval; 0 where there is none
+-- the sequence and the process of an interval; 0 if there is none
 abbrev pub seq_in : Option Interval → ℕ
 seq_in o = elim o [ None ↦ 0 | Some x ↦ x.seq ]
 
+-- the process of an interval; 0 if there is none
 abbrev pub proc_in : Option Interval → ℕ
 proc_in o = elim o [ None ↦ 0 | Some x ↦ x.proc ]
 
@@ -44,12 +47,15 @@ proc_in o = elim o [ None ↦ 0 | Some x ↦ x.proc ]
 abbrev pub overlaps_in : ℕ → Pages → Option Interval → Bool
 overlaps_in p r o = interval_passes (λ x. in_tree_state x.stage && ((x.proc == p) && overlap x.window r)) o
 
+-- the interval of a mirror is in the tree of that process, and overlaps the span
 abbrev pub overlaps_at : List (Option KeptInterval) → ℕ → Pages → ℕ → Bool
 overlaps_at intervals p r m = overlaps_in p r (interval_at intervals m)
 
+-- the guard of the definitions that a kept one stands for
 abbrev pub guarded : KeptGuard → Guarded
 guarded g = record { proc = g.proc; span = g.span; met = mirrors_of g.met; told = mirrors_of g.told }
 
+-- the same of an actor that may have no guard
 abbrev pub guard_of : Option KeptGuard → Option Guarded
 guard_of None = None
 guard_of (Some g) = Some (guarded g)

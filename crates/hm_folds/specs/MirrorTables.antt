@@ -7,6 +7,7 @@ use Rattle.hm_history.specs.declared.Kind.{Kind}
 use Rattle.hm_folds.specs.TableMap.{entry_in}
 use Rattle.hm_folds.specs.declared.table_map.TableMap.{TableMap}
 
+-- the entry of a page in a table that may not be kept
 abbrev pub entry_at : ℕ → Option TableMap → Option TableEntry
 entry_at v None = None
 entry_at v (Some x) = entry_in x v

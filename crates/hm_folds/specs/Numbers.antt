@@ -4,6 +4,7 @@ use Rattle.std.specs.Ordering.{nat_cmp}
 use Rattle.std.specs.BTreeSet as bag
 use Rattle.hm_folds.specs.declared.numbers.Numbers.{Numbers}
 
+-- the number is in the set
 abbrev pub has_number : Numbers → ℕ → Bool
 has_number x n = bag.contains nat_cmp x.numbers n
 
@@ -13,6 +14,7 @@ pub record IsLeast (x : Numbers) (from at : ℕ) : Type 0 where
   pub there : has_number x at ≡ true
   pub none : (n : ℕ) → from ≤ n → n < at → has_number x n ≡ false
 
+-- what a search from a number on finds: the least number of the set there, or none
 abbrev pub IsFirstNumber : Numbers → ℕ → Option ℕ → Type 0
 IsFirstNumber x from None = (n : ℕ) → from ≤ n → has_number x n ≡ false
 IsFirstNumber x from (Some at) = IsLeast x from at

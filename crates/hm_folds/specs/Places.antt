@@ -46,6 +46,7 @@ abbrev pub HoldsNamed : List Held → Option Frame → Type 0
 HoldsNamed held None = Unit {0}
 HoldsNamed held (Some f) = held_at held f ≡ true
 
+-- what an entry asks of the frames that are held, so that the fold can take it
 abbrev pub StepFits : List Held → Kind → Type 0
 StepFits held (Kind.Place p v y) = HoldsNamed held (names y)
 StepFits held (Kind.Take f) =

@@ -22,6 +22,7 @@ plain_made x been stored mirrors = record {
   mirrors = mirrors_of mirrors;
 }
 
+-- the plain state of the definitions that the kept one stands for
 abbrev pub plain_of : PlainState → Plain
 plain_of x = plain_made x.spaces x.been x.memory.processes.items x.mirrors
 

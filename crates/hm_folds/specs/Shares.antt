@@ -7,12 +7,15 @@ use Rattle.hm_base.specs.PlaceWords.{pool_index}
 use Rattle.hm_folds.specs.declared.shares.Shares.{Shares}
 use Rattle.hm_folds.specs.declared.shares.PoolShares.{PoolShares}
 
+-- a frame that no page has to do with
 abbrev pub no_shares : Shares
 no_shares = record { pages = 0; writers = 0 }
 
+-- the pages of both
 abbrev pub plus : Shares → Shares → Shares
 plus x y = record { pages = x.pages + y.pages; writers = x.writers + y.writers }
 
+-- the pages of the first without those of the second
 abbrev pub less : Shares → Shares → Shares
 less x y = record { pages = x.pages - y.pages; writers = x.writers - y.writers }
 
@@ -28,6 +31,7 @@ shares_in x n = unwrap_or (tree.get nat_cmp x.shares n) no_shares
 abbrev pub has_shares : PoolShares → ℕ → Bool
 has_shares x n = is_some (tree.get nat_cmp x.shares n)
 
+-- the shares of a frame in a pool that may not be kept
 abbrev pub shares_of : ℕ → Option PoolShares → Shares
 shares_of n None = no_shares
 shares_of n (Some x) = shares_in x n

@@ -40,7 +40,7 @@ backing_by to x = backing (record places_start { committed_to = to }) x
 abbrev pub share_of : Place → Shares
 share_of x = record { pages = 1; writers = if writable x then 1 else 0 }
 
--- with so many pages more of the one frame and so many fewer of the other, none shares the one with a writable page
+-- after pages have moved from one frame to another, no writable page shares that one
 abbrev pub one_writer_after : (Frame → Shares) → Option Frame → Shares → Option Frame → Shares → Bool
 one_writer_after f None more from fewer = true
 one_writer_after f (Some t) more from fewer = has_one_writer (plus (if is_frame from t then less (f t) fewer else f t) more)

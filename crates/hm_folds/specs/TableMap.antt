@@ -17,14 +17,17 @@ pool_of (Some d) = PoolId.Device d
 abbrev pub target_of : Option ℕ → Option ℕ → Option Frame
 target_of dev number = option_map (λ n. record { pool = pool_of dev; number = n }) number
 
+-- the number that is kept for a pool: none for the system's
 abbrev pub dev_of_pool : PoolId → Option ℕ
 dev_of_pool PoolId.System = None
 dev_of_pool (PoolId.Device d) = Some d
 
+-- the same of a frame that may be none, which stands for the zero page
 abbrev pub dev_of : Option Frame → Option ℕ
 dev_of None = None
 dev_of (Some f) = dev_of_pool f.pool
 
+-- the table entry that a kept one stands for
 abbrev pub entry_of : KeptEntry → TableEntry
 entry_of x = record { target = target_of x.dev x.number; right = x.right; from = x.since }
 

@@ -8,15 +8,18 @@ use Rattle.hm_folds.specs.declared.windows.KeptMirror.{KeptMirror}
 use Rattle.hm_folds.specs.declared.windows.KeptAttachment.{KeptAttachment}
 use Rattle.hm_folds.specs.declared.windows.KeptAttachment.TheVariants.{Attached, Detaching, Gone}
 
+-- the stage of the definitions that a kept one stands for
 abbrev pub attachment_of : KeptAttachment → Attachment
 attachment_of Attached = stage.Attached
 attachment_of Detaching = stage.Detaching
 attachment_of Gone = stage.Gone
 
+-- the mirror of the definitions that a kept one stands for
 abbrev pub mirror_of : Option KeptMirror → Option MirrorState
 mirror_of None = None
 mirror_of (Some x) = Some (record { dev = x.dev; proc = x.proc; window = x.window; stage = attachment_of x.stage })
 
+-- the mirrors of the definitions; one past the list was never attached
 abbrev pub mirrors_of : List (Option KeptMirror) → ℕ → Option MirrorState
 mirrors_of xs m = mirror_of (slice_index_or xs m None)
 
@@ -24,9 +27,11 @@ mirrors_of xs m = mirror_of (slice_index_or xs m None)
 abbrev pub mirror_read : Option MirrorState → Option (ℕ × ℕ × Pages × Bool)
 mirror_read o = option_map (λ x. (x.dev, x.proc, x.window, is_attached_state x)) o
 
+-- the process of a mirror that may never have come
 abbrev pub owner_in : Option MirrorState → Option ℕ
 owner_in o = option_map (λ x. x.proc) o
 
+-- the same, with 0 for a mirror that never came
 abbrev pub proc_in : Option MirrorState → ℕ
 proc_in o = elim o [ None ↦ 0 | Some x ↦ x.proc ]
 

@@ -54,7 +54,7 @@ impl PoolCommits {
         }
     }
 
-    /// A frame is committed to another, of no device where that is the system's; a failure changes nothing.
+    /// A frame is committed to another, of no device if that is the system's; a failure changes nothing.
     pub fn set(&mut self, number: u64, dev: Option<Dev>, to: u32) -> Result<(), NoMemory>
         ensures ok { OnOk result
             ((n : ℕ)

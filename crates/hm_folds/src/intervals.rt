@@ -108,7 +108,7 @@ pub fn first_stage(odd: bool) -> KeptStage
     }
 }
 
-/// Its sequence, and 0 where there is none.
+/// Its sequence, and 0 if there is none.
 pub fn seq_of(interval: &Option<KeptInterval>) -> u64
     ensures { result ≡ seq_in (interval_of interval.now) }
 {
@@ -118,7 +118,7 @@ pub fn seq_of(interval: &Option<KeptInterval>) -> u64
     }
 }
 
-/// Its process, and process 0 where there is none.
+/// Its process, and process 0 if there is none.
 pub fn proc_of(interval: &Option<KeptInterval>) -> Proc
     ensures { result ≡ proc_in (interval_of interval.now) }
 {

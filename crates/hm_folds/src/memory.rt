@@ -59,7 +59,7 @@ impl Memory {
         of_process.clear(from, from + span.count() * 4096);
     }
 
-    /// Whether both have the same bytes. It may say no where they have.
+    /// Whether both have the same bytes. It may say no though they have.
     pub fn same(&self, other: &Memory) -> bool
         ensures { result ≡ true
             → (p a : ℕ) → bytes_of self.now.processes.items p a ≡ bytes_of other.now.processes.items p a }

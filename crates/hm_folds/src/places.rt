@@ -139,7 +139,7 @@ impl PlaceState {
         }
     }
 
-    /// The state after one entry more. An entry that is not legal changes nothing; where memory ran out, what is kept
+    /// The state after one entry more. An entry that is not legal changes nothing; if memory ran out, what is kept
     /// still stands for the state before the entry.
     pub fn apply(&mut self, entry: &Entry) -> Result<(), FoldError>
         ensures legal { ForShown self.old

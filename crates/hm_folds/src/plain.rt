@@ -60,7 +60,7 @@ impl PlainState {
         self.spaces.named(proc)
     }
 
-    /// The right of a page, where it has an area.
+    /// The right of a page, if it has an area.
     pub fn rights(&self, proc: Proc, page: Page) -> Option<Rights>
         ensures { result ≡ rights_of (plain_of self.now) proc page }
     {
@@ -95,21 +95,21 @@ impl PlainState {
         self.spaces.area_refusal(op)
     }
 
-    /// The mirror's device, process and window, and whether it is attached; none where it never was.
+    /// The mirror's device, process and window, and whether it is attached; none if it never was.
     pub fn mirror(&self, mirror: MirrorId) -> Option<(Dev, Proc, Span, bool)>
         ensures { result ≡ mirror_read ((plain_of self.now).mirrors mirror) }
     {
         windows::read(&self.mirrors[mirror.number() as usize])
     }
 
-    /// The plain byte of the process at an address, which counts only where the process has an area.
+    /// The plain byte of the process at an address, which counts only if the process has an area.
     pub fn byte(&self, proc: Proc, addr: u64) -> u8
         ensures { result ≡ (plain_of self.now).bytes proc addr }
     {
         self.memory.byte(proc, addr)
     }
 
-    /// The state after one entry more. An entry that is not legal changes nothing; where memory ran out, what is kept
+    /// The state after one entry more. An entry that is not legal changes nothing; if memory ran out, what is kept
     /// still stands for the state before the entry. Only a store, an addition and a fork take memory.
     pub fn apply(&mut self, entry: &Entry) -> Result<(), FoldError>
         ensures legal { is_not_legal result ≡ not (plain_accepts (plain_of self.old) entry.now.kind) }
@@ -276,7 +276,7 @@ impl PlainState {
         }
     }
 
-    // The right of the page of an address, where it has an area.
+    // The right of the page of an address, if it has an area.
     fn rights_at(&self, proc: Proc, addr: u64) -> Option<Rights>
         ensures same { result ≡ rights_of (plain_of self.now) proc (page_of addr) }
         ensures within { is_some result ≡ true → addr < 2 ^ 48 }

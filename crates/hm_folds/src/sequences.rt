@@ -50,7 +50,7 @@ impl SeqState {
         active(&self.guards, proc)
     }
 
-    /// The sequence of the mirror's interval, and 0 where it was never attached.
+    /// The sequence of the mirror's interval, and 0 if it was never attached.
     pub fn interval_seq(&self, mirror: MirrorId) -> u64
         ensures { result ≡ interval_seq (sequences_of self.now) mirror }
     {

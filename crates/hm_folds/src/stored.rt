@@ -117,7 +117,7 @@ impl Stored {
         }
     }
 
-    /// Whether both have the same bytes. It may say no where they have.
+    /// Whether both have the same bytes. It may say no though they have.
     pub fn same(&self, other: &Stored) -> bool
         ensures { result ≡ true → (a : ℕ) → byte_in self.now a ≡ byte_in other.now a }
     {

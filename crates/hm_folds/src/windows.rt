@@ -65,7 +65,7 @@ fn lies_in(page: u64, window: Span) -> bool
     first <= page && page < first + window.count()
 }
 
-/// Its process, where it was attached at some time.
+/// Its process, if it was attached at some time.
 pub fn owner(mirror: &Option<KeptMirror>) -> Option<Proc>
     ensures { result ≡ owner_in (mirror_of mirror.now) }
 {
@@ -75,7 +75,7 @@ pub fn owner(mirror: &Option<KeptMirror>) -> Option<Proc>
     }
 }
 
-/// Its process, and process 0 where it was never attached.
+/// Its process, and process 0 if it was never attached.
 pub fn proc_of(mirror: &Option<KeptMirror>) -> Proc
     ensures { result ≡ proc_in (mirror_of mirror.now) }
 {

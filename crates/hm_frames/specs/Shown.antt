@@ -42,6 +42,7 @@ pub record PoolsShown (c : Program) (holds : Frame → Bool) (to : Frame → Opt
   pub withdrawn : (d : ℕ) → d < 4 → is_withdrawn_in x d ≡ closed d
   pub removed : (d : ℕ) → d < 4 → is_removed_in x d ≡ gone d
 
+-- the pools show all that the state after a history says of frames
 abbrev pub FramesShown : Program → After → PoolsState → Type 0
 FramesShown c s x =
     PoolsShown c s.places.held s.places.committed_to s.places.withdrawn s.places.removed s.locks.frame s.contents x

@@ -70,7 +70,7 @@ impl OnePool {
         self.pool.unlock(number);
     }
 
-    /// Unlocks the frame where the actor has it locked.
+    /// Unlocks the frame if the actor has it locked.
     pub fn settle(&mut self, number: u32, actor: Actor)
         ensures { self.new ≡ pool_settled self.old number actor }
     {
@@ -81,7 +81,7 @@ impl OnePool {
         }
     }
 
-    /// Locks the frame for the actor where nobody has it locked.
+    /// Locks the frame for the actor if nobody has it locked.
     pub fn freeze(&mut self, number: u32, actor: Actor)
         requires { is_held self.old.frames number ≡ true }
         ensures { self.new ≡ pool_frozen self.old number actor }
@@ -192,7 +192,7 @@ fn lock(pool: &mut Pool, number: u32, actor: Actor)
     let _ = pool.try_lock(number, actor);
 }
 
-/// Unlocks the frame where somebody has it locked.
+/// Unlocks the frame if somebody has it locked.
 fn unlock(pool: &mut Pool, number: u32)
     ensures { pool.new ≡ unlocked pool.old number }
 {

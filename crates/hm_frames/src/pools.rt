@@ -104,7 +104,7 @@ impl FramePools {
         self.pools[pool_index(&frame.pool)].unlock(frame.number);
     }
 
-    /// The locks where a page of place `old` gets this place, and the frame that it left is the actor's.
+    /// The locks once a page of place `old` has this place, and the frame that it left is the actor's.
     fn place(&mut self, old: Place, actor: Actor, place: &Place, orphan: Option<Frame>)
         requires named { (f : Frame) → names place.now ≡ Some f → is_held_in self.old f ≡ true }
         requires left { (f : Frame) → orphan ≡ Some f → is_held_in self.old f ≡ true }
@@ -305,7 +305,7 @@ impl FramePools {
         }
     }
 
-    /// The frame that the place stands for; none for the zero page and where nothing is mapped.
+    /// The frame that the place stands for; none for the zero page, or if nothing is mapped.
     pub fn backing(&self, place: &Place) -> Option<Frame>
         ensures { result ≡ backing_in self.now place.now }
     {
@@ -324,7 +324,7 @@ impl FramePools {
         self.pools[pool_index(&frame.pool)].read(frame.number, offset, into);
     }
 
-    /// Fills `into` with what a page of this place shows from `offset` on: zeros where no frame stands behind it.
+    /// Fills `into` with what a page of this place shows from `offset` on: zeros if it stands for no frame.
     pub fn show(&self, place: &Place, offset: u32, into: &mut [u8])
         requires held { (f : Frame) → backing_in self.now place.now ≡ Some f → is_held_in self.now f ≡ true }
         requires lies { offset + length into.old ≤ 4096 }

@@ -20,7 +20,7 @@ abbrev pub shown_by : (Frame → ℕ → ℕ) → Option Frame → ℕ → ℕ
 shown_by f None = zeros
 shown_by f (Some g) = f g
 
--- the contents that a place shows: those of the frame behind it, or zeros
+-- the contents that a place shows: those of the frame that it stands for, or zeros
 abbrev pub contents_of : Places → (Frame → ℕ → ℕ) → Place → ℕ → ℕ
 contents_of t f x = shown_by f (backing t x)
 
@@ -28,12 +28,12 @@ contents_of t f x = shown_by f (backing t x)
 abbrev pub with_piece : (ℕ → ℕ) → ℕ → List ℕ → ℕ → ℕ
 with_piece f at bs o = with_bytes (λ x. f o) at bs (page_of at * 4096 + o)
 
--- all contents after a store into the frame behind a place; without a frame nothing is stored
+-- all contents after a store into the frame that a place stands for; without a frame nothing is stored
 abbrev pub stored_in : (Frame → ℕ → ℕ) → Option Frame → ℕ → List ℕ → Frame → ℕ → ℕ
 stored_in f None at bs = f
 stored_in f (Some g) at bs = with_frame f g (with_piece (f g) at bs)
 
--- the place that an access is through; none where its mirror was never attached
+-- the place that an access is through; none if its mirror was never attached
 abbrev pub place_for : Places → Option ℕ → ℕ → Place
 place_for t None v = Place.Empty
 place_for t (Some p) v = t.place p v

@@ -35,7 +35,9 @@ use Rattle.hm_history.specs.declared.phases.Phase.{Phase}
 use Rattle.hm_history.specs.declared.phases.Next.{Next}
 use Rattle.hm_history.specs.declared.phases.Next.TheVariants.{Do, Wait}
 
--- locks
+-- ---- locks
+
+-- the mmap lock is taken for reading once no other actor has it for writing (`mmap_read_lock`)
 abbrev pub rlock : After → ℕ → Next
 rlock s p = elim (writer s.locks p) [ None ↦ Do (Kind.Rlock p) | Some b ↦ Wait (Why.MapLock p b) ]
 
@@ -69,7 +71,9 @@ abbrev pub suits_walk : ℕ → Bool → Place → Bool
 suits_walk d writes (Place.Own e n w) = (d == e) && (not writes || w)
 suits_walk d writes x = suits writes x
 
--- an access's answers
+-- ---- the answers of accesses
+
+-- a piece of an access fails, for this cause
 abbrev pub failed : Op → ℕ → Cause → Kind
 failed o k why = let x = op_piece o k in Kind.Failed (op_who o) x.0 x.1 why
 
@@ -97,7 +101,9 @@ due_cpu s o k p =
           ]
     ]
 
--- an access through a mirror: a usable table entry answers, else a look-up begins
+-- ---- an access through a mirror
+
+-- the table entry is there and allows the access
 abbrev pub is_usable : Bool → Option TableEntry → Bool
 is_usable writes x = entry_passes (λ y. if writes then may_write y.right else may_read y.right) x
 
@@ -120,7 +126,9 @@ due_mirror s o k m = let v = page_of (op_piece o k).0 in
           ]
     ]
 
--- an addition to a byte of a page that the actor has alone
+-- ---- an addition to a byte of a page that the actor has alone
+
+-- the actor has the page alone: its mirror's table says so, and the page still does
 abbrev pub has_exclusive : After → ℕ → ℕ → ℕ → Bool
 has_exclusive s a m v =
     entry_passes (λ x. is_sole x.right) (s.places.table m v)
@@ -138,7 +146,8 @@ due_add s a o m at = let v = page_of at in
           ]
     ]
 
--- a refusal with the cause `Never` stands where a phase is none of that operation's: no run comes there
+-- the byte of an addition was read: it is added to if the actor still has the page alone, else all begins anew. For
+-- another operation the answer is a refusal with the cause `Never`: no run comes there
 abbrev pub due_fetched : After → ℕ → Op → ℕ → Next
 due_fetched s a (Op.Add m at n) old = elim (has_exclusive s a m (page_of at)) [
   | true ↦ Do (Kind.Added m at old ((old + n) % 256))
@@ -155,7 +164,9 @@ due_piece s a (Op.Load p at n) k = due_cpu s (Op.Load p at n) k p
 due_piece s a (Op.Store p at bs) k = due_cpu s (Op.Store p at bs) k p
 due_piece s a o k = Do (Kind.Refused Cause.Never)
 
--- the fault, under the read lock
+-- ---- the fault, under the mmap lock for reading
+
+-- a frame of the system is taken, or this entry stands for that none is free
 abbrev pub take_or : Program → After → Kind → Next
 take_or c s failing = elim (lowest_free c s.places PoolId.System) [ Some g ↦ Do (Kind.Take g) | None ↦ Do failing ]
 
@@ -258,12 +269,15 @@ due_taken s g over p v = elim (same_place (s.places.place p v) over) [
   | true ↦ elim (names over) [ None ↦ Do (Kind.Place p v (place_in g true)) | Some f ↦ Do (Kind.Copied f g None) ]
 ]
 
--- the bodies of guards: the next entry, if there is one
+-- ---- the bodies of guards: the next entry, if there is one
+
+-- the entry of the page that a search found, if it lies in the span
 abbrev pub within : Pages → Option ℕ → (ℕ → Kind) → Option Kind
 within r None f = None
 within r (Some v) f = elim (nat_lt v (r.first + r.count)) [ true ↦ Some (f v) | false ↦ None ]
 
--- `copy_present_pte`, `copy_nonpresent_pte` (mm/memory.c)
+-- a page of a fork: the parent's write right goes first, then the child gets the same place (`copy_present_pte`,
+-- `copy_nonpresent_pte`, mm/memory.c)
 abbrev pub fork_page : After → ℕ → ℕ → ℕ → Kind
 fork_page s p child v = let x = s.places.place p v in
     elim (writable x) [ true ↦ Kind.Place p v (narrowed x) | false ↦ Kind.Place child v x ]
@@ -299,7 +313,7 @@ select_to_system s a d p v (Place.Own e n w) = elim (d == e) [
 ]
 select_to_system s a d p v _ = not_here v
 
--- `migrate_vma_collect_pmd`
+-- setup of a migration, page by page (`migrate_vma_collect_pmd`)
 abbrev pub select_page : After → ℕ → Op → ℕ → ℕ → Kind
 select_page s a o p v = elim (is_to_device o) [
   | false ↦ select_to_system s a (mirror_dev s.plain (op_mirror o)) p v (s.places.place p v)
@@ -368,7 +382,7 @@ due_emptying c s f what = elim (lowest_direct s.places f) [
   ]
 ]
 
--- a frame that was locked: unlocked where a place names it, else dropped (`folio_unlock`, `folio_put`)
+-- a frame that was locked: unlocked if a place names it, else dropped (`folio_unlock`, `folio_put`)
 abbrev pub settle : After → Frame → Kind
 settle s g = elim (lowest_named s.places g) [ Some x ↦ Kind.Done g | None ↦ Kind.Drop g ]
 
@@ -382,7 +396,8 @@ abbrev pub finish_frames : After → Frame → Option Frame → Kind
 finish_frames s f None = settle s f
 finish_frames s f (Some g) = Kind.Drop f
 
--- `remove_migration_ptes` (mm/migrate.c)
+-- the next mapping of a frame comes back, and after the last one its frames are seen to (`remove_migration_ptes`,
+-- mm/migrate.c)
 abbrev pub due_finish : After → Frame → Option Frame → Kind
 due_finish s f to = elim (lowest_moving s.places f) [
   | Some x ↦ Kind.Place x.0 x.1 (place_in (target_of f to) (writable (s.places.place x.0 x.1)))
@@ -394,7 +409,9 @@ abbrev pub due_give_up : Op → Option Touch → Kind
 due_give_up o None = Kind.Refused Cause.NoFrame
 due_give_up o (Some touch) = fails o (piece_of touch) Cause.NoFrame
 
--- evict, remove
+-- ---- eviction and removal
+
+-- a frame that another actor has locked: a removal waits for it, an eviction keeps it
 abbrev pub locked_frame : Bool → Frame → ℕ → Next
 locked_frame remove f b = elim remove [
   | true ↦ Wait (Why.FrameLocked f b)
@@ -425,13 +442,15 @@ due_frames_of c s a d remove v n = elim (remove && not (s.places.withdrawn d)) [
   ]
 ]
 
--- `evict` and `remove` (`dmirror_device_evict_chunk`)
+-- an eviction or a removal at a frame number (`dmirror_device_evict_chunk`)
 abbrev pub due_frames : Program → After → ℕ → Op → ℕ → ℕ → Next
 due_frames c s a (Op.Evict d) v n = due_frames_of c s a d false v n
 due_frames c s a (Op.Remove d) v n = due_frames_of c s a d true v n
 due_frames c s a o v n = Do (Kind.Refused Cause.Never)
 
--- the steps of a migration after its setup
+-- ---- the steps of a migration after its setup
+
+-- the driver passes the page over, by the script's skip number
 abbrev pub skips : Program → Op → ℕ → Bool
 skips c o v = is_to_device o && (not (c.skip == 0) && (v % c.skip == 0))
 
@@ -460,7 +479,7 @@ fetch_page c s o v = elim (skips c o v) [
   ]
 ]
 
--- `migrate_vma_pages`, `migrate_vma_insert_page`
+-- a page's copy is committed, or a fresh page gets its frame (`migrate_vma_pages`, `migrate_vma_insert_page`)
 abbrev pub commit_page : After → ℕ → ℕ → Option Frame → Option Frame → Kind
 commit_page s p v (Some f) (Some g) = Kind.Committed f g
 commit_page s p v None (Some g) = elim (has_no_frame (s.places.place p v)) [
@@ -492,7 +511,9 @@ abbrev pub due_moves : Program → After → Op → List Migrating → Option (M
 due_moves c s o xs None = Kind.Migrated (count_by (λ x. x.moved) xs)
 due_moves c s o xs (Some at) = due_step c s o at.0 at.1
 
--- the first turn of an operation
+-- ---- the first turn of an operation
+
+-- the mmap lock for writing, if the process is there
 abbrev pub under_wlock : After → ℕ → ℕ → Next
 under_wlock s a p = elim (s.plain.there p) [ true ↦ wlock s p a | false ↦ Do (Kind.Refused Cause.NoProcess) ]
 
@@ -542,7 +563,9 @@ due_begin s a (Op.ToSystem m r) = in_window_rlock s m r
 due_begin s a (Op.Exclusive m v) = in_window_rlock s m (one_page v)
 due_begin s a _ = Do (Kind.Refused Cause.Never)
 
--- under the lock for writing
+-- ---- under the mmap lock for writing
+
+-- the process whose lock an operation takes for writing
 abbrev pub proc_of_op : Op → ℕ
 proc_of_op (Op.Map p r w) = p
 proc_of_op (Op.Unmap p r) = p

@@ -33,7 +33,7 @@ pub record State : Type 0 where
   pub after : After
   pub going : ℕ → Going
 
--- the operations of an actor, and the first that has not ended
+-- the operations of an actor; one that the script does not have has none
 abbrev pub ops_of : Program → ℕ → List Op
 ops_of c a = elim (slice_get c.actors a) [ None ↦ [] | Some os ↦ os ]
 
@@ -54,7 +54,7 @@ going_from c a i = record { index = i; stack = first_stack (op_at c a i); pages 
 abbrev pub state_start : Program → State
 state_start c = record { after = after_nothing; going = λ a. going_from c a 0 }
 
--- the page of a touch, and its process
+-- the page of a fault
 abbrev pub touch_page : Op → Touch → ℕ
 touch_page (Op.Exclusive m v) touch = v
 touch_page o touch = page_of (op_piece o (piece_of touch)).0

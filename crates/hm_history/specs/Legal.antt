@@ -24,7 +24,9 @@ use Rattle.hm_history.specs.Going.{State, op_at, state_of}
 use Rattle.hm_history.specs.Due.{due, has_no_frame, skips, pool_of}
 use Rattle.hm_history.specs.declared.phases.Migrating.{Migrating}
 
--- what was kept, was kept for its reason
+-- ---- what was kept, was kept for its reason
+
+-- a place that a migration to a device does not move
 abbrev pub stays_put : Place → Bool
 stays_put (Place.Own d n w) = true
 stays_put (Place.Moving f w) = true
@@ -77,8 +79,10 @@ kept_rightly c t e = let g = t.going e.actor in elim e.kind [
   | _ ↦ true
 ]
 
--- a failure or a refusal for want of a frame stands where every system frame is held, or was at the `noframe` of the
--- same bringing home or removal: the actor's last entry that is no `place`, `done` or `drop`
+-- ---- failures for want of a frame: every system frame is held, or was at the `noframe` of the same bringing home
+-- or removal
+
+-- an entry that may come between that `noframe` and the failure or refusal
 abbrev pub is_finishing : Kind → Bool
 is_finishing (Kind.Place p v x) = true
 is_finishing (Kind.Done f) = true
@@ -112,7 +116,7 @@ needs_full (Kind.Failed x at n why) = wants_frame why
 needs_full (Kind.Refused why) = wants_frame why
 needs_full _ = false
 
--- such an entry comes only where no frame was free
+-- such an entry comes only if no frame was free
 abbrev pub fails_rightly : Program → List Entry → Entry → Bool
 fails_rightly c h e = elim (needs_full e.kind) [ false ↦ true | true ↦ system_is_full c h || was_short c h e.actor ]
 

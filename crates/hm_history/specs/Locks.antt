@@ -24,7 +24,7 @@ abbrev pub lock_passes : (MapLock → Bool) → Option MapLock → Bool
 lock_passes test None = false
 lock_passes test (Some x) = test x
 
--- who has the process's lock for writing, and the lowest other holder
+-- who has the process's lock for writing
 abbrev pub writer : Locks → ℕ → Option ℕ
 writer s p = least (λ a. lock_passes (λ x. (x.proc == p) && x.writes) (s.map a)) 0 16
 

@@ -1,4 +1,4 @@
--- Whether a schedule goes on where its history is full: some turn finds an entry due, and no room for it.
+-- Whether a schedule goes on past a full history: some turn finds an entry due, and no room for it.
 use Rattle.std.specs.Prelude.{ℕ, suc, zero, Bool, false, not, ◌&&◌, ◌||◌, List, [], ◌∷◌}
 use Rattle.hm_base.specs.Program.{Program}
 use Rattle.hm_base.specs.declared.ops.ScheduleLine.{ScheduleLine}
@@ -10,7 +10,7 @@ use Rattle.hm_history.specs.declared.Entry.{Entry}
 abbrev pub overruns_turn : Program → List Entry → ℕ → Bool
 overruns_turn c h a = is_entry (due c h a) && not (has_room h)
 
--- one of so many turns of the actor is such
+-- one of n turns of the actor is such
 abbrev pub overruns_turns : Program → List Entry → ℕ → ℕ → Bool
 overruns_turns c h a zero = false
 overruns_turns c h a (suc n) = overruns_turn c h a || overruns_turns c (turn c h a) a n
@@ -20,7 +20,7 @@ abbrev pub some_overruns : Program → List Entry → List ℕ → Bool
 some_overruns c h [] = false
 some_overruns c h (a ∷ more) = overruns_turn c h a || some_overruns c h more
 
--- a `drain` goes on as long as some actor has an entry due
+-- one of the line's turns finds an entry due and no room; of a `drain`, some actor has one due at its end
 abbrev pub overruns_line : Program → List Entry → ScheduleLine → Bool
 overruns_line c h (ScheduleLine.Run a n) = overruns_turns c h a n
 overruns_line c h ScheduleLine.Drain = some_overruns c (line_run c h ScheduleLine.Drain) (actors_of c)

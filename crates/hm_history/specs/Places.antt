@@ -31,7 +31,7 @@ pub record Places : Type 0 where
   pub withdrawn : ℕ → Bool
   pub removed : ℕ → Bool
   pub table : ℕ → ℕ → Option TableEntry
-  pub device : ℕ → Option ℕ  -- a mirror's device; none where it was never attached
+  pub device : ℕ → Option ℕ  -- a mirror's device; none if it was never attached
 
 -- at the start no page is mapped and no frame is held
 abbrev pub places_start : Places
@@ -121,7 +121,7 @@ next_page s test p from =
 abbrev pub is_used : Place → Bool
 is_used x = not (is_empty_place x)
 
--- the frames of a pool, and the lowest that is free
+-- how many frames a pool has
 abbrev pub pool_size : Program → PoolId → ℕ
 pool_size c System = c.frames
 pool_size c (Device d) = slice_index c.devices d
@@ -224,7 +224,7 @@ abbrev pub entry_passes : (TableEntry → Bool) → Option TableEntry → Bool
 entry_passes test None = false
 entry_passes test (Some x) = test x
 
--- through the table of m a page of process p is read, written, or had alone by actor a
+-- through the table of mirror m a page of process p is read, which no actor has alone
 abbrev pub table_reads : Places → ℕ → ℕ → ℕ → Bool
 table_reads s m p v =
     let x = s.place p v in
@@ -239,7 +239,7 @@ table_writes s m p v =
 abbrev pub table_sole : Places → ℕ → ℕ → ℕ → ℕ → Bool
 table_sole s a m p v = entry_passes (λ x. is_sole x.right && is_exclusive_of (s.place p v) a x.target) (s.table m v)
 
--- where a writable place stands for a frame, no other place stands for it
+-- if a writable place stands for a frame, no other place stands for it
 abbrev pub one_writer : Places → Bool
 one_writer s = list_all (λ x. not (writable (s.place x.0 x.1)) ||
     list_all (λ y. is_page x.0 x.1 y ||

@@ -26,7 +26,7 @@ pub record MirrorState : Type 0 where
   pub window : Pages
   pub stage : Attachment
 
--- the plain state. A byte counts only where the process has an area
+-- the plain state. A byte counts only if the process has an area
 pub record Plain : Type 0 where
   pub there : ℕ → Bool
   pub named : ℕ → Bool  -- given to a fork
@@ -46,7 +46,7 @@ plain_start = record {
   mirrors = λ m. None;
 }
 
--- the right of a page, where it has an area
+-- the right of a page, if it has an area
 abbrev pub rights_of : Plain → ℕ → ℕ → Option Rights
 rights_of s p v = rights_at (s.areas p) v
 
@@ -72,7 +72,7 @@ area_refusal s (Op.Protect p r w) =
     else if nat_le (length (with_rights r w (s.areas p))) 64 then None else Some Cause.TooManyAreas
 area_refusal s _ = None
 
--- mirrors
+-- the mirror is attached
 abbrev pub is_attached_state : MirrorState → Bool
 is_attached_state m = elim m.stage [ Attached ↦ true | Detaching ↦ false | Gone ↦ false ]
 
@@ -101,11 +101,11 @@ mirror_proc s m = elim (s.mirrors m) [ None ↦ 0 | Some x ↦ x.proc ]
 abbrev pub mirror_dev : Plain → ℕ → ℕ
 mirror_dev s m = elim (s.mirrors m) [ None ↦ 0 | Some x ↦ x.dev ]
 
--- the process to which a mirror belongs; none where it was never attached
+-- the process to which a mirror belongs; none if it was never attached
 abbrev pub mirror_owner : Plain → ℕ → Option ℕ
 mirror_owner s m = option_map (λ x. x.proc) (s.mirrors m)
 
--- the process whose memory an access is of; none where its mirror was never attached
+-- the process whose memory an access is of; none if its mirror was never attached
 abbrev pub owner : Plain → Who → Option ℕ
 owner s (Cpu p) = Some p
 owner s (Mirror m) = mirror_owner s m
@@ -115,7 +115,7 @@ abbrev pub owned : Option ℕ → (ℕ → Bool) → Bool
 owned None test = false
 owned (Some p) test = test p
 
--- the process of an access, where it has one, and else 0
+-- the process of an access, if it has one, and else 0
 abbrev pub proc_of : Plain → Who → ℕ
 proc_of s (Cpu p) = p
 proc_of s (Mirror m) = mirror_proc s m

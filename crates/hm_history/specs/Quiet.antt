@@ -22,7 +22,7 @@ mapped_pages _ = 0
 abbrev pub over_ops : (Op → ℕ) → Program → ℕ
 over_ops f c = sum_by (λ os. sum_by f os) c.actors
 
--- a guard's entries but for its body's; processes; pages; the entries of bringing a frame home
+-- the most entries of a guard without those of its body: its start, one for each mirror, its end
 abbrev pub guard_cost : Program → ℕ
 guard_cost c = over_ops attaches c + 2
 

@@ -22,7 +22,7 @@ added h Progress.Idle = h
 abbrev pub turn : Program → List Entry → ℕ → List Entry
 turn c h a = added h (due c h a)
 
--- after so many turns of one actor
+-- after n turns of one actor
 abbrev pub turns : Program → List Entry → ℕ → ℕ → List Entry
 turns c h a zero = h
 turns c h a (suc n) = turns c (turn c h a) a n
@@ -32,7 +32,7 @@ turns c h a (suc n) = turns c (turn c h a) a n
 unfoldable pub enough : ℕ
 enough = 2000000
 
--- an actor's turns until it waits or is idle, at most so many
+-- the turn added an entry
 abbrev pub is_entry : Progress → Bool
 is_entry (Progress.Did e) = true
 is_entry (Progress.Waiting why) = false
@@ -44,7 +44,7 @@ is_idle (Progress.Did e) = false
 is_idle (Progress.Waiting why) = false
 is_idle Progress.Idle = true
 
--- after the actor's turns as long as each adds an entry, at most so many
+-- after the actor's turns as long as each adds an entry, at most n
 abbrev pub turns_on : Program → List Entry → ℕ → ℕ → List Entry
 turns_on c h a zero = h
 turns_on c h a (suc n) = elim (is_entry (due c h a) && has_room h) [ true ↦ turns_on c (turn c h a) a n | false ↦ h ]
@@ -61,7 +61,7 @@ round c h = fold (λ g a. turns_on c g a enough) h (actors_of c)
 abbrev pub all_idle : Program → List Entry → Bool
 all_idle c h = list_all (λ a. is_idle (due c h a)) (actors_of c)
 
--- rounds until all are idle or there is no room, at most so many
+-- rounds until all are idle or there is no room, at most n
 abbrev pub drained : Program → List Entry → ℕ → List Entry
 drained c h zero = h
 drained c h (suc n) = elim (not (all_idle c h) && has_room h) [ true ↦ drained c (round c h) n | false ↦ h ]

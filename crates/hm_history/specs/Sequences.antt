@@ -91,7 +91,7 @@ overlaps s p r m =
 abbrev pub overlapping : Sequences → ℕ → Pages → List ℕ
 overlapping s p r = filter (overlaps s p r) (numbers 0 32)
 
--- the least such number above the last that was told
+-- the number is above the last mirror that was told, if one was
 abbrev pub is_above : Option ℕ → ℕ → Bool
 is_above None m = true
 is_above (Some k) m = nat_lt k m
@@ -104,7 +104,7 @@ next_told s p r after = find (is_above after) (overlapping s p r)
 abbrev pub some_overlap : Sequences → ℕ → Pages → Bool
 some_overlap s p r = nat_lt 0 (length (overlapping s p r))
 
--- a process's sequence after a start, an end and an insert, and the interval's after an insert
+-- a process's sequence after a start: it becomes odd if the invalidation meets an interval
 abbrev pub seq_started : Sequences → ℕ → Pages → ℕ
 seq_started s p r = if some_overlap s p r && not (is_odd (s.seq p)) then s.seq p + 1 else s.seq p
 
@@ -130,7 +130,7 @@ abbrev pub interval_inserted : Sequences → ℕ → ℕ
 interval_inserted s p =
     if is_odd (s.seq p) then s.seq p else if nat_lt 0 (s.active p) then s.seq p + 1 else (s.seq p - 1)
 
--- the deferred inserts and removes of a process are made
+-- the stage of an interval after its deferred insert or removal was made
 abbrev pub applied_stage : Stage → Stage
 applied_stage InTree = InTree
 applied_stage InsertDeferred = InTree

@@ -45,7 +45,9 @@ abbrev pub with_guard : Kind → Seen → Body → List Phase → List Phase
 with_guard (Kind.Start p r q) seen body below = Phase.Guard p r seen.overlapped None body ∷ below
 with_guard _ seen body below = below
 
--- the operations: map, unmap, protect, exit, fork, attach, detach, snap, and the first steps of a migration
+-- ---- the operations: map, unmap, protect, exit, fork, attach, detach, snap, and the first steps of a migration
+
+-- where an operation goes on with the mmap lock for reading
 abbrev pub read_locked : Op → Phase
 read_locked (Op.Snap m r) = Phase.Pages r.first
 read_locked (Op.Exclusive m v) = Phase.Decide Sole
@@ -89,7 +91,9 @@ abbrev pub after_pages : Kind → List Phase
 after_pages (Kind.Seen m v c) = Phase.Pages (v + 1) ∷ []
 after_pages _ = []
 
--- accesses by the CPU and through a mirror. `touch` is whose fault begins with `rlock`
+-- ---- accesses by the CPU and through a mirror
+
+-- whose fault begins with the `rlock` of a piece
 abbrev pub first_touch : Op → ℕ → Touch
 first_touch (Op.Add m at n) k = Sole
 first_touch _ k = Cpu k
@@ -113,7 +117,9 @@ is_added _ = false
 abbrev pub after_fetched : Op → Kind → Seen → List Phase
 after_fetched o k seen = if is_added k then [] else after_piece o 0 Sole k seen
 
--- a fault: the decision, the frame taken, the copy
+-- ---- a fault: the decision, the frame taken, the copy
+
+-- after a fault has found the place: a look-up notes it, an access goes on
 abbrev pub after_walk : Touch → Place → Phase
 after_walk (Walk k since q) place = Phase.Noted k since q place
 after_walk touch place = Phase.Piece (piece_of touch)
@@ -147,7 +153,9 @@ abbrev pub after_taken : Touch → Frame → Place → Kind → List Phase
 after_taken touch g over (Kind.Copied f h k) = Phase.Armed touch g over ∷ []
 after_taken touch g over _ = Phase.Decide touch ∷ []
 
--- a guard: its start, the mirrors told, its body, its end
+-- ---- a guard: its start, the mirrors told, its body, its end
+
+-- the page that an entry of a body is about
 abbrev pub page_of_entry : Kind → ℕ
 page_of_entry (Kind.Place p v x) = v
 page_of_entry (Kind.Fresh p v) = v
@@ -173,7 +181,7 @@ abbrev pub frames_past : Frame → List Phase → List Phase
 frames_past f (Phase.Frames v n ∷ below) = Phase.Frames (f.number + 1) n ∷ below
 frames_past f below = below
 
--- after the first mapping was frozen the frame is emptied; an eviction then goes on behind it
+-- after the first mapping was frozen the frame is emptied; an eviction then goes on with the next one
 abbrev pub caught_next : Op → Frame → Pages → List Phase → List Phase
 caught_next o f r below =
     if is_evicting o then Phase.Emptying f (KeptAt.Frame f) ∷ frames_past f below
@@ -217,7 +225,9 @@ after_guard o p r met told body below k seen = elim (told_mirror k) [
   | None ↦ if is_end k then after_body body r below else guard_goes_on o p r met told body below k seen
 ]
 
--- one frame emptied: its other mappings frozen, the copy, the finish
+-- ---- one frame emptied: its other mappings frozen, the copy, the finish
+
+-- where an operation goes on if no frame was free for one that was brought home; an eviction goes to its next frame
 abbrev pub giving_up : Op → Phase → Option Phase
 giving_up o (Phase.Decide touch) = Some (Phase.GiveUp (Some touch))
 giving_up o (Phase.Frames v n) = if is_remove o then Some (Phase.GiveUp None) else None
@@ -280,9 +290,10 @@ after_frames v n (Kind.Drop f) seen = Phase.Frames (f.number + 1) n ∷ []
 after_frames v n (Kind.Withdrawn d) seen = Phase.Frames v n ∷ []
 after_frames v n _ seen = []
 
--- the steps of a migration after its setup (mm/migrate_device.c). The page's record is the one that the migration has
--- come to
--- a start in the first step freezes another mapping; a later one puts the taken frame under a fresh page
+-- ---- the steps of a migration after its setup (mm/migrate_device.c), each about the record to which the migration
+-- has come
+
+-- what the guard of a step does for a page with a frame: in the first step another mapping is frozen
 abbrev pub freezing_in : MoveStep → Frame → Body
 freezing_in MoveStep.FreezeOthers f = Body.Freeze f
 freezing_in _ f = Body.Nothing

@@ -6,12 +6,12 @@ pub use Rattle.hm_base.specs.PlaceWords.{sys_frame, dev_frame, same_pool, same_f
 abbrev pub with_at : {X : Type 0} → (ℕ → X) → ℕ → X → ℕ → X
 with_at f k x q = if q == k then x else f q
 
--- numbers from `from`, so many
+-- n numbers from `from` on
 abbrev pub numbers : ℕ → ℕ → List ℕ
 numbers from zero = []
 numbers from (suc n) = from ∷ numbers (from + 1) n
 
--- the least number from `from` on, among so many, that passes the test
+-- the least of n numbers from `from` on that passes the test
 abbrev pub least : (ℕ → Bool) → ℕ → ℕ → Option ℕ
 least test from zero = None
 least test from (suc n) = elim (test from) [ true ↦ Some from | false ↦ least test (from + 1) n ]
@@ -22,12 +22,12 @@ same_bytes [] [] = true
 same_bytes (x ∷ xs) (y ∷ ys) = (x == y) && same_bytes xs ys
 same_bytes _ _ = false
 
--- the bytes from an address on, so many
+-- n bytes from an address on
 abbrev pub bytes_from : (ℕ → ℕ) → ℕ → ℕ → List ℕ
 bytes_from f at zero = []
 bytes_from f at (suc n) = f at ∷ bytes_from f (at + 1) n
 
--- the page of an address, and the pieces of an access: each has an address and a length
+-- the page of an address
 abbrev pub page_of : ℕ → ℕ
 page_of at = at / 4096
 

@@ -144,7 +144,7 @@ pub enum Phase {
     Drop {
         frame: Frame,
     },
-    /// A frame is being emptied: its other mappings are frozen; `at` is what is told where no frame is free.
+    /// A frame is being emptied: its other mappings are frozen; `at` is what fails if no frame is free.
     Emptying {
         frame: Frame,
         at: KeptAt,
@@ -165,7 +165,7 @@ pub enum Phase {
         from: Frame,
         to: Option<Frame>,
     },
-    /// The destination is unlocked, or dropped where no place names it.
+    /// The destination is unlocked, or dropped if no place names it.
     Settle {
         frame: Frame,
     },

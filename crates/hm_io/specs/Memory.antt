@@ -12,6 +12,7 @@ pub record Feed : Type 0 where
   pub piece : ℕ
   pub plan : Plan
 
+-- all bytes are left, and no call was made yet
 abbrev pub feed_start : List ℕ → ℕ → List ℕ → Feed
 feed_start bytes piece failing =
     record { left = bytes; piece = piece; plan = record { failing = failing; calls = 0; faults = 0 } }
@@ -20,11 +21,13 @@ feed_start bytes piece failing =
 abbrev pub feed_count : Feed → ℕ → ℕ
 feed_count s room = min (min s.piece room) (length s.left)
 
+-- what the next call answers: a fault if one is planned, else the end or a number of bytes
 abbrev pub feed_gives : Feed → ℕ → Got
 feed_gives s room =
     if fails s.plan false then got.Failed
     else (if feed_count s room == 0 then got.Ended else got.Bytes (feed_count s room))
 
+-- the source after the next call: what was given is left no more, and a fault loses nothing
 abbrev pub feed_after : Feed → ℕ → Feed
 feed_after s room = record {
   left = if fails s.plan false then s.left else drop (feed_count s room) s.left;
@@ -32,12 +35,13 @@ feed_after s room = record {
   plan = after_call s.plan false;
 }
 
--- bytes that are held, with room for so many in all
+-- bytes that are held, with room for `room` in all
 pub record Store : Type 0 where
   pub bytes : List ℕ
   pub room : ℕ
   pub plan : Plan
 
+-- nothing is held, and no call was made yet
 abbrev pub store_start : ℕ → List ℕ → Store
 store_start room failing =
     record { bytes = []; room = room; plan = record { failing = failing; calls = 0; faults = 0 } }
@@ -46,9 +50,11 @@ store_start room failing =
 abbrev pub is_too_much : Store → List ℕ → Bool
 is_too_much s from = nat_lt (s.room - length s.bytes) (length from)
 
+-- what the next call answers: a fault if one is planned or the piece does not fit, else that it took all
 abbrev pub store_gives : Store → List ℕ → Put
 store_gives s from = if fails s.plan (is_too_much s from) then put.Failed else put.Took (length from)
 
+-- the sink after the next call: it holds the piece, or after a fault what it held before
 abbrev pub store_after : Store → List ℕ → Store
 store_after s from = record {
   bytes = if fails s.plan (is_too_much s from) then s.bytes else (s.bytes ++ from);

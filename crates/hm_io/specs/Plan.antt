@@ -3,6 +3,7 @@ use Rattle.std.specs.Prelude.{ℕ, ◌+◌, ◌^◌, Bool, ◌&&◌, ◌||◌, n
 use Rattle.std.specs.List.{list_any}
 use Rattle.hm_io.specs.Streams.{raised}
 
+-- which calls are to fail, by their numbers, how many calls were made, and how many of them failed
 pub record Plan : Type 0 where
   pub failing : List ℕ
   pub calls : ℕ
@@ -16,6 +17,7 @@ is_planned p = nat_lt (p.calls + 1) (2 ^ 64) && list_any (λ n. n == p.calls + 1
 abbrev pub fails : Plan → Bool → Bool
 fails p too_much = too_much || is_planned p
 
+-- the plan after the next call, which is counted, and counted as a fault if it failed
 abbrev pub after_call : Plan → Bool → Plan
 after_call p too_much = record {
   failing = p.failing;

@@ -32,10 +32,11 @@ raised n = min (n + 1) (2 ^ 64 - 1)
 abbrev pub Rose : ℕ → ℕ → Type 0
 Rose before now = raised before ≤ now
 
--- how many bytes a call moved, of so many that it might have
+-- how many bytes a call moved: some, and no more than it might have
 abbrev pub IsCount : ℕ → ℕ → Type 0
 IsCount n room = (1 ≤ n) × (n ≤ room)
 
+-- a read that moved bytes moved at least one, and no more than there was room for
 abbrev pub GotCount : Got → ℕ → Type 0
 GotCount (got.Bytes n) room = IsCount n room
 GotCount got.Ended room = Unit {0}
@@ -54,6 +55,7 @@ ReadCause before now (got.Bytes n) = now ≡ before
 ReadCause before now got.Ended = now ≡ before
 ReadCause before now got.Failed = (before ≤ now) × Rose before now
 
+-- a write that moved bytes moved at least one, and no more than it was given
 abbrev pub PutCount : Put → ℕ → Type 0
 PutCount (put.Took n) room = IsCount n room
 PutCount put.Failed room = Unit {0}
@@ -73,17 +75,19 @@ abbrev pub Stays : Option (List ℕ) → Option (List ℕ) → Type 0
 Stays None after = Unit {0}
 Stays (Some held) after = after ≡ Some held
 
--- so many bytes of the front were added, or none
+-- the bytes that were taken were added, or none
 abbrev pub Writes : Option (List ℕ) → Option (List ℕ) → Put → List ℕ → Type 0
 Writes before after (put.Took n) from = Adds before after (take n from)
 Writes before after put.Failed from = Stays before after
 Writes before after put.NoMemory from = Stays before after
 
+-- the count of faults rose at a write that failed, and stays otherwise
 abbrev pub WriteCause : ℕ → ℕ → Put → Type 0
 WriteCause before now (put.Took n) = now ≡ before
 WriteCause before now put.Failed = (before ≤ now) × Rose before now
 WriteCause before now put.NoMemory = now ≡ before
 
+-- the count of times without memory rose at a write that had none, and stays otherwise
 abbrev pub WantCause : ℕ → ℕ → Put → Type 0
 WantCause before now (put.Took n) = now ≡ before
 WantCause before now put.Failed = now ≡ before

@@ -81,7 +81,7 @@ impl Source for MemorySource {
     }
 }
 
-/// A sink in memory with so much room, with a fault at the planned calls and where a piece does not fit.
+/// A sink in memory with so much room, with a fault at the planned calls and at a piece that does not fit.
 #[derive(Drop)]
 pub struct MemorySink {
     bytes: Vec<u8>,

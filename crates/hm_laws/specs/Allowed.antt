@@ -21,6 +21,7 @@ use Rattle.hm_laws.specs.Stood.{lock_on, stood, is_moving, IsNamed, Unnamed, Uns
 use Rattle.hm_laws.specs.Past.{Past, is_position}
 use Rattle.hm_laws.specs.Sound.{Entered}
 
+-- the state after an actor's entry of this kind
 abbrev pub next : After → ℕ → Kind → After
 next s a k = after_entry s (record { actor = a; kind = k })
 
@@ -36,6 +37,7 @@ CleanBut s p r =
     (x : ℕ) → covers r (page_of x) ≡ false → is_empty_place (s.places.place p (page_of x)) ≡ true
     → is_some (rights_of s.plain p (page_of x)) ≡ true → s.plain.bytes p x ≡ 0
 
+-- each page that has an area and no place reads zeros, so the first touch may give it a frame of zeros
 abbrev pub Clean : After → ℕ → Type 0
 Clean s p =
     (x : ℕ) → is_empty_place (s.places.place p (page_of x)) ≡ true → is_some (rights_of s.plain p (page_of x)) ≡ true
@@ -45,9 +47,11 @@ Clean s p =
 abbrev pub MayRelease : After → ℕ → Type 0
 MayRelease s a = (p : ℕ) → s.locks.map a ≡ lock_on p true → s.plain.there p ≡ true → Clean s p
 
+-- the actor has the lock of a process that is there, for reading
 abbrev pub ReadsThere : After → ℕ → ℕ → Type 0
 ReadsThere s a p = (s.locks.map a ≡ lock_on p false) × (s.plain.there p ≡ true)
 
+-- the actor has the lock of a process that is there, for writing
 abbrev pub WritesThere : After → ℕ → ℕ → Type 0
 WritesThere s a p = (s.locks.map a ≡ lock_on p true) × (s.plain.there p ≡ true)
 
@@ -55,6 +59,7 @@ WritesThere s a p = (s.locks.map a ≡ lock_on p true) × (s.plain.there p ≡ t
 abbrev pub HasChild : After → Past → ℕ → ℕ → Type 0
 HasChild s t a c = (t.namer c ≡ Some a) × (s.plain.been c ≡ false)
 
+-- what a fork promises of a page that it has come past: parent and child show the same, and neither may write
 pub record Alike (s : After) (p c v : ℕ) : Type 0 where
   pub emptiness : is_empty_place (s.places.place c v) ≡ is_empty_place (s.places.place p v)
   pub contents : (x : ℕ) → page_of x ≡ v → is_empty_place (s.places.place c v) ≡ false
@@ -71,6 +76,7 @@ pub record Unused (place : ℕ → ℕ → Place) (to : Frame → Option Frame) 
   pub unnamed : Unnamed place f
   pub unstood : Unstood place to f
 
+-- the actor may drop the frame, or give it to a page: it is its own and nobody uses it
 abbrev pub IsUnused : After → ℕ → Frame → Type 0
 IsUnused s a f = Unused s.places.place s.places.committed_to s.locks.frame a f
 
@@ -85,12 +91,15 @@ pub record Source (place : ℕ → ℕ → Place) (to : Frame → Option Frame) 
   pub fresh : to f ≡ None
   pub stood_by : (q u : ℕ) → stood to (place q u) ≡ Some f → names (place q u) ≡ Some f
 
+-- the same of a state's parts
 abbrev pub IsSource : After → ℕ → Frame → Type 0
 IsSource s a f = Source s.places.place s.places.committed_to s.locks.frame a f
 
+-- each page that names the frame is under way, so no access goes to its contents
 abbrev pub AllMoving : (ℕ → ℕ → Place) → Frame → Type 0
 AllMoving place f = (q u : ℕ) → names (place q u) ≡ Some f → is_moving (place q u) ≡ true
 
+-- the frame may be copied: its contents are to go elsewhere, and cannot change
 abbrev pub IsFrozen : After → ℕ → Frame → Type 0
 IsFrozen s a f = IsSource s a f × AllMoving s.places.place f
 
@@ -101,6 +110,7 @@ pub record Settled (place : ℕ → ℕ → Place) (to : Frame → Option Frame)
   pub lands : (q u : ℕ) → names (place q u) ≡ Some f → is_moving (place q u) ≡ false
   pub stood_by : (q u : ℕ) → stood to (place q u) ≡ Some f → is_moving (place q u) ≡ false
 
+-- the same of a state's parts
 abbrev pub IsSettled : After → ℕ → Frame → Type 0
 IsSettled s a f = Settled s.places.place s.places.committed_to s.locks.frame a f
 
@@ -144,19 +154,19 @@ MayFreeze s a f =
     (s.locks.frame f ≡ None)
     ⊎ ((s.locks.frame f ≡ Some a) ⊎ ((q : ℕ) × (u : ℕ) × (moving_frame (s.places.place q u) ≡ Some f)))
 
--- a page under way leaves its frame by who has that locked, or is emptied
+-- a migrating page loses its frame only to the actor that has the frame locked, or by being emptied
 abbrev pub LeavesByItsLocker : After → ℕ → Place → Frame → Type 0
 LeavesByItsLocker s a x f =
     (moving_frame x ≡ Some f) ⊎ ((s.locks.frame f ≡ Some a) ⊎ (is_empty_place x ≡ true))
 
--- a page in a device's memory leaves its frame where nobody else has that locked, or is emptied
+-- a page in a device's memory leaves its frame if nobody else has that locked, or is emptied
 abbrev pub LeavesItsDevice : After → ℕ → Place → ℕ → ℕ → Type 0
 LeavesItsDevice s a x d n =
     (Owned d n x)
     ⊎ ((s.locks.frame (dev_frame d n) ≡ None)
     ⊎ ((s.locks.frame (dev_frame d n) ≡ Some a) ⊎ (is_empty_place x ≡ true)))
 
--- the place's frame is held, is no other page's, and is nobody else's where one of them is writable
+-- the place's frame is held, is no other page's, and is nobody else's if one of them is writable
 pub record FramesOk (s : After) (p v : ℕ) (x : Place) : Type 0 where
   pub names_held : (f : Frame) → names x ≡ Some f → s.places.held f ≡ true
   pub stands_held : (f : Frame) → stood s.places.committed_to x ≡ Some f → s.places.held f ≡ true
@@ -178,7 +188,7 @@ pub record HandOverOk (s : After) (a p v : ℕ) (x : Place) : Type 0 where
   pub owned : (d n : ℕ) (w : Bool) → s.places.place p v ≡ Own d n w → LeavesItsDevice s a x d n
   -- a page that was touched stays so, or is emptied
   pub touched : has_no_frame x ≡ true → (has_no_frame (s.places.place p v) ≡ true) ⊎ (is_empty_place x ≡ true)
-  -- its lock is given up only where nobody used it
+  -- its lock is given up only if nobody used it
   pub settles : (n : ℕ) (w : Bool) → x ≡ Sys n w → is_moving (s.places.place p v) ≡ false
       → s.locks.frame (sys_frame n) ≡ Some a
       → Unnamed s.places.place (sys_frame n) × Unstood s.places.place s.places.committed_to (sys_frame n)
@@ -209,6 +219,7 @@ pub record PlaceOk (s : After) (t : Past) (a p v : ℕ) (x : Place) : Type 0 whe
   pub process : ProcessOk s a p v x
   pub mirrors : MirrorsOk s a p v x
 
+-- when a mirror's table may get an entry: it fits the place, and nobody told the mirror since its look-up began
 pub record SetOk (s : After) (t : Past) (a m v : ℕ) (target : Option Frame) (right : TableRight)
     (from : ℕ) : Type 0 where
   pub mirror : MirrorState
@@ -221,12 +232,15 @@ pub record SetOk (s : After) (t : Past) (a m v : ℕ) (target : Option Frame) (r
   pub untold : t.told m v ≤ from
   pub rightly : ((from == s.length) || is_position (t.begun a m) from) ≡ true
 
+-- the entry passes the test of the plain state
 abbrev pub PlainOk : After → Kind → Type 0
 PlainOk s k = plain_accepts s.plain k ≡ true
 
+-- the entry passes the test of places and tables
 abbrev pub PlacesOk : Program → After → ℕ → Kind → Type 0
 PlacesOk c s a k = places_accept c (mirror_owner s.plain) s.places a k ≡ true
 
+-- the entry passes the test of sequences
 abbrev pub SequencesOk : After → ℕ → Kind → Type 0
 SequencesOk s a k = sequences_accept s.sequences a k ≡ true
 
@@ -234,6 +248,8 @@ SequencesOk s a k = sequences_accept s.sequences a k ≡ true
 abbrev pub InPage : ℕ → ℕ → Type 0
 InPage at n = at % 4096 + n ≤ 4096
 
+-- when an actor may add an entry of this kind. It asks nothing of where anybody is in an operation, so every way to
+-- come to an entry may use the laws about it
 abbrev pub Allowed : Program → After → Past → ℕ → Kind → Type 0
 Allowed c s t a (Kind.Loaded x at bs) =
     MayRelease s a × PlainOk s (Kind.Loaded x at bs) × PlacesOk c s a (Kind.Loaded x at bs)

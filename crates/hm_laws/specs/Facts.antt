@@ -32,6 +32,8 @@ use Rattle.hm_laws.specs.Allowed.{shows, CleanBut, Clean, ReadsThere, WritesTher
 use Rattle.hm_laws.specs.Records.{same_step, is_past, is_nil, starts_empty, op_range, pages_below, WellListed, staged, parts_of, has_source, has_pair, has_fresh, apart_from}
 use Rattle.hm_laws.specs.Moves.{Parts, IsReturning, IsReturned}
 
+-- one thing that an actor may know. Facts are data, so that what is known at a phase is a list that a test can go
+-- through
 pub data Fact : Type 0 where
   Is : (test : Bool) → Fact
   No_map_lock : Fact
@@ -91,6 +93,7 @@ pub record Guarding (guard : ℕ → Option Guarded) (a p : ℕ) (r : Pages) (ov
 abbrev pub EmptyBelow : After → ℕ → Pages → ℕ → Type 0
 EmptyBelow s p r n = (u : ℕ) → covers r u ≡ true → u < n → is_empty_place (s.places.place p u) ≡ true
 
+-- the span's pages below this one have no write right any more
 abbrev pub NarrowBelow : After → ℕ → Pages → ℕ → Type 0
 NarrowBelow s p r n = (u : ℕ) → covers r u ≡ true → u < n → writable (s.places.place p u) ≡ false
 
@@ -131,14 +134,17 @@ StandsStill s m v x =
 abbrev pub Clear : After → ℕ → Frame → Type 0
 Clear s a f = (s.places.held f ≡ false) ⊎ (s.locks.frame f ≡ Some a)
 
+-- a removal's device is withdrawn; other operations ask nothing here
 abbrev pub GoneFor : After → Op → Type 0
 GoneFor s (Op.Remove d) = s.places.withdrawn d ≡ true
 GoneFor s o = ⊤
 
+-- a removal has left each frame of its device below this one clear
 abbrev pub ClearTo : After → ℕ → Op → ℕ → Type 0
 ClearTo s a (Op.Remove d) v = (k : ℕ) → k < v → (s.places.withdrawn d ≡ true) × Clear s a (dev_frame d k)
 ClearTo s a o v = ⊤
 
+-- what a fact says of a state, its past and an actor
 abbrev pub Holds : After → Past → ℕ → Fact → Type 0
 Holds s t a (Is b) = b ≡ true
 Holds s t a No_map_lock = s.locks.map a ≡ None
@@ -206,6 +212,7 @@ Holds s t a Never = ⊥
 abbrev pub nothing_held : List Fact
 nothing_held = No_map_lock ∷ No_guard ∷ Locks_only [] ∷ []
 
+-- what an actor knows when a fault decides what to do
 abbrev pub deciding : Op → Touch → List Fact
 deciding o touch = Touching o touch ∷ Read_locked (op_who o) ∷ No_guard ∷ Locks_only [] ∷ []
 
@@ -214,13 +221,16 @@ abbrev pub zapping : Op → ℕ → List Fact
 zapping o n =
     Is (zaps o) ∷ Is (nat_le (op_span o).first n) ∷ Not_refused o ∷ Emptying (proc_of_op o) (op_span o) n ∷ []
 
+-- a protection that takes the write right, with the page that it has come to
 abbrev pub narrowing : Op → ℕ → List Fact
 narrowing o n =
     Is (narrows o) ∷ Is (nat_le (op_span o).first n) ∷ Not_refused o ∷ Narrowing (proc_of_op o) (op_span o) n ∷ []
 
+-- a protection that gives the write right
 abbrev pub widening : Op → List Fact
 widening o = Is (widens o) ∷ Not_refused o ∷ Writes (proc_of_op o) ∷ []
 
+-- a fork, with the page that it has come to, and whether that page has the parent's half done
 abbrev pub forking : Op → ℕ → Bool → List Fact
 forking o n half = Is (is_fork o) ∷ Halfway half (proc_of_op o) n ∷ Forking (proc_of_op o) (child_of o) n ∷ []
 
@@ -235,15 +245,17 @@ answering (Op.Exclusive m v) = Read_locked (Who.Mirror m) ∷ []
 answering (Op.Add m at n) = Read_locked (Who.Mirror m) ∷ []
 answering o = Never ∷ []
 
--- a removal catches the frame that it has come to, and does not go on where one is kept
+-- a removal catches the frame that it has come to, and does not go on if one is kept
 abbrev pub catches_at : Op → Frame → ℕ → Bool
 catches_at (Op.Remove d) f v = same_frame f (dev_frame d v)
 catches_at o f v = true
 
+-- an emptying's frame is the one that its removal has come to; another operation may empty any frame
 abbrev pub catches : Op → Frame → List Phase → Bool
 catches o f (Phase.Frames v n ∷ []) = catches_at o f v
 catches o f below = true
 
+-- a removal does not go on past a frame that it could not empty; an eviction does
 abbrev pub keeps_on : Op → List Phase → Bool
 keeps_on o (Phase.Frames v n ∷ []) = not (is_remove o)
 keeps_on o below = true
@@ -279,17 +291,19 @@ known_of o v (Some f) (Some g) false _ _ past_finish hand =
 known_of o v (Some f) (Some g) true _ _ past_finish _ =
     if past_finish then [] else Coming_back f g ∷ Frozen_at (Who.Mirror (op_mirror o)) v f ∷ Lands_on o g ∷ []
 
--- of a record for whose page so many steps are past: of a migration that has come to a page in a step
+-- what is known of a record, by which steps are past for its page
 abbrev pub facts_past : Op → Bool → Bool → Bool → Bool → Option (Frame × ℕ) → Migrating → List Fact
 facts_past o past_freezing past_taking past_commit past_finish hand x =
     Is (staged o past_taking past_commit x) ∷ Windowed (op_mirror o) x.page
     ∷ known_of o x.page x.source x.dest x.moved past_freezing past_commit past_finish hand
 
+-- what a migration knows of one record, by the step and the page to which it has come
 abbrev pub record_facts : Op → MoveStep → ℕ → Option (Frame × ℕ) → Migrating → List Fact
 record_facts o step next hand x =
     facts_past o (is_past step next MoveStep.FreezeOthers x.page) (is_past step next MoveStep.TakeAndCopy x.page)
     (is_past step next MoveStep.Commit x.page) (is_past step next MoveStep.Finish x.page) hand x
 
+-- the same of all its records
 abbrev pub records : Op → MoveStep → ℕ → Option (Frame × ℕ) → List Migrating → List Fact
 records o step next hand [] = []
 records o step next hand (x ∷ xs) = record_facts o step next hand x ++ records o step next hand xs
@@ -305,6 +319,7 @@ fact_frames (Copying f g n) = f ∷ g ∷ []
 fact_frames (Coming_back f g) = f ∷ g ∷ []
 fact_frames x = []
 
+-- the frames that a list of facts says the actor has locked
 abbrev pub frames_of : List Fact → List Frame
 frames_of [] = []
 frames_of (x ∷ l) = fact_frames x ++ frames_of l
@@ -324,6 +339,7 @@ abbrev pub held_under : Op → List Migrating → List Phase → List Frame
 held_under o xs (Phase.Moves step v ∷ []) = held o xs step v None
 held_under o xs below = []
 
+-- what is known below while a frame's pages return: the same as under an emptying, or a migration's last step
 abbrev pub beneath : Op → List Migrating → List Frame → List Phase → List Fact
 beneath o xs l (Phase.Moves step v ∷ []) =
     Is (same_step step MoveStep.Finish) ∷ Is (apart_from l (held o xs step v None)) ∷ migrating o xs step v None
@@ -518,10 +534,12 @@ facts o xs (Phase.Drop g ∷ Phase.Moves step v ∷ []) =
     ∷ migrating o xs step v None
 facts o xs _ = Never ∷ []
 
+-- what an actor knows in its operation, and between two operations
 abbrev pub facts_of : Option Op → List Migrating → List Phase → List Fact
 facts_of None xs st = nothing_held
 facts_of (Some o) xs st = facts o xs st
 
+-- each fact of a list holds
 abbrev pub HoldsAll : After → Past → ℕ → List Fact → Type 0
 HoldsAll s t a [] = ⊤
 HoldsAll s t a (x ∷ l) = Holds s t a x × HoldsAll s t a l

@@ -18,9 +18,11 @@ use Rattle.hm_laws.specs.Sound.{Sound}
 use Rattle.hm_laws.specs.Allowed.{next, Allowed}
 use Rattle.hm_laws.specs.Stands.{Stands}
 
+-- the run of every script is legal
 abbrev pub RunIsLegal : Type 0
 RunIsLegal = (c : Program) → IsScript c → Legal c (run c)
 
+-- every history of entries that were due is legal, in whatever order the actors took turns
 abbrev pub HistoryIsLegal : Type 0
 HistoryIsLegal = (c : Program) → IsScript c → (h : List Entry) → DueFrom c [] h → Legal c h
 
@@ -34,6 +36,7 @@ pub record ReadsRight (s : After) : Type 0 where
       → is_empty_place (s.places.place p (page_of a)) ≡ true → is_some (rights_of s.plain p (page_of a)) ≡ true
       → s.plain.bytes p a ≡ 0
 
+-- after every such history each page shows what its process wrote
 abbrev pub FramesRead : Type 0
 FramesRead = (c : Program) → IsScript c → (h : List Entry) → DueFrom c [] h → ReadsRight (after h)
 
@@ -50,9 +53,11 @@ pub record MayStand (c : Program) (s : After) (a : ℕ) (k : Kind) : Type 0 wher
   pub sequences : IsTrue (sequences_accept s.sequences a k)
   pub guarded : IsTrue (narrows_guarded s.sequences s.places.place a k)
 
+-- an allowed entry passes the tests of legality that a state decides
 abbrev pub AllowedMayStand : Type 0
 AllowedMayStand =
     (c : Program) (s : After) (t : Past) (a : ℕ) (k : Kind) → Sound c s t → Allowed c s t a k → MayStand c s a k
 
+-- what stands after every history of entries that were due
 abbrev pub HistoryStands : Type 0
 HistoryStands = (c : Program) → IsScript c → (h : List Entry) → DueFrom c [] h → Stands c h

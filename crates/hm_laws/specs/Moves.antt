@@ -24,6 +24,7 @@ pub record Returning (place : ℕ → ℕ → Place) (to : Frame → Option Fram
   pub stood_by : (q u : ℕ) → stood to (place q u) ≡ Some g
       → (moving_frame (place q u) ≡ Some f) ⊎ (names_directly (place q u) ≡ Some g)
 
+-- the same of a state's parts
 abbrev pub IsReturning : After → ℕ → Frame → Frame → Type 0
 IsReturning s a f g = Returning s.places.place s.places.committed_to s.locks.frame a f g
 
@@ -34,5 +35,6 @@ pub record Returned (place : ℕ → ℕ → Place) (to : Frame → Option Frame
   pub lands : (q u : ℕ) → moving_frame (place q u) ≡ Some g → ⊥
   pub stood_by : (q u : ℕ) → stood to (place q u) ≡ Some g → names_directly (place q u) ≡ Some g
 
+-- the same of a state's parts
 abbrev pub IsReturned : After → ℕ → Frame → Type 0
 IsReturned s a g = Returned s.places.place s.places.committed_to s.locks.frame a g

@@ -14,17 +14,21 @@ pub record Past : Type 0 where
   pub begun : ℕ → ℕ → Option ℕ
   pub rightly : ℕ → ℕ → Bool
 
+-- before the first entry nobody has forked, left, told or begun
 abbrev pub past_start : Past
 past_start =
     record { namer = λ c. None; leaver = λ m. None; told = λ m v. 0; begun = λ a m. None; rightly = λ m v. false }
 
+-- the position is the one that was noted, if one was
 abbrev pub is_position : Option ℕ → ℕ → Bool
 is_position None i = false
 is_position (Some j) i = i == j
 
+-- after an entry with n entries up to it that tells a mirror of a span: its pages there were told last at n
 abbrev pub told_next : (ℕ → ℕ → ℕ) → ℕ → Pages → ℕ → ℕ → ℕ → ℕ
 told_next f m r n k u = if (k == m) && covers r u then n else f k u
 
+-- a function of two numbers with one value changed
 abbrev pub with_pair : {X : Type 0} → (ℕ → ℕ → X) → ℕ → ℕ → X → ℕ → ℕ → X
 with_pair f m v x k u = if (k == m) && (u == v) then x else f k u
 

@@ -18,6 +18,7 @@ same_step MoveStep.SetOwnTable MoveStep.SetOwnTable = true
 same_step MoveStep.Finish MoveStep.Finish = true
 same_step _ _ = false
 
+-- the first step is made for all pages before the second one begins
 abbrev pub comes_before : MoveStep → MoveStep → Bool
 comes_before _ MoveStep.FreezeOthers = false
 comes_before MoveStep.FreezeOthers _ = true
@@ -33,10 +34,12 @@ comes_before _ _ = false
 abbrev pub is_past : MoveStep → ℕ → MoveStep → ℕ → Bool
 is_past step next other v = comes_before other step || (same_step other step && nat_lt v next)
 
+-- there is no record
 abbrev pub is_nil : List Migrating → Bool
 is_nil [] = true
 is_nil (x ∷ xs) = false
 
+-- only a migration begins with records
 abbrev pub starts_empty : Op → List Migrating → Bool
 starts_empty o xs = not (is_migration o) || is_nil xs
 
@@ -46,13 +49,16 @@ op_range (Op.ToDevice m r) = r
 op_range (Op.ToSystem m r) = r
 op_range o = record { first = 0; count = 0 }
 
+-- the record is one of the list
 abbrev pub Among : List Migrating → Migrating → Type 0
 Among [] y = ⊥
 Among (x ∷ xs) y = (x ≡ y) ⊎ Among xs y
 
+-- all pages of the records lie below this one
 abbrev pub pages_below : ℕ → List Migrating → Bool
 pages_below n xs = list_all (λ x. nat_lt x.page n) xs
 
+-- the pages of the records rise, so that each has at most one record
 abbrev pub rising_pages : List Migrating → Bool
 rising_pages [] = true
 rising_pages (x ∷ xs) = list_all (λ y. nat_lt x.page y.page) xs && rising_pages xs
@@ -89,7 +95,7 @@ staged o past_taking past_commit x =
     has_ground o x
     && (is_taken_in_time past_taking x && (is_moved_in_time past_commit x && is_moved_at_last past_commit x))
 
--- so many eighths are copied into the frame, of all but one that is in hand
+-- how many eighths are copied into the frame: all but for one frame that is in hand
 abbrev pub parts_of : Option (Frame × ℕ) → Frame → ℕ
 parts_of None g = 8
 parts_of (Some x) g = if same_frame x.0 g then x.1 else 8
@@ -98,9 +104,11 @@ parts_of (Some x) g = if same_frame x.0 g then x.1 else 8
 abbrev pub has_source : Frame → ℕ → List Migrating → Bool
 has_source f v xs = list_any (λ x. (x.page == v) && is_frame x.source f) xs
 
+-- a record moves the first frame's contents to the second, and has not done so yet
 abbrev pub has_pair : Frame → Frame → List Migrating → Bool
 has_pair f g xs = list_any (λ x. is_frame x.source f && (is_frame x.dest g && not x.moved)) xs
 
+-- a record is to put the frame over a page that had none, and has not done so yet
 abbrev pub has_fresh : ℕ → Frame → List Migrating → Bool
 has_fresh v g xs = list_any (λ x. (x.page == v) && (is_none x.source && (is_frame x.dest g && not x.moved))) xs
 

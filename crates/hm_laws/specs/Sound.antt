@@ -90,17 +90,20 @@ stands_so Detaching Removed = true
 stands_so Gone Out = true
 stands_so x y = false
 
+-- a mirror and its interval are of one process and window, and stand at stages that go together
 pub record Pairing (x : MirrorState) (y : Interval) (d : Option ℕ) : Type 0 where
   pub proc : y.proc ≡ x.proc
   pub window : y.window ≡ x.window
   pub stage : stands_so x.stage y.stage ≡ true
   pub device : d ≡ Some x.dev
 
+-- a mirror has an interval, and an interval its mirror
 abbrev pub Paired : Option MirrorState → Option Interval → Option ℕ → Type 0
 Paired None None d = Unit {0}
 Paired (Some x) (Some y) d = Pairing x y d
 Paired x y d = ⊥
 
+-- each mirror is paired, by its number
 pub record MirrorRules (mirrors : ℕ → Option MirrorState) (interval : ℕ → Option Interval)
     (device : ℕ → Option ℕ) : Type 0 where
   pub paired : (m : ℕ) → Paired (mirrors m) (interval m) (device m)
@@ -114,17 +117,22 @@ abbrev pub is_leaving : Stage → Bool
 is_leaving RemoveDeferred = true
 is_leaving x = false
 
+-- the guard is one of this process
 abbrev pub guards : Option Guarded → ℕ → Bool
 guards None p = false
 guards (Some g) p = g.proc == p
 
+-- how many of the first n actors have a guard of the process under way
 abbrev pub count_guards : (ℕ → Option Guarded) → ℕ → ℕ → ℕ
 count_guards guard p zero = 0
 count_guards guard p (suc n) = count_guards guard p n + (if guards (guard n) p then 1 else 0)
 
+-- the invalidation met an interval, so it made the sequence odd
 abbrev pub has_met : Guarded → Bool
 has_met g = nat_lt 0 (length g.met)
 
+-- what the sequences of processes and intervals have to do with the guards under way. No interval is ahead of its
+-- process, and a process's sequence is odd only while a guard is under way
 pub record SequenceRules (s : Sequences) : Type 0 where
   pub few : (m : ℕ) (y : Interval) → s.interval m ≡ Some y → m < 32
   pub not_above : (m : ℕ) (y : Interval) → s.interval m ≡ Some y → y.seq ≤ s.seq y.proc
@@ -144,10 +152,12 @@ pub record SequenceRules (s : Sequences) : Type 0 where
 abbrev pub Pending : Guarded → ℕ → Type 0
 Pending g m = (list_any (λ k. k == m) g.met ≡ true) × (list_any (λ k. k == m) g.told ≡ false)
 
+-- the mirror cannot look the span up now: its interval has the process's odd sequence, and its table nothing there
 abbrev pub Blocked : (ℕ → ℕ) → (ℕ → ℕ → Option TableEntry) → ℕ → Interval → Pages → Type 0
 Blocked seq table m y r =
     (y.seq ≡ seq y.proc) × (is_odd (seq y.proc) ≡ true) × ((v : ℕ) → covers r v ≡ true → table m v ≡ None)
 
+-- an interval at this stage is told of invalidations, or will be as soon as its insert is made
 abbrev pub listens : Stage → Bool
 listens InTree = true
 listens InsertDeferred = true
@@ -155,6 +165,7 @@ listens RemoveDeferred = false
 listens Removed = false
 listens Out = false
 
+-- an invalidation under way misses nobody: each mirror that it overlaps is still to be told, or is blocked
 pub record GuardRules (s : Sequences) (table : ℕ → ℕ → Option TableEntry) : Type 0 where
   pub waits : (m v : ℕ) (y : Interval) → s.interval m ≡ Some y → deferred_state y.stage ≡ true → table m v ≡ None
   pub guarded : (a m : ℕ) (g : Guarded) (y : Interval) → s.guard a ≡ Some g → s.interval m ≡ Some y
@@ -169,6 +180,7 @@ pub record Entered (to : Frame → Option Frame) (x : MirrorState) (e : TableEnt
   pub matches : Matches to e.target e.right place
   pub own_device : is_for_device e.target x.dev ≡ true
 
+-- tables have entries only of attached mirrors, and each entry fits the place of its page
 pub record TableRules (mirrors : ℕ → Option MirrorState) (table : ℕ → ℕ → Option TableEntry)
     (place : ℕ → ℕ → Place) (to : Frame → Option Frame) : Type 0 where
   pub unattached : (m v : ℕ) → mirror_passes is_attached_state (mirrors m) ≡ false → table m v ≡ None
@@ -180,10 +192,13 @@ pub record PastRules (n : ℕ) (past : Past) : Type 0 where
   pub told_below : (m v : ℕ) → past.told m v ≤ n
   pub begun_below : (a m i : ℕ) → past.begun a m ≡ Some i → i < n
 
+-- nobody told the mirror of an entry's page since the look-up that made the entry
 pub record UntoldRules (table : ℕ → ℕ → Option TableEntry) (told : ℕ → ℕ → ℕ) (rightly : ℕ → ℕ → Bool) : Type 0 where
   pub untold : (m v : ℕ) (e : TableEntry) → table m v ≡ Some e → told m v ≤ e.from
   pub set_rightly : (m v : ℕ) (e : TableEntry) → table m v ≡ Some e → rightly m v ≡ true
 
+-- what holds of the state after every history of allowed entries. Each rule reads the parts that it is about, so an
+-- entry that leaves these alone keeps it
 pub record Sound (c : Program) (s : After) (t : Past) : Type 0 where
   pub locks : LockRules s.locks.map
   pub places : PlaceRules s.places.place s.places.placed

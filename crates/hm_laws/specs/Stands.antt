@@ -32,6 +32,7 @@ CopiesRightly s (Kind.Copied f g None) = IsNamed s.places.place f
 CopiesRightly s (Kind.Copied f g (Some part)) = (s.places.held f ≡ true) × (f ≡ g → ⊥) × (part < 8)
 CopiesRightly s k = ⊤
 
+-- all that a program may use of the state after a history of entries that were due
 pub record Stands (c : Program) (h : List Entry) : Type 0 where
   pub past : Past
   pub rules : Sound c (after h) past

@@ -8,6 +8,7 @@ use Rattle.hm_history.specs.declared.TableRight.{TableRight}
 use Rattle.hm_history.specs.declared.TableRight.TheVariants.{Read, Write, Sole}
 use Rattle.hm_history.specs.declared.locks.MapLock.{MapLock}
 
+-- the lock of a process, as an actor has it
 abbrev pub lock_on : ℕ → Bool → Option MapLock
 lock_on p w = Some (record { proc = p; writes = w })
 
@@ -20,10 +21,12 @@ stood to (Own d n w) = Some (dev_frame d n)
 stood to (Moving f w) = Some (unwrap_or (to f) f)
 stood to (Exclusive n a) = Some (sys_frame n)
 
+-- the page is under way: its place is a migration entry
 abbrev pub is_moving : Place → Bool
 is_moving (Moving f w) = true
 is_moving x = false
 
+-- the place names a system frame directly
 abbrev pub is_system : Place → Bool
 is_system (Sys n w) = true
 is_system x = false
@@ -32,9 +35,11 @@ is_system x = false
 abbrev pub IsNamed : (ℕ → ℕ → Place) → Frame → Type 0
 IsNamed place f = (q : ℕ) × (u : ℕ) × (names (place q u) ≡ Some f)
 
+-- no place names the frame
 abbrev pub Unnamed : (ℕ → ℕ → Place) → Frame → Type 0
 Unnamed place f = (q u : ℕ) → names (place q u) ≡ Some f → ⊥
 
+-- no place stands for the frame
 abbrev pub Unstood : (ℕ → ℕ → Place) → (Frame → Option Frame) → Frame → Type 0
 Unstood place to f = (q u : ℕ) → stood to (place q u) ≡ Some f → ⊥
 
@@ -47,6 +52,7 @@ Fits to t w (Own d n z) = (t ≡ Some (dev_frame d n)) × (w ≡ true → z ≡ 
 Fits to t w (Moving f z) = (to f ≡ t) × (is_some t ≡ true) × (w ≡ true → z ≡ true)
 Fits to t w (Exclusive n a) = ⊥
 
+-- a table entry that is one actor's alone fits a place that is exclusive, with the same frame
 abbrev pub FitsSole : Option Frame → Place → Type 0
 FitsSole t (Exclusive n a) = t ≡ Some (sys_frame n)
 FitsSole t x = ⊥

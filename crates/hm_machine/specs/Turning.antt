@@ -26,6 +26,7 @@ abbrev pub TurnsFrom : Option StepError → WorldValue → Progress → Result T
 TurnsFrom None t p r u = TurnsTo t p r u
 TurnsFrom (Some e) t p r u = (r ≡ Err e) × (u ≡ t)
 
+-- what a turn of an actor makes of a machine, and what it answers
 abbrev pub Turned : WorldValue → ℕ → Result Turn StepError → WorldValue → Type 0
 Turned t a r u = TurnsFrom t.halted t (due t.script t.history a) r u
 
@@ -43,6 +44,7 @@ AddsTo t p (Err (Full n)) u =
     × (u ≡ halted_by t (Full n))
 AddsTo t p (Err NoMemory) u = u ≡ halted_by t NoMemory
 
+-- what a turn of an actor makes of a machine, and whether the actor's next turn may add an entry
 abbrev pub Adds : WorldValue → ℕ → Result Bool StepError → WorldValue → Type 0
 Adds t a r u = AddsTo t (due t.script t.history a) r u
 

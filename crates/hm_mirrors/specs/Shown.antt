@@ -10,18 +10,22 @@ use Rattle.hm_mirrors.specs.declared.info.MirrorStage.{MirrorStage}
 use Rattle.hm_mirrors.specs.declared.info.MirrorInfo.{MirrorInfo}
 use Rattle.hm_mirrors.specs.declared.info.Mirror.{Mirror}
 
+-- the stage of the definitions that a mirror's stage stands for
 abbrev pub attachment_of : MirrorStage → Attachment
 attachment_of MirrorStage.Attached = Attached
 attachment_of MirrorStage.Detaching = Detaching
 attachment_of MirrorStage.Gone = Gone
 
+-- the mirror of the definitions that the information stands for
 abbrev pub state_of : MirrorInfo → MirrorState
 state_of x = record { dev = x.device; proc = x.process; window = x.window; stage = attachment_of x.stage }
 
+-- a mirror's table is one of its window
 abbrev pub HasWindow : Option Mirror → Type 0
 HasWindow None = ⊤
 HasWindow (Some x) = x.table.window ≡ x.info.window
 
+-- the mirrors show those of a state, with their tables and devices
 pub record MirrorsShown (mirrors : ℕ → Option MirrorState) (table : ℕ → ℕ → Option TableEntry) (device : ℕ → Option ℕ)
     (xs : List (Option Mirror)) : Type 0 where
   pub len : length xs ≡ 32

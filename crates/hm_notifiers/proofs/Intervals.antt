@@ -20,13 +20,6 @@ in_tree_position RemoveDeferred = refl
 in_tree_position Removed = refl
 in_tree_position Out = refl
 
-pub deferred_position : (t : Stage) → one.deferred_state (position_of t) ≡ deferred_state t
-deferred_position InTree = refl
-deferred_position InsertDeferred = refl
-deferred_position RemoveDeferred = refl
-deferred_position Removed = refl
-deferred_position Out = refl
-
 settled_position : (t : Stage) → one.settled_stage (position_of t) ≡ position_of (applied_stage t)
 settled_position InTree = refl
 settled_position InsertDeferred = refl

@@ -12,19 +12,23 @@ pub record NotifiersValue : Type 0 where
 unfoldable pub all_start : List one.Sequences
 all_start = replicate 32 one.sequences_start
 
+-- each process before its first mirror
 abbrev pub notifiers_start : NotifiersValue
 notifiers_start = record { of_process = all_start; procs = replicate 32 None }
 
+-- what is read of a process number that is out of range
 abbrev pub nothing : one.Sequences
 nothing = record { seq = 0; active = 0; intervals = []; room = false }
 
+-- the sequence, invalidations and intervals of a process
 abbrev pub of_proc : NotifiersValue → ℕ → one.Sequences
 of_proc x p = slice_index_or x.of_process p nothing
 
--- the process of a mirror's interval; 0 where it was never attached
+-- the process of a mirror's interval; 0 if it was never attached
 abbrev pub proc_at : NotifiersValue → ℕ → Option ℕ
 proc_at x m = slice_index_or x.procs m None
 
+-- the process of a mirror's interval; 0 if the mirror never came
 abbrev pub proc_of : NotifiersValue → ℕ → ℕ
 proc_of x m = unwrap_or (proc_at x m) 0
 
@@ -36,30 +40,39 @@ of_mirror x m = of_proc x (proc_of x m)
 abbrev pub seq_of : NotifiersValue → ℕ → ℕ
 seq_of x p = (of_proc x p).seq
 
+-- how many invalidations of a process are under way
 abbrev pub active_of : NotifiersValue → ℕ → ℕ
 active_of x p = (of_proc x p).active
 
+-- the sequence of a mirror's interval
 abbrev pub interval_seq_of : NotifiersValue → ℕ → ℕ
 interval_seq_of x m = one.interval_seq (of_mirror x m) m
 
+-- a mirror's interval is in the tree of its process
 abbrev pub in_tree_of : NotifiersValue → ℕ → Bool
 in_tree_of x m = one.in_tree (of_mirror x m) m
 
+-- the insert of a mirror's interval is deferred
 abbrev pub insert_deferred_of : NotifiersValue → ℕ → Bool
 insert_deferred_of x m = one.insert_deferred (of_mirror x m) m
 
+-- the next mirror that an invalidation of a span tells
 abbrev pub next_told_of : NotifiersValue → ℕ → Pages → Option ℕ → Option ℕ
 next_told_of x p r after = one.next_told (of_proc x p) r after
 
+-- an invalidation of a span meets an interval of the process
 abbrev pub some_overlap_of : NotifiersValue → ℕ → Pages → Bool
 some_overlap_of x p r = one.some_overlap (of_proc x p) r
 
+-- the sequence of a process after a start
 abbrev pub seq_started_of : NotifiersValue → ℕ → Pages → ℕ
 seq_started_of x p r = one.seq_started (of_proc x p) r
 
+-- the sequence of a process after an end
 abbrev pub seq_ended_of : NotifiersValue → ℕ → ℕ
 seq_ended_of x p = one.seq_ended (of_proc x p)
 
+-- the sequence that an interval would get that is inserted now
 abbrev pub interval_inserted_of : NotifiersValue → ℕ → ℕ
 interval_inserted_of x p = one.interval_inserted (of_proc x p)
 
@@ -72,12 +85,14 @@ abbrev pub without_interval : NotifiersValue → ℕ → NotifiersValue
 without_interval x m =
     if one.is_present (of_mirror x m) m then with_proc x (proc_of x m) (one.removed (of_mirror x m) m) else x
 
+-- the notifiers with one interval more, which is its process's from then on
 abbrev pub with_interval : NotifiersValue → ℕ → ℕ → Pages → NotifiersValue
 with_interval x m p r = record {
   of_process = slice_set x.of_process p (one.inserted (of_proc x p) m r);
   procs = slice_set x.procs m (Some p);
 }
 
+-- the notifiers after an entry; a kind that is not here leaves them as they are
 abbrev pub notifiers_next : Kind → NotifiersValue → NotifiersValue
 notifiers_next (Kind.Start p r q) x = with_proc x p (one.started (of_proc x p) r)
 notifiers_next (Kind.Told m r q) x = with_proc x (proc_of x m) (one.told (of_mirror x m) m (of_mirror x m).seq)

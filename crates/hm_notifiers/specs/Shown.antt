@@ -15,6 +15,7 @@ position_of RemoveDeferred = Position.RemoveDeferred
 position_of Removed = Position.Out
 position_of Out = Position.Out
 
+-- an interval of the definitions, as notifier_seq keeps it; its process stands beside it
 abbrev pub kept_of : Interval → Kept
 kept_of y = record { window = y.window; seq = y.seq; stage = position_of y.stage }
 
@@ -46,6 +47,7 @@ abbrev pub leaves_later : Stage → Bool → Bool
 leaves_later InTree odd = odd
 leaves_later _ odd = false
 
+-- whether a removal is made at once, by the interval's stage and whether its process's sequence is odd
 abbrev pub leaves_now : Stage → Bool → Bool
 leaves_now InTree odd = not odd
 leaves_now RemoveDeferred odd = false

@@ -188,7 +188,7 @@ impl AllNotifiers {
         self.of_proc(self.interval_proc(mirror))
     }
 
-    /// The process of the mirror's interval, and process 0 where it was never attached.
+    /// The process of the mirror's interval, and process 0 if it was never attached.
     pub fn interval_proc(&self, mirror: MirrorId) -> Proc
         ensures { result ≡ proc_of self.now mirror }
     {
@@ -212,7 +212,7 @@ impl AllNotifiers {
         self.of_proc(proc).active()
     }
 
-    /// The sequence with which the mirror's interval was last told, and 0 where it was never attached.
+    /// The sequence with which the mirror's interval was last told, and 0 if it was never attached.
     pub fn interval_seq(&self, mirror: MirrorId) -> u64
         ensures { result ≡ interval_seq_of self.now mirror }
     {

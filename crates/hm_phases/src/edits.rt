@@ -1,4 +1,4 @@
-// What a change of a stack is made of: each writes the phases that change where they stand.
+// Edits of a stack in place: each writes the phases that change, where they stand.
 ghost use Rattle.std.specs.Prelude.{◌≡◌, ◌<◌, [], ◌∷◌, length, drop};
 
 use crate::{Depth, Stack};

@@ -24,7 +24,7 @@ fn catches(body: &Body) -> bool
     }
 }
 
-/// Changes the parts of a guard where an entry changes nothing else, and tells whether it does.
+/// Changes the parts of a guard if an entry changes nothing else, and says whether it did.
 fn guard_goes_on(
     proc: Proc,
     told: &mut Option<MirrorId>,

@@ -100,7 +100,7 @@ impl Stack {
         }
     }
 
-    /// What the stack is after the actor's entry, given what the world showed just before it; empty where the entry
+    /// What the stack is after the actor's entry, given what the world showed just before it; empty if the entry
     /// ends the operation.
     pub fn moved(&mut self, op: &Op, kind: &Kind, seen: &Seen)
         requires room { length (stack_after op.now self.old kind.now seen.now) ≤ 3 }

@@ -17,7 +17,7 @@ use Rattle.hm_history.specs.Operation.{is_migration}
 use Rattle.hm_quiet.specs.Keeping.{keeps_well, IsThere, WasDealt}
 use Rattle.hm_quiet.specs.Rest.{IsAtRest, OthersRest}
 
--- an operation of an actor that begins where nobody has one under way: the history has entries that were due, the
+-- an operation of an actor that begins while nobody has one under way: the history has entries that were due, the
 -- operation is the actor's next, and neither the actor nor another is in the midst of one
 pub record BeginsAlone (c : Program) (h : List Entry) (a : ℕ) (o : Op) : Type 0 where
   pub script : IsScript c
@@ -26,7 +26,7 @@ pub record BeginsAlone (c : Program) (h : List Entry) (a : ℕ) (o : Op) : Type 
   pub rests : IsAtRest c (state_of c h) a
   pub others : OthersRest c (state_of c h) a
 
--- it ends within so many entries, all of its actor, each of which was due: so the actor never waits, and as long as
+-- it ends within n entries, all of its actor, each of which was due: so the actor never waits, and as long as
 -- there is room each turn of it adds one. After the last one the actor is at its next operation
 pub record EndsSoon (c : Program) (h : List Entry) (a n : ℕ) : Type 0 where
   pub entries : List Entry
@@ -78,12 +78,12 @@ SelectedMove = (c : Program) (h : List Entry) (a : ℕ) (o : Op) → is_migratio
 abbrev pub bounds_left : Program → State → ℕ → ℕ
 bounds_left c s a = sum_by (quiet_bound c) (drop (s.going a).index (ops_of c a))
 
--- and of so many actors, from one on
+-- and of n actors, from one on
 abbrev pub all_bounds : Program → State → ℕ → ℕ → ℕ
 all_bounds c s from zero = 0
 all_bounds c s from (suc n) = bounds_left c s from + all_bounds c s (from + 1) n
 
--- a drain begins where no operation is under way, with room for the bounds of all operations that have not ended
+-- a drain begins while no operation is under way, with room for the bounds of all operations that have not ended
 pub record DrainsAlone (c : Program) (h : List Entry) : Type 0 where
   pub script : IsScript c
   pub were_due : DueFrom c [] h

@@ -4,7 +4,7 @@
 
 ghost use Rattle.hm_quiet.specs.Quiet.{DrainAloneHasRoom, DrainsHaveRoom, QuietEnds, QuietMoves, SelectedMove};
 
-/// An operation of any kind that begins where no other actor has one under way ends within its bound, if its actor
+/// An operation of any kind that begins while no other actor has one under way ends within its bound, if its actor
 /// goes on alone, and never waits.
 pub fn quiet_operations_end()
     ensures { QuietEnds }
@@ -22,13 +22,13 @@ pub fn selected_pages_move()
     ensures { SelectedMove }
 {}
 
-/// A drain that begins where no operation is under way finds no full history, where the bounds of what has not ended
+/// A drain that begins while no operation is under way finds no full history, if the bounds of what has not ended
 /// leave room.
 pub fn drains_have_room()
     ensures { DrainsHaveRoom }
 {}
 
-/// So the run of a script whose schedule is `drain` alone finds none, where the bounds of all operations leave room.
+/// So the run of a script whose schedule is `drain` alone finds none, if the bounds of all operations leave room.
 pub fn drain_alone_has_room()
     ensures { DrainAloneHasRoom }
 {}

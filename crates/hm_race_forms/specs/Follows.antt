@@ -7,6 +7,7 @@ use Rattle.hm_folds.specs.Kept.{sequences_of}
 use Rattle.hm_race_keys.specs.Trail.{places_in, held_in, lockers_in, flags_in, map_in, table_in, active_in, mirrors_in}
 use Rattle.hm_race_forms.specs.declared.trail.Trail.{Trail}
 
+-- a trail keeps all that a key needs of the state, so its key can be read off it
 pub record Follows (u : State) (x : Trail) : Type 0 where
   pub there : flags_in x.processes.rows 0 ≡ u.after.plain.there
   pub named : flags_in x.processes.rows 1 ≡ u.after.plain.named

@@ -21,6 +21,7 @@ use Rattle.hm_race_forms.specs.AreasRead.{areas_in}
 use Rattle.hm_race_forms.specs.GoingsRead.{goings_in}
 use Rattle.hm_race_forms.specs.declared.key.Key.{Key}
 
+-- a point that has these parts, and in what a key leaves out the values of a start
 abbrev pub point_by : (there named : ℕ → Bool) (areas : ℕ → List Area) (bytes : ℕ → ℕ → ℕ)
     (mirrors : ℕ → Option MirrorState) (place : ℕ → ℕ → Place) (held : Frame → Bool) (withdrawn removed : ℕ → Bool)
     (table : ℕ → ℕ → Option TableEntry) (seq active : ℕ → ℕ) (interval : ℕ → Option Interval)
@@ -57,6 +58,7 @@ point_by there named areas bytes mirrors place held withdrawn removed table seq 
       answers = said;
     }
 
+-- the point that a key stands for
 abbrev pub form_in : Key → Point
 form_in k = point_by
     (flags_in k.processes.rows 0) (flags_in k.processes.rows 1) (areas_in k.areas.items)
@@ -80,6 +82,7 @@ pub record SamePlaces (x y : Key) : Type 0 where
   pub locks : Alike x.locks.rows y.locks.rows
   pub maps : Alike x.maps.rows y.maps.rows
 
+-- keys with the same processes, areas, bytes, mirrors and sequences
 pub record SameProcesses (x y : Key) : Type 0 where
   pub processes : Alike x.processes.rows y.processes.rows
   pub areas : (p : ℕ) → areas_in x.areas.items p ≡ areas_in y.areas.items p

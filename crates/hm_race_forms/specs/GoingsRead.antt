@@ -7,19 +7,22 @@ use Rattle.hm_history.specs.declared.phases.Phase.{Phase}
 use Rattle.hm_phases.specs.Items.{phases_of}
 use Rattle.hm_race_forms.specs.declared.goings.GoingKey.{GoingKey}
 
--- a noted sequence, where the interval's own is this, and small it is that
+-- a noted sequence, if the interval's own is this, and small it is that
 abbrev pub noted : ℕ → ℕ → ℕ → ℕ
 noted own small q = if own == q then small else 5
 
+-- a fault without the position and the absolute sequence of its look-up
 abbrev pub blurred_touch : ℕ → ℕ → Touch → Touch
 blurred_touch own small (Cpu k) = Cpu k
 blurred_touch own small (Walk k at q) = Walk k 0 (noted own small q)
 blurred_touch own small Sole = Sole
 
+-- the same of a fault that may be none
 abbrev pub blurred_option : ℕ → ℕ → Option Touch → Option Touch
 blurred_option own small None = None
 blurred_option own small (Some touch) = Some (blurred_touch own small touch)
 
+-- a phase without the position and the absolute sequence of its look-up
 abbrev pub blurred_phase : ℕ → ℕ → Phase → Phase
 blurred_phase own small (Phase.Detaching q) = Phase.Detaching 0
 blurred_phase own small (Phase.Begun k at q) = Phase.Begun k 0 (noted own small q)
@@ -30,16 +33,19 @@ blurred_phase own small (Phase.Armed touch g x) = Phase.Armed (blurred_touch own
 blurred_phase own small (Phase.GiveUp touch) = Phase.GiveUp (blurred_option own small touch)
 blurred_phase own small x = x
 
+-- how far an actor is, by its part of a key
 abbrev pub going_in : GoingKey → Going
 going_in g = record { index = g.index; stack = phases_of g.items; pages = g.records.items }
 
--- where there is no such actor
+-- if there is no such actor
 abbrev pub nobody : Going
 nobody = record { index = 0; stack = []; pages = [] }
 
+-- the same of an actor that a key may not have
 abbrev pub going_at : Option GoingKey → Going
 going_at None = nobody
 going_at (Some g) = going_in g
 
+-- how far each actor is, by number
 abbrev pub goings_in : List GoingKey → ℕ → Going
 goings_in xs a = going_at (slice_get xs a)

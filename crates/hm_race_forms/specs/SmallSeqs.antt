@@ -9,6 +9,7 @@ use Rattle.hm_race_keys.specs.declared.rows.Rows.{Rows}
 abbrev pub seq_in : Rows → ℕ → ℕ
 seq_in x p = if word_of x 0 p == 1 then 3 else 2
 
+-- the stage of an interval, as a number
 abbrev pub stage_of_word : ℕ → Stage
 stage_of_word zero = InTree
 stage_of_word (suc zero) = InsertDeferred
@@ -28,6 +29,7 @@ interval_of_words (suc t) p first count now =
       stage = stage_of_word t;
     })
 
+-- the interval of a mirror, by its five words
 abbrev pub interval_in : Rows → ℕ → Option Interval
 interval_in x m =
     interval_of_words (word_of x 1 m) (word_of x 2 m) (word_of x 3 m) (word_of x 4 m) (word_of x 5 m)

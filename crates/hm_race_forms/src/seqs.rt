@@ -106,7 +106,7 @@ impl SeqRows {
         self.rows.set(1, at, stage_word(interval.stage))
     }
 
-    /// The small sequence of a mirror's interval; 0 where it was never attached.
+    /// The small sequence of a mirror's interval; 0 if it was never attached.
     pub fn interval_seq(&self, mirror: MirrorId) -> u64
         ensures { (f : ℕ → Option AnyInterval) → ((m : ℕ) → interval_in self.now.rows m ≡ f m)
             → result ≡ interval_seq (record sequences_start { interval = f }) mirror }

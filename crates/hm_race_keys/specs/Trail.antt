@@ -20,6 +20,7 @@ use Rattle.hm_race_keys.specs.declared.rows.Rows.{Rows}
 unfoldable pub place_of_word : ℕ → Place
 place_of_word w = unwrap_or (place_at w) Place.Empty
 
+-- the place of a page, by the word that is kept for it
 abbrev pub places_in : Rows → ℕ → ℕ → Place
 places_in x p v = place_of_word (word_of x p v)
 
@@ -27,16 +28,20 @@ places_in x p v = place_of_word (word_of x p v)
 abbrev pub place_next : (ℕ → ℕ → Place) → Kind → ℕ → ℕ → Place
 place_next f k = (places_next (record places_start { place = f }) k).place
 
+-- the frame is held, by the word that is kept for it
 abbrev pub held_in : Rows → Frame → Bool
 held_in x f = word_of x (pool_index f.pool) f.number == 1
 
+-- the held frames after an entry, for which the other parts do not count
 abbrev pub held_next : (Frame → Bool) → Kind → Frame → Bool
 held_next f k = (places_next (record places_start { held = f }) k).held
 
+-- an actor as a word above 0
 abbrev pub actor_of_word : ℕ → Option ℕ
 actor_of_word zero = None
 actor_of_word (suc a) = Some a
 
+-- who has the frame locked, by the word that is kept for it
 abbrev pub lockers_in : Rows → Frame → Option ℕ
 lockers_in x f = actor_of_word (word_of x (pool_index f.pool) f.number)
 
@@ -44,9 +49,11 @@ lockers_in x f = actor_of_word (word_of x (pool_index f.pool) f.number)
 abbrev pub flags_in : Rows → ℕ → ℕ → Bool
 flags_in x r d = word_of x r d == 1
 
+-- the withdrawn devices after an entry
 abbrev pub withdrawn_next : (ℕ → Bool) → Kind → ℕ → Bool
 withdrawn_next f k = (places_next (record places_start { withdrawn = f }) k).withdrawn
 
+-- the removed devices after an entry
 abbrev pub removed_next : (ℕ → Bool) → Kind → ℕ → Bool
 removed_next f k = (places_next (record places_start { removed = f }) k).removed
 
@@ -55,6 +62,7 @@ abbrev pub lock_of_words : ℕ → ℕ → Option MapLock
 lock_of_words zero w = None
 lock_of_words (suc p) w = Some (record { proc = p; writes = w == 1 })
 
+-- the mmap lock of an actor, by its two words
 abbrev pub map_in : Rows → ℕ → Option MapLock
 map_in x a = lock_of_words (word_of x 0 a) (word_of x 1 a)
 
@@ -64,14 +72,17 @@ right_of_word zero = TableRight.Read
 right_of_word (suc zero) = TableRight.Write
 right_of_word (suc (suc n)) = TableRight.Sole
 
+-- what a table entry names, by two words
 abbrev pub target_of_words : ℕ → ℕ → Option Frame
 target_of_words zero n = None
 target_of_words (suc i) n = Some (frame_of (pool_at i) n)
 
+-- a table entry by three words; the first is 0 if there is none
 abbrev pub entry_of_words : ℕ → ℕ → ℕ → Option TableEntry
 entry_of_words zero i n = None
 entry_of_words (suc r) i n = Some (record { target = target_of_words i n; right = right_of_word r; from = 0 })
 
+-- the table entry of a mirror's page, by the words of three rows
 abbrev pub table_in : Rows → Rows → Rows → ℕ → ℕ → Option TableEntry
 table_in rights pools numbers m v = entry_of_words (word_of rights m v) (word_of pools m v) (word_of numbers m v)
 
@@ -104,6 +115,7 @@ answers_in xs a = slice_index_or xs a []
 abbrev pub active_in : Rows → ℕ → ℕ
 active_in x p = word_of x 0 p
 
+-- how many invalidations of each process are under way after an entry
 abbrev pub active_next : (ℕ → ℕ) → Kind → ℕ → ℕ
 active_next f k = (sequences_next (record sequences_start { active = f }) 0 k).active
 
@@ -111,6 +123,7 @@ active_next f k = (sequences_next (record sequences_start { active = f }) 0 k).a
 abbrev pub there_next : (ℕ → Bool) → Kind → ℕ → Bool
 there_next f k = (plain_next (record plain_start { there = f }) k).there
 
+-- the process numbers that were given to forks after an entry
 abbrev pub named_next : (ℕ → Bool) → Kind → ℕ → Bool
 named_next f k = (plain_next (record plain_start { named = f }) k).named
 
@@ -120,14 +133,17 @@ attachment_of_word zero = Attached
 attachment_of_word (suc zero) = Detaching
 attachment_of_word (suc (suc n)) = Gone
 
+-- a mirror by five words; the first is 0 if none has come
 abbrev pub mirror_of_words : ℕ → ℕ → ℕ → ℕ → ℕ → Option MirrorState
 mirror_of_words zero d p first count = None
 mirror_of_words (suc t) d p first count =
     Some (record { dev = d; proc = p; window = record { first = first; count = count }; stage = attachment_of_word t })
 
+-- the mirrors, by the words that are kept for them
 abbrev pub mirrors_in : Rows → ℕ → Option MirrorState
 mirrors_in x m = mirror_of_words (word_of x 0 m) (word_of x 1 m) (word_of x 2 m) (word_of x 3 m) (word_of x 4 m)
 
+-- the mirrors after an entry
 abbrev pub mirrors_next : (ℕ → Option MirrorState) → Kind → ℕ → Option MirrorState
 mirrors_next f k = (plain_next (record plain_start { mirrors = f }) k).mirrors
 

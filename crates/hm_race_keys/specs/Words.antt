@@ -6,6 +6,7 @@ use Rattle.hm_race_keys.specs.declared.rows.Word.{Word}
 abbrev pub stands_at : ℕ → ℕ → Word → Bool
 stands_at r k w = (r == w.row) && (k == w.number)
 
+-- the word stands before a number of a row
 abbrev pub stands_before : ℕ → ℕ → Word → Bool
 stands_before r k w = nat_lt w.row r || ((r == w.row) && nat_lt w.number k)
 
@@ -31,7 +32,7 @@ put w (v ∷ ws) =
     if stands_before w.row w.number v then v ∷ put w ws
     else (if stands_at w.row w.number v then w ∷ ws else w ∷ v ∷ ws)
 
--- the word at a number of a row; 0 where none is kept
+-- the word at a number of a row; 0 if none is kept
 abbrev pub words_at : List Word → ℕ → ℕ → ℕ
 words_at [] r k = 0
 words_at (w ∷ ws) r k = if stands_at r k w then w.word else words_at ws r k

@@ -86,7 +86,7 @@ impl LockRows {
             .set(pool_index(&frame.pool), u64::from(frame.number), word)
     }
 
-    /// The frame of the old place, where no place names it after an entry that changed that, and nobody has it locked.
+    /// The frame of the old place, if no place names it after an entry that changed that, and nobody has it locked.
     pub fn left_behind(&self, after: &PlaceRows, old: &Place) -> Option<Frame>
         ensures { (t : Places) → t.place ≡ places_in after.now.rows → AreListed t
             → result ≡ left_behind (record locks_start { frame = lockers_in self.now.rows }) t (names old.now) }

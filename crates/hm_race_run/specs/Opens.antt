@@ -5,10 +5,11 @@ use Rattle.hm_world.specs.WorldValue.{WorldValue, now}
 use Rattle.hm_race_run.specs.Races.{RaceValue}
 use Rattle.hm_race_run.specs.declared.race.Opened.{Opened}
 
--- the state of a world, and the answers since the set-up, which has so many entries
+-- the state of a world, and the answers since the set-up, which has `from` entries
 abbrev pub point_of : WorldValue → ℕ → Point
 point_of w from = record { state = now w; answers = answers_of (drop from w.history) }
 
+-- the point at which an opened state is
 abbrev pub point_here : Opened → Point
 point_here o = point_of o.world o.from
 

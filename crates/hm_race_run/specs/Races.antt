@@ -9,6 +9,7 @@ pub record RaceValue : Type 0 where
   pub script : Program
   pub set_up : List Entry
 
+-- the set-up is a history of entries that were due, and not too long
 pub record IsRace (t : RaceValue) : Type 0 where
   pub script : IsScript t.script
   pub due : DueFrom t.script [] t.set_up

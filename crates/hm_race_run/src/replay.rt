@@ -30,7 +30,7 @@ fn add(world: &mut World, entry: Entry) -> Result<(), StepError>
     }
 }
 
-/// A turn of the actor: what is due to it is added. It fails where the history is full and an entry is due.
+/// A turn of the actor: what is due to it is added. It fails if the history is full and an entry is due.
 pub fn take_turn<R: SkipRule>(
     alloc: Global,
     rule: &R,

@@ -30,6 +30,7 @@ pub record IsKnown (c : Program) (h : List Entry) (n : KnownValue) : Type 0 wher
   pub actors : AreActors c n.turns
   pub room : (point_at c h n.turns).state.after.length ≤ 2000000
 
+-- the forms of what is known
 abbrev pub forms : List KnownValue → List Point
 forms ns = map (λ n. n.form) ns
 
@@ -42,9 +43,11 @@ outcomes_of c (n ∷ ns) = if n.ended then outcome c n.form.answers ∷ outcomes
 abbrev pub GoesOn : Program → List Point → Point → ℕ → Type 0
 GoesOn c fs x a = (e : Entry) → due_in c x.state a ≡ Progress.Did e → IsListed fs (form_of c (point_next c x e))
 
+-- a search has gone on from a point by each actor below a number
 abbrev pub GoneOnBelow : Program → List Point → Point → ℕ → Type 0
 GoneOnBelow c fs x k = (a : ℕ) → a < k → GoesOn c fs x a
 
+-- a search has gone on from a point by every actor
 abbrev pub GoneOn : Program → List Point → Point → Type 0
 GoneOn c fs x = (a : ℕ) → GoesOn c fs x a
 

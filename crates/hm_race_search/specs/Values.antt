@@ -7,9 +7,11 @@ use Rattle.hm_races.specs.Closed.{IsListed}
 use Rattle.hm_race_search.specs.Known.{KnownValue, HaveLeft}
 use Rattle.hm_race_search.specs.declared.known.Known.{Known}
 
+-- what contracts see of a state that is known; `form` reads its key
 abbrev pub known_of : {K : Type 0} → (K → Point) → Known K → KnownValue
 known_of form n = record { form = form n.key; turns = n.turns.items; ended = n.ended }
 
+-- the same of all that are known
 abbrev pub all_known : {K : Type 0} → (K → Point) → List (Known K) → List KnownValue
 all_known form ns = map (known_of form) ns
 

@@ -23,7 +23,7 @@ pub struct Known<K> {
 #[derive(Drop)]
 pub struct States<K> {
     pub known: Vec<Known<K>>,
-    // By the bucket of a key, where states with such keys stand among those that are known.
+    // For each bucket, the indices in `known` of the states whose keys fall into it.
     places: BTreeMap<u64, Vec<usize>>,
 }
 

@@ -12,11 +12,11 @@ ghost use Rattle.hm_race_search.specs.Known.{MayFail};
 use hm_base::Actor;
 use hm_history::StepError;
 
-/// What a search compares of two states: equal keys are states, and answers so far, between which no outcome tells.
+/// What a search compares of two states. States with equal keys have the same answers so far, and the same outcomes.
 pub trait RaceKey {
     ghost form: { Self → Point };
 
-    /// Whether the two are the same state. It may say no of two that are.
+    /// Whether the two are the same state. It may say no though they are.
     fn same(&self, other: &Self) -> bool
         ensures { result ≡ true → form self.now ≡ form other.now };
 

@@ -44,7 +44,7 @@ fn adds_at<R: Race>(race: &R, here: &R::Open) -> Result<[bool; 16], StepError>
     Ok(adds)
 }
 
-// The state after these turns is known, be it new or not.
+// Comes to the state after these turns, and notes it if it is new.
 fn add<R: Race>(
     race: &R,
     alloc: Global,
@@ -83,7 +83,7 @@ fn add<R: Race>(
     }
 }
 
-// The state after what is due to the actor, if something may be, is known.
+// Comes to the state after one turn of the actor, unless nothing is due to it, and notes that state if it is new.
 fn go<R: Race>(
     race: &R,
     alloc: Global,
@@ -198,7 +198,7 @@ fn begin<R: Race>(race: &R, alloc: Global) -> Result<States<R::Key>, StepError>
     }
 }
 
-/// All states to which the race can come, where these are at most so many; else more than so many of them. It comes
+/// All states to which the race can come, if these are at most so many; else more than so many of them. It comes
 /// first to the states that are the fewest turns away.
 pub fn explore<R: Race>(race: &R, alloc: Global, most: u64) -> Result<Explored<R::Key>, StepError>
     ensures complete { IfOk result (λ x. x.whole ≡ true

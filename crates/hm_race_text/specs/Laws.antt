@@ -22,12 +22,13 @@ use Rattle.hm_race_text.specs.declared.block.Block.{Block}
 abbrev pub TurnsLead : Type 0
 TurnsLead = (c : Program) (turns : List ℕ) → run (with_turns c turns) ≡ raced c (run c) turns
 
--- a script is one again, where its schedule has no `drain`, the turns are of its actors, and the lines are not too many
+-- a script is one again, if its schedule has no `drain`, the turns are of its actors, and the lines are not too many
 pub record MayHaveTurns (c : Program) (turns : List ℕ) : Type 0 where
   pub goes_on : has_drain c.schedule ≡ false
   pub actors : list_all (λ a. nat_lt a (length c.actors)) turns ≡ true
   pub few_lines : run_lines (with_turns c turns).schedule ≤ 100000
 
+-- a script with such turns after its own schedule is a script
 abbrev pub TurnsStand : Type 0
 TurnsStand = (c : Program) (turns : List ℕ) → IsScript c → MayHaveTurns c turns → IsScript (with_turns c turns)
 
@@ -35,6 +36,7 @@ TurnsStand = (c : Program) (turns : List ℕ) → IsScript c → MayHaveTurns c 
 abbrev pub SameDue : Type 0
 SameDue = (c : Program) (turns : List ℕ) (h : List Entry) (a : ℕ) → due (with_turns c turns) h a ≡ due c h a
 
+-- turns after the schedule change nothing of what is legal
 abbrev pub SameLegal : Type 0
 SameLegal = (c : Program) (turns : List ℕ) (h : List Entry) → Legal (with_turns c turns) h ↔ Legal c h
 
@@ -47,7 +49,7 @@ pub record LeadsTo (c : Program) (h : List Entry) (turns : List ℕ) (x : Point)
   pub state : state_of c (h ++ entries) ≡ x.state
   pub answers : answers_of entries ≡ x.answers
 
--- where a history has room for what the turns add
+-- if a history has room for what the turns add
 abbrev pub PointsAreLed : Type 0
 PointsAreLed =
     (c : Program) (h : List Entry) (turns : List ℕ) → (point_at c h turns).state.after.length ≤ 2000000
@@ -61,6 +63,7 @@ pub record IsFound (ws : List Way) (b : Block) : Type 0 where
   pub listed : IsListed ws way
   pub block : block_of way ≡ b
 
+-- each block that is written comes from a way that was found
 abbrev pub BlocksAreFound : Type 0
 BlocksAreFound = (ws : List Way) (b : Block) → IsListed (blocks_of ws) b → IsFound ws b
 
@@ -68,6 +71,7 @@ BlocksAreFound = (ws : List Way) (b : Block) → IsListed (blocks_of ws) b → I
 abbrev pub lines_of : List Block → List (List ℕ)
 lines_of bs = map (λ b. b.lines) bs
 
+-- each way that was found has its answers written
 abbrev pub WaysAreShown : Type 0
 WaysAreShown = (ws : List Way) (w : Way) → IsListed ws w → IsListed (lines_of (blocks_of ws)) (answer_lines w.answers)
 
@@ -76,5 +80,6 @@ abbrev pub AreDistinct : {X : Type 0} → List X → Type 0
 AreDistinct [] = ⊤
 AreDistinct (x ∷ xs) = (IsListed xs x → ⊥) × AreDistinct xs
 
+-- no outcome is written twice
 abbrev pub NoneTwice : Type 0
 NoneTwice = (ws : List Way) → AreDistinct (lines_of (blocks_of ws))

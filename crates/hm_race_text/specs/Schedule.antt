@@ -3,7 +3,7 @@ use Rattle.std.specs.Prelude.{ℕ, ◌+◌, ◌==◌, ◌&&◌, nat_lt, true, fa
 use Rattle.hm_base.specs.Program.{Program}
 use Rattle.hm_base.specs.declared.ops.ScheduleLine.{ScheduleLine}
 
--- so many turns of an actor, and more turns: those of one actor in a row are one line, as far as a line goes
+-- k turns of an actor, and more turns: those of one actor in a row are one line, as far as a line goes
 abbrev pub packed_from : ℕ → ℕ → List ℕ → List ScheduleLine
 packed_from a k [] = ScheduleLine.Run a k ∷ []
 packed_from a k (b ∷ bs) = elim ((a == b) && nat_lt k 1000000) [
@@ -11,6 +11,7 @@ packed_from a k (b ∷ bs) = elim ((a == b) && nat_lt k 1000000) [
   | false ↦ ScheduleLine.Run a k ∷ packed_from b 1 bs
 ]
 
+-- turns as lines of a schedule: those of one actor in a row are one line
 abbrev pub packed : List ℕ → List ScheduleLine
 packed [] = []
 packed (a ∷ bs) = packed_from a 1 bs

@@ -15,6 +15,7 @@ pub record Way : Type 0 where
   pub answers : List (List Kind)
   pub turns : List ℕ
 
+-- the block of a way, whose answers are written as lines
 abbrev pub block_of : Way → Block
 block_of w = record { lines = answer_lines w.answers; turns = w.turns }
 
@@ -34,12 +35,15 @@ blocks_of ws = fold (λ bs w. with_block bs (block_of w)) [] ws
 abbrev pub lines_text : List ScheduleLine → List ℕ
 lines_text ls = flat_map (λ l. line (schedule_words l)) ls
 
+-- turns as they stand in an outcome: lines that a script's schedule may end with
 abbrev pub turns_text : List ℕ → List ℕ
 turns_text turns = lines_text (packed turns)
 
+-- the line over an outcome, with its number
 abbrev pub outcome_line : ℕ → List ℕ
 outcome_line n = line (codes "outcome" ∷ decimal n ∷ [])
 
+-- an outcome: its number, the answers, and turns that lead to it
 abbrev pub block_text : ℕ → Block → List ℕ
 block_text n b = outcome_line n ++ (b.lines ++ turns_text b.turns)
 
@@ -52,6 +56,7 @@ blocks_text n (b ∷ bs) = block_text n b ++ blocks_text (n + 1) bs
 abbrev pub whole_word : Bool → List ℕ
 whole_word whole = if whole then codes "whole" else codes "cut"
 
+-- the last line: how many states are known, and whether these are all
 abbrev pub states_line : ℕ → Bool → List ℕ
 states_line states whole = line (codes "states" ∷ decimal states ∷ whole_word whole ∷ [])
 

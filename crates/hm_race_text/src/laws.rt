@@ -6,7 +6,7 @@ pub fn turns_lead()
     ensures { TurnsLead }
 {}
 
-/// It is a script again, where a schedule may have these lines.
+/// It is a script again, if a schedule may have these lines.
 pub fn turns_stand()
     ensures { TurnsStand }
 {}
@@ -21,7 +21,7 @@ pub fn same_legal()
     ensures { SameLegal }
 {}
 
-/// Turns lead by entries that are due to the point that is known of them, where the history has room.
+/// Turns lead by entries that are due to the point that is known of them, if the history has room.
 pub fn points_are_led()
     ensures { PointsAreLed }
 {}

@@ -8,7 +8,7 @@ abbrev pub spelled : Result ℕ Reason → Option ℕ
 spelled (Ok most) = Some most
 spelled (Err why) = None
 
--- a million where no word says another number; none where the words are none of the forms
+-- a million if no word says another number; none if the words are none of the forms
 abbrev pub most_of : List (List ℕ) → Option ℕ
 most_of [] = Some 1000000
 most_of (word ∷ []) = spelled (number word)

@@ -22,6 +22,6 @@ abbrev pub KnownIsTrue : Type 0
 KnownIsTrue =
     (c : Program) → IsScript c → (ns : List KnownValue) → AreKnown c (run c) ns → AreTrue c (blocks_known c ns)
 
--- and it is all, where the states are
+-- and it is all, if the states are
 abbrev pub CompleteIsAll : Type 0
 CompleteIsAll = (c : Program) (ns : List KnownValue) → IsComplete c (run c) ns → HaveAll c (blocks_known c ns)

@@ -29,9 +29,9 @@ pub record Found (most : ℕ) (c : Program) (before after : SinkState) (status :
   pub real : AreTrue c (blocks_known c known)
   -- No two blocks have the same answers.
   pub distinct : AreDistinct (lines_of (blocks_known c known))
-  -- Where `whole` is written, every outcome that the race can come to is there.
+  -- If `whole` is written, every outcome that the race can come to is there.
   pub complete : whole ≡ true → HaveAll c (blocks_known c known)
-  -- `cut` is written only where there are more states than were asked for.
+  -- `cut` is written only if there are more states than were asked for.
   pub cut : whole ≡ false → most < length known
 
 -- how a text was written: all of it, a front of it, or nothing
@@ -61,7 +61,7 @@ pub record HasStopped (io : Traffic) (status : Status) : Type 0 where
   pub read : HasNotRead io.source io.source_after status
   pub sink : io.sink_after ≡ io.sink
 
--- where a script is given and nothing fails, its outcomes are written, or memory runs out, or a history is full
+-- if a script is given and nothing fails, its outcomes are written, or memory runs out, or a history is full
 abbrev pub IsSure : Status → Type 0
 IsSure Status.Done = Unit {0}
 IsSure Status.NoMemory = Unit {0}
@@ -70,14 +70,14 @@ IsSure _ = ⊥
 
 -- A script is read, and the outcomes of its race are written.
 pub record Searches (most : ℕ) (io : Traffic) (status : Status) : Type 0 where
-  -- One of the two. A script is refused exactly where no script has the bytes as its text.
+  -- One of the two. A script is refused if and only if no script has the bytes as its text.
   pub seen : Searched most io status ⊎ HasStopped io status
-  -- `ReadFault` comes only where the source counted a fault, and `WriteFault` where the sink did.
+  -- `ReadFault` comes only if the source counted a fault, and `WriteFault` if the sink did.
   pub read_faults : ReadFaulted io.source.faults io.source_after.faults status
   pub write_faults : WriteFaulted io.sink.faults io.sink_after.faults status
   -- What was written at `Done`, the sink sent on.
   pub flushed : status ≡ Status.Done → io.sink_after.pending ≡ false
-  -- Where neither stream counted a fault, and the bytes are the text of a script.
+  -- If neither stream counted a fault, and the bytes are the text of a script.
   pub sure : NoFault io → IfSome io.source.left (λ bytes. (s : Program) → IsGiven s bytes → IsSure status)
 
 -- the words are none of the forms: nothing was read, and nothing written

@@ -16,11 +16,11 @@ use Rattle.hm_race_text.specs.Text.{Way, block_of, blocks_of}
 use Rattle.hm_race_text.specs.declared.block.Block.{Block}
 use Rattle.hm_script.specs.Built.{has_drain}
 
--- the turns that are told: none behind a `drain`, which leaves nothing to do
+-- the turns that are written: none after a `drain`, which leaves nothing to do
 abbrev pub told_turns : Bool → List ℕ → List ℕ
 told_turns drains turns = if drains then [] else turns
 
--- the way to a state, of so many actors
+-- the way to a state, with the answers of `actors` actors
 abbrev pub way_by : ℕ → Bool → KnownValue → Way
 way_by actors drains n = record { answers = map n.form.answers (numbers 0 actors); turns = told_turns drains n.turns }
 
@@ -30,6 +30,7 @@ ways_by actors drains [] = []
 ways_by actors drains (n ∷ ns) =
     if n.ended then way_by actors drains n ∷ ways_by actors drains ns else ways_by actors drains ns
 
+-- the ways to the outcomes of a script's race, of what a search knows
 abbrev pub ways_of : Program → List KnownValue → List Way
 ways_of c ns = ways_by (length c.actors) (has_drain c.schedule) ns
 
@@ -55,6 +56,7 @@ pub record IsTrueOf (c : Program) (b : Block) : Type 0 where
   pub block : block_of way ≡ b
   pub ends : EndsSo c way
 
+-- each block that is written is true
 abbrev pub AreTrue : Program → List Block → Type 0
 AreTrue c bs = (b : Block) → IsListed bs b → IsTrueOf c b
 

@@ -4,7 +4,7 @@ ghost use Rattle.hm_race_top.specs.Asked.{most_of};
 
 use hm_script::number;
 
-/// As many states as a search may know, where the words say nothing else.
+/// As many states as a search may know, if the words say nothing else.
 pub const MOST_STATES: u64 = 1_000_000;
 
 /// The number of states that the words ask for, if they are one of the forms. A number is decimal, without leading

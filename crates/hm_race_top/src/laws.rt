@@ -27,7 +27,7 @@ pub fn known_is_true()
     hm_race_text::blocks_are_found();
 }
 
-/// Where the states that are known have every outcome, what is written has it.
+/// If the states that are known have every outcome, what is written has it.
 pub fn complete_is_all()
     ensures { CompleteIsAll }
 {

@@ -25,7 +25,7 @@ pub fn has_drain(lines: &[ScheduleLine]) -> bool
     false
 }
 
-/// The turns that are told: none behind a `drain`.
+/// The turns that are told: none after a `drain`.
 fn told_turns(alloc: Global, drains: bool, turns: &[Actor]) -> Result<ListOf<Actor>, NoMemory>
     ensures { IfOk result (λ xs. xs ≡ told_turns drains turns.now) }
 {

@@ -7,6 +7,7 @@ use Rattle.hm_history.specs.declared.Entry.{Entry}
 use Rattle.hm_history.specs.declared.Progress.{Progress}
 use Rattle.hm_races.specs.Outcomes.{Point, Reached, point_next, point_from, outcome, ended_in}
 
+-- the value is one of the list, by equality as such, since keys may be of a type without a test
 abbrev pub IsListed : {X : Type 0} → List X → X → Type 0
 IsListed [] x = ⊥
 IsListed (y ∷ ys) x = (y ≡ x) ⊎ IsListed ys x
@@ -21,7 +22,7 @@ pub record Stands {K : Type 0} (c : Program) (h : List Entry) (key : Point → K
 abbrev pub Onward : {K : Type 0} → Program → (Point → K) → List K → Point → Type 0
 Onward c key ks x = (e : Entry) → due_in c x.state e.actor ≡ Progress.Did e → IsListed ks (key (point_next c x e))
 
--- what a point answers, where all operations have ended, is listed
+-- what a point answers, if all operations have ended, is listed
 abbrev pub Told : Program → List (List (List Kind)) → Point → Type 0
 Told c xs x = ended_in c x.state ≡ true → IsListed xs (outcome c x.answers)
 

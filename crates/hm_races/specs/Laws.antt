@@ -49,6 +49,8 @@ TellsTidied c h key =
     (x y : Point) → Reached c h x → Reached c h y → key x ≡ key y
     → (tidied c x.state ≡ tidied c y.state) × (x.answers ≡ y.answers)
 
+-- a search by keys that leave out the order of placed pages too has every outcome, after a set-up of entries that
+-- were due
 abbrev pub TidiedIsComplete : Type 0
 TidiedIsComplete =
     (c : Program) → IsScript c → (h : List Entry) → DueFrom c [] h

@@ -17,13 +17,16 @@ use Rattle.hm_history.specs.declared.phases.Phase.{Phase}
 use Rattle.hm_history.specs.declared.phases.Next.{Next}
 use Rattle.hm_history.specs.declared.phases.Next.TheVariants.{Do, Wait}
 
+-- a table entry without the position of its look-up
 abbrev pub placeless : Option TableEntry → Option TableEntry
 placeless None = None
 placeless (Some x) = Some (record { target = x.target; right = x.right; from = 0 })
 
+-- the places and tables, without positions and without what only laws ask of
 abbrev pub forget_places : Places → Places
 forget_places t = record t { table = λ m v. placeless (t.table m v); committed_to = λ f. None; device = λ m. None }
 
+-- the state after a history, without positions and without what only laws ask of
 abbrev pub forget_after : After → After
 forget_after s =
     record s {
@@ -34,15 +37,18 @@ forget_after s =
       contents = λ f. zeros;
     }
 
+-- a fault without the position of its look-up
 abbrev pub forget_touch : Touch → Touch
 forget_touch (Cpu k) = Cpu k
 forget_touch (Walk k at q) = Walk k 0 q
 forget_touch Sole = Sole
 
+-- the same of a fault that may be none
 abbrev pub forget_option : Option Touch → Option Touch
 forget_option None = None
 forget_option (Some touch) = Some (forget_touch touch)
 
+-- a phase without the position of its look-up
 abbrev pub forget_phase : Phase → Phase
 forget_phase (Phase.Begun k at q) = Phase.Begun k 0 q
 forget_phase (Phase.Decide touch) = Phase.Decide (forget_touch touch)
@@ -52,30 +58,38 @@ forget_phase (Phase.Armed touch g x) = Phase.Armed (forget_touch touch) g x
 forget_phase (Phase.GiveUp touch) = Phase.GiveUp (forget_option touch)
 forget_phase x = x
 
+-- a stack of such phases
 abbrev pub forget_stack : List Phase → List Phase
 forget_stack [] = []
 forget_stack (x ∷ xs) = forget_phase x ∷ forget_stack xs
 
+-- how far an actor is, without positions
 abbrev pub forget_going : Going → Going
 forget_going g = record { index = g.index; stack = forget_stack g.stack; pages = g.pages }
 
+-- a state without positions and without what only laws ask of
 abbrev pub forget_state : State → State
 forget_state u = record { after = forget_after u.after; going = λ a. forget_going (u.going a) }
 
+-- what an actor sees at its entry, without the position of that
 abbrev pub forget_seen : Seen → Seen
 forget_seen x = record x { at = 0 }
 
+-- a kind of entry without the position that a `set` has
 abbrev pub forget_kind : Kind → Kind
 forget_kind (Kind.Set m v f w from) = Kind.Set m v f w 0
 forget_kind k = k
 
+-- an entry without it
 abbrev pub forget_entry : Entry → Entry
 forget_entry e = record { actor = e.actor; kind = forget_kind e.kind }
 
+-- what is due at a phase, without positions
 abbrev pub forget_next : Next → Next
 forget_next (Do k) = Do (forget_kind k)
 forget_next (Wait y) = Wait y
 
+-- what a turn comes to, without positions
 abbrev pub forget_progress : Progress → Progress
 forget_progress (Progress.Did e) = Progress.Did (forget_entry e)
 forget_progress (Progress.Waiting y) = Progress.Waiting y

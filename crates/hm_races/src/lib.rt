@@ -24,7 +24,7 @@ pub fn tidied_is_complete()
     ensures { TidiedIsComplete }
 {}
 
-/// So has one whose keys are read as such states: no code of them has to tell anything apart.
+/// So has one whose keys are read as such states, if equal keys mean equal states; a code of them may be any.
 pub fn forms_are_complete()
     ensures { FormsAreComplete }
 {}

@@ -1,4 +1,4 @@
--- What the lines of a report behind its script tell.
+-- What the lines of a report after its script say.
 use Rattle.std.specs.Prelude.{◌≡◌, ◌⊎◌, ℕ, ◌^◌, ◌<◌, ◌≤◌, Option, Some, None, List, [], ◌∷◌, ◌++◌, length, codes, ⊤, All}
 use Rattle.std.specs.Fmt.{decimal}
 use Rattle.hm_history.specs.declared.Entry.{Entry}
@@ -23,10 +23,12 @@ pub record FitsUnfinished (u : Unfinished) : Type 0 where
   pub actor : u.actor < 16
   pub index : u.index < 2 ^ 64
 
+-- what was read of a line of an operation that has not ended: its actor and number, or that it is no such line
 abbrev pub IsUnfinished : List ℕ → Option Unfinished → Type 0
 IsUnfinished line None = (u : Unfinished) → FitsUnfinished u → line ≡ unfinished_text u.actor u.index → ⊥
 IsUnfinished line (Some u) = FitsUnfinished u × (line ≡ unfinished_text u.actor u.index)
 
+-- what was read of a report's last line: the number of entries, or that it is no such line
 abbrev pub IsEnd : List ℕ → Option ℕ → Type 0
 IsEnd line None = (n : ℕ) → n < 2 ^ 64 → line ≡ end_line n → ⊥
 IsEnd line (Some n) = line ≡ end_line n

@@ -11,40 +11,50 @@ use Rattle.hm_history.specs.declared.KeptWhy.{KeptWhy}
 use Rattle.hm_history.specs.declared.Kind.{Kind}
 use Rattle.hm_history.specs.declared.Who.{Who}
 
+-- the number fits in 64 bits
 abbrev pub Fits64 : ℕ → Type 0
 Fits64 n = n < 2 ^ 64
 
+-- each number is a byte
 abbrev pub FitsHex : List ℕ → Type 0
 FitsHex bytes = list_all (λ b. nat_lt b 256) bytes ≡ true
 
+-- the process or mirror is in range
 abbrev pub FitsWho : Who → Type 0
 FitsWho (Who.Cpu p) = p < 32
 FitsWho (Who.Mirror m) = m < 32
 
+-- the device is in range
 abbrev pub FitsPool : PoolId → Type 0
 FitsPool PoolId.System = Unit {0}
 FitsPool (PoolId.Device d) = d < 4
 
+-- a frame's pool is in range, and its number fits in 32 bits
 pub record FitsFrame (f : Frame) : Type 0 where
   pub pool : FitsPool f.pool
   pub number : f.number < 2 ^ 32
 
+-- what a table entry names is in range; the zero page always is
 abbrev pub FitsTarget : Option Frame → Type 0
 FitsTarget None = Unit {0}
 FitsTarget (Some f) = FitsFrame f
 
+-- the part of a copy fits in a byte. An eighth above 7 fits too, which no legal report has
 abbrev pub FitsPart : Option ℕ → Type 0
 FitsPart None = Unit {0}
 FitsPart (Some k) = k < 256
 
+-- the page or frame that was left behind is in range
 abbrev pub FitsKept : KeptAt → Type 0
 FitsKept (KeptAt.Page v) = v < 2 ^ 36
 FitsKept (KeptAt.Frame f) = FitsFrame f
 
+-- the actor that a reason names is in range
 abbrev pub FitsWhy : KeptWhy → Type 0
 FitsWhy (KeptWhy.LockedBy a) = a < 16
 FitsWhy _ = Unit {0}
 
+-- the numbers of a place are in range
 abbrev pub FitsPlace : Place → Type 0
 FitsPlace Place.Empty = Unit {0}
 FitsPlace Place.Zero = Unit {0}
@@ -53,6 +63,7 @@ FitsPlace (Place.Own d n w) = (d < 4) × (n < 2 ^ 32)
 FitsPlace (Place.Moving f w) = FitsFrame f
 FitsPlace (Place.Exclusive n a) = (n < 2 ^ 32) × (a < 16)
 
+-- the numbers of a kind fit the types of its fields
 abbrev pub FitsKind : Kind → Type 0
 FitsKind (Kind.Loaded x a bs) = FitsWho x × Fits64 a × FitsHex bs
 FitsKind (Kind.Stored x a bs) = FitsWho x × Fits64 a × FitsHex bs
@@ -93,6 +104,7 @@ FitsKind (Kind.Excluded m v) = (m < 32) × (v < 2 ^ 36)
 FitsKind (Kind.Fetched m a bs) = (m < 32) × Fits64 a × FitsHex bs
 FitsKind (Kind.Added m a was now) = (m < 32) × Fits64 a × (was < 256) × (now < 256)
 
+-- an entry that a program can have; no line is read as another one
 pub record FitsEntry (e : Entry) : Type 0 where
   pub actor : e.actor < 16
   pub kind : FitsKind e.kind

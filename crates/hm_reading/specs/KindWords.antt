@@ -5,6 +5,7 @@ use Rattle.std.specs.Str.{bytes_eq}
 use Rattle.hm_history.specs.declared.Kind.{Kind}
 use Rattle.hm_reading.specs.declared.kind_word.KindWord.{KindWord}
 
+-- the word of a kind, as it stands in a line after the actor
 abbrev pub kind_text : KindWord → List ℕ
 kind_text KindWord.Loaded = codes "loaded"
 kind_text KindWord.Stored = codes "stored"
@@ -45,6 +46,7 @@ kind_text KindWord.Excluded = codes "excluded"
 kind_text KindWord.Fetched = codes "fetched"
 kind_text KindWord.Added = codes "added"
 
+-- every word, in the order in which one is looked for
 abbrev pub all_kinds : List KindWord
 all_kinds =
     KindWord.Loaded

@@ -171,6 +171,7 @@ kind_at KindWord.Added ws = do
   a ← address (word 4 ws)
   Ok (Kind.Added m a (byte_at (word 5 ws)) (byte_at (word 6 ws)))
 
+-- the kind of a line, if its word is that of a kind
 abbrev pub named_kind : Option KindWord → List (List ℕ) → Result Kind Reason
 named_kind None ws = Err Reason.Word
 named_kind (Some k) ws = kind_at k ws

@@ -27,7 +27,7 @@ abbrev pub begins : ℕ → List ℕ → Bool
 begins letter [] = false
 begins letter (c ∷ w) = c == letter
 
--- a number below the limit, behind one letter
+-- a number below the limit, after one letter
 unfoldable pub numbered : ℕ → List ℕ → Result ℕ Reason
 numbered limit w = do
   n ← number (drop 1 w)
@@ -53,6 +53,7 @@ span_at first count = do
 abbrev pub nibble : ℕ → ℕ
 nibble c = if nat_lt c 97 then (c - 48) % 16 else (c - 87) % 16
 
+-- the byte of two hexadecimal digits
 abbrev pub pair : ℕ → ℕ → ℕ
 pair high low = 16 * nibble high + nibble low
 
@@ -61,6 +62,7 @@ abbrev pub byte_at : List ℕ → ℕ
 byte_at (high ∷ low ∷ w) = pair high low
 byte_at _ = 0
 
+-- the bytes of a word of such digits; a digit left over is passed over
 abbrev pub bytes_at : List ℕ → List ℕ
 bytes_at (high ∷ low ∷ w) = pair high low ∷ bytes_at w
 bytes_at _ = []
@@ -69,18 +71,19 @@ bytes_at _ = []
 abbrev pub right_at : List ℕ → Rights
 right_at w = if bytes_eq w (codes "rw") then Rights.ReadWrite else Rights.Read
 
--- a mirror, where the letter is `m`, and else a process
+-- a mirror, if the letter is `m`, and else a process
 unfoldable pub who_at : List ℕ → Result Who Reason
 who_at w = do
   n ← numbered 32 w
   Ok (if begins 109 w then Who.Mirror n else Who.Cpu n)
 
+-- the system's frame that a word tells
 abbrev pub system_frame_at : List ℕ → Result Frame Reason
 system_frame_at w = do
   n ← numbered (2 ^ 32) w
   Ok (sys_frame n)
 
--- a device's number has one digit, and a point stands behind it
+-- a device's number has one digit, and a point stands after it
 abbrev pub device_frame_at : List ℕ → Result Frame Reason
 device_frame_at (_ ∷ digit ∷ _ ∷ rest) = do
   d ← number (digit ∷ [])
@@ -90,7 +93,7 @@ device_frame_at (_ ∷ digit ∷ _ ∷ rest) = do
   Ok (dev_frame e m)
 device_frame_at _ = Err Reason.Number
 
--- a frame of the system, where the letter is `s`, and else of a device
+-- a frame of the system, if the letter is `s`, and else of a device
 unfoldable pub frame_at : List ℕ → Result Frame Reason
 frame_at w = if begins 115 w then system_frame_at w else device_frame_at w
 
@@ -99,6 +102,7 @@ target_at w = if bytes_eq w (codes "zero") then Ok None else (do
   f ← frame_at w
   Ok (Some f))
 
+-- the right that a word tells; a word that tells none is found out when the line is compared
 abbrev pub table_right_at : List ℕ → TableRight
 table_right_at w = if bytes_eq w (codes "r") then TableRight.Read
     else (if bytes_eq w (codes "w") then TableRight.Write else TableRight.Sole)
@@ -109,7 +113,7 @@ part_at w = if bytes_eq w (codes "all") then Ok None else (do
   k ← below 256 n
   Ok (Some k))
 
--- a frame, where the letter is `s` or `d`, and else a page
+-- a frame, if the letter is `s` or `d`, and else a page
 unfoldable pub kept_at : List ℕ → Result KeptAt Reason
 kept_at w = if begins 115 w || begins 100 w then (do
   f ← frame_at w
@@ -137,6 +141,7 @@ cause_at w = do
   n ← number w
   cause_of n
 
+-- the word says that a place may be written through
 abbrev pub writes : List ℕ → Bool
 writes w = bytes_eq w (codes "w")
 
@@ -145,6 +150,7 @@ abbrev pub system_number : PoolId → ℕ → Result ℕ Reason
 system_number PoolId.System n = Ok n
 system_number (PoolId.Device d) n = Err Reason.Word
 
+-- a place in a device's memory; one in the system's memory is not called so
 abbrev pub own_place : PoolId → ℕ → Bool → Result Place Reason
 own_place PoolId.System n w = Err Reason.Word
 own_place (PoolId.Device d) n w = Ok (Place.Own d n w)

@@ -11,7 +11,7 @@ fn space_in(line: &[u8]) -> Option<usize>
     line.iter().position(|b| *b == b' ')
 }
 
-/// The first word and the rest of the line after its space, where there is a space.
+/// The first word and the rest of the line after its space, if there is a space.
 fn cut_word(line: &[u8]) -> Option<(&[u8], &[u8])>
     ensures none { IfNone result (split line.now ≡ line.now ∷ []) }
     ensures splits { IfSome result (λ parts. split line.now ≡ parts.0.now ∷ split parts.1.now) }

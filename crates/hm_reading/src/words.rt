@@ -22,7 +22,7 @@ fn below(limit: u64, number: u64) -> Result<u64, Reason>
     Err(Reason::Range)
 }
 
-/// The word behind its first byte.
+/// The word after its first byte.
 fn behind(word: &[u8]) -> &[u8]
     ensures { result.now ≡ drop 1 word.now }
 {
@@ -42,7 +42,7 @@ fn begins(word: &[u8], letter: u8) -> bool
     }
 }
 
-/// A number below the limit, behind one letter.
+/// A number below the limit, after one letter.
 #[tactic(auto, unfolding(crate::specs::Words::numbered))]
 fn numbered(limit: u64, word: &[u8]) -> Result<u64, Reason>
     ensures same { result ≡ spec.numbered limit word.now }
@@ -195,7 +195,7 @@ fn system_frame(word: &[u8]) -> Result<Frame, Reason>
     Ok(sys_frame(number as u32))
 }
 
-/// The words around a device's number, of one digit, and the point behind it.
+/// The words around a device's number, of one digit, and the point after it.
 fn device_frame(word: &[u8]) -> Result<Frame, Reason>
     ensures { result ≡ spec.device_frame_at word.now }
 {

@@ -14,6 +14,6 @@ counted c h a = (ended_after c h a).operations
 abbrev pub EndsAreCounted : Program → List Entry → Type 0
 EndsAreCounted c h = (a : ℕ) → first_unended c h a ≡ counted c h a
 
--- where each entry was due, the ends of operations are counted
+-- if each entry was due, the ends of operations are counted
 abbrev pub EndsOfDueAreCounted : Type 0
 EndsOfDueAreCounted = (c : Program) (h : List Entry) → DueFrom c [] h → EndsAreCounted c h

@@ -10,9 +10,11 @@ use Rattle.hm_history.specs.declared.Entry.{Entry}
 use Rattle.hm_report.specs.Kinds.{is_answer, finishes}
 use Rattle.hm_report.specs.declared.ended.Ended.{Ended}
 
+-- one operation more has ended, and no piece of the next one is answered yet
 abbrev pub next_operation : Ended → Ended
 next_operation n = record { operations = n.operations + 1; pieces = 0 }
 
+-- a piece was answered; the last piece ends its operation
 abbrev pub answered : Op → Ended → Ended
 answered o n = elim (nat_lt (n.pieces + 1) (length (op_pieces o))) [
   | true ↦ record { operations = n.operations; pieces = n.pieces + 1 }
@@ -26,10 +28,12 @@ ended_in o n k = elim (is_answer k) [
   | false ↦ elim (finishes o k) [ true ↦ next_operation n | false ↦ n ]
 ]
 
+-- after an entry of an actor that is in this operation; an actor with no operation left stays as it is
 abbrev pub ended_at : Option Op → Ended → Kind → Ended
 ended_at None n k = n
 ended_at (Some o) n k = ended_in o n k
 
+-- how far an actor with these operations is after one entry more of its own
 abbrev pub ended_next : List Op → Ended → Kind → Ended
 ended_next ops n k = ended_at (slice_get ops n.operations) n k
 
@@ -37,8 +41,10 @@ ended_next ops n k = ended_at (slice_get ops n.operations) n k
 abbrev pub ended_start : Ended
 ended_start = record { operations = 0; pieces = 0 }
 
+-- how far all actors are after one entry more; only the one whose entry it is moves
 abbrev pub all_next : Program → (ℕ → Ended) → Entry → ℕ → Ended
 all_next c f e = with_at f e.actor (ended_next (ops_of c e.actor) (f e.actor) e.kind)
 
+-- how far each actor is after a history, told by its entries alone, so that the report needs no machine
 abbrev pub ended_after : Program → List Entry → ℕ → Ended
 ended_after c h = fold (all_next c) (λ a. ended_start) h

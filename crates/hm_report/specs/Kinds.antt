@@ -11,6 +11,7 @@ is_answer (Kind.Stored x a bs) = true
 is_answer (Kind.Failed x a n c) = true
 is_answer _ = false
 
+-- a snapshot has no answer of its own: the entry that gives the mmap lock back ends it
 abbrev pub is_snap : Op → Bool
 is_snap (Op.Snap m r) = true
 is_snap _ = false

@@ -1,4 +1,4 @@
--- Words behind one another.
+-- Words one after another.
 use Rattle.std.specs.Prelude.{ℕ, List, ◌∷◌}
 use Rattle.std.specs.List.{flat_map}
 

@@ -14,6 +14,7 @@ use Rattle.hm_report.specs.Words.{actor_text, kind_words}
 abbrev pub entry_line : ℕ → Entry → List ℕ
 entry_line at e = line (decimal at ∷ actor_text e.actor ∷ kind_words e.kind)
 
+-- the lines of entries in a row, the first of which has this position
 abbrev pub entry_lines : ℕ → List Entry → List ℕ
 entry_lines at [] = []
 entry_lines at (e ∷ es) = entry_line at e ++ entry_lines (at + 1) es
@@ -27,16 +28,19 @@ unfinished_line a index count =
 abbrev pub unfinished_among : Program → (ℕ → ℕ) → ℕ → List ℕ
 unfinished_among c ended actors = flat_map (λ a. unfinished_line a (ended a) (length (ops_of c a))) (numbers 0 actors)
 
+-- a line for each actor whose operations have not all ended, in the order of the actors
 abbrev pub unfinished_lines : Program → (ℕ → ℕ) → List ℕ
 unfinished_lines c ended = unfinished_among c ended (length c.actors)
 
+-- the line between the script and its entries
 abbrev pub history_line : List ℕ
 history_line = line (codes "history" ∷ [])
 
+-- the last line of a report, with the number of entries; a report without it was cut off
 abbrev pub end_line : ℕ → List ℕ
 end_line count = line (codes "end" ∷ decimal count ∷ [])
 
--- the report, where this gives how many operations of each actor have ended
+-- the report, if this gives how many operations of each actor have ended
 abbrev pub report_by : Program → List Entry → (ℕ → ℕ) → List ℕ
 report_by c h ended =
     text c ++ (history_line ++ (entry_lines 0 h ++ (unfinished_lines c ended ++ end_line (length h))))
@@ -45,5 +49,6 @@ report_by c h ended =
 abbrev pub first_unended : Program → List Entry → ℕ → ℕ
 first_unended c h a = ((state_of c h).going a).index
 
+-- the one text of a script and a history, byte for byte
 abbrev pub report : Program → List Entry → List ℕ
 report c h = report_by c h (first_unended c h)

@@ -16,6 +16,7 @@ pub record GoesOn (before after : SinkState) (kept keeps more : List ℕ) : Type
   pub whole : kept ++ more ≡ front ++ keeps
   pub sends : Sends before after front
 
+-- which count rose when sending stopped: that of faults, or that of times without memory. The other one stays
 abbrev pub StopCause : SinkState → SinkState → Stop → Type 0
 StopCause before after Stop.Fault = WriteCause before.faults after.faults put.Failed × (after.wants ≡ before.wants)
 StopCause before after Stop.NoMemory =

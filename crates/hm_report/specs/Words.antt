@@ -14,18 +14,23 @@ use Rattle.hm_history.specs.declared.KeptWhy.{KeptWhy}
 use Rattle.hm_history.specs.declared.Kind.{Kind}
 use Rattle.hm_script.specs.Spelling.{address_text, hex_text, right_text}
 
+-- a process, as a word of a line
 abbrev pub proc_text : ℕ → List ℕ
 proc_text p = codes "p" ++ decimal p
 
+-- a mirror, as a word of a line
 abbrev pub mirror_text : ℕ → List ℕ
 mirror_text m = codes "m" ++ decimal m
 
+-- a device, as a word of a line
 abbrev pub device_text : ℕ → List ℕ
 device_text d = codes "d" ++ decimal d
 
+-- an actor, as a word of a line
 abbrev pub actor_text : ℕ → List ℕ
 actor_text a = codes "a" ++ decimal a
 
+-- whose access it is: a process's, or a mirror's for its device
 abbrev pub who_text : Who → List ℕ
 who_text (Who.Cpu p) = proc_text p
 who_text (Who.Mirror m) = mirror_text m
@@ -38,16 +43,20 @@ byte_text b = digit_glyph false (b / 16) ∷ digit_glyph false (b % 16) ∷ []
 abbrev pub pair_text : ℕ → List ℕ
 pair_text n = (48 + n / 10) ∷ (48 + n % 10) ∷ []
 
+-- a frame of the system or of a device, by its number there
 abbrev pub frame_in : PoolId → ℕ → List ℕ
 frame_in PoolId.System n = codes "s" ++ decimal n
 frame_in (PoolId.Device d) n = device_text d ++ (codes "." ++ decimal n)
 
+-- a frame, as a word of a line
 abbrev pub frame_text : Frame → List ℕ
 frame_text f = frame_in f.pool f.number
 
+-- whether a place may be written through
 abbrev pub write_text : Bool → List ℕ
 write_text w = if w then codes "w" else codes "r"
 
+-- what a page table has for a page; a report's reader tells the kind by the first word
 abbrev pub place_words : Place → List (List ℕ)
 place_words Place.Empty = codes "none" ∷ []
 place_words Place.Zero = codes "zero" ∷ []
@@ -61,6 +70,7 @@ abbrev pub target_text : Option Frame → List ℕ
 target_text None = codes "zero"
 target_text (Some f) = frame_text f
 
+-- the right of an entry in a mirror's table
 abbrev pub table_right_text : TableRight → List ℕ
 table_right_text TableRight.Read = codes "r"
 table_right_text TableRight.Write = codes "w"
@@ -71,6 +81,7 @@ abbrev pub part_text : Option ℕ → List ℕ
 part_text None = codes "all"
 part_text (Some k) = decimal k
 
+-- what a migration left behind: a page by its number, or a frame
 abbrev pub kept_text : KeptAt → List ℕ
 kept_text (KeptAt.Page v) = decimal v
 kept_text (KeptAt.Frame f) = frame_text f
@@ -89,6 +100,7 @@ cause_number Cause.NoProcess = 8
 cause_number Cause.MirrorTaken = 9
 cause_number Cause.Removed = 10
 
+-- why it was left behind
 abbrev pub why_words : KeptWhy → List (List ℕ)
 why_words KeptWhy.NotHere = codes "nothere" ∷ []
 why_words (KeptWhy.LockedBy b) = codes "locked" ∷ actor_text b ∷ []
@@ -101,6 +113,8 @@ abbrev pub interval_words : ℕ → ℕ → ℕ → Span → List (List ℕ)
 interval_words m d p r =
     codes "attached" ∷ mirror_text m ∷ device_text d ∷ proc_text p ∷ decimal r.first ∷ decimal r.count ∷ []
 
+-- the words of an entry after its position and actor. Two kinds never have the same words, so a report can be read
+-- back
 abbrev pub kind_words : Kind → List (List ℕ)
 kind_words (Kind.Loaded x a bs) = codes "loaded" ∷ who_text x ∷ address_text a ∷ hex_text bs ∷ []
 kind_words (Kind.Stored x a bs) = codes "stored" ∷ who_text x ∷ address_text a ∷ hex_text bs ∷ []
@@ -160,6 +174,7 @@ head_words (Kind.Stored x a bs) = codes "stored" ∷ who_text x ∷ address_text
 head_words (Kind.Fetched m a bs) = codes "fetched" ∷ mirror_text m ∷ address_text a ∷ []
 head_words k = kind_words k
 
+-- the bytes that were read or written, with the space before them; they may be long, so they are written apart
 abbrev pub tail_text : Kind → List ℕ
 tail_text (Kind.Loaded x a bs) = 32 ∷ hex_text bs
 tail_text (Kind.Stored x a bs) = 32 ∷ hex_text bs

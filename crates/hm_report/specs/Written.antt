@@ -9,13 +9,13 @@ Writes before after text Written.Done = Adds before after text
 Writes before after text Written.Fault = AddsFront before after text
 Writes before after text Written.NoMemory = AddsFront before after text
 
--- where all of the text was added, the sink has sent it on
+-- if all of the text was added, the sink has sent it on
 abbrev pub SentOn : Bool → Written → Type 0
 SentOn pending Written.Done = pending ≡ false
 SentOn pending Written.Fault = Unit {0}
 SentOn pending Written.NoMemory = Unit {0}
 
--- a fault comes only where the count rose, which stays otherwise
+-- a fault comes only if the count rose, which stays otherwise
 abbrev pub FaultCause : ℕ → ℕ → Written → Type 0
 FaultCause before after Written.Done = after ≡ before
 FaultCause before after Written.Fault = (before ≤ after) × Rose before after

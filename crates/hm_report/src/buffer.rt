@@ -10,7 +10,7 @@ use std::marker::Model;
 /// How many bytes go out at once.
 pub const PIECE: usize = 4096;
 
-/// How many bytes a buffer holds: a piece, and what is formatted behind it.
+/// How many bytes a buffer holds: a piece, and what is formatted after it.
 pub const ROOM: usize = 8192;
 
 /// Bytes that wait until there is a piece of them: so many, at the front of a block of this room.

@@ -2,7 +2,7 @@
 
 ghost use Rattle.hm_report.specs.Counted.{EndsOfDueAreCounted};
 
-/// Where each entry was due, as many operations of each actor have ended as its entries tell.
+/// If each entry was due, as many operations of each actor have ended as its entries tell.
 pub fn ends_are_counted()
     ensures { EndsOfDueAreCounted }
 {}

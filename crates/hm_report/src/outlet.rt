@@ -82,7 +82,7 @@ pub fn write_last<K: Sink>(sink: &mut K, bytes: &[u8]) -> Result<(), Stop>
     send_on(sink)
 }
 
-/// Writes the piece at the front, where there is one.
+/// Writes the piece at the front, if there is one.
 #[inline(always)]
 pub fn settle<K: Sink>(out: &mut Buffer, sink: &mut K) -> Result<(), Stop>
     requires { length out.old ≤ ROOM }

@@ -21,7 +21,7 @@ use hm_io::Sink;
 use hm_script::print;
 use std::alloc::Global;
 
-/// Adds the bytes that an entry tells, where it tells some.
+/// Adds the bytes that an entry tells, if it tells some.
 fn put_tail<K: Sink>(out: &mut Buffer, sink: &mut K, kind: &Kind) -> Result<(), Stop>
     requires { length out.old + 1 < ROOM }
     ensures ok { OnOk result

@@ -23,6 +23,7 @@ pub record IsHead (bytes : List ℕ) (c : Program) (first : ℕ) (rest : List �
   pub lines_are : lines bytes ≡ lines_behind c (lines rest)
   pub number : first ≡ length (lines (text c)) + 2
 
+-- what was read of a report's front: the script and where its entries begin, or the first bad line
 abbrev pub ReadsHead : List ℕ → Result Head BadLine → Type 0
 ReadsHead bytes (Ok head) = IsHead bytes head.script head.first head.rest.now
 ReadsHead bytes (Err bad) = IsBadHead bytes bad.0

@@ -13,7 +13,7 @@ use Rattle.hm_script.specs.Automaton.{lines}
 abbrev pub is_script_line : List ℕ → Bool
 is_script_line l = not (bytes_eq l history_line)
 
--- behind those lines comes `history`, or nothing
+-- after those lines comes `history`, or nothing
 abbrev pub GoesOnWith : List ℕ → List ℕ → Option (Bor (List ℕ)) → Type 0
 GoesOnWith bytes script None = lines bytes ≡ lines script
 GoesOnWith bytes script (Some rest) = lines bytes ≡ lines script ++ history_line ∷ lines rest.now

@@ -10,7 +10,7 @@ use hm_script::cut_line;
 pub struct Front<'a> {
     pub script: &'a [u8],
     pub lines: u64,
-    /// The lines behind `history`, where there is such a line.
+    /// The lines after `history`, if there is such a line.
     pub rest: Option<&'a [u8]>,
 }
 

@@ -7,13 +7,13 @@ use hm_base::{NoMemory, Script};
 use hm_script::{ScriptError, parse};
 use std::alloc::Global;
 
-/// The script at a report's front, and the lines behind it.
+/// The script at a report's front, and the lines after it.
 #[derive(Drop)]
 pub struct Head<'a> {
     pub script: Script,
-    /// The number, from 1, of the first line behind `history`.
+    /// The number, from 1, of the first line after `history`.
     pub first: u64,
-    /// The lines behind `history`.
+    /// The lines after `history`.
     pub rest: &'a [u8],
 }
 
@@ -21,7 +21,7 @@ pub struct Head<'a> {
 #[derive(Clone, Copy, PartialEq, Eq, Debug)]
 pub struct BadLine(pub u64);
 
-/// Reads the script at a report's front, and the line `history` behind it.
+/// Reads the script at a report's front, and the line `history` after it.
 pub fn read_head(alloc: Global, bytes: &[u8]) -> Result<Result<Head<'_>, BadLine>, NoMemory>
     ensures read { IfOk result (ReadsHead bytes.now) }
     ensures few { IfOk result (λ r. IfOk r (λ head. head.first + length head.rest.now ≤ length bytes.now + 2)) }

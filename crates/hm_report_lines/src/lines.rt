@@ -5,7 +5,7 @@ ghost use Rattle.hm_report_lines.specs.Parts.{Differ};
 
 use hm_script::cut_line;
 
-/// How many lines the two texts share at the front; none where they are equal.
+/// How many lines the two texts share at the front; none if they are equal.
 pub fn first_difference(text: &[u8], other: &[u8]) -> Option<u64>
     ensures differ { MatchOption result (text.now ≡ other.now) (Differ (lines text.now) (lines other.now)) }
     ensures few { IfSome result (λ n. n ≤ length text.now) }

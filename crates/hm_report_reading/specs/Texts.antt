@@ -11,6 +11,7 @@ use Rattle.hm_reading.specs.declared.reader.Unfinished.{Unfinished}
 use Rattle.hm_report.specs.Report.{end_line, entry_lines, first_unended, history_line}
 use Rattle.hm_script.specs.Spelling.{text}
 
+-- the lines of operations that have not ended
 abbrev pub unfinished_texts : List Unfinished → List ℕ
 unfinished_texts us = flat_map (λ u. unfinished_text u.actor u.index) us
 

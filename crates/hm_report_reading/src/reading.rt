@@ -18,13 +18,13 @@ use std::alloc::Global;
 #[derive(Drop)]
 pub struct WholeReport {
     pub script: Script,
-    /// It may be of any entries, also where they are no legal history of the script.
+    /// It may be of any entries, also if they are no legal history of the script.
     pub history: History,
     /// In the order of their lines.
     pub unfinished: Vec<Unfinished>,
 }
 
-/// Reads the lines behind `history`, of which the first has this number.
+/// Reads the lines after `history`, of which the first has this number.
 fn read_behind(
     alloc: Global,
     script: Script,
@@ -56,7 +56,7 @@ fn read_behind(
 
 /// Reads a whole report, each line once. Its history need not be legal, nor need the operations that have not ended be
 /// those of the history; that the last line counts the entries is part of the text. A bad line is the first that no
-/// such text has there, and one more than there are lines where a line is missing.
+/// such text has there, and one more than there are lines if a line is missing.
 pub fn read_report(alloc: Global, bytes: &[u8]) -> Result<Result<WholeReport, BadLine>, NoMemory>
     // The bytes are the text of what is read; a line that is refused is the first bad one.
     ensures read { IfOk result (IsReadOf bytes.now) }

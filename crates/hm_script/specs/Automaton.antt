@@ -25,6 +25,7 @@ use Rattle.hm_script.specs.Reading.{demand, shape, one, two, op_at}
 
 -- ---- lines
 
+-- the byte becomes the first of the first line, or a line of its own if there is none
 abbrev pub onto_line : ℕ → List (List ℕ) → List (List ℕ)
 onto_line b [] = (b ∷ []) ∷ []
 onto_line b (l ∷ ls) = (b ∷ l) ∷ ls
@@ -34,6 +35,7 @@ abbrev pub lines : List ℕ → List (List ℕ)
 lines [] = []
 lines (b ∷ bytes) = if b == 10 then (10 ∷ []) ∷ lines bytes else onto_line b (lines bytes)
 
+-- these bytes alone may stand in a line, besides its line feed
 abbrev pub is_printable : ℕ → Bool
 is_printable b = nat_le 32 b && nat_le b 126
 
@@ -52,9 +54,11 @@ pub record State : Type 0 where
   pub part : Part
   pub script : Program
 
+-- the script before any line was read; its numbers are placeholders until their lines come
 abbrev pub empty : Program
 empty = record { version = One; frames = 0; devices = []; skip = 0; actors = []; schedule = [] }
 
+-- the two fields of a state, so that equations need no record
 abbrev pub state : Part → Program → State
 state p s = record { part = p; script = s }
 
@@ -139,6 +143,7 @@ read_header w s text = do
   v ← version_named w text
   Ok (state part_of.Headed (record s.script { version = v }))
 
+-- no line was read yet, so only a header may come
 abbrev pub is_start : Part → Bool
 is_start part_of.Start = true
 is_start _ = false
@@ -150,6 +155,7 @@ next w s l = do
 
 -- ---- all lines
 
+-- a script is refused at a line, for a reason
 abbrev pub refused : ℕ → Reason → Refused
 refused n r = record { line = n; why = r }
 
@@ -161,6 +167,7 @@ finish n s = elim s.part [
   | _ ↦ Ok s.script
 ]
 
+-- reading goes on from a state, or ends with the reason at this line
 abbrev pub after : {A : Type 0} → ℕ → Result State Reason → (State → Result A Refused) → Result A Refused
 after n (Ok s) go = go s
 after n (Err r) go = Err (refused n r)
@@ -170,6 +177,7 @@ unfoldable pub run : Words → ℕ → State → List (List ℕ) → Result Prog
 run w n s [] = finish n s
 run w n s (l ∷ ls) = after n (next w s l) (λ t. run w (n + 1) t ls)
 
+-- the state before the first line
 abbrev pub start : State
 start = state part_of.Start empty
 

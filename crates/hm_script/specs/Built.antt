@@ -60,6 +60,7 @@ op_word (Remove d) = word_of.Remove
 op_word (Exclusive m v) = word_of.Exclusive
 op_word (Add m a k) = word_of.Add
 
+-- the set has the operation's word; reading a line asks it for the word that stands there
 abbrev pub has_op : Words → OpWord → Bool
 has_op w word_of.Map = w.map
 has_op w word_of.Unmap = w.unmap
@@ -80,9 +81,11 @@ has_op w word_of.Remove = w.remove
 has_op w word_of.Exclusive = w.exclusive
 has_op w word_of.Add = w.add
 
+-- the set has the word that the operation is written with
 abbrev pub uses : Words → Op → Bool
 uses w op = has_op w (op_word op)
 
+-- the schedule has a `drain`, which a set of words may lack
 abbrev pub has_drain : List ScheduleLine → Bool
 has_drain [] = false
 has_drain (Drain ∷ ls) = true
@@ -94,6 +97,7 @@ is_new_word word_of.Exclusive = true
 is_new_word word_of.Add = true
 is_new_word _ = false
 
+-- version 2 has every word; version 1 lacks the later ones
 abbrev pub word_of_version : Version → OpWord → Bool
 word_of_version v op = is_version_two v || not (is_new_word op)
 

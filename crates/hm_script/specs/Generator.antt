@@ -25,10 +25,11 @@ pub record Drawn (A : Type 0) : Type 0 where
   pub value : A
   pub rest : ℕ
 
+-- the two fields of what was drawn, so that equations need no record
 abbrev pub drawn : {A : Type 0} → A → ℕ → Drawn A
 drawn a x = record { value = a; rest = x }
 
--- so many, one after the other
+-- n of them, one after the other
 unfoldable pub drawn_list : {A : Type 0} → (ℕ → Drawn A) → ℕ → ℕ → Drawn (List A)
 drawn_list one x zero = drawn [] x
 drawn_list one x (suc n) = let first = one x in let others = drawn_list one first.rest n in
@@ -42,16 +43,20 @@ pub record Access : Type 0 where
   pub addr : ℕ
   pub len : ℕ
 
+-- one of the first four processes or mirrors, an address in the first 320 pages, and 1 to 16 bytes
 abbrev pub drawn_access : ℕ → Drawn Access
 drawn_access x = let a = drawn_on x in let b = drawn_on a in let c = drawn_on b in
     drawn (record { who = draw x 4; addr = draw a 320 * 4096 + draw b 4096; len = 1 + draw c 16 }) (drawn_on c)
 
+-- a byte for a store
 abbrev pub drawn_byte : ℕ → Drawn ℕ
 drawn_byte x = drawn (draw x 256) (drawn_on x)
 
+-- a load, of whichever kind `make` is, of a drawn access
 abbrev pub drawn_load : (ℕ → ℕ → ℕ → Op) → ℕ → Drawn Op
 drawn_load make x = let a = drawn_access x in drawn (make a.value.who a.value.addr a.value.len) a.rest
 
+-- a store, of whichever kind `make` is, of drawn bytes over a drawn access
 abbrev pub drawn_store : (ℕ → ℕ → List ℕ → Op) → ℕ → Drawn Op
 drawn_store make x = let a = drawn_access x in let b = drawn_list drawn_byte a.rest a.value.len in
     drawn (make a.value.who a.value.addr b.value) b.rest
@@ -61,13 +66,16 @@ abbrev pub drawn_span : (ℕ → Pages → Op) → ℕ → ℕ → ℕ → Drawn
 drawn_span make pages most x = let a = drawn_on x in let b = drawn_on a in
     drawn (make (draw x 4) (span (draw a pages) (1 + draw b most))) (drawn_on b)
 
+-- the right that a draw of 0 or 1 stands for
 abbrev pub drawn_right : ℕ → Rights
 drawn_right n = if n == 0 then Read else ReadWrite
 
+-- a change of right on one to four pages of one of the first four processes
 abbrev pub drawn_protect : ℕ → Drawn Op
 drawn_protect x = let a = drawn_on x in let b = drawn_on a in let c = drawn_on b in
     drawn (Protect (draw x 4) (span (draw a 256) (1 + draw b 4)) (drawn_right (draw c 2))) (drawn_on c)
 
+-- an eviction of one of the two devices
 abbrev pub drawn_evict : ℕ → Drawn Op
 drawn_evict x = drawn (Evict (draw x 2)) (drawn_on x)
 
@@ -97,6 +105,7 @@ drawn_op x = drawn_by (draw x 16) (drawn_on x)
 abbrev pub drawn_actor : ℕ → Drawn (List Op)
 drawn_actor x = drawn_list drawn_op x 500
 
+-- one to sixteen turns of one of the eight actors
 abbrev pub drawn_line : ℕ → Drawn ScheduleLine
 drawn_line x = let a = drawn_on x in drawn (Run (draw x 8) (1 + draw a 16)) (drawn_on a)
 

@@ -8,6 +8,7 @@ use Rattle.hm_script.specs.declared.keyword.OpWord.TheVariants.{Map, Unmap, Prot
 use Rattle.hm_script.specs.declared.keyword.Keyword.{Keyword}
 use Rattle.hm_script.specs.declared.keyword.Keyword.TheVariants.{Frames, Device, Skip, Actor, Turns, Drain, Op}
 
+-- the word that a line of this operation begins with
 abbrev pub op_text : OpWord → List ℕ
 op_text Map = codes "map"
 op_text Unmap = codes "unmap"
@@ -28,6 +29,7 @@ op_text Remove = codes "remove"
 op_text Exclusive = codes "exclusive"
 op_text Add = codes "dadd"
 
+-- every operation's word, in the order in which a keyword is looked for
 abbrev pub all_ops : List OpWord
 all_ops =
     Map

@@ -11,6 +11,7 @@ use Rattle.hm_script.specs.declared.reason.ScriptError.TheVariants as errors
 use Rattle.hm_script.specs.Gives.{Fails}
 use Rattle.hm_script.specs.Automaton.{State, state, refused}
 
+-- the script that the reader's fields hold so far
 abbrev pub program_of : Reader → Program
 program_of r =
     record {
@@ -22,6 +23,7 @@ program_of r =
       schedule = r.schedule;
     }
 
+-- the state of the definition that the reader stands for
 abbrev pub state_of : Reader → State
 state_of r = state r.part (program_of r)
 
@@ -41,6 +43,7 @@ abbrev pub error_at : ℕ → LineError → ScriptError
 error_at n (line_errors.Bad r) = errors.Refused (refused n r)
 error_at n line_errors.NoMemory = errors.NoMemory
 
+-- a statement about the refusal, if the script was refused; of a script, or of memory that ran out, it asks nothing
 abbrev pub OnRefused : Result Program ScriptError → (Refused → Type 0) → Type 0
 OnRefused (Ok s) P = Unit {0}
 OnRefused (Err errors.NoMemory) P = Unit {0}

@@ -13,26 +13,28 @@ use Rattle.hm_script.specs.Gives.{◌>>=◌}
 use Rattle.hm_script.specs.Splitting.{word}
 use Rattle.hm_script.specs.Numerals.{number, address, hex, right}
 
--- nothing where the test holds, and else this reason
+-- nothing if the test holds, and else this reason
 abbrev pub demand : Bool → Reason → Result (Unit {0}) Reason
 demand test r = if test then Ok tt else Err r
 
 -- ---- the words after the first
 
+-- two spaces in a row leave an empty word between them, which no line may have
 abbrev pub is_some_word : List ℕ → Bool
 is_some_word w = not (length w == 0)
 
--- there are so many words, none of them empty
+-- there are `count` words, none of them empty
 unfoldable pub shape : ℕ → List (List ℕ) → Result (Unit {0}) Reason
 shape count words = demand ((length words == count) && list_all is_some_word words) Shape
 
--- so many words after the first, each by its reader, and what is made of them
+-- one word after the first, by its reader, and what is made of it
 abbrev pub one : {A B : Type 0} → (List ℕ → Result A Reason) → (A → Result B Reason) → List (List ℕ) → Result B Reason
 one f make words = do
   _ ← shape 2 words
   a ← f (word 1 words)
   make a
 
+-- as `one`, with two words after the first
 abbrev pub two : {A B C : Type 0} → (List ℕ → Result A Reason) → (List ℕ → Result B Reason)
     → (A → B → Result C Reason) → List (List ℕ) → Result C Reason
 two f g make words = do
@@ -41,6 +43,7 @@ two f g make words = do
   b ← g (word 2 words)
   make a b
 
+-- as `one`, with three words after the first
 abbrev pub three : {A B C D : Type 0} → (List ℕ → Result A Reason) → (List ℕ → Result B Reason)
     → (List ℕ → Result C Reason) → (A → B → C → Result D Reason) → List (List ℕ) → Result D Reason
 three f g h make words = do
@@ -50,6 +53,7 @@ three f g h make words = do
   c ← h (word 3 words)
   make a b c
 
+-- as `one`, with four words after the first
 abbrev pub four : {A B C D E : Type 0} → (List ℕ → Result A Reason) → (List ℕ → Result B Reason)
     → (List ℕ → Result C Reason) → (List ℕ → Result D Reason) → (A → B → C → D → Result E Reason) → List (List ℕ)
     → Result E Reason
@@ -61,6 +65,7 @@ four f g h i make words = do
   d ← i (word 4 words)
   make a b c d
 
+-- as `one`, with five words after the first
 abbrev pub five : {A B C D E F : Type 0} → (List ℕ → Result A Reason) → (List ℕ → Result B Reason)
     → (List ℕ → Result C Reason) → (List ℕ → Result D Reason) → (List ℕ → Result E Reason)
     → (A → B → C → D → E → Result F Reason) → List (List ℕ) → Result F Reason

@@ -6,6 +6,7 @@ use Rattle.hm_script.specs.declared.reason.Refused.{Refused}
 use Rattle.hm_script.specs.declared.reason.ScriptError.{ScriptError}
 use Rattle.hm_script.specs.declared.reason.Reason.TheVariants.{LineEnd, Header, Word, Shape, Number, Range, Undeclared, Limit}
 
+-- an order of the reasons, so that two of them can be compared
 abbrev pub reason_number : Reason → ℕ
 reason_number Header = 1
 reason_number LineEnd = 2
@@ -16,6 +17,7 @@ reason_number Range = 6
 reason_number Limit = 7
 reason_number Undeclared = 8
 
+-- what standard error says of the reason
 abbrev pub reason_text : Reason → List ℕ
 reason_text LineEnd = codes "bad line end or byte"
 reason_text Header = codes "bad header"

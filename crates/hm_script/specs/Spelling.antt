@@ -22,10 +22,12 @@ address_text a = 48 ∷ 120 ∷ digits 16 false a
 abbrev pub hex_text : List ℕ → List ℕ
 hex_text bytes = flat_map (λ b. digit_glyph false (b / 16) ∷ digit_glyph false (b % 16) ∷ []) bytes
 
+-- the word of a right
 abbrev pub right_text : Rights → List ℕ
 right_text Read = codes "r"
 right_text ReadWrite = codes "rw"
 
+-- the words of an operation's line: its keyword, then its numbers in the order of the type's fields
 abbrev pub op_words : Op → List (List ℕ)
 op_words (Map p s r) = codes "map" ∷ decimal p ∷ decimal s.first ∷ decimal s.count ∷ right_text r ∷ []
 op_words (Unmap p s) = codes "unmap" ∷ decimal p ∷ decimal s.first ∷ decimal s.count ∷ []
@@ -47,12 +49,14 @@ op_words (Remove d) = codes "remove" ∷ decimal d ∷ []
 op_words (Exclusive m v) = codes "exclusive" ∷ decimal m ∷ decimal v ∷ []
 op_words (Add m a k) = codes "dadd" ∷ decimal m ∷ address_text a ∷ decimal k ∷ []
 
+-- the words of a line of the schedule
 abbrev pub schedule_words : ScheduleLine → List (List ℕ)
 schedule_words (Run a k) = codes "turns" ∷ decimal a ∷ decimal k ∷ []
 schedule_words Drain = codes "drain" ∷ []
 
 -- ---- lines, each as the list of its words
 
+-- the words of the first line, which tells the version
 abbrev pub header_words : Version → List (List ℕ)
 header_words One = codes "hmm" ∷ codes "1" ∷ []
 header_words Two = codes "hmm" ∷ codes "2" ∷ []
@@ -62,6 +66,7 @@ abbrev pub device_lines : ℕ → List ℕ → List (List (List ℕ))
 device_lines d [] = []
 device_lines d (n ∷ ns) = (codes "device" ∷ decimal d ∷ decimal n ∷ []) ∷ device_lines (d + 1) ns
 
+-- the line of the skip number; a script whose number is 0 has none
 abbrev pub skip_lines : ℕ → List (List (List ℕ))
 skip_lines m = if m == 0 then [] else (codes "skip" ∷ decimal m ∷ []) ∷ []
 
@@ -70,6 +75,7 @@ abbrev pub actor_lines : ℕ → List (List Op) → List (List (List ℕ))
 actor_lines a [] = []
 actor_lines a (ops ∷ actors) = (codes "actor" ∷ decimal a ∷ []) ∷ (map op_words ops ++ actor_lines (a + 1) actors)
 
+-- the words of all lines of a script, in the order of the grammar's parts
 abbrev pub script_lines : Program → List (List (List ℕ))
 script_lines s = header_words s.version ∷ (codes "frames" ∷ decimal s.frames ∷ [])
     ∷ (device_lines 0 s.devices ++ (skip_lines s.skip ++ (actor_lines 0 s.actors ++ map schedule_words s.schedule)))
@@ -78,5 +84,6 @@ script_lines s = header_words s.version ∷ (codes "frames" ∷ decimal s.frames
 abbrev pub line : List (List ℕ) → List ℕ
 line words = join_with_byte 32 words ++ 10 ∷ []
 
+-- the one text of a script, byte for byte
 abbrev pub text : Program → List ℕ
 text s = flat_map line (script_lines s)

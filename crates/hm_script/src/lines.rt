@@ -13,7 +13,7 @@ fn feed_in(bytes: &[u8]) -> Option<usize>
     bytes.iter().position(|b| *b == b'\n')
 }
 
-/// The first line, with its line feed where it has one, and the bytes after it.
+/// The first line, with its line feed if it has one, and the bytes after it.
 pub fn cut_line(bytes: &[u8]) -> (&[u8], &[u8])
     requires { 0 < length bytes.now }
     ensures lines { lines bytes.now ≡ result.0.now ∷ lines result.1.now }

@@ -31,7 +31,7 @@ fn put_hex(out: &mut Text, number: u64) -> Result<(), NoMemory>
     out.push(hex_digit((number % 16) as u8))
 }
 
-/// A number behind its space.
+/// A number after its space.
 fn put_number(out: &mut Text, number: u64) -> Result<(), NoMemory>
     ensures { OnOk result (out.new ≡ out.old ++ number_word number) }
 {
@@ -39,7 +39,7 @@ fn put_number(out: &mut Text, number: u64) -> Result<(), NoMemory>
     put_decimal(out, number)
 }
 
-/// An address behind its space.
+/// An address after its space.
 fn put_address(out: &mut Text, address: u64) -> Result<(), NoMemory>
     ensures { OnOk result (out.new ≡ out.old ++ 32 ∷ address_text address) }
 {
@@ -47,7 +47,7 @@ fn put_address(out: &mut Text, address: u64) -> Result<(), NoMemory>
     put_hex(out, address)
 }
 
-/// A word, and numbers behind it.
+/// A word, and numbers after it.
 fn put_numbers(out: &mut Text, word: &[u8], numbers: &[u64]) -> Result<(), NoMemory>
     ensures { OnOk result (out.new ≡ out.old ++ (word.now ++ flat_map number_word numbers.now)) }
 {
@@ -66,7 +66,7 @@ fn put_line(out: &mut Text, word: &[u8], numbers: &[u64]) -> Result<(), NoMemory
     out.push(b'\n')
 }
 
-/// A word behind its space.
+/// A word after its space.
 fn put_word(out: &mut Text, word: &[u8]) -> Result<(), NoMemory>
     ensures { OnOk result (out.new ≡ out.old ++ 32 ∷ word.now) }
 {

@@ -5,7 +5,7 @@ ghost use Rattle.hm_script.specs.Built.{every_word, has_op};
 use crate::keyword::OpWord;
 
 /// Which words of the grammar there are: a field for each operation and for each further word. A
-/// word that is not there is a bad word, as is a second line where only one is allowed.
+/// word that is not there is a bad word, as is a second line if only one is allowed.
 #[derive(Clone, Copy, PartialEq, Eq, Debug)]
 pub struct Words {
     pub map: bool,

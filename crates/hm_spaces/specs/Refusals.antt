@@ -6,6 +6,7 @@ use Rattle.hm_history.specs.Plain.{Plain, plain_start}
 use Rattle.vm_areas.specs.declared.AreaRefusal.{AreaRefusal}
 use Rattle.vm_areas.specs.declared.AreaRefusal.TheVariants.{Overlap, TooMany, Unmapped}
 
+-- a plain state with these areas, for definitions that read no more of one
 abbrev pub plain_with : List (List Area) → Plain
 plain_with xs = record plain_start { areas = λ p. slice_index_or xs p [] }
 

@@ -8,6 +8,7 @@ use Rattle.hm_history.specs.Locks.{Locks, locks_start, releases}
 use Rattle.hm_history.specs.declared.locks.MapLock.{MapLock}
 use Rattle.hm_history.specs.declared.Kind.{Kind}
 
+-- by number: which processes are there, which were named, and their areas; and each actor's lock
 pub record SpacesValue : Type 0 where
   pub there : List Bool
   pub named : List Bool
@@ -43,6 +44,7 @@ plain_of x = record plain_start {
   areas = λ p. slice_index_or x.areas p [];
 }
 
+-- the locks, for definitions that read no more of them
 abbrev pub locks_of : SpacesValue → Locks
 locks_of x = record locks_start { map = λ a. slice_index_or x.map_locks a None }
 
@@ -52,10 +54,12 @@ there_next (Kind.Forked p c) xs = slice_set xs c true
 there_next (Kind.Exited p) xs = slice_set xs p false
 there_next k xs = xs
 
+-- the numbers that were given to forks after an entry
 abbrev pub named_next : Kind → List Bool → List Bool
 named_next (Kind.Named p c) xs = slice_set xs c true
 named_next k xs = xs
 
+-- the areas of all processes after an entry
 abbrev pub areas_next : Kind → List (List Area) → List (List Area)
 areas_next (Kind.Mapped p r w) xs =
     slice_set xs p (with_area (record { span = r; rights = w }) (slice_index_or xs p []))
@@ -65,11 +69,13 @@ areas_next (Kind.Forked p c) xs = slice_set xs c (slice_index_or xs p [])
 areas_next (Kind.Exited p) xs = slice_set xs p []
 areas_next k xs = xs
 
+-- the mmap locks after an actor's entry
 abbrev pub map_locks_next : ℕ → Kind → List (Option MapLock) → List (Option MapLock)
 map_locks_next a (Kind.Rlock p) xs = slice_set xs a (Some (record { proc = p; writes = false }))
 map_locks_next a (Kind.Wlock p) xs = slice_set xs a (Some (record { proc = p; writes = true }))
 map_locks_next a k xs = if releases k then slice_set xs a None else xs
 
+-- the whole after an actor's entry
 abbrev pub spaces_next : ℕ → Kind → SpacesValue → SpacesValue
 spaces_next a k x = record {
   there = there_next k x.there;

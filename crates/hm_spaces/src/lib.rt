@@ -123,7 +123,7 @@ impl Spaces {
         self.named[proc.number() as usize]
     }
 
-    /// The right of a page, where it has an area.
+    /// The right of a page, if it has an area.
     pub fn rights(&self, proc: Proc, page: Page) -> Option<Rights>
         ensures { result ≡ rights_of (plain_of self.now) proc page }
     {

@@ -16,7 +16,7 @@ use phases::due_phase;
 use skip_rules::SkipRule;
 use std::alloc::Global;
 
-/// What is due to the actor in the world: the entry that its next step adds, or why it waits; idle where it has no
+/// What is due to the actor in the world: the entry that its next step adds, or why it waits; idle if it has no
 /// operation left. The rule decides which pages a migration skips. Memory is taken for the bytes of an answer alone.
 #[inline(always)]
 pub fn due<W: Reads, R: SkipRule>(

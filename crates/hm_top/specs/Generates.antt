@@ -25,6 +25,7 @@ HasMade Is script h _ = ⊥
 abbrev pub IsAlone : Program → Program → List Entry → Type 0
 IsAlone t s h = (s ≡ t) × (h ≡ [])
 
+-- the clause of `run` for the word `generate`
 pub record Generates (n : ℕ) (io : Traffic) (ended : Ended) : Type 0 where
   -- Nothing is read.
   pub unread : io.source_after ≡ io.source
@@ -41,6 +42,7 @@ pub record Generates (n : ℕ) (io : Traffic) (ended : Ended) : Type 0 where
 abbrev pub IsTried : Program → Program → List Entry → Type 0
 IsTried t s h = (s ≡ t) × RanWhole s h
 
+-- the clause of `run` for the word `trial`
 pub record Tries (n : ℕ) (io : Traffic) (ended : Ended) : Type 0 where
   -- Nothing is read.
   pub unread : io.source_after ≡ io.source

@@ -57,6 +57,7 @@ pub record IsPeekedReport (p at n : ℕ) (from : SourceState) (t : List ℕ) : T
   pub right : ArePeeks p at n (IsPlain history) peeks
   pub text_is : t ≡ peeked_text peeks script history
 
+-- the clause of `run` for the word `peek`
 pub record RunsPeeked (p at n : ℕ) (io : Traffic) (ended : Ended) : Type 0 where
   -- What is read, run and answered is as for `threads`. What is written is the report and a line for each peek in the
   -- answer.

@@ -45,6 +45,7 @@ shown_status Written.Done true = Status.HistoryFull
 shown_status Written.Fault full = Status.WriteFault
 shown_status Written.NoMemory full = Status.NoMemory
 
+-- how a call ends that writes a text of what ran, at the status that it has
 abbrev pub Shows : Ran → Ended → Type 0
 Shows ran ended = ShowsAt ran ended ended.status
 

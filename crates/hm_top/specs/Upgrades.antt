@@ -46,6 +46,7 @@ pub record IsUpgradedText (from : SourceState) (t : List ℕ) : Type 0 where
   pub read : IfSome from.left (IsUpgradeOf script)
   pub text_is : t ≡ text script
 
+-- the clause of `run` for the word `upgrade`
 pub record Upgrades (io : Traffic) (ended : Ended) : Type 0 where
   -- Where a text goes out, the bytes read are the text of a script, and the script in the answer is the same in
   -- version 2. A script is refused as for `replay`.

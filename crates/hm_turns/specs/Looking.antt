@@ -11,7 +11,7 @@ use Rattle.hm_turns.specs.Sights.{Sight, IsShown, Halts, all_shares}
 use Rattle.hm_turns.specs.declared.looks.Look.{Look}
 use Rattle.hm_turns.specs.declared.looks.Looked.{Looked}
 
--- so many bytes can be looked at from an address on: some, at most 256, and none beyond the last address
+-- n bytes can be looked at from an address on: some, at most 256, and none past the last address
 pub record IsLook (at n : ℕ) : Type 0 where
   pub some : 1 ≤ n
   pub few : n ≤ 256
@@ -32,7 +32,7 @@ looked_after h p at n = elim (writer (after h).locks p) [
 abbrev pub plain_after : List Entry → ℕ → ℕ → ℕ → List ℕ
 plain_after h p at n = bytes_from ((after h).plain.bytes p) at n
 
--- the bytes that were copied, where all were
+-- the bytes that were copied, if all were
 abbrev pub Copied : List Entry → ℕ → ℕ → Looked → List ℕ → Type 0
 Copied h p at Looked.Filled bytes = bytes ≡ plain_after h p at (length bytes)
 Copied h p at _ bytes = Unit {0}

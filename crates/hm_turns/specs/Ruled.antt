@@ -16,9 +16,11 @@ use Rattle.hm_turns.specs.Touching.{last_touched}
 use Rattle.hm_turns.specs.declared.known.Known.{Known}
 use Rattle.hm_turns.specs.Sights.{Sight, OwnsOnce, IsQuiet, Follows, AreMarks, AreThere, times, longer, shorter, either_told, all_shares}
 
+-- the published length of the history
 abbrev pub count_word : List ℕ → ℕ
 count_word ws = slice_index ws 0
 
+-- 1 while a seat has the value, and else 0
 abbrev pub turn_word : List ℕ → ℕ
 turn_word ws = slice_index ws 1
 
@@ -55,9 +57,11 @@ pub record MarkFits (log : List Entry) (n k : ℕ) (p : ℕ) : Type 0 where
   pub follows : Follows log k p
   pub quiet : IsQuiet log k n p
 
+-- the mark of a process, with which a copy of its memory is compared
 abbrev pub mark_word : List ℕ → ℕ → ℕ
 mark_word ws p = slice_index ws (p + 2)
 
+-- every process's mark is right for the entries below n
 abbrev pub MarksFit : List Entry → ℕ → List ℕ → Type 0
 MarksFit log n ws = (p : ℕ) → p < 32 → MarkFits log n (mark_word ws p) p
 
@@ -112,12 +116,15 @@ module _ {S : Type 0} (script : S → Program) (history : S → List Entry) (hal
     pub apart : (x : ℕ) → owned x s.views ≤ 1
     pub marks : MarksFit log (count_word s.words) s.words
 
+-- what a seat of the table sees: the value, if it has it, and what it knows
 abbrev Sat : Type 0 → Type 0
 Sat S = Me (Option S) Known
 
+-- a step of the table
 abbrev At : Type 0 → Type 0
 At S = Step (Option S)
 
+-- a script for a view that nobody looks at any more
 abbrev pub no_script : Program
 no_script = record { version = One; frames = 0; devices = []; skip = 0; actors = []; schedule = [] }
 
@@ -144,6 +151,7 @@ opened of =
 abbrev pub winner : Known → List Entry → Option StepError → Known
 winner v log stopped = record v { list = log; told = stopped; ahead = false; marked = true; holds = true }
 
+-- the view after the turn was found held by another
 abbrev pub kept_out : Known → Known
 kept_out v = record v { busy = v.busy + 1 }
 
@@ -165,12 +173,13 @@ raised v = record v { marked = true }
 abbrev pub even : Known → Known
 even v = record v { ahead = false }
 
--- 1 where a value that was not halted is halted now
+-- 1 if a value that was not halted is halted now
 abbrev pub newly : Option StepError → Option StepError → ℕ
 newly None None = 0
 newly None (Some e) = 1
 newly (Some e) after = 0
 
+-- the view after the value was put back, and whether it was halted then
 abbrev pub freed : Known → Option StepError → Known
 freed v stopped = record v { stops = v.stops + newly v.told stopped; told = stopped; holds = false }
 
@@ -178,10 +187,12 @@ freed v stopped = record v { stops = v.stops + newly v.told stopped; told = stop
 abbrev pub left_of : Known → Known
 left_of v = record v { shares = v.shares - 1 }
 
+-- what the second half of a cut begins with: nothing of its own, and no counts
 abbrev pub right_of : Known → Known
 right_of v =
     record v { own = []; shares = 1; busy = 0; stops = 0; other = []; ahead = false; marked = false; holds = false }
 
+-- what two views are once one has taken the other in: the longer history, and all counts together
 abbrev pub both_of : Known → Known → Known
 both_of v w = record {
   script = v.script;
@@ -218,6 +229,7 @@ spent =
       holds = false;
     }
 
+-- the view after its two histories were compared, of which it keeps the longer one
 abbrev pub compared : Known → Known
 compared v = record v { other = [] }
 
@@ -254,6 +266,7 @@ module _ {S : Type 0} (script : S → Program) (history : S → List Entry) (hal
 abbrev pub raised_as : {S : Type 0} → At S → Sat S → ℕ → Sat S → Type 0
 raised_as st m n m' = m' ≡ (raised m.0, m.1)
 
+-- the view after the count was loaded
 abbrev pub told_count : Known → ℕ → Known
 told_count v n = record v { loaded = n }
 
@@ -263,6 +276,7 @@ counted_as st m n m' =
     (m' ≡ (told_count m.0 n, m.1)) × (m.0.loaded ≤ n) × (length m.0.list ≤ n)
     × (m.0.shares ≡ all_shares → n ≡ length m.0.list)
 
+-- the view after a process's mark was loaded
 abbrev pub told_mark : Known → ℕ → ℕ → Known
 told_mark v p k = record v { marks = v.marks ++ record { proc = p; at = k; upto = v.loaded } ∷ [] }
 
@@ -270,6 +284,7 @@ told_mark v p k = record v { marks = v.marks ++ record { proc = p; at = k; upto 
 abbrev pub marked_as : {S : Type 0} → At S → Sat S → ℕ → Sat S → Type 0
 marked_as st m n m' = (m'.0.busy ≡ m.0.busy) × ((p : ℕ) → st.word ≡ p + 2 → m' ≡ (told_mark m.0 p n, m.1))
 
+-- the step in which two histories were compared: one begins with the other
 abbrev pub compared_as : {S : Type 0} → At S → Sat S → ℕ → Sat S → Type 0
 compared_as st m n m' = (m' ≡ (compared m.0, m.1)) × IsPrefix m.0.other m.0.list × OwnsOnce m.0.own m.0.list
 
@@ -312,6 +327,7 @@ pub record IsResting (v : Known) : Type 0 where
   pub alone : v.other ≡ []
   pub live : 0 < v.shares
 
+-- there is one view alone, and it rests: so a value can be taken out of the table
 abbrev pub AreResting : List Known → Type 0
 AreResting [] = ⊥
 AreResting (v ∷ vs) = (vs ≡ []) × IsResting v × OwnsOnce v.own v.list

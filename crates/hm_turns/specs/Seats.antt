@@ -13,6 +13,7 @@ use Rattle.hm_turns.specs.Ruled.{Won, winner, kept_out, sight_of}
 abbrev pub IsSized : TableId → Type 0
 IsSized z = (z.words ≡ 34) × (z.slots ≡ 1)
 
+-- a seat at the table of a shared value
 abbrev pub Place : Type 0 → Type 0
 Place S = Seat (Option S) Known
 

@@ -23,6 +23,7 @@ pub record Desk : Type 0 where
   pub table : TableId
   pub script : Program
 
+-- what a pass knows of the value that it shares. A turn changes it as the clauses say, and nobody else does
 pub record Sight : Type 0 where
   pub desk : Desk
   pub list : List Entry  -- the history as far as it was seen
@@ -32,7 +33,7 @@ pub record Sight : Type 0 where
   pub marks : List Marked  -- the marks that were loaded
   pub busy : ℕ  -- how often the turn was found held
   pub stops : ℕ  -- how often a step made with the pass halted the value
-  pub told : Option StepError  -- why the value is halted, where it was told so
+  pub told : Option StepError  -- why the value is halted, if it was told so
 
 -- how often a position is an own one
 abbrev pub times : ℕ → List Own → ℕ
@@ -53,6 +54,7 @@ pub record IsMark (list : List Entry) (m : Marked) : Type 0 where
   pub counted : m.upto ≤ length list
   pub quiet : IsQuiet list m.at m.upto m.proc
 
+-- each mark that was loaded is right for the history seen
 abbrev pub AreMarks : List Entry → List Marked → Type 0
 AreMarks list [] = Unit {0}
 AreMarks list (m ∷ ms) = IsMark list m × AreMarks list ms
@@ -67,9 +69,11 @@ pub record OwnsOnce (own : List Own) (list : List Entry) : Type 0 where
   pub once : (x : ℕ) → times x own ≤ 1
   pub there : AreThere list own
 
+-- the longer of two histories, the first if they have one length
 abbrev pub longer : List Entry → List Entry → List Entry
 longer xs ys = if nat_lt (length xs) (length ys) then ys else xs
 
+-- the shorter of two histories, the second if they have one length
 abbrev pub shorter : List Entry → List Entry → List Entry
 shorter xs ys = if nat_lt (length xs) (length ys) then xs else ys
 

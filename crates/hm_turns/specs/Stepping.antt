@@ -22,7 +22,7 @@ IsEntry (Did e) = Unit {0}
 IsEntry (Waiting why) = ⊥
 IsEntry Idle = ⊥
 
--- a history of so many entries has no room for the entry that is due
+-- a history of n entries has no room for the entry that is due
 abbrev pub HasNoRoom : Progress → List Entry → ℕ → Type 0
 HasNoRoom due before n = (n ≡ most_entries) × (length before ≡ n) × IsEntry due
 
@@ -44,6 +44,7 @@ abbrev pub StepsFrom : Option StepError → Progress → List Entry → Result P
 StepsFrom None due before result after halt = Steps due before result after halt
 StepsFrom (Some e) due before result after halt = (result ≡ Err e) × (after ≡ before) × (halt ≡ Some e)
 
+-- the value is halted, so that no step changes it any more
 abbrev pub is_halted : Option StepError → Bool
 is_halted None = false
 is_halted (Some e) = true

@@ -3,7 +3,7 @@ use hm_base::{Proc, Script};
 use hm_history::{Entry, StepError};
 use std::collections::LinkedList;
 
-/// A mark that was loaded: the length of the history just after the last entry that touches the process, where
+/// A mark that was loaded: the length of the history just after the last entry that touches the process, if
 /// the entries from `upto` on are not looked at.
 pub struct Marked {
     pub proc: Proc,
@@ -34,7 +34,7 @@ pub struct Known {
     pub busy: u64,
     /// How often a step that was made with it halted the value.
     pub stops: u64,
-    /// Why the value is halted, where it was told so.
+    /// Why the value is halted, if it was told so.
     pub told: Option<StepError>,
     /// The list is longer than the published length.
     pub ahead: bool,

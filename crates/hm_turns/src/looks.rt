@@ -41,7 +41,7 @@ pub enum Look {
 
 /// A stepped value whose processes have memory that can be looked at.
 pub trait Looks: Stepped {
-    /// Copies bytes of the process from an address on, as many as there is room for. Where the answer is not `Filled`,
+    /// Copies bytes of the process from an address on, as many as there is room for. If the answer is not `Filled`,
     /// what is left in the room is nobody's.
     fn look(&self, proc: Proc, addr: u64, into: &mut [u8]) -> Looked
         requires { IsLook addr (length into.old) }

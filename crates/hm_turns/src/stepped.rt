@@ -25,7 +25,7 @@ pub trait Stepped: Drop {
     /// What is due to an actor after a history.
     ghost due: { Program → List Entry → ℕ → Progress };
 
-    /// Does what is due to the actor, or fails where the history is full or memory runs out.
+    /// Does what is due to the actor, or fails if the history is full or memory runs out.
     fn step(&mut self, actor: Actor) -> Result<Progress, StepError>
         requires { actor < length (script self.old).actors }
         ensures script { script self.new ≡ script self.old }

@@ -263,7 +263,7 @@ fn close_at<S: Stepped>(board: Board<S>, seat: Seated<S>) -> (S, u64)
     }
 }
 
-// Takes the turn and the value. None where another seat has it.
+// Takes the turn and the value. None if another seat has it.
 pub(crate) fn take<S: Stepped>(board: &Board<S>, seat: &mut Seated<S>) -> Option<S>
     requires table { (seat.old.table_id ≡ board.now.shared.table_id) × IsSized seat.old.table_id }
     requires idle { IsIdle seat.old }
@@ -301,7 +301,7 @@ fn raise<S: Stepped>(board: &Board<S>, seat: &mut Seated<S>, touched: Option<Pro
     }
 }
 
-// Gives the value and the turn back, where the history is longer by an entry, which is published.
+// Gives the value and the turn back, if the history is longer by an entry, which is published.
 fn give_longer<S: Stepped>(board: &Board<S>, seat: &mut Seated<S>, stepped: S, entry: &Entry)
     requires table { (seat.old.table_id ≡ board.now.shared.table_id) × IsSized seat.old.table_id }
     requires givable { IsGivable S.script S.history S.halt seat.old stepped }

@@ -43,7 +43,7 @@ DeferredStaysEmpty =
     (c : Program) → IsScript c → (h : List Entry) → DueFrom c [] h → (m : ℕ) (y : Interval)
     → (after h).sequences.interval m ≡ Some y → deferred_state y.stage ≡ true → IsEmptied (after h) m y.proc
 
--- the mirrors that were attached to the process of an actor's guard since its start; none where it has no guard
+-- the mirrors that were attached to the process of an actor's guard since its start; none if it has no guard
 pub record Since : Type 0 where
   pub proc : ℕ
   pub mirrors : List ℕ
@@ -60,10 +60,12 @@ since_own x (Kind.End p r q) = None
 since_own x (Kind.Attached m d p r q) = with_newcomer m p x
 since_own x k = x
 
+-- who was attached since the start, after an entry of another actor
 abbrev pub since_other : Option Since → Kind → Option Since
 since_other x (Kind.Attached m d p r q) = with_newcomer m p x
 since_other x k = x
 
+-- who was attached since the start, after an entry of any actor
 abbrev pub since_next : ℕ → Option Since → Entry → Option Since
 since_next a x e = if e.actor == a then since_own x e.kind else since_other x e.kind
 

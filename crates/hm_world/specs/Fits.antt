@@ -12,6 +12,8 @@ use Rattle.hm_notifiers.specs.Shown.{NotifiersValueFit}
 use Rattle.hm_mirrors.specs.Shown.{MirrorsFit}
 use Rattle.hm_actors.specs.Actors.{ActorsFit, IsSeen}
 
+-- all that the structures ask of the state at an entry. It holds at every allowed entry, so no caller is asked for
+-- it
 pub record Fits (c : Program) (s : State) (a : ℕ) (k : Kind) : Type 0 where
   pub frames : FramesFit c s.after k
   pub tables : TablesFit (pool_size c) k

@@ -14,8 +14,10 @@ abbrev pub AtTop : Program → ℕ → Going → (Op → Phase → Type 0) → T
 AtTop c a g holds =
     (o : Op) (top : Phase) (below : List Phase) → op_at c a g.index ≡ Some o → g.stack ≡ top ∷ below → holds o top
 
+-- what was noted as the place is that of the page which the actor's entry is about
 abbrev pub IsPlaceSeen : Program → After → ℕ → Going → Kind → Place → Type 0
 IsPlaceSeen c s a g k x = AtTop c a g (λ o top. x ≡ seen_place s o top k)
 
+-- what was noted as the page is the record to which the actor's migration has come
 abbrev pub IsPageSeen : Program → After → ℕ → Going → Option Migrating → Type 0
 IsPageSeen c s a g x = AtTop c a g (λ o top. x ≡ coming_page (coming s o g.pages top))

@@ -35,6 +35,7 @@ pub record Shows (c : Program) (s : State) (x : Parts) : Type 0 where
   pub mirrors : MirrorsShown s.after.plain.mirrors s.after.places.table s.after.places.device x.mirrors
   pub actors : ActorsShown (length c.actors) s.going x.actors
 
+-- a world's structures are those of its history, which is one of entries that were due
 pub record Stands (t : WorldValue) (x : Parts) : Type 0 where
   pub script : IsScript t.script
   pub due : DueFrom t.script [] t.history

@@ -9,6 +9,7 @@ use Rattle.hm_history.specs.declared.Entry.{Entry}
 use Rattle.hm_history.specs.declared.Progress.{Progress}
 use Rattle.hm_history.specs.declared.StepError.{StepError}
 
+-- all of a world that its history does not give is its script and why it goes no further
 pub record WorldValue : Type 0 where
   pub script : Program
   pub history : List Entry
@@ -22,6 +23,7 @@ opening c = record { script = c; history = []; halted = None }
 abbrev pub grown : WorldValue → ℕ → Kind → WorldValue
 grown t a k = record t { history = t.history ++ record { actor = a; kind = k } ∷ [] }
 
+-- the world goes no further, for this cause
 abbrev pub halted_by : WorldValue → StepError → WorldValue
 halted_by t error = record t { halted = Some error }
 
@@ -44,6 +46,7 @@ abbrev pub MayHalt : Program → List Entry → StepError → Type 0
 MayHalt c h (StepError.Full n) = (n ≡ 2000000) × (length h ≡ 2000000) × HasDue c h
 MayHalt c h StepError.NoMemory = ⊤
 
+-- a world that goes no further has a cause for it
 abbrev pub HaltsRightly : Program → List Entry → Option StepError → Type 0
 HaltsRightly c h None = ⊤
 HaltsRightly c h (Some error) = MayHalt c h error

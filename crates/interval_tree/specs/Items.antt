@@ -7,6 +7,7 @@ use Rattle.interval_tree.specs.declared.node.Interval.{Interval}
 abbrev pub key : Interval → ℕ
 key x = 32 * x.span.first + x.id
 
+-- the page after the last one of an interval
 abbrev pub upto : Interval → ℕ
 upto x = x.span.first + x.span.count
 
@@ -15,6 +16,7 @@ abbrev pub AllAbove : ℕ → List Interval → Type 0
 AllAbove k [] = Unit {0}
 AllAbove k (x ∷ xs) = (k < key x) × AllAbove k xs
 
+-- the intervals' keys rise, so that no two are equal
 abbrev pub IsSorted : List Interval → Type 0
 IsSorted [] = Unit {0}
 IsSorted (x ∷ xs) = (x.id < 32) × AllAbove (key x) xs × IsSorted xs
@@ -29,6 +31,7 @@ abbrev pub with_interval : Interval → List Interval → List Interval
 with_interval x [] = x ∷ []
 with_interval x (y ∷ ys) = if nat_lt (key x) (key y) then x ∷ (y ∷ ys) else (y ∷ with_interval x ys)
 
+-- the intervals without those of this key
 abbrev pub without_key : ℕ → List Interval → List Interval
 without_key k [] = []
 without_key k (y ∷ ys) = if key y == k then without_key k ys else (y ∷ without_key k ys)
@@ -38,12 +41,13 @@ abbrev pub top_of : List Interval → ℕ
 top_of [] = 0
 top_of (x ∷ xs) = max (upto x) (top_of xs)
 
--- the lesser of two numbers, where there are any
+-- the lesser of two numbers, if there are any
 abbrev pub lesser : Option ℕ → Option ℕ → Option ℕ
 lesser None b = b
 lesser (Some m) None = Some m
 lesser (Some m) (Some n) = Some (min m n)
 
+-- a number, if the test holds
 abbrev pub id_if : Bool → ℕ → Option ℕ
 id_if true m = Some m
 id_if false m = None

@@ -2,10 +2,12 @@
 use Rattle.std.specs.Prelude.{ℕ, ◌+◌, ◌≤◌, ◌≡◌, max, List, []}
 use Rattle.interval_tree.specs.declared.node.Interval.{Interval}
 
+-- the intervals of a tree, and its height
 pub record Shape : Type 0 where
   pub items : List Interval
   pub height : ℕ
 
+-- the empty tree
 abbrev pub nothing : Shape
 nothing = record { items = []; height = 0 }
 

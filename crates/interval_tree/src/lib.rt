@@ -64,7 +64,7 @@ impl IntervalTree {
         self.spare.len() as u64
     }
 
-    /// The interval of this number, where there is one.
+    /// The interval of this number, if there is one.
     pub fn get(&self, id: MirrorId) -> Option<Span>
         ensures { result ≡ span_at self.now.spans id }
     {

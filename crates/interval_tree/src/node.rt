@@ -177,7 +177,7 @@ impl Tree {
         }
     }
 
-    // The node of the first interval, out of the tree; None where there is none.
+    // The node of the first interval, out of the tree; None if there is none.
     fn take_first(&mut self) -> Option<Box<Inner>>
         requires { length self.old.items < 2 ^ 50 }
         ensures first { MatchOption result ((self.old.items ≡ []) × (self.new ≡ self.old))

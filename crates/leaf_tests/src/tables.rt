@@ -69,7 +69,7 @@ fn answers_as_a_plain_list(rt: HostRuntime) -> Result<(), Fail> {
 /// Pages at the ends of tables of 512 entries, of tables of their tables, and the last page of all.
 const ENDS: [u64; 5] = [0, 511, 512, 262_144, 68_719_476_735];
 
-/// What the map holds of the ends: a word for each, where those from `first` on are set.
+/// What the map holds of the ends: a word for each; those from `first` on are set.
 fn holds(map: &Radix, first: usize) -> bool {
     for (at, page) in ENDS.iter().enumerate() {
         if *page >= 1 << 36 {

@@ -12,7 +12,7 @@ use hm_base::{Cause, Frame, Page, Proc};
 use hm_history::Kind;
 use hm_reads::Reads;
 
-/// A destination is unlocked, or dropped where no place names it.
+/// A destination is unlocked, or dropped if no place names it.
 pub fn settle<W: Reads>(world: &W, frame: &Frame) -> Kind
     ensures { result ≡ spec.settle (W.state world.now).after frame.now }
 {

@@ -10,15 +10,19 @@ pub record Block : Type 0 where
   pub entries : List (ℕ × MirrorEntry)
   pub room : ℕ
 
+-- a block with no entries and no room
 abbrev pub empty_block : Block
 empty_block = record { entries = []; room = 0 }
 
+-- the entry of a page, if it has one
 abbrev pub entry_at : Block → ℕ → Option MirrorEntry
 entry_at b page = sorted.find nat_cmp page b.entries
 
+-- the entries with one at this page, over the one that was there
 abbrev pub with_entry : Block → ℕ → MirrorEntry → List (ℕ × MirrorEntry)
 with_entry b page e = sorted.put nat_cmp page e b.entries
 
+-- the entries without those of the span's pages
 abbrev pub without_span : Block → Pages → List (ℕ × MirrorEntry)
 without_span b s = sorted.where_key nat_cmp (λ v. not (covers s v)) b.entries
 
@@ -26,6 +30,7 @@ without_span b s = sorted.where_key nat_cmp (λ v. not (covers s v)) b.entries
 abbrev pub changed : Block → List (ℕ × MirrorEntry) → ℕ → Block
 changed b es room = record { entries = es; room = room }
 
+-- the pages of the entries
 abbrev pub keys : List (ℕ × MirrorEntry) → List ℕ
 keys es = map (λ e. e.0) es
 

@@ -6,12 +6,15 @@ use Rattle.mirror_tables.specs.Blocks.{Block, empty_block, without_span, IsBlock
 use Rattle.mirror_tables.specs.Entries.{Table, block_of}
 use Rattle.mirror_tables.specs.declared.entry.MirrorEntry.{MirrorEntry}
 
+-- the entries of all blocks, one block after the other
 abbrev pub all_entries : List Block → List (ℕ × MirrorEntry)
 all_entries bs = flat_map (λ b. b.entries) bs
 
+-- the room of each block
 abbrev pub rooms_of : List Block → List ℕ
 rooms_of bs = map (λ b. b.room) bs
 
+-- the table that the blocks are, as contracts see it
 abbrev pub table_of : Pages → List Block → Table
 table_of w bs = record { window = w; entries = all_entries bs; rooms = rooms_of bs }
 
@@ -29,9 +32,11 @@ pub record IsBlockOf (w : Pages) (k : ℕ) (es : List (ℕ × MirrorEntry)) : Ty
   pub rising : IsBlock es
   pub here : AllKeys (in_block w k) es
 
+-- a block by its number; one that has not come has no entries
 abbrev pub block_at : List Block → ℕ → Block
 block_at bs k = slice_index_or bs k empty_block
 
+-- each block has the entries of its own pages alone, so that a page is looked for in one block
 abbrev pub IsDirectory : Pages → List Block → Type 0
 IsDirectory w bs = (k : ℕ) → k < length bs → IsBlockOf w k (block_at bs k).entries
 

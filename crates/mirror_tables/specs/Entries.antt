@@ -12,12 +12,15 @@ pub record Table : Type 0 where
   pub entries : List (ℕ × MirrorEntry)
   pub rooms : List ℕ
 
+-- the entry of a page, if it has one
 abbrev pub entry_at : Table → ℕ → Option MirrorEntry
 entry_at t page = sorted.find nat_cmp page t.entries
 
+-- the entries with one at this page, over the one that was there
 abbrev pub with_entry : Table → ℕ → MirrorEntry → List (ℕ × MirrorEntry)
 with_entry t page e = sorted.put nat_cmp page e t.entries
 
+-- the entries without those of the span's pages
 abbrev pub without_span : Table → Pages → List (ℕ × MirrorEntry)
 without_span t s = sorted.where_key nat_cmp (λ v. not (covers s v)) t.entries
 

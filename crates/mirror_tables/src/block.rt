@@ -112,7 +112,7 @@ fn place(entries: &[(Page, MirrorEntry)], page: u64) -> usize
     low
 }
 
-/// The place of a page that lies at this place or behind it, found by single steps: what they pass is taken out next.
+/// The place of a page that lies at this place or after it, found by single steps: what they pass is taken out next.
 fn place_from(entries: &[(Page, MirrorEntry)], from: usize, page: u64) -> usize
     requires rising { (i j : ℕ) → i < j → j < length entries.now
         → slice_index (keys entries.now) i < slice_index (keys entries.now) j }

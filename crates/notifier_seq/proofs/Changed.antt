@@ -67,9 +67,6 @@ pub kept_reserved : (xs : List (Option Interval)) (windows : List (Option Pages)
 kept_reserved xs windows spare more true room h l = record { len = h.len; tree = h.tree; enough = omega (arith, count_by-le-length is_coming xs, h.len); quiet = h.quiet }
 kept_reserved xs windows spare more false room h l = record { len = h.len; tree = h.tree; enough = omega (arith, none_coming xs (h.quiet refl)); quiet = h.quiet }
 
-pub kept_more : (xs : List (Option Interval)) (windows : List (Option Pages)) (spare more : ℕ) (noted room : Bool) → IsKept xs windows spare noted room → spare ≤ more → IsKept xs windows more noted room
-kept_more xs windows spare more noted room h l = record { len = h.len; tree = h.tree; enough = omega (arith, h.enough); quiet = h.quiet }
-
 pub kept_settled : (xs : List (Option Interval)) (windows : List (Option Pages)) (spare : ℕ) (noted room : Bool) → IsKept xs windows spare noted room → map settled xs ≡ xs → IsKept xs windows spare false room
 kept_settled xs windows spare noted room h q = record { len = h.len; tree = h.tree; enough = h.enough; quiet = λ _. q }
 
@@ -143,16 +140,6 @@ pub kept_cancelled : (xs : List (Option Interval)) (windows : List (Option Pages
 kept_cancelled xs windows spare noted room m h l e =
     let v = slice_index_or xs m None in
     kept_same xs windows spare noted noted room room m (with_stage Out v) h l (out_window v ∙ sym e) (omega (arith, out_coming v)) (λ f. quiet_set xs m (with_stage Out v) (h.quiet f) (out_settled v))
-
-cancelled_in : (t : Stage) (x : Interval) → x.stage ≡ t → (t ≡ InTree → ⊥) → leaving_state t ≡ false → tree_window (Some x) ≡ None
-cancelled_in InTree x e n l = absurd (n refl)
-cancelled_in InsertDeferred x e n l = rw e refl
-cancelled_in RemoveDeferred x e n l = cc
-cancelled_in Out x e n l = rw e refl
-
-pub cancelled_window : (v : Option Interval) → (stage_of v ≡ InTree → ⊥) → interval_passes (λ x. leaving_state x.stage) v ≡ false → tree_window v ≡ None
-cancelled_window None n l = refl
-cancelled_window (Some x) n l = cancelled_in x.stage x refl n l
 
 state_twice : (t : Stage) → settled_stage (settled_stage t) ≡ settled_stage t
 state_twice InTree = refl

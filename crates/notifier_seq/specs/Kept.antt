@@ -14,6 +14,7 @@ abbrev pub tree_window : Option Interval → Option Pages
 tree_window None = None
 tree_window (Some x) = if in_tree_state x.stage then Some x.window else None
 
+-- the stage of an interval; a mirror that never came is out
 abbrev pub stage_of : Option Interval → Stage
 stage_of None = Out
 stage_of (Some x) = x.stage
@@ -25,6 +26,7 @@ due_in InsertDeferred w = Insert w
 due_in RemoveDeferred w = Remove
 due_in Out w = Nothing
 
+-- the same of an interval that may not be there
 abbrev pub due : Option Interval → Due
 due None = Nothing
 due (Some x) = due_in x.stage x.window
@@ -39,12 +41,15 @@ pub record Listed : Type 0 where
   pub intervals : List (Option Interval)
   pub room : Bool
 
+-- before the first mirror there is no interval and no room
 abbrev pub nothing_listed : Listed
 nothing_listed = record { intervals = replicate 32 None; room = false }
 
+-- the interval of a mirror
 abbrev pub listed_at : Listed → ℕ → Option Interval
 listed_at x m = slice_index_or x.intervals m None
 
+-- the intervals with that of one mirror changed
 abbrev pub with_listed : Listed → ℕ → Option Interval → Listed
 with_listed x m v = record x { intervals = slice_set x.intervals m v }
 
@@ -52,13 +57,13 @@ with_listed x m v = record x { intervals = slice_set x.intervals m v }
 abbrev pub listed_with : Listed → ℕ → Interval → Listed
 listed_with x m y = record { intervals = slice_set x.intervals m (Some y); room = false }
 
--- the tree has the intervals that are in it, and room for those that are to come, and for one more where that is said
+-- the tree has the intervals that are in it, and room for those that are to come, and for one more if that is said
 pub record IsKept (xs : List (Option Interval)) (windows : List (Option Pages)) (spare : ℕ) (noted room : Bool) : Type 0
   where
     pub len : length xs ≡ 32
     pub tree : windows ≡ map tree_window xs
     pub enough : count_by is_coming xs + (if room then 1 else 0) ≤ spare
-    -- where no deferral is noted there is none
+    -- if no deferral is noted there is none
     pub quiet : noted ≡ false → map settled xs ≡ xs
 
 -- a process has none of it before room for its first insert was made
@@ -66,6 +71,7 @@ abbrev pub intervals_in : Option (Box Listed Global) → List (Option Interval)
 intervals_in None = replicate 32 None
 intervals_in (Some b) = b.value.intervals
 
+-- whether there is room for one more insert
 abbrev pub room_in : Option (Box Listed Global) → Bool
 room_in None = false
 room_in (Some b) = b.value.room

@@ -10,7 +10,7 @@
 //   told by an invalidation that is still under way, and a look-up that would begin then waits.
 // - An *end* lowers the count. The last one, if the sequence is odd, makes it even again and applies what was deferred.
 //   An earlier end leaves the sequence odd, since another invalidation is still under way.
-// - A look-up *begins* by reading its interval's sequence, and is to be *repeated* exactly where that has changed when
+// - A look-up *begins* by reading its interval's sequence, and is to be *repeated* if and only if that has changed when
 //   it would commit. A sequence never goes back, so no telling in between is missed.
 // - The tree does not change while the sequence is odd, since an invalidation walks it. An *insert* is then deferred,
 //   with the process's sequence as its own, so that no look-up begins before the invalidation has ended; a *remove* is
@@ -263,7 +263,7 @@ impl Notifiers {
         self.active
     }
 
-    // The interval of a mirror, where it ever had one.
+    // The interval of a mirror, if it ever had one.
     fn interval(&self, id: MirrorId) -> Option<Interval>
         ensures { result ≡ interval_at self.now id }
     {

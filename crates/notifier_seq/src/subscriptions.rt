@@ -51,14 +51,14 @@ impl Subscriptions {
         ensures room { OnOk result (self.new.room ≡ true) }
         ensures same { OnErr result (self.new ≡ self.old) }
     {
-        // Where some may be deferred they are not counted: there are 32 at most.
+        // If some may be deferred they are not counted: there are 32 at most.
         let wanted = if self.deferred { 33 } else { 1 };
         self.tree.reserve(wanted)?;
         self.room = true;
         Ok(())
     }
 
-    /// The interval of a mirror, where it ever had one.
+    /// The interval of a mirror, if it ever had one.
     pub fn interval(&self, id: MirrorId) -> &Option<Interval>
         ensures { result.now ≡ listed_at self.now id }
     {

@@ -65,7 +65,7 @@ fn begins<W: Reads>(world: &W, mirror: MirrorId) -> Next
     }
 }
 
-/// What is due at a piece of a load or a store by a mirror: its answer where the mirror's table has the page, or else a
+/// What is due at a piece of a load or a store by a mirror: its answer if the mirror's table has the page, or else a
 /// look-up begins, once no invalidation is under way.
 pub fn step_walk<W: Reads>(
     world: &W,
@@ -101,7 +101,7 @@ fn suits_walk(dev: Dev, writes: bool, place: &Place) -> bool
     }
 }
 
-/// What the walk of a look-up decides: it is given up where its interval was told since it began, and else it faults
+/// What the walk of a look-up decides: it is given up if its interval was told since it began, and else it faults
 /// as an access would, but that the device's own pages suit it.
 pub fn decide<W: Reads>(world: &W, actor: Actor, op: &Op, at: &Wanted, since: u64, seq: u64) -> Next
     requires { IsTrue (op_in_range op.now) }
@@ -146,7 +146,7 @@ fn set(op: &Op, piece: u32, since: u64, place: &Place) -> Kind
     }
 }
 
-/// What is due once a look-up has noted the page's place: it is given up where its interval was told since it began,
+/// What is due once a look-up has noted the page's place: it is given up if its interval was told since it began,
 /// and else the mirror's table has the page.
 pub fn noted<W: Reads>(world: &W, op: &Op, piece: u32, since: u64, seq: u64, place: &Place) -> Next
     requires { IsTrue (op_in_range op.now) }

@@ -64,7 +64,7 @@ pub fn replayed(alloc: Global, script: &[u8]) -> io::Result<Outcome> {
     })
 }
 
-/// The text of a file beside the script; there is none where there is no such file.
+/// The text of a file beside the script; there is none if there is no such file.
 fn beside(rt: &HostRuntime, stem: &str, ending: &str) -> io::Result<String> {
     let path = format!(in rt.alloc(); "{stem}.{ending}")?;
     match fs::read_to_string(rt, path.as_str()) {
@@ -84,7 +84,7 @@ fn code(text: &str) -> io::Result<u8> {
     }
 }
 
-/// What the files beside the script say that it comes to: all done, no message and nothing written, where they are
+/// What the files beside the script say that it comes to: all done, no message and nothing written, if they are
 /// missing.
 pub fn wanted(rt: &HostRuntime, stem: &str) -> io::Result<Outcome> {
     let message = beside(rt, stem, "message")?;

@@ -20,7 +20,7 @@ fn note(alloc: Global, words: &mut Vec<String>, word: &str) -> Result<(), AllocE
     Ok(())
 }
 
-/// The word of a line of the history: behind its position and its actor, where it has them.
+/// The word of a line of the history: after its position and its actor, if it has them.
 fn entry_word(line: &str) -> &str {
     let mut words = line.split(' ');
     let first = words.next().unwrap_or("");

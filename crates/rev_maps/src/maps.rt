@@ -112,7 +112,7 @@ impl RevMaps {
         }
     }
 
-    /// Gives the order of the uses of a frame where only their value is at hand; it does nothing.
+    /// Gives the order of the uses of a frame if only their value is at hand; it does nothing.
     pub fn rising(&self, number: u32)
         ensures { is_rising (uses_of self.now number).list ≡ true }
     {

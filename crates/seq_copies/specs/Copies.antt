@@ -15,7 +15,7 @@ pub record IsCopy (s : Snapshot) (list : List Entry) : Type 0 where
   pub inside : s.at ≤ length list
   pub bytes_are : s.bytes ≡ plain_after (take s.at list) s.proc s.addr (length s.bytes)
 
--- all its bytes have areas after so many entries of a list
+-- all its bytes have areas after `count` entries of a list
 abbrev pub HaveAreas : Snapshot → ℕ → List Entry → Type 0
 HaveAreas s count list = all_have_areas (after (take count list)).plain s.proc s.addr (length s.bytes) ≡ true
 
@@ -46,7 +46,7 @@ checked v p t = record v {
   marks = v.marks ++ record { proc = p; at = t.mark; upto = t.count } ∷ [];
 }
 
--- in each list that is shown later, the copy has the plain bytes of its process after so many entries
+-- in each list that is shown later, the copy has the plain bytes of its process after `count` entries
 abbrev pub IsCurrent : Snapshot → Sight → ℕ → Type 0
 IsCurrent s w count =
     (later : List Entry) → IsShown w later → s.bytes ≡ plain_after (take count later) s.proc s.addr (length s.bytes)

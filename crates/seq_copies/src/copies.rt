@@ -45,7 +45,7 @@ fn take_into<S: Looks>(
     }
 }
 
-/// Tries once for the turn, and copies 1 to 256 bytes of the process. Where memory runs out the copy is lost, and the
+/// Tries once for the turn, and copies 1 to 256 bytes of the process. If memory runs out the copy is lost, and the
 /// pass has seen the history.
 pub fn take_copy<S: Looks>(
     alloc: Global,
@@ -67,7 +67,7 @@ pub fn take_copy<S: Looks>(
 }
 
 /// Whether the copy has the process's bytes as they are after the count that is loaded here. It loads the count, then
-/// the mark, and takes no memory. Where all its bytes had areas they still have.
+/// the mark, and takes no memory. If all its bytes had areas they still have.
 pub fn still<S: Stepped>(turns: &Turns<S>, pass: &mut Pass, snapshot: &Snapshot) -> Still
     requires own { pass.old.desk ≡ turns.now }
     requires copy { IsCopy snapshot.now pass.old.list }

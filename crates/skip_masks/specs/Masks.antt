@@ -7,7 +7,7 @@ use Rattle.skip_rules.specs.Rules.{divides}
 abbrev pub bit_of : ℕ → ℕ → ℕ
 bit_of every page = if divides every page then 1 else 0
 
--- of so many pages from the first on, which has the lowest bit
+-- of n pages from the first on, which has the lowest bit
 abbrev pub mask_of : ℕ → ℕ → ℕ → ℕ
 mask_of every first zero = 0
 mask_of every first (suc n) = bit_of every first + 2 * mask_of every (first + 1) n

@@ -17,7 +17,7 @@ fn bit<R: SkipRule>(rule: &R, every: u64, page: u64) -> u64
 }
 
 /// Which pages of the span the rule passes over, of the first 64: bit `i`, from the lowest, stands for the page `i`
-/// behind the first, and is 1 where that page is skipped.
+/// after the first, and is 1 if that page is skipped.
 pub fn mask<R: SkipRule>(rule: &R, every: u64, span: Span) -> u64
     ensures { result ≡ mask_of every span.first (min span.count 64) }
 {

@@ -20,7 +20,7 @@ pub trait SkipRule: Drop {
 pub trait LeanRule: Drop {
     ghost use Rattle.skip_rules.specs.Rules.{outweighs};
 
-    /// Whether a page leans to a party that accessed it `x` times, where the other accessed it `y` times. A page that
+    /// Whether a page leans to a party that accessed it `x` times, and the other `y` times. A page that
     /// both use much the same stays where it is.
     fn leans(&self, x: u64, y: u64) -> bool
         ensures { result ≡ outweighs x y };

@@ -3,7 +3,7 @@ use hm_script::{Reason, ScriptError, Words, generate, parse, parse_words, print,
 use std::alloc::Global;
 use std::test::Fail;
 
-/// The line and the number of the reason of a refusal, and 0 for both where there is none.
+/// The line and the number of the reason of a refusal, and 0 for both if there is none.
 fn refusal(alloc: Global, text: &[u8]) -> (u64, u32) {
     match parse(alloc, text) {
         Err(ScriptError::Refused(refused)) => (refused.line, refused.why.number()),

@@ -115,7 +115,7 @@ fn a_flush_is_the_writers_own(rt: HostRuntime) {
     assert_eq!(rt; (sink.faults(), sink.wants()), (1, 0));
 }
 
-/// A writer that keeps what it takes, and hands it on to what lies below only at a flush. Where that is broken, a flush
+/// A writer that keeps what it takes, and hands it on to what lies below only at a flush. If that is broken, a flush
 /// fails, and hands on nothing.
 #[derive(Drop)]
 struct Keeper<'a> {

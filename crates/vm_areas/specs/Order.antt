@@ -8,6 +8,7 @@ abbrev pub IsRising : ℕ → List Area → Type 0
 IsRising low [] = Unit {0}
 IsRising low (a ∷ as_) = (low ≤ a.span.first) × (1 ≤ a.span.count) × IsRising (last_of a.span) as_
 
+-- the areas of a process as they are kept, so that a search by halves finds one
 pub record IsAreas (as_ : List Area) : Type 0 where
   pub few : length as_ ≤ 64
   pub rising : IsRising 0 as_

@@ -7,12 +7,15 @@ use Rattle.hm_base.specs.declared.ops.Rights.{Rights}
 use Rattle.vm_areas.specs.declared.AreaRefusal.{AreaRefusal}
 use Rattle.vm_areas.specs.declared.AreaRefusal.TheVariants.{Overlap, TooMany, Unmapped}
 
+-- why an area cannot be added
 abbrev pub insert_refusal : Pages → List Area → Option AreaRefusal
 insert_refusal r as_ = if meets r as_ then Some Overlap else if nat_lt (length as_) 64 then None else Some TooMany
 
+-- why a span cannot be unmapped: a cut through the middle of an area makes two of it
 abbrev pub remove_refusal : Pages → List Area → Option AreaRefusal
 remove_refusal r as_ = if nat_le (length (without r as_)) 64 then None else Some TooMany
 
+-- why a span's right cannot be changed
 abbrev pub protect_refusal : Pages → Rights → List Area → Option AreaRefusal
 protect_refusal r w as_ =
     if not (all_mapped r as_) then Some Unmapped

@@ -19,7 +19,7 @@ use std::mem;
 // The most areas of a process (as the kernel's vm.max_map_count limits mmap; the number is this project's).
 const MOST: usize = 64;
 
-/// Why a change of areas is refused. Where several reasons hold, the first of each call's order is told.
+/// Why a change of areas is refused. If several reasons hold, the first of each call's order is given.
 #[derive(Clone, Copy, PartialEq, Eq, Debug, thiserror::Error)]
 pub enum AreaRefusal {
     /// A page of the span has an area.
@@ -75,7 +75,7 @@ impl Areas {
         self.areas.as_slice()
     }
 
-    /// The right of a page (`find_vma` of mm/mmap.c); None where it has no area.
+    /// The right of a page (`find_vma` of mm/mmap.c); None if it has no area.
     pub fn find(&self, page: Page) -> Option<Rights>
         ensures { result ≡ rights_at self.now page }
     {
@@ -109,7 +109,7 @@ impl Areas {
         }
     }
 
-    /// The refusal of `remove` now: TooMany where the cuts leave more than 64.
+    /// The refusal of `remove` now: TooMany if the cuts leave more than 64.
     pub fn remove_refusal(&self, span: Span) -> Option<AreaRefusal>
         ensures { result ≡ remove_refusal span self.now }
     {
@@ -206,7 +206,7 @@ impl Areas {
         }
     }
 
-    // What is inside the span gets the right, or goes where there is none.
+    // What is inside the span gets the right, or goes if there is none.
     fn cut(&mut self, span: Span, inside: Option<Rights>, spare: &mut Areas)
         requires { length (cut span inside self.old) ≤ 64 }
         ensures { self.new ≡ cut span inside self.old }
@@ -319,7 +319,7 @@ fn push_parts(area: &Area, span: &Span, inside: Option<Rights>, into: &mut Vec<A
     push_part(first.max(upto), last, Some(area.rights), into);
 }
 
-// The pages of the bounds, where there are some and they have a right.
+// The pages of the bounds, if there are some and they have a right.
 fn push_part(from: u64, upto: u64, rights: Option<Rights>, into: &mut Vec<Area>)
     requires pages { upto ≤ 2 ^ 36 }
     requires room { vec_len into.old + length (part_with from upto rights) ≤ vec_capacity into.old }
