@@ -13,7 +13,7 @@ ghost use Rattle.hm_history.specs.declared.phases.Body as body;
 use hm_base::{Cause, Page, Proc, Span};
 use hm_history::Kind;
 use hm_reads::Reads;
-use hm_reads::guards::is_before_end;
+use hm_reads::guards::end_of;
 
 /// What is due to a fork once it has the write lock: a refusal, or the child's number is given away.
 pub fn step_fork<W: Reads>(world: &W, proc: Proc, child: Proc) -> Kind
@@ -56,16 +56,8 @@ pub fn copy<W: Reads>(world: &W, proc: Proc, child: Proc, span: Span, next: u64)
         ≡ spec.within span (next_page (W.state world.now).after.places is_used proc next)
         (spec.fork_page (W.state world.now).after proc child) }
 {
-    match world.next_used(proc, next) {
-        None => None,
-        Some(page) => {
-            if is_before_end(span, page.number()) {
-                Some(fork_page(world, proc, child, page))
-            } else {
-                None
-            }
-        }
-    }
+    let page = world.next_used(proc, next, end_of(span))?;
+    Some(fork_page(world, proc, child, page))
 }
 
 /// The other half of a page whose write right the parent has lost: the child gets the parent's place.

@@ -74,7 +74,8 @@ impl PlaceState {
         ensures { ForShown self.now (λ c s. result ≡ next_page s is_used proc from) }
     {
         if from < 1 << 36 {
-            self.tables.next_page(proc, Page::new(from), PageTest::Used)
+            self.tables
+                .next_page(proc, Page::new(from), 1 << 36, PageTest::Used)
         } else {
             None
         }

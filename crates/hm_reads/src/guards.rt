@@ -37,9 +37,16 @@ pub fn body_or_end<W: Reads>(world: &W, proc: Proc, span: Span, body: Option<Kin
     }
 }
 
+/// The first page after the span.
+pub fn end_of(span: Span) -> u64
+    ensures { result ≡ span.first + span.count }
+{
+    span.first().number() + span.count()
+}
+
 /// Whether a cursor is still before the span's end.
 pub fn is_before_end(span: Span, next: u64) -> bool
     ensures { result ≡ nat_lt next (span.first + span.count) }
 {
-    next < span.first().number() + span.count()
+    next < end_of(span)
 }

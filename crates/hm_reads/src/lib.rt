@@ -11,6 +11,7 @@ ghost use Rattle.hm_history.specs.Sequences.{interval_seq, in_tree, insert_defer
 ghost use Rattle.hm_history.specs.Locks.{writer, lowest_other, other_locker};
 ghost use Rattle.hm_history.specs.Going.{State, op_at, coming};
 ghost use Rattle.hm_history.specs.Due.{is_usable, has_exclusive};
+ghost use Rattle.hm_reads.specs.Cursors.{page_before};
 ghost use Rattle.hm_reads.specs.Ranges.{top_in_range};
 ghost use Rattle.hm_history.specs.declared.Who as who;
 ghost use Rattle.hm_history.specs.declared.phases.Phase as phase;
@@ -95,13 +96,13 @@ pub trait Reads {
     fn place(&self, proc: Proc, page: Page) -> Place
         ensures { result ≡ (state self.now).after.places.place proc page };
 
-    /// The lowest page from there on whose place is not Empty.
-    fn next_used(&self, proc: Proc, from: u64) -> Option<Page>
-        ensures { result ≡ next_page (state self.now).after.places is_used proc from };
+    /// The lowest page from there on and before the end whose place is not Empty.
+    fn next_used(&self, proc: Proc, from: u64, end: u64) -> Option<Page>
+        ensures { result ≡ page_before end (next_page (state self.now).after.places is_used proc from) };
 
-    /// The lowest page from there on whose place is writable.
-    fn next_writable(&self, proc: Proc, from: u64) -> Option<Page>
-        ensures { result ≡ next_page (state self.now).after.places writable proc from };
+    /// The lowest page from there on and before the end whose place is writable.
+    fn next_writable(&self, proc: Proc, from: u64, end: u64) -> Option<Page>
+        ensures { result ≡ page_before end (next_page (state self.now).after.places writable proc from) };
 
     /// Who has the frame locked.
     fn locker(&self, frame: &Frame) -> Option<Actor>

@@ -1,12 +1,12 @@
 // The page tables of the processes, and the reverse maps of the pools.
 ghost use Rattle.std.specs.Prelude.{◌≡◌, ℕ, not, true, is_some, length, replicate, slice_index_or, slice_set, OnOk, IfOk};
-ghost use Rattle.radix_tables.specs.Maps.{is_reserved, given_back};
+ghost use Rattle.radix_tables.specs.Maps.{before, is_reserved, given_back};
 ghost use Rattle.hm_history.specs.declared.Kind.{Kind as AnyKind};
 ghost use Rattle.hm_base.specs.PlaceWords.{names};
 ghost use Rattle.hm_tables.specs.Values.{no_words, size_in, place_in_table, place_of, table_with};
 ghost use Rattle.hm_tables.specs.Sound.{IsOrdered};
 ghost use Rattle.hm_tables.specs.Steps.{tables_start, tables_next, TablesFit, TablesRoom, TablesRange, SameTables};
-ghost use Rattle.hm_tables.specs.Reads.{page_test, next_in_table, next_likely, next_page_of, lowest_of, use_count, orphaned};
+ghost use Rattle.hm_tables.specs.Reads.{page_test, next_in_span, next_likely, next_page_before, lowest_of, use_count, orphaned};
 
 use crate::places::{PageTest, is_named_by, place_of_word};
 use crate::pools::{change_use, new_pools, pool_index, reserve_use};
@@ -115,12 +115,12 @@ impl PageTables {
         place_in(&self.tables, proc, page)
     }
 
-    /// The lowest page of the process from `from` on whose place passes.
-    pub fn next_page(&self, proc: Proc, from: Page, test: PageTest) -> Option<Page>
-        ensures { result ≡ next_page_of self.now (page_test test) proc from }
+    /// The lowest page of the process from `from` on whose place passes, if it lies before `end`.
+    pub fn next_page(&self, proc: Proc, from: Page, end: u64, test: PageTest) -> Option<Page>
+        ensures { result ≡ next_page_before self.now (page_test test) proc from end }
     {
         let table = &self.tables[proc.number() as usize];
-        next_in(table, from, test)
+        next_in(table, from, end, test)
     }
 
     /// The lowest process and page that names the frame, and not by a migration entry.
@@ -230,13 +230,13 @@ fn give_back(tables: &mut Vec<Radix>, proc: Proc)
     table.give_back();
 }
 
-/// The first page of the table from `from` on whose place passes.
-fn next_in(table: &Radix, from: Page, test: PageTest) -> Option<Page>
+/// The first page of the table from `from` on whose place passes, if it lies before `end`.
+fn next_in(table: &Radix, from: Page, end: u64, test: PageTest) -> Option<Page>
     requires { IsOrdered table.now }
-    ensures { result ≡ next_in_table table.now (page_test test) from }
+    ensures { result ≡ next_in_span table.now (page_test test) from end }
 {
     let mut at = from;
-    while let Some((page, word)) = next_word(table, at, test) {
+    while let Some((page, word)) = next_word(table, at, end, test) {
         if test.passes(place_of_word(word)) {
             return Some(page);
         }
@@ -248,12 +248,12 @@ fn next_in(table: &Radix, from: Page, test: PageTest) -> Option<Page>
     None
 }
 
-/// The first word from a page on that may pass: the word of a place with the write right is marked.
-fn next_word(table: &Radix, at: Page, test: PageTest) -> Option<(Page, u64)>
-    ensures { result ≡ next_likely table.now test at }
+/// The first word from a page on and before an end that may pass: the word of a place with the write right is marked.
+fn next_word(table: &Radix, at: Page, end: u64, test: PageTest) -> Option<(Page, u64)>
+    ensures { result ≡ before end (next_likely table.now test at) }
 {
     match test {
-        PageTest::Used => table.next_at_or_after(at),
-        PageTest::Writable => table.next_marked(at),
+        PageTest::Used => table.next_at_or_after(at, end),
+        PageTest::Writable => table.next_marked(at, end),
     }
 }

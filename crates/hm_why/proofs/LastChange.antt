@@ -74,3 +74,12 @@ replaced f g from to at l r (suc b) = by (replaced f g from to at l r b) (lies f
     by ih (Inside h k) = ap (λ x. unwrap_or x (last_change g b)) (r.inside (suc b) h k) ∙ ih ∙ in_part f from to at b (omega arith) (omega arith) ∙ sym (in_part f from to at (suc b) (omega arith) k)
     by ih (Behind e) = ap (λ x. unwrap_or x (last_change g b)) (subst (λ y. g y ≡ Some (last_change f y)) (sym e) r.behind) ∙ sym (behind_part f from to at (suc b) (omega arith))
     by ih (High h) = ap (λ x. unwrap_or x (last_change g b)) (r.high (suc b) h) ∙ ap (unwrap_or (f (suc b))) (ih ∙ behind_part f from to at b (omega arith)) ∙ sym (behind_part f from to at (suc b) (omega arith))
+
+-- with no change after an address, the addresses after it have what it has
+pub kept : (f : ℕ → Option (Option ℕ)) (addr b : ℕ) → addr ≤ b → ((k : ℕ) → addr < k → k ≤ b → f k ≡ None) → last_change f b ≡ last_change f addr
+kept f addr zero l none = let e : 0 ≡ addr = omega (arith, l) in ap (λ k. last_change f k) e
+kept f addr (suc b) l none = by (cases_eq addr (suc b)) (λ m. kept f addr b m (λ k above under. none k above (omega arith)))
+  where
+    by : (addr ≡ suc b) ⊎ (addr ≡ suc b → ⊥) → (addr ≤ b → last_change f b ≡ last_change f addr) → last_change f (suc b) ≡ last_change f addr
+    by (inl e) more = ap (λ k. last_change f k) (sym e)
+    by (inr ne) more = ap (λ y. unwrap_or y (last_change f b)) (none (suc b) (omega arith) (omega arith)) ∙ more (omega arith)

@@ -1,4 +1,5 @@
 mod LastChange
+mod Sharing
 mod LoadsDue
 mod Values
 mod Loads

@@ -1,5 +1,5 @@
 -- The sources of all bytes of all processes, as they are kept.
-use Rattle.std.specs.Prelude.{◌≡◌, ℕ, ◌<◌, ◌^◌, ◌&&◌, ◌==◌, if◌then◌else◌, Option, Some, None, length, slice_get, slice_index_or, unwrap_or}
+use Rattle.std.specs.Prelude.{◌≡◌, ◌≢◌, ℕ, ◌<◌, ◌≤◌, ◌^◌, ◌&&◌, ◌==◌, if◌then◌else◌, Option, Some, None, List, length, slice_get, slice_index_or, unwrap_or}
 use Rattle.hm_history.specs.Words.{with_at}
 use Rattle.hm_history.specs.Plain.{owned}
 use Rattle.hm_history.specs.declared.Who.{Who}
@@ -18,14 +18,42 @@ abbrev pub entry_among : ℕ → Option Changes → Option ℕ
 entry_among b None = None
 entry_among b (Some t) = entry_for t b
 
+-- the changes at a place, where there is one
+abbrev pub changes_at : List Changes → Option ℕ → Option Changes
+changes_at xs None = None
+changes_at xs (Some k) = slice_get xs k
+
 -- the source of a byte of a process
 abbrev pub source_in : Writers → ℕ → ℕ → Option ℕ
-source_in w q b = entry_among b (slice_get w.changes.items q)
+source_in w q b = entry_among b (changes_at w.changes.items (slice_get w.slots q))
 
 -- there are changes for each process, and a place for each mirror's process
 pub record IsSized (w : Writers) : Type 0 where
   pub mirrors : length w.owners ≡ 32
-  pub processes : length w.changes.items ≡ 32
+  pub processes : length w.slots ≡ 32
+  pub places : (q k : ℕ) → slice_get w.slots q ≡ Some k → k < length w.changes.items
+
+-- no other process has its changes where this one has them
+abbrev pub IsAlone : List ℕ → ℕ → Type 0
+IsAlone slots p = (q k : ℕ) → slice_get slots p ≡ Some k → slice_get slots q ≡ Some k → q ≡ p
+
+-- no process has its changes there
+abbrev pub IsFree : List ℕ → ℕ → Type 0
+IsFree slots k = (q : ℕ) → slice_get slots q ≢ Some k
+
+-- these changes stand at a place, and the others where they did
+pub record IsPut (before after : List Changes) (place : ℕ) (new : Changes) : Type 0 where
+  pub here : slice_get after place ≡ Some new
+  pub others : (k : ℕ) → k < length before → k ≢ place → slice_get after k ≡ slice_get before k
+  pub longer : length before ≤ length after
+  pub holds : place < length after
+
+-- the process has its changes alone, and no source is another
+pub record IsOwn (before after : Writers) (proc : ℕ) : Type 0 where
+  pub sized : IsSized after
+  pub alone : IsAlone after.slots proc
+  pub owners : (m : ℕ) → owner_in after m ≡ owner_in before m
+  pub sources : (q b : ℕ) → source_in after q b ≡ source_in before q b
 
 -- nothing was written, and no mirror was attached
 pub record IsFresh (w : Writers) : Type 0 where

@@ -6,6 +6,13 @@ use hm_base::NoMemory;
 use std::alloc::Global;
 use std::collections::BTreeMap;
 
+/// Up to an address, these bytes have one source.
+#[derive(Clone, Copy)]
+pub struct Run {
+    pub source: Option<u64>,
+    pub end: u64,
+}
+
 /// The positions of entries, by address. An address with a position says that the entry there stands from this address
 /// on, up to the next address with one.
 #[derive(Drop)]
@@ -40,6 +47,24 @@ impl Changes {
         match self.last(addr) {
             Some((_, at)) => at,
             None => None,
+        }
+    }
+
+    /// The entry that stands for the address, and how far it does, up to an end at most.
+    pub fn run(&self, addr: u64, end: u64) -> Run
+        requires { addr < end }
+        ensures inside { result.end ≤ end }
+        ensures further { addr < result.end }
+        ensures stands { (b : ℕ) → addr ≤ b → b < result.end → entry_for self.now b ≡ result.source }
+    {
+        let source = self.get(addr);
+        let next = addr + 1;
+        if next == end {
+            return Run { source, end };
+        }
+        match self.first(next) {
+            Some(found) if found < end => Run { source, end: found },
+            _ => Run { source, end },
         }
     }
 

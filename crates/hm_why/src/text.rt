@@ -7,6 +7,7 @@ ghost use Rattle.hm_why.specs.Laws.{IsLegal};
 ghost use Rattle.hm_why.specs.Writers.{source_in, process_in, IsSized};
 ghost use Rattle.hm_why.specs.Loads.{is_load, IsLow, source_text, why_line, load_count, why_text};
 
+use crate::changes::Run;
 use crate::laws::loads_lie_in_a_page;
 use crate::writers::Writers;
 use hm_base::{NoMemory, Proc, Text};
@@ -41,9 +42,14 @@ fn add_sources(
     ensures { OnOk result (text.new
         ≡ text.old ++ spaced (map source_text (map (source_in writers.now proc) (numbers addr len)))) }
 {
-    for byte in addr..addr + len {
-        let source = writers.source(proc, byte);
-        add_source(text, out, source)?;
+    let end = addr + len;
+    let mut run = Run {
+        source: None,
+        end: addr,
+    };
+    for byte in addr..end {
+        run = writers.run_on(proc, byte, end, run);
+        add_source(text, out, run.source)?;
     }
     Ok(())
 }

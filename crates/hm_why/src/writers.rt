@@ -1,19 +1,23 @@
 // The sources of all bytes of all processes, entry by entry.
-ghost use Rattle.std.specs.Prelude.{◌≡◌, IfOk, OnOk};
+ghost use Rattle.std.specs.Prelude.{◌≡◌, ℕ, ◌<◌, ◌≤◌, true, false, Some, length, slice_get, IfOk, OnOk};
 ghost use Rattle.hm_why.specs.Sources.{process_of};
-ghost use Rattle.hm_why.specs.Writers.{owner_in, source_in, process_in, IsSized, IsFresh, IsWritten, IsCopied, IsNoted};
+ghost use Rattle.hm_why.specs.Writers.{owner_in, source_in, process_in, IsSized, IsFresh, IsWritten, IsCopied, IsNoted, IsAlone, IsFree, IsPut, IsOwn};
 
-use crate::changes::Changes;
+use crate::changes::{Changes, Run};
 use hm_base::{MOST_MIRRORS, MOST_PROCESSES, NoMemory, PAGE_BYTES, Proc};
 use hm_history::{Kind, Who};
 use std::alloc::Global;
 
 const MIRRORS: usize = MOST_MIRRORS as usize;
 
-/// The source of each byte of each process after some entries, and the process of each mirror.
+const PROCESSES: usize = MOST_PROCESSES as usize;
+
+/// The source of each byte of each process after some entries, and the process of each mirror. Processes share their
+/// changes from a fork on, until one of them writes: `slots` says for each process where its changes stand.
 #[derive(Drop)]
 pub struct Writers {
     owners: [Option<Proc>; MIRRORS],
+    slots: [usize; PROCESSES],
     changes: Vec<Changes>,
 }
 
@@ -23,12 +27,11 @@ impl Writers {
         ensures sized { IfOk result IsSized }
         ensures fresh { IfOk result IsFresh }
     {
-        let mut changes = Vec::with_capacity(alloc, MOST_PROCESSES as usize)?;
-        for _ in 0..MOST_PROCESSES {
-            changes.push(Changes::new(alloc))?;
-        }
+        let mut changes = Vec::with_capacity(alloc, PROCESSES)?;
+        changes.push(Changes::new(alloc))?;
         Ok(Writers {
             owners: [None; MIRRORS],
+            slots: [0; PROCESSES],
             changes,
         })
     }
@@ -59,7 +62,32 @@ impl Writers {
         requires { IsSized self.now }
         ensures { result ≡ source_in self.now proc addr }
     {
-        self.changes[proc.number() as usize].get(addr)
+        self.changes[self.slots[proc.number() as usize]].get(addr)
+    }
+
+    /// The source of a byte of the process, and how far the bytes after it have the same, up to an end at most.
+    fn run(&self, proc: Proc, addr: u64, end: u64) -> Run
+        requires sized { IsSized self.now }
+        requires some { addr < end }
+        ensures further { addr < result.end }
+        ensures stands { (b : ℕ) → addr ≤ b → b < result.end → source_in self.now proc b ≡ result.source }
+    {
+        self.changes[self.slots[proc.number() as usize]].run(addr, end)
+    }
+
+    /// The run of a byte, once that of the bytes before it is known: most often it is the same.
+    pub fn run_on(&self, proc: Proc, addr: u64, end: u64, before: Run) -> Run
+        requires sized { IsSized self.now }
+        requires some { addr < end }
+        requires stands { (b : ℕ) → addr ≤ b → b < before.end → source_in self.now proc b ≡ before.source }
+        ensures further { addr < result.end }
+        ensures stands { (b : ℕ) → addr ≤ b → b < result.end → source_in self.now proc b ≡ result.source }
+    {
+        if addr < before.end {
+            before
+        } else {
+            self.run(proc, addr, end)
+        }
     }
 
     /// The entry wrote so many bytes of the process, if there is one.
@@ -69,19 +97,38 @@ impl Writers {
     {
         let end = addr.saturating_add(len);
         match proc {
-            Some(proc) if addr < end => self.changes[proc.number() as usize].set(addr, end, at),
+            Some(proc) if addr < end => {
+                let own = self.own(proc)?;
+                self.changes[own].set(addr, end, at)
+            }
             _ => Ok(()),
         }
     }
 
-    /// The child gets what its parent has.
-    fn copy(&mut self, parent: Proc, child: Proc) -> Result<(), NoMemory>
+    /// Where the changes of the process stand, which are no other's: those that it shares are copied now.
+    fn own(&mut self, proc: Proc) -> Result<usize, NoMemory>
         requires { IsSized self.old }
-        ensures { OnOk result (IsCopied self.old self.new parent child) }
+        ensures own { OnOk result (IsOwn self.old self.new proc) }
+        ensures place { IfOk result (λ own. slice_get self.new.slots proc ≡ Some own) }
     {
-        let copy = self.changes[parent.number() as usize].copy()?;
-        self.changes[child.number() as usize] = copy;
-        Ok(())
+        let index = proc.number() as usize;
+        let shared = self.slots[index];
+        if is_alone(&self.slots, index) {
+            return Ok(shared);
+        }
+        let copy = self.changes[shared].copy()?;
+        let own = free_place(&self.slots, self.changes.len());
+        put_at(&mut self.changes, own, copy)?;
+        self.slots[index] = own;
+        Ok(own)
+    }
+
+    /// The child shares what its parent has.
+    fn share(&mut self, parent: Proc, child: Proc)
+        requires { IsSized self.old }
+        ensures { IsCopied self.old self.new parent child }
+    {
+        self.slots[child.number() as usize] = self.slots[parent.number() as usize];
     }
 
     /// The entry at this position comes next. Where memory runs out, some of what was kept may be lost.
@@ -102,7 +149,10 @@ impl Writers {
                 let first = span.first().number() * PAGE_BYTES;
                 self.write(Some(*proc), first, span.count() * PAGE_BYTES, at)
             }
-            Kind::Forked { parent, child } => self.copy(*parent, *child),
+            Kind::Forked { parent, child } => {
+                self.share(*parent, *child);
+                Ok(())
+            }
             Kind::Attached { mirror, proc, .. } => {
                 self.owners[mirror.number() as usize] = Some(*proc);
                 Ok(())
@@ -110,4 +160,57 @@ impl Writers {
             _ => Ok(()),
         }
     }
+}
+
+/// Whether no other process has its changes where this one has them.
+fn is_alone(slots: &[usize], index: usize) -> bool
+    requires { index < length slots.now }
+    ensures { result ≡ true → IsAlone slots.now index }
+{
+    let place = slots[index];
+    for other in 0..slots.len() {
+        if other != index && slots[other] == place {
+            return false;
+        }
+    }
+    true
+}
+
+/// Whether some process has its changes at this place.
+fn has_user(slots: &[usize], place: usize) -> bool
+    ensures { result ≡ false → IsFree slots.now place }
+{
+    for slot in slots {
+        if *slot == place {
+            return true;
+        }
+    }
+    false
+}
+
+/// The first place where no process has its changes, `count` if there is none below it.
+fn free_place(slots: &[usize], count: usize) -> usize
+    requires { (k s : ℕ) → slice_get slots.now k ≡ Some s → s < count }
+    ensures below { result ≤ count }
+    ensures free { IsFree slots.now result }
+{
+    for place in 0..count {
+        if !has_user(slots, place) {
+            return place;
+        }
+    }
+    count
+}
+
+/// Puts changes at a place, or at the end.
+fn put_at(changes: &mut Vec<Changes>, place: usize, new: Changes) -> Result<(), NoMemory>
+    requires { place ≤ length changes.old.items }
+    ensures { OnOk result (IsPut changes.old.items changes.new.items place new) }
+{
+    if place == changes.len() {
+        changes.push(new)?;
+    } else {
+        changes[place] = new;
+    }
+    Ok(())
 }

@@ -1,6 +1,7 @@
 // What steps ask of a world: each call reads one structure.
 ghost use Rattle.std.specs.Prelude.{◌≡◌};
 ghost use Rattle.hm_history.specs.Places.{next_page};
+ghost use Rattle.hm_reads.specs.Cursors.{page_before};
 ghost use Rattle.hm_tables.specs.Reads.{page_test};
 ghost use Rattle.hm_world.specs.WorldValue.{now};
 
@@ -18,11 +19,11 @@ use std::alloc::Global;
 
 impl World {
     // Cursors may have passed the last page.
-    fn next_page(&self, proc: Proc, from: u64, test: PageTest) -> Option<Page>
-        ensures { result ≡ next_page (now self.now).after.places (page_test test) proc from }
+    fn next_page(&self, proc: Proc, from: u64, end: u64, test: PageTest) -> Option<Page>
+        ensures { result ≡ page_before end (next_page (now self.now).after.places (page_test test) proc from) }
     {
         if from < 1 << 36 {
-            self.tables.next_page(proc, Page::new(from), test)
+            self.tables.next_page(proc, Page::new(from), end, test)
         } else {
             None
         }
@@ -97,12 +98,12 @@ impl Reads for World {
         self.tables.place(proc, page)
     }
 
-    fn next_used(&self, proc: Proc, from: u64) -> Option<Page> {
-        self.next_page(proc, from, PageTest::Used)
+    fn next_used(&self, proc: Proc, from: u64, end: u64) -> Option<Page> {
+        self.next_page(proc, from, end, PageTest::Used)
     }
 
-    fn next_writable(&self, proc: Proc, from: u64) -> Option<Page> {
-        self.next_page(proc, from, PageTest::Writable)
+    fn next_writable(&self, proc: Proc, from: u64, end: u64) -> Option<Page> {
+        self.next_page(proc, from, end, PageTest::Writable)
     }
 
     fn locker(&self, frame: &Frame) -> Option<Actor> {

@@ -17,7 +17,7 @@ fn set(map: &mut Radix, page: Page, word: u64) -> Result<(), Fail>
 fn next(map: &Radix, page: u64) -> Option<u64>
     requires { page < 2 ^ 36 }
 {
-    let (next, _word) = map.next_at_or_after(Page::new(page))?;
+    let (next, _word) = map.next_at_or_after(Page::new(page), 1 << 36)?;
     Some(next.number())
 }
 

@@ -79,8 +79,21 @@ impl Block {
         }
     }
 
-    /// Takes away the entries of the span's pages (`dmirror_do_update` of lib/test_hmm.c).
+    /// Takes away the entries of the span's pages (`dmirror_do_update` of lib/test_hmm.c). A block without an entry is
+    /// passed over at once.
+    #[inline(always)]
     pub fn erase(&mut self, span: Span)
+        ensures block { self.new ≡ changed self.old (without_span self.old span) self.new.room }
+        ensures room { self.old.room ≤ self.new.room }
+    {
+        if self.entries.is_empty() {
+            return;
+        }
+        self.erase_some(span);
+    }
+
+    #[inline(never)]
+    fn erase_some(&mut self, span: Span)
         ensures block { self.new ≡ changed self.old (without_span self.old span) self.new.room }
         ensures room { self.old.room ≤ self.new.room }
     {

@@ -6,7 +6,7 @@ use Rattle.std.specs.Ordering.{nat_cmp}
 use Rattle.std.specs.FinMap.Entries as sorted
 use Rattle.std.proofs.lemmas.Bool.{cases_eq, cases_lt}
 use Rattle.std.proofs.lemmas.Bool.Decides.{nat_tests}
-use Rattle.radix_tables.specs.Maps.{Map, pairs, pages, blocks, page_count, block_count, map_of, word_at, is_reserved, with_word, without_word, given_back, room_left, next_word, is_marked, marked, next_marked}
+use Rattle.radix_tables.specs.Maps.{Map, pairs, pages, blocks, page_count, block_count, map_of, word_at, is_reserved, with_word, without_word, given_back, room_left, before, next_word, is_marked, marked, next_marked}
 use Rattle.radix_tables.specs.Levels.{IsLeast}
 
 same_test : (a b : ℕ) → a ≡ b → eqb a b ≡ true
@@ -145,20 +145,24 @@ next_in f p q a (suc n) l m k d h = by (eqb (f a) 0) refl (cases_eq q a) (λ (z 
     by true e (inr z) rest = rest z
     by false e (inr z) rest = rw (skipped e z (cases_lt a p)) (rest z)
 
-none_in : (f : ℕ → ℕ) (p a n : ℕ) → ((v : ℕ) → p ≤ v → f v ≡ 0) → None ≡ find (λ e. leb p e.0) (pairs f (range_with_len a n))
-none_in f p a zero h = refl
-none_in f p a (suc n) h = by (eqb (f a) 0) refl (none_in f p (a + 1) n h)
+none_in : (f : ℕ → ℕ) (p end a n : ℕ) → ((v : ℕ) → p ≤ v → v < end → f v ≡ 0) → None ≡ before end (find (λ e. leb p e.0) (pairs f (range_with_len a n)))
+none_in f p end a zero h = refl
+none_in f p end a (suc n) h = by (eqb (f a) 0) refl (leb p a) refl (none_in f p end (a + 1) n h)
   where
-    fails : (x y : ℕ) → y < x → leb x y ≡ false
+    passed : (x y : ℕ) → leb x y ≡ true → x ≤ y
+    passed x y e = grind (arith, nat_tests)
+
+    fails : (x y : ℕ) → y ≤ x → ltb x y ≡ false
     fails x y l = grind (arith, nat_tests)
 
-    skipped : eqb (f a) 0 ≡ false → (a < p) ⊎ (p ≤ a) → leb p a ≡ false
-    skipped e (inl x) = fails p a x
-    skipped e (inr x) = cc (e, same_test (f a) 0 (h a x))
+    past : eqb (f a) 0 ≡ false → p ≤ a → (a < end) ⊎ (end ≤ a) → ltb a end ≡ false
+    past e l (inl x) = cc (e, same_test (f a) 0 (h a l x))
+    past e l (inr x) = fails a end x
 
-    by : (b : Bool) → eqb (f a) 0 ≡ b → None ≡ find (λ e. leb p e.0) (pairs f (range_with_len (a + 1) n)) → None ≡ find (λ e. leb p e.0) (cond b [] ((a, f a) ∷ []) ++ pairs f (range_with_len (a + 1) n))
-    by true e r = r
-    by false e r = rw (skipped e (cases_lt a p)) r
+    by : (b : Bool) → eqb (f a) 0 ≡ b → (c : Bool) → leb p a ≡ c → None ≡ before end (find (λ e. leb p e.0) (pairs f (range_with_len (a + 1) n))) → None ≡ before end (find (λ e. leb p e.0) (cond b [] ((a, f a) ∷ []) ++ pairs f (range_with_len (a + 1) n)))
+    by true e c t r = r
+    by false e true t r = rw (t, past e (passed p a t) (cases_lt a end)) refl
+    by false e false t r = rw t r
 
 any_below : (test : ℕ → Bool) (b c k : ℕ) → b < c → list_any (λ x. eqb x b) (filter test (range_with_len c k)) ≡ false
 any_below test b c zero l = refl
@@ -216,9 +220,14 @@ word_cleared f g p h = sym (kept_in f g (λ v. not (eqb v p)) pages (λ q. h q �
     turned true x = refl
     turned false x = refl
 
-pub least_word : (f t : ℕ → ℕ) (p : ℕ) (r : Option (ℕ × ℕ)) → IsLeast f p r → ((q : ℕ) → f q ≢ 0 → q < 2 ^ 36) → r ≡ next_word (map_of f t) p
-least_word f t p None h l = none_in f p 0 page_count h
-least_word f t p (Some e) h l = ap (λ w. Some (e.0, w)) (sym h.1) ∙ next_in f p e.0 0 page_count h.0 (omega arith) (omega (arith, page_below e.0 (l e.0 (λ z. h.2 (sym h.1 ∙ z))))) (λ z. h.2 (sym h.1 ∙ z)) h.3
+pub least_word : (f t : ℕ → ℕ) (p end : ℕ) (r : Option (ℕ × ℕ)) → IsLeast f p end r → ((q : ℕ) → f q ≢ 0 → q < 2 ^ 36) → r ≡ next_word (map_of f t) p end
+least_word f t p end None h l = none_in f p end 0 page_count h
+least_word f t p end (Some e) h l =
+    ap (λ w. Some (e.0, w)) (sym h.2) ∙ (sym (ap (λ b. cond b (Some (e.0, f e.0)) None) (within e.0 end h.1))
+    ∙ ap (before end) (next_in f p e.0 0 page_count h.0 (omega arith) (omega (arith, page_below e.0 (l e.0 (λ z. h.3 (sym h.2 ∙ z))))) (λ z. h.3 (sym h.2 ∙ z)) h.4))
+  where
+    within : (x y : ℕ) → x < y → ltb x y ≡ true
+    within x y l = grind (arith, nat_tests)
 
 -- the first whose word is marked
 marked_first : (f : ℕ → ℕ) (p : ℕ) (ns : List ℕ) → find (λ e. leb p e.0) (pairs (λ v. marked (f v)) ns) ≡ find (λ e. leb p e.0 && is_marked e.1) (pairs f ns)
@@ -243,8 +252,8 @@ marked_first f p (a ∷ ns) = by (is_marked (f a)) refl (eqb (f a) 0) refl (mark
     by true e true z r = cc (sym e ∙ ap is_marked (is_zero (f a) z))
     by true e false z r = rw z (ap (cond (leb p a) (Some (a, f a))) r ∙ sym (ap (λ t. cond t (Some (a, f a)) (find (λ e. leb p e.0 && is_marked e.1) (pairs f ns))) (and_true (leb p a) (is_marked (f a)) e)))
 
-pub least_marked : (f t : ℕ → ℕ) (p : ℕ) (r : Option (ℕ × ℕ)) → IsLeast (λ v. marked (f v)) p r → ((q : ℕ) → marked (f q) ≢ 0 → q < 2 ^ 36) → r ≡ next_marked (map_of f t) p
-least_marked f t p r h l = least_word (λ v. marked (f v)) t p r h l ∙ marked_first f p pages
+pub least_marked : (f t : ℕ → ℕ) (p end : ℕ) (r : Option (ℕ × ℕ)) → IsLeast (λ v. marked (f v)) p end r → ((q : ℕ) → marked (f q) ≢ 0 → q < 2 ^ 36) → r ≡ next_marked (map_of f t) p end
+least_marked f t p end r h l = least_word (λ v. marked (f v)) t p end r h l ∙ ap (before end) (marked_first f p pages)
 
 some_test : (x : ℕ) → not (eqb x 0) ≡ true → x ≢ 0
 some_test x e z = absurd (no (sym e ∙ rw (same_test x 0 z) refl))
@@ -299,10 +308,10 @@ no_words f t h g = rw (none_of f pages h, none_passes (λ b. not (eqb (t b) 0)) 
 pub map_empty : (f t g u : ℕ → ℕ) (map : Map) → map_of f t ≡ map → ((q : ℕ) → f q ≡ 0) → ((q : ℕ) → g q ≡ 0) → ((b : ℕ) → u b ≡ 0) → map_of g u ≡ given_back map
 map_empty f t g u map e h k l = no_words g u k l ∙ (sym (rw (none_of f pages h) refl) ∙ ap given_back e)
 
-pub map_some : (m : Map) (p : ℕ) (e : ℕ × ℕ) → Some e ≡ next_word m p → m ≡ given_back m
-map_some m p e s = ap (λ (bs : List ℕ). record m { blocks = bs }) (stays m.words m.blocks s)
+pub map_some : (m : Map) (p end : ℕ) (e : ℕ × ℕ) → Some e ≡ next_word m p end → m ≡ given_back m
+map_some m p end e s = ap (λ (bs : List ℕ). record m { blocks = bs }) (stays m.words m.blocks s)
   where
-    stays : (ws : List (ℕ × ℕ)) (bs : List ℕ) → Some e ≡ find (λ e. leb p e.0) ws → bs ≡ room_left ws bs
+    stays : (ws : List (ℕ × ℕ)) (bs : List ℕ) → Some e ≡ before end (find (λ e. leb p e.0) ws) → bs ≡ room_left ws bs
     stays [] bs s = cc
     stays (w ∷ ws) bs s = refl
 

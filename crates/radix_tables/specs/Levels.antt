@@ -73,7 +73,7 @@ abbrev pub IsStep : Levels → ℕ → Step → Type 0
 IsStep l page (Table t) = (t ≡ table_in (from_second l) (page / 64)) × (t ≢ 0)
 IsStep l page (Gap q) = (page < q) × ((v : ℕ) → page ≤ v → v < q → word_of l v ≡ 0)
 
--- the least page from there on with a word, and that word
-abbrev pub IsLeast : (ℕ → ℕ) → ℕ → Option (ℕ × ℕ) → Type 0
-IsLeast word page r = MatchOption r ((v : ℕ) → page ≤ v → word v ≡ 0)
-    (λ e. (page ≤ e.0) × (word e.0 ≡ e.1) × (e.1 ≢ 0) × ((v : ℕ) → page ≤ v → v < e.0 → word v ≡ 0))
+-- the least page from there on and before the end with a word, and that word
+abbrev pub IsLeast : (ℕ → ℕ) → ℕ → ℕ → Option (ℕ × ℕ) → Type 0
+IsLeast word page end r = MatchOption r ((v : ℕ) → page ≤ v → v < end → word v ≡ 0)
+    (λ e. (page ≤ e.0) × (e.0 < end) × (word e.0 ≡ e.1) × (e.1 ≢ 0) × ((v : ℕ) → page ≤ v → v < e.0 → word v ≡ 0))

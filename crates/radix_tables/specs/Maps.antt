@@ -1,5 +1,5 @@
 -- The map that a radix table is: its words with their pages, in rising order of the pages.
-use Rattle.std.specs.Prelude.{ℕ, ◌/◌, ◌%◌, ◌^◌, Bool, not, ◌&&◌, ◌==◌, nat_le, Option, List, [], ◌∷◌, unwrap_or, find, if◌then◌else◌}
+use Rattle.std.specs.Prelude.{ℕ, ◌/◌, ◌%◌, ◌^◌, Bool, not, ◌&&◌, ◌==◌, nat_le, nat_lt, Option, Some, None, List, [], ◌∷◌, unwrap_or, find, if◌then◌else◌}
 use Rattle.std.specs.List.{filter, flat_map, list_any, range_with_len}
 use Rattle.std.specs.Ordering.{nat_cmp}
 use Rattle.std.specs.FinMap.Entries as sorted
@@ -30,17 +30,22 @@ room_left (_ ∷ _) blocks = blocks
 abbrev pub given_back : Map → Map
 given_back m = record m { blocks = room_left m.words m.blocks }
 
--- the first page from there on that has a word, and its word
-abbrev pub next_word : Map → ℕ → Option (ℕ × ℕ)
-next_word m page = find (λ e. nat_le page e.0) m.words
+-- a page with its word, if it lies before an end
+abbrev pub before : ℕ → Option (ℕ × ℕ) → Option (ℕ × ℕ)
+before end None = None
+before end (Some e) = if nat_lt e.0 end then Some e else None
+
+-- the first page from there on that has a word, and its word, if it lies before the end
+abbrev pub next_word : Map → ℕ → ℕ → Option (ℕ × ℕ)
+next_word m page end = before end (find (λ e. nat_le page e.0) m.words)
 
 -- whether a word is marked: by its lowest four bits
 abbrev pub is_marked : ℕ → Bool
 is_marked w = nat_le 5 (w % 16)
 
--- the first page from there on whose word is marked, and its word
-abbrev pub next_marked : Map → ℕ → Option (ℕ × ℕ)
-next_marked m page = find (λ e. nat_le page e.0 && is_marked e.1) m.words
+-- the first page from there on whose word is marked, and its word, if it lies before the end
+abbrev pub next_marked : Map → ℕ → ℕ → Option (ℕ × ℕ)
+next_marked m page end = before end (find (λ e. nat_le page e.0 && is_marked e.1) m.words)
 
 -- a word where it is marked
 abbrev pub marked : ℕ → ℕ

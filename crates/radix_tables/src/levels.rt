@@ -1,9 +1,9 @@
 // Six levels of tables of 64 entries. The kernel has five, of 512 entries each, a page of memory a table, since a
 // processor reads them. Here a table is small, because a process of a history uses few pages, and because one word of
 // bits can say which entries of a table are used.
-ghost use Rattle.std.specs.Prelude.{◌≡◌, ◌≢◌, ℕ, ◌+◌, ◌*◌, ◌/◌, ◌%◌, ◌^◌, ◌<◌, ◌≤◌, ◌==◌, if◌then◌else◌, length, slice_index, MatchOption, MatchResult, OnOk, true, false};
+ghost use Rattle.std.specs.Prelude.{◌≡◌, ◌≢◌, ℕ, ◌+◌, ◌*◌, ◌/◌, ◌%◌, ◌^◌, ◌<◌, ◌≤◌, ◌==◌, if◌then◌else◌, length, slice_index, MatchOption, Some, MatchResult, OnOk, true, false};
 ghost use Rattle.frame_pool.specs.Bits.{bit};
-ghost use Rattle.radix_tables.specs.Maps.{is_marked};
+ghost use Rattle.radix_tables.specs.Maps.{before, is_marked};
 ghost use Rattle.radix_tables.specs.Walks.{HasTable, table_in};
 ghost use Rattle.radix_tables.specs.Levels.{IsLevels, IsStep, IsStepIn, IsLeast, IsSame, IsMade, is_used, table_of, word_of, marked_of, from_second, from_third, from_fourth, from_fifth, from_sixth};
 
@@ -16,7 +16,7 @@ use std::alloc::Global;
 const ENTRIES: u64 = 64;
 
 /// One more than the highest page.
-const PAGES: u64 = 1 << 36;
+pub const PAGES: u64 = 1 << 36;
 
 /// The lowest four bits of a marked word are at least this.
 const LEAST_MARKED: u64 = 5;
@@ -274,19 +274,20 @@ impl Levels {
         put_bit(&mut self.marks, at, is_marked(word));
     }
 
-    /// The least page from `page` on that has a word, and that word.
-    pub fn next(&self, page: u64) -> Option<(u64, u64)>
+    /// The least page from `page` on and before `end` that has a word, and that word.
+    pub fn next(&self, page: u64, end: u64) -> Option<(u64, u64)>
         requires levels { IsLevels self.now }
         requires page { page < 2 ^ 36 }
-        ensures { IsLeast (word_of self.now) page result }
+        ensures { IsLeast (word_of self.now) page end result }
     {
+        let last = end.min(PAGES);
         let mut at = page;
-        while at < PAGES {
+        while at < last {
             match self.step(at) {
                 Step::Gap(next) => at = next,
                 Step::Table(table) => {
                     if let Some(found) = self.next_in_table(table, at) {
-                        return Some(found);
+                        return before(found, end);
                     }
                     at = self.past_unused(at);
                 }
@@ -295,19 +296,20 @@ impl Levels {
         None
     }
 
-    /// The least page from `page` on whose word is marked, and that word.
-    pub fn next_marked(&self, page: u64) -> Option<(u64, u64)>
+    /// The least page from `page` on and before `end` whose word is marked, and that word.
+    pub fn next_marked(&self, page: u64, end: u64) -> Option<(u64, u64)>
         requires levels { IsLevels self.now }
         requires page { page < 2 ^ 36 }
-        ensures { IsLeast (marked_of self.now) page result }
+        ensures { IsLeast (marked_of self.now) page end result }
     {
+        let last = end.min(PAGES);
         let mut at = page;
-        while at < PAGES {
+        while at < last {
             match self.step(at) {
                 Step::Gap(next) => at = next,
                 Step::Table(table) => {
                     if let Some(found) = self.next_mark(table, at) {
-                        return Some(found);
+                        return before(found, end);
                     }
                     at = self.past_unmarked(at);
                 }
@@ -432,6 +434,13 @@ impl Levels {
         let found = next_entry(&self.marks, table, page)?;
         Some((found, entry(&self.words, table, found)))
     }
+}
+
+/// A page with its word, if it lies before the end.
+fn before(found: (u64, u64), end: u64) -> Option<(u64, u64)>
+    ensures { result ≡ before end (Some found) }
+{
+    if found.0 < end { Some(found) } else { None }
 }
 
 /// The number of the first entry of the table from that of `number` on whose bit is set.

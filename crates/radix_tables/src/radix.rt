@@ -2,7 +2,7 @@
 ghost use Rattle.std.specs.Prelude.{◌≡◌, ◌≢◌, ℕ, ◌^◌, ◌<◌, ◌≤◌, [], true, OnOk, OnErr};
 ghost use Rattle.radix_tables.specs.Maps.{word_at, with_word, without_word, given_back, next_word, next_marked, is_reserved};
 
-use crate::levels::Levels;
+use crate::levels::{Levels, PAGES};
 use hm_base::{NoMemory, Page};
 use std::alloc::Global;
 use std::marker::Model;
@@ -76,26 +76,27 @@ impl Radix {
     pub fn give_back(&mut self)
         ensures { self.new ≡ given_back self.old }
     {
-        match self.levels.next(0) {
+        match self.levels.next(0, PAGES) {
             None => self.levels.give_back(),
             Some(_) => (),
         }
     }
 
-    /// The lowest page from this one on that has a word, and the word.
-    pub fn next_at_or_after(&self, page: Page) -> Option<(Page, u64)>
-        ensures { result ≡ next_word self.now page }
+    /// The lowest page from this one on and before the end that has a word, and the word. No table past the end is
+    /// looked at.
+    pub fn next_at_or_after(&self, page: Page, end: u64) -> Option<(Page, u64)>
+        ensures { result ≡ next_word self.now page end }
     {
-        let (number, word) = self.levels.next(page.number())?;
+        let (number, word) = self.levels.next(page.number(), end)?;
         Some((Page::new(number), word))
     }
 
-    /// The lowest page from this one on whose word is marked, that is whose lowest four bits are 5 or more, and
-    /// the word. It looks at a bit for each word, and at 64 of them at a time.
-    pub fn next_marked(&self, page: Page) -> Option<(Page, u64)>
-        ensures { result ≡ next_marked self.now page }
+    /// The lowest page from this one on and before the end whose word is marked, that is whose lowest four bits are 5
+    /// or more, and the word. It looks at a bit for each word, and at 64 of them at a time.
+    pub fn next_marked(&self, page: Page, end: u64) -> Option<(Page, u64)>
+        ensures { result ≡ next_marked self.now page end }
     {
-        let (found, word) = self.levels.next_marked(page.number())?;
+        let (found, word) = self.levels.next_marked(page.number(), end)?;
         Some((Page::new(found), word))
     }
 }

@@ -15,7 +15,7 @@ use hm_base::{Cause, Op, Page, Place, Proc, Span};
 use hm_history::Kind;
 use hm_reads::Reads;
 use hm_reads::decisions::{start, start_all};
-use hm_reads::guards::is_before_end;
+use hm_reads::guards::end_of;
 use hm_reads::operations::proc_of_op;
 
 fn unmap<W: Reads>(world: &W, proc: Proc, span: Span) -> Kind
@@ -73,20 +73,12 @@ pub fn zap<W: Reads>(world: &W, proc: Proc, span: Span, next: u64) -> Option<Kin
         ≡ spec.within span (next_page (W.state world.now).after.places is_used proc next)
         (λ v. kind.Kind.Place proc v place.Place.Empty) }
 {
-    match world.next_used(proc, next) {
-        None => None,
-        Some(page) => {
-            if is_before_end(span, page.number()) {
-                Some(Kind::Place {
-                    proc,
-                    page,
-                    place: Place::Empty,
-                })
-            } else {
-                None
-            }
-        }
-    }
+    let page = world.next_used(proc, next, end_of(span))?;
+    Some(Kind::Place {
+        proc,
+        page,
+        place: Place::Empty,
+    })
 }
 
 fn without_right<W: Reads>(world: &W, proc: Proc, page: Page) -> Kind
@@ -105,14 +97,6 @@ pub fn narrow<W: Reads>(world: &W, proc: Proc, span: Span, next: u64) -> Option<
         ≡ spec.within span (next_page (W.state world.now).after.places writable proc next)
         (λ v. kind.Kind.Place proc v (narrowed ((W.state world.now).after.places.place proc v))) }
 {
-    match world.next_writable(proc, next) {
-        None => None,
-        Some(page) => {
-            if is_before_end(span, page.number()) {
-                Some(without_right(world, proc, page))
-            } else {
-                None
-            }
-        }
-    }
+    let page = world.next_writable(proc, next, end_of(span))?;
+    Some(without_right(world, proc, page))
 }

@@ -3,7 +3,7 @@ use Rattle.std.proofs.lemmas.List.{take-append-drop}
 use Rattle.mirror_tables.specs.Blocks.{without_span}
 use Rattle.mirror_tables.proofs.Places.{place_as, without_cut, same_places, changed_as, unchanged}
 use Rattle.mirror_tables.proofs.Kept.{cut_kept}
-use Rattle.mirror_tables.proofs.block.Block.erase.Goals as goal
+use Rattle.mirror_tables.proofs.block.Block.erase_some.Goals as goal
 
 pub invariant_of-self : goal.invariant_of-self
 invariant_of-self c =
