@@ -12,6 +12,7 @@ something is wrong. tools/view_states.py compares the states.
 import glob, os, sys, tempfile
 
 import explain
+import view_outcomes
 import view_page
 import words
 from view_browser import Browser
@@ -181,6 +182,31 @@ def try_words(browser):
     expect('every kind of entry', {x[0] for x in entries} == set(explain.WORDS['kinds']), True)
 
 
+def try_outcomes(browser):
+    """The page of a race: each outcome has the answers that its history has at the end."""
+    for name in ('look_up_must_retry', 'store_among_stores', 'eviction_against_fork'):
+        texts = []
+        for ending in ('.hmm', '.outcomes'):
+            with open(os.path.join(view_page.TOP, 'crates', 'race_examples', 'data', name + ending)) as file:
+                texts.append(file.read())
+        page = os.path.join(ROOM.name, 'outcomes.html')
+        outcomes, last = view_outcomes.outcomes_of(texts[1])
+        with open(page, 'w') as file:
+            file.write(view_outcomes.page_text(texts[0], outcomes, last))
+        browser.open(page)
+        for i, (_, answers, _) in enumerate(outcomes):
+            browser.run(f'showOutcome({i})')
+            answered = browser.run('report.rows.filter(x => classOf(x.words[0]) === "answer").map(entryText)')
+            shown = [x for a in sorted({x.split(' ')[0] for x in answers})
+                     for x in [y for y in answered if y.startswith(a + ' ')]
+                     [-sum(y.startswith(a + ' ') for y in answers):]]
+            expect(f'{name}, outcome {i + 1}', shown, answers)
+        expect(f'{name}: two histories part where they differ', browser.run(
+            '(() => { const one = report, two = new Report(RACE[0].text), at = parting(one, two);'
+            'return at > 0 && entryText(one.rows[at - 1]) === entryText(two.rows[at - 1])'
+            '&& entryText(one.rows[at]) !== entryText(two.rows[at]); })()'), True)
+
+
 def processor_time(browser):
     """What the page's thread has used, in ms: the machine's other work does not count, as it does on the clock."""
     metrics = browser.ask('Performance.getMetrics')['metrics']
@@ -234,7 +260,7 @@ def main():
     with tempfile.TemporaryDirectory() as room, Browser() as browser:
         ROOM = type('Room', (), {'name': room})
         browser.size(1400, 900)
-        for tries in (try_keys, try_filter, try_reading, try_screens, try_words):
+        for tries in (try_keys, try_filter, try_reading, try_screens, try_words, try_outcomes):
             tries(browser)
         if given:
             try_long(browser, given[1])
