@@ -53,7 +53,9 @@ def page_text(script, outcomes, last):
     with open(os.path.join(HERE, 'view_outcomes.html'), encoding='ascii') as file:
         table = file.read()
     states = f' ({last})' if last else ''
-    table = table.replace('<section id="outcomes"', f'<section id="outcomes" data-states="{states}"')
+    set_up = len(scripts.parse(script.encode()).schedule)
+    mark = '<section id="outcomes"'
+    table = table.replace(mark, f'{mark} data-states="{states}" data-setup="{set_up}"')
     histories = ''.join(outcome_text(script, outcome) for outcome in outcomes)
     return head + tail.replace('</body>', histories + table + '</body>')
 

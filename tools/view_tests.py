@@ -77,9 +77,9 @@ def report_of(name):
 
 
 def page_of(name):
-    """The page of a gallery race, in a file of its own."""
+    """The page of a gallery race, in a file of its own in the folder that is the current one."""
     head, tail = view_page.page_parts()
-    page = os.path.join(ROOM.name, name + '.html')
+    page = name + '.html'
     if not os.path.exists(page):
         with open(page, 'w') as file:
             file.write(head + ''.join(x + '\n' for x in view_page.page_lines(report_of(name), 0, None)) + tail)
@@ -182,18 +182,23 @@ def try_words(browser):
     expect('every kind of entry', {x[0] for x in entries} == set(explain.WORDS['kinds']), True)
 
 
+def write_outcomes(name):
+    """Writes the page of a race into outcomes.html, and gives its outcomes."""
+    texts = []
+    for ending in ('.hmm', '.outcomes'):
+        with open(os.path.join(view_page.TOP, 'crates', 'race_examples', 'data', name + ending)) as file:
+            texts.append(file.read())
+    outcomes, last = view_outcomes.outcomes_of(texts[1])
+    with open('outcomes.html', 'w') as file:
+        file.write(view_outcomes.page_text(texts[0], outcomes, last))
+    return outcomes
+
+
 def try_outcomes(browser):
     """The page of a race: each outcome has the answers that its history has at the end."""
     for name in ('look_up_must_retry', 'store_among_stores', 'eviction_against_fork'):
-        texts = []
-        for ending in ('.hmm', '.outcomes'):
-            with open(os.path.join(view_page.TOP, 'crates', 'race_examples', 'data', name + ending)) as file:
-                texts.append(file.read())
-        page = os.path.join(ROOM.name, 'outcomes.html')
-        outcomes, last = view_outcomes.outcomes_of(texts[1])
-        with open(page, 'w') as file:
-            file.write(view_outcomes.page_text(texts[0], outcomes, last))
-        browser.open(page)
+        outcomes = write_outcomes(name)
+        browser.open('outcomes.html')
         for i, (_, answers, _) in enumerate(outcomes):
             browser.run(f'showOutcome({i})')
             answered = browser.run('report.rows.filter(x => classOf(x.words[0]) === "answer").map(entryText)')
@@ -235,37 +240,40 @@ def try_long(browser, page):
     expect('changes in view', unseen, 0)
 
 
-def picture(browser, name, page, at, width=1400, height=700, is_dark=False):
+def picture(browser, name, page, at, width=1400, height=700, is_dark=False, first=''):
     browser.size(width, height, width < 700)
     browser.dark(is_dark)
     browser.open(page, at)
+    browser.run(first)
     browser.picture(os.path.join(DOCS, name))
 
 
 def draw_pictures(browser, long_page):
     picture(browser, 'view_wait.png', page_of(DEVICES), '#32')
-    picture(browser, 'view_retry.png', page_of(RETRY), '#23')
+    picture(browser, 'view_retry.png', page_of(RETRY), '#27')
     picture(browser, 'view_dark.png', page_of(LOSS), '#19', is_dark=True)
     picture(browser, 'view_phone.png', page_of(DEVICES), '#35', 390, 844)
     if long_page:
         picture(browser, 'view_long.png', long_page, '#12338')
+    write_outcomes('store_among_stores')
+    picture(browser, 'view_outcomes.png', 'outcomes.html', '', first='showOutcome(1); showOutcome(3)')
 
 
 def main():
-    global ROOM
     words.begin(__doc__)
     given = [x for x in sys.argv[1:] if x != '--pictures']
     if given and (given[0] != '--long' or len(given) != 2):
         words.refuse(f'`{given[-1]}` is a word too many')
+    long_page = os.path.abspath(given[1]) if given else None
     with tempfile.TemporaryDirectory() as room, Browser() as browser:
-        ROOM = type('Room', (), {'name': room})
+        os.chdir(room)
         browser.size(1400, 900)
         for tries in (try_keys, try_filter, try_reading, try_screens, try_words, try_outcomes):
             tries(browser)
-        if given:
-            try_long(browser, given[1])
+        if long_page:
+            try_long(browser, long_page)
         if '--pictures' in sys.argv:
-            draw_pictures(browser, given[1] if given else None)
+            draw_pictures(browser, long_page)
     print(f'{len(wrong)} wrong')
     sys.exit(bool(wrong))
 

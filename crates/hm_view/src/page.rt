@@ -110,6 +110,7 @@ main { display: grid; grid-template-columns: minmax(0, 1fr) minmax(21rem, 30%); 
   #pane { border-left: 0; border-top: 2px solid var(--bar); padding: 0 .5rem 1rem; }
   #now { position: static; max-height: none; }
 }
+@media screen and (max-height: 500px) { #now { position: static; max-height: none; } }
 @media screen and (max-width: 700px) and (max-height: 500px) {
   main { grid-template: minmax(0, 1fr) / minmax(0, 1fr) 45%; }
   header p, #findings { display: none; }
@@ -586,7 +587,8 @@ class Actor {
 const SCHEDULE = /^(turns|drain)$/, HEADS = /^(hmm|frames|device|skip)$/;
 
 class Report {
-  constructor(text) {
+  // of a page's lines; the set-up is the first lines of the schedule, as many as are given, or is found
+  constructor(text, setUpLines) {
     this.script = [];
     this.schedule = [];         // the script's lines of turns: line, actor, count
     this.actors = [];
@@ -598,8 +600,8 @@ class Report {
     this.state = new State();
     this.begins = this.state.takeChanges();
     this.readLines(text.split('\n'));
-    this.setUp = this.findSetUp();
     this.useSchedule();
+    this.setUp = setUpLines === undefined ? this.findSetUp() : this.rowsOf(setUpLines);
     this.addFindings();
   }
 
@@ -703,6 +705,12 @@ class Report {
         this.findings.push({ at: row.at, kind: 'wait', text: waitSentence('a' + a, wait) });
       });
     }
+  }
+
+  // how many rows the first lines of the schedule have
+  rowsOf(lines) {
+    const at = this.rows.findIndex(row => !row.turn || this.schedule.indexOf(row.turn) >= lines);
+    return at < 0 ? this.rows.length : at;
   }
 
   // how many rows come before the race: whole operations of one actor, before another has a row
@@ -1002,8 +1010,8 @@ function showNow(item, changes) {
     make('p', '', says + '.'), make('p', 'goes', 'of ' + row.actor + ': ' + opText(row.op)));
   const waits = (row.stands || []).map((wait, a) => isWait(wait) && waitSentence('a' + a, wait)
     + (wait.since < row.at ? ', since row ' + wait.since : '')).filter(x => x);
-  for (const said of waits) box.append(make('p', 'waits', said));
   if (changes.length) box.append(changedList(changes));
+  for (const said of waits) box.append(make('p', 'waits', said));
   byId('said').textContent = 'row ' + item.hi + ': ' + entryText(row) + '. ' + [says, ...waits].join('. ');
 }
 
@@ -1241,7 +1249,7 @@ function openGroup(isOpen) {
 function tellHead() {
   const n = report.rows.length, isPart = report.from > 0 || n < report.count;
   const entries = plural(report.count, 'entry', 'entries'), actors = plural(report.actors.length, 'actor');
-  const isFew = report.findings.length <= 8 && innerWidth > 700;
+  const isRoomy = innerWidth > 700 && innerHeight > 600, isFew = report.findings.length <= 8 && isRoomy;
   document.title = entries + ', ' + actors + ' - hmmview';
   byId('counts').textContent = entries + (isPart ? ', rows ' + report.from + ' to ' + (n - 1) : '') + '; ' + actors
     + (report.findings.length ? '' : '; no findings');
@@ -1252,7 +1260,7 @@ function tellHead() {
   said.push(make('span', 'waits', '\u2016 waits'), make('span', 'goes', '\u00b7 could go on'),
     make('span', '', 'empty: done'));
   byId('legend').replaceChildren(...said.flatMap(e => [e, ' \u00a0 ']));
-  byId('help').open = innerWidth > 700 && innerHeight > 600;
+  byId('help').open = isRoomy;
 }
 
 // under the slider: the rows that are shown by the filter, or else the findings
@@ -1302,11 +1310,11 @@ const KEYS = {
 };
 
 function onKey(e) {
-  const isTyping = e.target.id === 'filter', isButton = /^(BUTTON|SUMMARY)$/.test(e.target.tagName);
+  const isTyping = e.target.id === 'filter', isSliding = e.target.id === 'slider' && /^Arrow[LR]/.test(e.key);
   if (e.ctrlKey || e.altKey || e.metaKey || !items.length) return;
   if (isTyping && e.key === 'Escape') { e.target.value = ''; filter(); byId('rows').focus(); }
   if (isTyping && e.key === 'Enter') byId('rows').focus();
-  const act = !isTyping && !(isButton && e.key === 'Enter') && Object.hasOwn(KEYS, e.key) && KEYS[e.key];
+  const act = !isTyping && !isSliding && Object.hasOwn(KEYS, e.key) && KEYS[e.key];
   if (!act) return;
   e.preventDefault();
   act();
@@ -1350,8 +1358,8 @@ function listen() {
 
 // ---- a report on the screen
 
-function show(text) {
-  report = new Report(text);
+function show(text, setUpLines) {
+  report = new Report(text, setUpLines);
   walk = new Walk(report);
   how.unfolded.clear();
   how.words = [];

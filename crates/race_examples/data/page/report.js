@@ -305,7 +305,8 @@ class Actor {
 const SCHEDULE = /^(turns|drain)$/, HEADS = /^(hmm|frames|device|skip)$/;
 
 class Report {
-  constructor(text) {
+  // of a page's lines; the set-up is the first lines of the schedule, as many as are given, or is found
+  constructor(text, setUpLines) {
     this.script = [];
     this.schedule = [];         // the script's lines of turns: line, actor, count
     this.actors = [];
@@ -317,8 +318,8 @@ class Report {
     this.state = new State();
     this.begins = this.state.takeChanges();
     this.readLines(text.split('\n'));
-    this.setUp = this.findSetUp();
     this.useSchedule();
+    this.setUp = setUpLines === undefined ? this.findSetUp() : this.rowsOf(setUpLines);
     this.addFindings();
   }
 
@@ -422,6 +423,12 @@ class Report {
         this.findings.push({ at: row.at, kind: 'wait', text: waitSentence('a' + a, wait) });
       });
     }
+  }
+
+  // how many rows the first lines of the schedule have
+  rowsOf(lines) {
+    const at = this.rows.findIndex(row => !row.turn || this.schedule.indexOf(row.turn) >= lines);
+    return at < 0 ? this.rows.length : at;
   }
 
   // how many rows come before the race: whole operations of one actor, before another has a row

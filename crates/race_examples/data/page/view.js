@@ -231,8 +231,8 @@ function showNow(item, changes) {
     make('p', '', says + '.'), make('p', 'goes', 'of ' + row.actor + ': ' + opText(row.op)));
   const waits = (row.stands || []).map((wait, a) => isWait(wait) && waitSentence('a' + a, wait)
     + (wait.since < row.at ? ', since row ' + wait.since : '')).filter(x => x);
-  for (const said of waits) box.append(make('p', 'waits', said));
   if (changes.length) box.append(changedList(changes));
+  for (const said of waits) box.append(make('p', 'waits', said));
   byId('said').textContent = 'row ' + item.hi + ': ' + entryText(row) + '. ' + [says, ...waits].join('. ');
 }
 
@@ -470,7 +470,7 @@ function openGroup(isOpen) {
 function tellHead() {
   const n = report.rows.length, isPart = report.from > 0 || n < report.count;
   const entries = plural(report.count, 'entry', 'entries'), actors = plural(report.actors.length, 'actor');
-  const isFew = report.findings.length <= 8 && innerWidth > 700;
+  const isRoomy = innerWidth > 700 && innerHeight > 600, isFew = report.findings.length <= 8 && isRoomy;
   document.title = entries + ', ' + actors + ' - hmmview';
   byId('counts').textContent = entries + (isPart ? ', rows ' + report.from + ' to ' + (n - 1) : '') + '; ' + actors
     + (report.findings.length ? '' : '; no findings');
@@ -481,7 +481,7 @@ function tellHead() {
   said.push(make('span', 'waits', '\u2016 waits'), make('span', 'goes', '\u00b7 could go on'),
     make('span', '', 'empty: done'));
   byId('legend').replaceChildren(...said.flatMap(e => [e, ' \u00a0 ']));
-  byId('help').open = innerWidth > 700 && innerHeight > 600;
+  byId('help').open = isRoomy;
 }
 
 // under the slider: the rows that are shown by the filter, or else the findings
@@ -531,11 +531,11 @@ const KEYS = {
 };
 
 function onKey(e) {
-  const isTyping = e.target.id === 'filter', isButton = /^(BUTTON|SUMMARY)$/.test(e.target.tagName);
+  const isTyping = e.target.id === 'filter', isSliding = e.target.id === 'slider' && /^Arrow[LR]/.test(e.key);
   if (e.ctrlKey || e.altKey || e.metaKey || !items.length) return;
   if (isTyping && e.key === 'Escape') { e.target.value = ''; filter(); byId('rows').focus(); }
   if (isTyping && e.key === 'Enter') byId('rows').focus();
-  const act = !isTyping && !(isButton && e.key === 'Enter') && Object.hasOwn(KEYS, e.key) && KEYS[e.key];
+  const act = !isTyping && !isSliding && Object.hasOwn(KEYS, e.key) && KEYS[e.key];
   if (!act) return;
   e.preventDefault();
   act();
@@ -579,8 +579,8 @@ function listen() {
 
 // ---- a report on the screen
 
-function show(text) {
-  report = new Report(text);
+function show(text, setUpLines) {
+  report = new Report(text, setUpLines);
   walk = new Walk(report);
   how.unfolded.clear();
   how.words = [];
