@@ -1,4 +1,5 @@
-// The two constant parts of a page: what stands before its lines, and what stands behind them.
+// The two constant parts of a page: what stands before its lines, and what stands after them. They are the files in
+// crates/race_examples/data/page, as `tools/view_page.py --constants` writes them here.
 ghost use Rattle.std.specs.Prelude.{◌≡◌};
 ghost use Rattle.hm_view.specs.Page.{page_head, page_end};
 
@@ -39,7 +40,7 @@ header { padding: .4rem .8rem; border-bottom: 1px solid var(--line); }
 header p { margin: .2rem 0; }
 #sums { display: flex; gap: 0 1.5rem; }
 #counts { white-space: nowrap; }
-#findings { display: flex; flex-wrap: wrap; gap: .2rem 1rem; align-items: flex-start; }
+#findings { display: flex; flex-wrap: wrap; gap: .2rem 1rem; align-items: baseline; }
 #findings summary { cursor: pointer; }
 #findings ul { margin: 0; padding: 0 0 0 1.2rem; list-style: none; max-height: 6.5rem; overflow: auto; }
 #controls { display: flex; flex-wrap: wrap; gap: .2rem .6rem; align-items: center; margin: .2rem 0; }
@@ -74,10 +75,11 @@ main { display: grid; grid-template-columns: minmax(0, 1fr) minmax(21rem, 30%); 
 .row .fold { border: 0; background: none; padding: 0 .5ch 0 0; color: var(--dim); cursor: pointer; font: inherit; }
 .row .whole { grid-column: 2 / -1; color: var(--dim); }
 .compact .row {
-  grid-template-columns: calc(var(--digits) * 1ch + 1.6ch + 3px) repeat(var(--actors), 2.8ch) minmax(0, 1fr);
+  grid-template-columns: calc(var(--digits) * 1ch + 1.6ch + 3px) repeat(var(--actors), var(--lane)) minmax(0, 1fr);
 }
-.compact #field, .compact #lanes { min-width: 0; }
+.compact #field, .compact #lanes { min-width: calc(var(--digits) * 1ch + var(--actors) * var(--lane) + 20ch); }
 .compact .row > * { padding: 0 .3ch; }
+.compact .row > :not(.at, .text, .whole) { padding: 0; text-overflow: clip; }
 .compact .row > .text { padding-left: 1ch; }
 
 /* the pane: what the row does, and what holds after it */
@@ -163,7 +165,7 @@ main { display: grid; grid-template-columns: minmax(0, 1fr) minmax(21rem, 30%); 
 <p id="said" class="away" aria-live="polite"></p>
 <pre id="data">"##;
 
-/// What stands behind the lines: the script in plain JavaScript that puts them on the screen.
+/// What stands after the lines: the script in plain JavaScript that puts them on the screen.
 const TAIL: &[u8] = br##"</pre>
 <script>
 // The words of reports: their class and letter, and a sentence for each. Below the first line is JSON, which
@@ -878,12 +880,20 @@ function lanesOf(item) {
   });
 }
 
+// waits in words, those for the same together; which actors these are, the lanes show too
+function waitsText(waits) {
+  const actorsOf = new Map();
+  waits.forEach((wait, a) => {
+    if (isWait(wait)) actorsOf.set(waitShort(wait), [...(actorsOf.get(waitShort(wait)) || []), 'a' + a]);
+  });
+  const who = actors => (actors.length < 3 ? actors.join(' ') : actors.length + ' actors');
+  return [...actorsOf].map(([said, actors]) => '  ' + who(actors) + ' ' + said).join('');
+}
+
 function textOf(item) {
   const row = report.rows[item.lo], text = make('span', 'text');
   entryInto(text, item);
-  (row.stands || []).forEach((wait, a) => {
-    if (beginsAt(row, wait)) text.append(make('span', 'waits', '  a' + a + ' ' + waitShort(wait)));
-  });
+  text.append(make('span', 'waits', waitsText((row.stands || []).map(wait => beginsAt(row, wait) && wait))));
   text.title = text.textContent;
   return text;
 }
@@ -935,8 +945,7 @@ function drawEnd() {
     lane.title = lane.textContent;
     return lane;
   }));
-  if (how.compact) e.append(make('span', 'text waits', report.last ? report.last.map((wait, a) =>
-    isWait(wait) ? 'a' + a + ' ' + waitShort(wait) : '').filter(x => x).join('  ') : ''));
+  if (how.compact) e.append(make('span', 'text waits', waitsText(report.last || [])));
   drawn.set(-1, e);
   byId('field').append(e);
 }
@@ -964,12 +973,15 @@ function chooseLayout() {
   probe.style.position = 'absolute';
   const ch = probe.getBoundingClientRect().width / 100 || 7.5;
   probe.remove();
-  const fits = (byId('rows').clientWidth - 8 * ch) / report.actors.length >= 25 * ch;
-  how.compact = how.narrow === null ? !fits : how.narrow;
+  const room = byId('rows').clientWidth / ch, n = report.actors.length;
+  how.compact = how.narrow === null ? (room - 8) / n < 25 : how.narrow;
+  const lane = Math.max(1.5, Math.min(2.8, (room - String(report.rows.length).length - 24) / n));
+  document.documentElement.style.setProperty('--lane', lane + 'ch');
   byId('rows').classList.toggle('compact', how.compact);
   byId('layout').setAttribute('aria-pressed', String(how.compact));
-  byId('lanes').replaceChildren(make('span', 'at', ''), ...report.actors.map((x, a) =>
-    make('span', '', how.compact ? a : 'a' + a)), ...(how.compact ? [make('span', 'text', '')] : []));
+  const name = a => (how.compact ? a % (lane < 2.4 ? 10 : 100) : 'a' + a);
+  byId('lanes').replaceChildren(make('span', 'at', ''), ...report.actors.map((x, a) => make('span', '', name(a))));
+  if (how.compact) byId('lanes').append(make('span', 'text', ''));
 }
 
 // ---- the pane
@@ -1398,7 +1410,7 @@ pub fn head() -> &'static [u8]
     HEAD
 }
 
-/// What stands behind the lines.
+/// What stands after the lines.
 #[tactic(none)]
 pub fn end() -> &'static [u8]
     ensures { result.now ≡ page_end }

@@ -99,12 +99,20 @@ function lanesOf(item) {
   });
 }
 
+// waits in words, those for the same together; which actors these are, the lanes show too
+function waitsText(waits) {
+  const actorsOf = new Map();
+  waits.forEach((wait, a) => {
+    if (isWait(wait)) actorsOf.set(waitShort(wait), [...(actorsOf.get(waitShort(wait)) || []), 'a' + a]);
+  });
+  const who = actors => (actors.length < 3 ? actors.join(' ') : actors.length + ' actors');
+  return [...actorsOf].map(([said, actors]) => '  ' + who(actors) + ' ' + said).join('');
+}
+
 function textOf(item) {
   const row = report.rows[item.lo], text = make('span', 'text');
   entryInto(text, item);
-  (row.stands || []).forEach((wait, a) => {
-    if (beginsAt(row, wait)) text.append(make('span', 'waits', '  a' + a + ' ' + waitShort(wait)));
-  });
+  text.append(make('span', 'waits', waitsText((row.stands || []).map(wait => beginsAt(row, wait) && wait))));
   text.title = text.textContent;
   return text;
 }
@@ -156,8 +164,7 @@ function drawEnd() {
     lane.title = lane.textContent;
     return lane;
   }));
-  if (how.compact) e.append(make('span', 'text waits', report.last ? report.last.map((wait, a) =>
-    isWait(wait) ? 'a' + a + ' ' + waitShort(wait) : '').filter(x => x).join('  ') : ''));
+  if (how.compact) e.append(make('span', 'text waits', waitsText(report.last || [])));
   drawn.set(-1, e);
   byId('field').append(e);
 }
@@ -185,12 +192,15 @@ function chooseLayout() {
   probe.style.position = 'absolute';
   const ch = probe.getBoundingClientRect().width / 100 || 7.5;
   probe.remove();
-  const fits = (byId('rows').clientWidth - 8 * ch) / report.actors.length >= 25 * ch;
-  how.compact = how.narrow === null ? !fits : how.narrow;
+  const room = byId('rows').clientWidth / ch, n = report.actors.length;
+  how.compact = how.narrow === null ? (room - 8) / n < 25 : how.narrow;
+  const lane = Math.max(1.5, Math.min(2.8, (room - String(report.rows.length).length - 24) / n));
+  document.documentElement.style.setProperty('--lane', lane + 'ch');
   byId('rows').classList.toggle('compact', how.compact);
   byId('layout').setAttribute('aria-pressed', String(how.compact));
-  byId('lanes').replaceChildren(make('span', 'at', ''), ...report.actors.map((x, a) =>
-    make('span', '', how.compact ? a : 'a' + a)), ...(how.compact ? [make('span', 'text', '')] : []));
+  const name = a => (how.compact ? a % (lane < 2.4 ? 10 : 100) : 'a' + a);
+  byId('lanes').replaceChildren(make('span', 'at', ''), ...report.actors.map((x, a) => make('span', '', name(a))));
+  if (how.compact) byId('lanes').append(make('span', 'text', ''));
 }
 
 // ---- the pane
