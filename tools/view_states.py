@@ -3,7 +3,7 @@
 
     tools/view_states.py REPORT ..        needs a headless Chromium
 
-The browser opens the page of each report, and tells the state after each row as the page would show it. The reference
+The browser opens the page of each report, and says the state after each row as the page shows it. The reference
 program goes through the same report, and what holds after each entry is compared line by line.
 """
 import re, sys, tempfile
