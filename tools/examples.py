@@ -21,8 +21,10 @@ COPIES = [
     ('replay_examples/data/gallery', 'examples/gallery', ('',), ('.hmm', '.report')),
     ('replay_examples/data/refused', 'examples/refused', ('',), ('.hmm', '.message', '.status')),
     ('replay_examples/data/long', 'examples', ('all_operations',), ('.hmm', '.report')),
-    ('race_examples/data', 'examples/races', ('',), ('.hmm', '.outcomes', '.report', '.html')),
+    ('race_examples/data', 'examples/races', ('',), ('.hmm', '.outcomes', '.report')),
 ]
+# how the names of files end that lie beside copies and are the crate's own: the lines of a page
+OWN = ('.lines',)
 
 
 def read(path):
@@ -45,7 +47,8 @@ def there():
     for copies, _, _, _ in COPIES:
         folder = os.path.join('crates', copies)
         if os.path.isdir(os.path.join(TOP, folder)):
-            yield from (os.path.join(folder, name) for name in sorted(os.listdir(os.path.join(TOP, folder))))
+            paths = [os.path.join(folder, name) for name in sorted(os.listdir(os.path.join(TOP, folder)))]
+            yield from (path for path in paths if os.path.isfile(os.path.join(TOP, path)) and not path.endswith(OWN))
 
 
 def differences():

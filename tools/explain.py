@@ -9,7 +9,7 @@ the schedule added nothing, since its actor had to wait. An `unfinished` line is
 keeps it from its end: a wait, or that no turn is left. tools/reference runs the script once more to find all this. A
 report that is not the one of its script is explained without it. Ends with status 3 if it is no report.
 """
-import os, sys
+import json, os, re, sys
 
 HERE = os.path.dirname(os.path.abspath(__file__))
 sys.path[:0] = [HERE, os.path.join(HERE, 'reference')]
@@ -20,16 +20,18 @@ from due import Wait
 from run import FULL, Machine
 
 COLUMN = 44
-CAUSES = {1: 'the page has no area, or the process is not there', 2: 'the area is read-only',
-          3: 'no system frame is free', 4: 'the mirror is not attached, or the page is outside its window',
-          5: 'a page has an area already', 6: 'there would be more than 64 areas',
-          7: 'the number is 0 or was given before', 8: 'the process is not there',
-          9: 'the mirror number was attached before', 10: 'the device is removed'}
-CODES = {'00': 'nothing here, a migration entry, or another device has it', '11': 'the zero page',
-         '01': 'system memory, read-only', '02': 'system memory, writable', '21': "the device's own memory, read-only",
-         '22': "the device's own memory, writable", '31': 'an exclusive page'}
-REASONS = {'nothere': 'it is not where it would be moved from', 'noframe': 'no frame is free where it would go',
-           'skipped': 'the skip line passes it over', 'lost': 'it got a frame meanwhile'}
+HAVE = re.compile(r'\{([^{}]*)\}')
+
+
+def words_file():
+    """The table of the page's script, which has the sentences: its second line on, up to the last brace."""
+    name = os.path.join(os.path.dirname(HERE), 'crates', 'race_examples', 'data', 'page', 'words.js')
+    with open(name, encoding='ascii') as file:
+        text = file.read()
+    return json.loads(text[text.index('{\n'):text.rindex('}') + 1])
+
+
+WORDS = words_file()
 
 
 def pages(first, count):
@@ -39,79 +41,36 @@ def pages(first, count):
     return 'all pages' if count == scripts.PAGES else f'pages {first} to {first + count - 1}'
 
 
-def who(word):
-    return f'the CPU in {word}' if word[0] == 'p' else f'the device through {word}'
+def expand(text, fields, word=''):
+    """A sentence of the table, with its fields; `word` is what a table was asked for."""
+    def have(match):
+        name, *of = match[1].split(' ')
+        if name in ('', '#'):
+            return word[len(name):]
+        if name == 'pages':
+            return pages(fields[of[0]], fields[of[1]])
+        if name == 'count':
+            return str(len(fields[of[0]]) // 2)
+        return look_up(name, fields.get(of[0], ''), fields) if of else fields.get(name, '')
+    return HAVE.sub(have, text)
 
 
-def placed(words):
-    """What a page table entry says, after the number of its page."""
-    kind, frame, last = (*words, '', '')[:3]
-    right = 'writable' if last == 'w' else 'read-only'
-    return {'none': 'is not mapped any more',
-            'zero': 'has the zero page, read-only',
-            'sys': f'has frame {frame}, {right}',
-            'own': f'lies in device memory, in {frame}, {right}',
-            'moving': f'becomes a migration entry: it is moved out of {frame}, and is {right} afterwards',
-            'excl': f'is for actor {last[1:]} alone, in frame {frame}'}[kind]
+def look_up(name, word, fields):
+    table, parity = WORDS['tables'][name], 'odd' if word.isdigit() and int(word) % 2 else 'even'
+    return expand(next(table[key] for key in (word, word[:1], parity, '*') if key in table), fields, word)
 
 
-def ending(seq):
-    return 'odd: another is under way' if int(seq) % 2 else 'even'
-
-
-def starting(seq):
-    return 'odd' if int(seq) % 2 else 'even: it meets no mirror'
-
-
-# a sentence for each kind of entry, from the words after it
-SENTENCES = {
-    'loaded': lambda x, a, b: f'{who(x)} reads {len(b) // 2} byte(s)',
-    'stored': lambda x, a, b: f'{who(x)} writes {len(b) // 2} byte(s)',
-    'failed': lambda x, a, n, c: f'{who(x)} fails: {CAUSES[int(c)]}',
-    'mapped': lambda p, f, n, w: f'mapped, of zeros: {pages(f, n)}; the lock is released',
-    'unmapped': lambda p, f, n: f'unmapped: {pages(f, n)}; the lock is released',
-    'protected': lambda p, f, n, w: f'the right is {w} now: {pages(f, n)}; the lock is released',
-    'forked': lambda p, c: f'{c} is there, with what {p} has now; the lock is released',
-    'exited': lambda p: f'{p} is not there any more; the lock is released',
-    'attached': lambda m, d, p, f, n, q: f'{d} has a mirror of {pages(f, n)} of {p}; its interval has sequence {q}',
-    'detaching': lambda m, q: f'{m} is detached, its table erased; its interval goes when sequence {q} ends',
-    'detached': lambda m: f'{m} is gone',
-    'refused': lambda c: f'the operation is refused: {CAUSES[int(c)]}',
-    'migrated': lambda n: f'the migration ends: {n} page(s) moved; the lock is released',
-    'seen': lambda m, v, c: f'page {v}: {CODES[c]}',
-    'evicted': lambda n: f'the eviction ends: {n} frame(s) emptied',
-    'removed': lambda d: f'the memory of {d} is gone for good',
-    'excluded': lambda m, v: f'page {v} was taken for this actor alone; the lock is released',
-    'added': lambda m, a, was, now: f'the addition ends: {was} became {now}',
-    'rlock': lambda p: f'the mmap lock of {p} is taken for reading',
-    'runlock': lambda p: f'the mmap lock of {p} is released',
-    'wlock': lambda p: f'the mmap lock of {p} is taken for writing',
-    'named': lambda p, c: f'the number of {c} is given away',
-    'take': lambda f: f'{f}, the lowest free frame, is taken, zeroed and locked',
-    'drop': lambda f: f'{f} is free',
-    'place': lambda p, v, *x: f'page {v} of {p} {placed(x)}',
-    'start': lambda p, f, n, q: f'an invalidation of {pages(f, n)} of {p} begins; its sequence is {q}, {starting(q)}',
-    'told': lambda m, f, n, q: f'{m} is invalidated: its table is erased there, its interval has sequence {q}',
-    'end': lambda p, f, n, q: f'the invalidation of {pages(f, n)} of {p} ends; its sequence is {q}, {ending(q)}',
-    'begin': lambda m, q: f'a look-up begins, and notes sequence {q}',
-    'retry': lambda m: f'{m} was invalidated since its look-up began: it begins again',
-    'set': lambda m, v, f, w, at: f'the table of {m} has {f if f != "zero" else "zeros"} for page {v}, since line {at}',
-    'fresh': lambda p, v: f'page {v} is untouched: the migration will put a new frame there',
-    'copied': lambda f, g, k: f'{f} is copied to {g}' + ('' if k == 'all' else f', part {k} of 0 to 7'),
-    'committed': lambda f, g: f'the contents of {f} are those of {g} from now on',
-    'kept': lambda at, why, *b: f'{at if "s" in at or "d" in at else "page " + at} stays: '
-                                + (f'actor {b[0][1:]} has its frame locked' if b else REASONS[why]),
-    'done': lambda f: f'{f} is unlocked',
-    'withdrawn': lambda d: f'{d} gives out no frame any more',
-    'fetched': lambda m, a, b: f'the addition has read {b}',
-}
+def sentence(word, *values):
+    _, names, text = WORDS['kinds'][word]
+    return expand(text, dict(zip(names.split(' '), values)))
 
 
 def wait_text(actor, wait):
-    what = {'lock': 'the mmap lock of p{}', 'moving': 'page {1} of p{0}, which is being migrated',
-            'frame': 'frame {}, which is locked',
-            'invalidating': 'the end of the invalidation that m{} was told of'}[wait.why].format(*wait.what)
-    return f'a{actor} waits for ' + ' and '.join(f'a{b}' for b in wait.actors) + f': {what}'
+    names, long, _ = WORDS['waits']['told' if wait.why == 'invalidating' else wait.why]
+    letters = {'p': 'p', 'm': 'm', 'v': '', 'q': '', 'f': '', 'b': ''}
+    fields = {name: f'{letters[name]}{value}' for name, value in zip(names.split(' '), wait.what)}
+    return expand(WORDS['waiting'], {'a': f'a{actor}', 'blockers': ' and '.join(f'a{b}' for b in wait.actors),
+                                     'what': expand(long, fields)})
 
 
 def rerun(text, history):
@@ -178,10 +137,11 @@ def print_history(history, waits, fold):
         line = history[at]
         word, *words = line.split(' ')[2:]
         if count == 1:
-            print(f'{line:{COLUMN}}{SENTENCES[word](*words)}'.rstrip())
+            print(f'{line:{COLUMN}}{sentence(word, *words)}'.rstrip())
         else:
-            last = int(words[2]) + count - 1
-            print(f'{line + " to " + str(last):{COLUMN}}{words[0]} is copied to {words[1]}, parts {words[2]} to {last}')
+            last = str(int(words[2]) + count - 1)
+            said = expand(WORDS['folded'], dict(zip('fgk', words), last=last))
+            print(f'{line + " to " + last:{COLUMN}}{said}')
         at += count
 
 

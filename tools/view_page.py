@@ -3,9 +3,10 @@
 
     tools/view_page.py [FROM TO] [FILE]              the page of a report: FILE, or standard input
     tools/view_page.py --lines [FROM TO] [FILE]      its lines alone
+    tools/view_page.py --constants                   writes the page's files into crates/hm_view/src/page.rt
 
 Ends with status 1 if that is no legal report. For short reports: it replays what came before for each actor at each
-row.
+row. How a page looks is in the files of crates/race_examples/data/page.
 """
 import os, re, sys
 
@@ -18,6 +19,9 @@ from due import Wait
 from run import Machine
 from state import RELEASING
 
+FILES = os.path.join(TOP, 'crates', 'race_examples', 'data', 'page')
+CONSTANTS = os.path.join(TOP, 'crates', 'hm_view', 'src', 'page.rt')
+MARK = '<pre id="data">'
 FINDINGS = {'failed', 'refused', 'retry', 'kept', 'migrated', 'evicted'}
 
 
@@ -40,14 +44,16 @@ def machine_after(script, actors):
     return machine
 
 
-def standing(script, actors, actor):
+def due_to(script, actors, actor):
     """What is due to an actor after the entries of these. It asks a machine of its own, since asking moves it on."""
     machine = machine_after(script, actors)
-    if machine.is_idle(actor):
-        return '-'
-    due, _ = machine.due(actor)
+    return None if machine.is_idle(actor) else machine.due(actor)[0]
+
+
+def standing(script, actors, actor):
+    due = due_to(script, actors, actor)
     if not isinstance(due, Wait):
-        return '+'
+        return '-' if due is None else '+'
     what = due.what
     if due.why == 'lock':
         return f'lock/p{what[0]}/a{due.actors[0]}'
@@ -107,9 +113,42 @@ def page_lines(data, first, behind):
     return lines + reports.report(whole).split('\nhistory\n', 1)[1].split('\n')[len(actors):-1]
 
 
+def file_text(name):
+    with open(os.path.join(FILES, name), encoding='ascii') as file:
+        return file.read()
+
+
+def with_files(line):
+    """A line of page.html; one that names a file of styles or a script has its text instead."""
+    named = re.fullmatch(r'<link rel="stylesheet" href="([a-z.]+)">|<script src="([a-z.]+)"></script>', line)
+    if not named:
+        return line + '\n'
+    tag = 'style' if named[1] else 'script'
+    return f'<{tag}>\n{file_text(named[1] or named[2])}</{tag}>\n'
+
+
+def page_parts():
+    """What stands before a page's lines, and what stands after them."""
+    page = ''.join(with_files(line) for line in file_text('page.html').splitlines())
+    head, tail = page.split(MARK)
+    return head + MARK, tail
+
+
+def write_constants():
+    """Puts the page's files into the two constants of the program, one after the other."""
+    with open(CONSTANTS) as source:
+        parts = re.split(r'(br##").*?("##)', source.read(), flags=re.S)
+    head, tail = page_parts()
+    with open(CONSTANTS, 'w') as source:
+        source.write(''.join([*parts[:2], head, *parts[2:5], tail, *parts[5:]]))
+
+
 def main():
     given.begin(__doc__)
     given.end_with_reader()
+    if sys.argv[1:] == ['--constants']:
+        write_constants()
+        return
     words, numbers = [word for word in sys.argv[1:] if word != '--lines'], []
     while words and words[0].isdigit():
         numbers.append(int(words.pop(0)))
@@ -121,10 +160,7 @@ def main():
     except (reports.NotLegal, scripts.Refused) as bad:
         print(f'view_page.py: not legal: line {bad.args[0]}', file=sys.stderr)
         sys.exit(1)
-    head, tail = '', ''
-    if '--lines' not in sys.argv:
-        with open(os.path.join(TOP, 'crates', 'hm_view', 'src', 'page.rt')) as source:
-            head, tail = re.findall(r'br##"(.*?)"##', source.read(), re.S)
+    head, tail = ('', '') if '--lines' in sys.argv else page_parts()
     sys.stdout.write(head + text + tail)
 
 

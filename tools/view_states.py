@@ -1,34 +1,57 @@
 #!/usr/bin/env python3
-"""Whether the script in a page puts the right states together: each state of each report, against the reference.
+"""Whether the script in a page puts the right states together, and says the right waits and turns of the schedule.
 
     tools/view_states.py REPORT ..        needs a headless Chromium
 
-The browser opens the page of each report, and tells the state after each row as the page would show it. The reference
+The browser opens the page of each report, and says the state after each row as the page shows it. The reference
 program goes through the same report, and what holds after each entry is compared line by line.
 """
-import json, os, re, subprocess, sys, tempfile
+import re, sys, tempfile
 
+import explain
 import view_page
 import words
+from due import Wait
 from run import Machine
+from script import PAGE_BYTES
+from view_browser import Browser
 
-PROBE = """<script>document.body.replaceChildren();
-document.body.append(make('pre', '', 'STATES' + JSON.stringify(rows.map((x, i) => stateAfter(i)[1].map(y => y[2])))
-  + 'ENDS'));</script>"""
+# the lines of the state as the pane has them, at each row and then at each row backwards; the waits, and the turns
+ALL_STATES = """(() => {
+  const pane = () => [...document.querySelectorAll('#state li')].map(li => li.textContent), states = [];
+  const waitsOf = row => row.stands.map((x, a) => isWait(x) && waitSentence('a' + a, x)).filter(x => x);
+  setFolded(false);
+  for (const row of report.rows) { choose(row.at, true); states.push(pane()); }
+  for (const row of report.rows.slice().reverse()) {
+    choose(row.at, true);
+    if (pane().join() !== states[row.at].join()) states[row.at].push('another when one comes from below');
+  }
+  return [states, report.rows.map(waitsOf), report.rows.map(x => x.turn && [report.schedule.indexOf(x.turn), x.used])];
+})()"""
 
 
 def span(first, count):
     return f'page {first}' if count == 1 else f'pages {first} to {first + count - 1}'
 
 
+def readings(s, p):
+    """The bytes of each page in an area that are not zero."""
+    for page, data in sorted(s.bytes.get(p, {}).items()):
+        if s.right(p, page) and any(data):
+            runs = re.finditer(rb'[^\0]+', bytes(data))
+            yield page, ', '.join(f'{run[0].hex()} at {hex(page * PAGE_BYTES + run.start())}' for run in runs)
+
+
 def process_lines(s, p):
+    if not s.is_there(p):
+        yield 'is not there'
     yield f'sequence {s.seq[p]}'
     for area in sorted(s.areas.get(p, ()), key=lambda a: a.span.first):
         yield f'area {span(area.span.first, area.span.count)} {area.right}'
     for page in s.pages[p]:
         yield f'page {page} is {s.places[p][page]}'
-    for actor in sorted(a for a, q in s.guards.items() if q == p):
-        yield f'a{actor} invalidates'
+    for page, text in readings(s, p):
+        yield f'page {page} reads {text}'
 
 
 def mirror_lines(s, m):
@@ -44,6 +67,8 @@ def lines_of(s, gone):
     """What holds in a state; `gone` has the mirrors that were detached."""
     for p in sorted(set(s.areas) | {p for p in s.pages if s.pages[p]}):
         yield from process_lines(s, p)
+    for actor in s.guards:
+        yield f'a{actor} invalidates'
     for m in sorted(set(s.mirrors) - gone):
         yield from mirror_lines(s, m)
     for device in s.held:
@@ -68,17 +93,34 @@ def states(data):
         yield sorted(lines_of(machine.state, gone))
 
 
-def shown(data):
+def waits(data):
+    """Who waits for whom before each entry, in words."""
+    script, actors = view_page.read(data)
+    for at in range(len(actors)):
+        dues = [(a, view_page.due_to(script, actors[:at], a)) for a in range(len(script.actors))]
+        yield [explain.wait_text(a, due) for a, due in dues if isinstance(due, Wait)]
+
+
+def turns(data):
+    """Of each entry, the line of the schedule that it comes from, from 0, and which turn of the line it is."""
+    machine = Machine(view_page.read(data)[0])
+    for line, (word, *numbers) in enumerate(machine.script.schedule):
+        before = len(machine.history)
+        machine.drain() if word == 'drain' else machine.turns(*numbers)
+        yield from ([line, turn + 1] for turn in range(len(machine.history) - before))
+
+
+def shown(browser, data):
+    """What the page's script says of each row: the lines that hold, the waits, and the turn of the schedule."""
+    head, tail = view_page.page_parts()
     lines = ''.join(line + '\n' for line in view_page.page_lines(data, 0, None))
-    with open(os.path.join(view_page.TOP, 'crates', 'hm_view', 'src', 'page.rt')) as source:
-        head, tail = re.findall(r'br##"(.*?)"##', source.read(), re.S)
     with tempfile.NamedTemporaryFile('w', suffix='.html') as page:
-        page.write(head + lines + tail.replace('</body>', PROBE + '</body>'))
+        page.write(head + lines + tail)
         page.flush()
-        dom = subprocess.run(['chromium', '--headless', '--no-sandbox', '--disable-gpu', '--dump-dom',
-                              'file://' + page.name], capture_output=True, text=True, timeout=120).stdout
-    told = json.loads(re.search(r'STATES(.*?)ENDS', dom, re.S)[1].replace('&amp;', '&'))
-    return [sorted(re.sub(r'(invalidates) .*', r'\1', line) for line in state) for state in told]
+        browser.open(page.name)
+        said, waiting, used = browser.run(ALL_STATES)
+    said = [sorted(re.sub(r'(invalidates) .*', r'\1', line) for line in state) for state in said]
+    return zip(said, waiting, used, strict=True)
 
 
 def main():
@@ -86,15 +128,18 @@ def main():
     wrong, names = 0, sys.argv[1:]
     if not names:
         words.refuse('no report is given, so nothing is compared')
-    for name in names:
-        with open(name, 'rb') as report:
-            data = report.read()
-        pairs = list(zip(states(data), shown(data), strict=True))
-        bad = [at for at, (a, b) in enumerate(pairs) if a != b]
-        for at in bad[:1]:
-            print(f'{name}: row {at}: {sorted(set(pairs[at][0]) ^ set(pairs[at][1]))}')
-        wrong += bool(bad)
-    print(f'{len(names)} reports, {wrong} wrong')
+    rows = 0
+    with Browser() as browser:
+        for name in names:
+            with open(name, 'rb') as report:
+                data = report.read()
+            wanted = zip(states(data), waits(data), turns(data), strict=True)
+            pairs = list(zip(wanted, shown(browser, data), strict=True))
+            bad = [at for at, (a, b) in enumerate(pairs) if a != b]
+            for at in bad[:1]:
+                print(f'{name}: row {at}: {[(x, y) for x, y in zip(*pairs[at]) if x != y]}')
+            wrong, rows = wrong + bool(bad), rows + len(pairs)
+    print(f'{len(names)} reports with {rows} rows, {wrong} wrong')
     sys.exit(wrong > 0)
 
 

@@ -1,5 +1,5 @@
 // Searches the race of every script in the folder that it runs in, and draws every report there. Compares the outcomes
-// and the pages with those in the files beside them.
+// with those in the files beside them, and the pages with the lines there, between the files of the folder page.
 #![tactic(auto)]
 
 use hm_base::NoMemory;
@@ -17,6 +17,9 @@ const PIECE: usize = 16;
 /// No outcomes and no page of an example take more bytes.
 const ROOM: usize = 1_048_576;
 
+/// Where the lines of a page begin.
+const MARK: &str = "<pre id=\"data\">";
+
 /// What is made of an example.
 #[derive(Clone, Copy)]
 enum Made {
@@ -31,7 +34,7 @@ impl Made {
     fn endings(self) -> (&'static str, &'static str) {
         match self {
             Made::Outcomes => (".hmm", ".outcomes"),
-            Made::Page => (".report", ".html"),
+            Made::Page => (".report", ".lines"),
         }
     }
 
@@ -60,19 +63,62 @@ fn stems(rt: &HostRuntime, ending: &str) -> io::Result<Vec<String>> {
     Ok(stems)
 }
 
+/// The file that a line of page.html names, if it names one, and the tag that its text stands in.
+fn named(line: &str) -> Option<(&str, &str)> {
+    if let Some(rest) = line.strip_prefix("<link rel=\"stylesheet\" href=\"") {
+        return Some((rest.strip_suffix("\">")?, "style"));
+    }
+    let rest = line.strip_prefix("<script src=\"")?;
+    Some((rest.strip_suffix("\"></script>")?, "script"))
+}
+
+/// A line of page.html, with the text of the file that it names.
+fn line_text(rt: &HostRuntime, line: &str) -> io::Result<String> {
+    match named(line) {
+        None => Ok(format!(in rt.alloc(); "{line}\n")?),
+        Some((name, tag)) => {
+            let path = format!(in rt.alloc(); "page/{name}")?;
+            let text = fs::read_to_string(rt, path.as_str())?;
+            Ok(format!(in rt.alloc(); "<{tag}>\n{text}</{tag}>\n")?)
+        }
+    }
+}
+
+/// The page of the files, without lines.
+fn page_of_files(rt: &HostRuntime) -> io::Result<String> {
+    let mut page = String::new(rt.alloc());
+    for line in fs::read_to_string(rt, "page/page.html")?.lines() {
+        page.push_str(line_text(rt, line)?.as_str())?;
+    }
+    Ok(page)
+}
+
+/// The page that has these lines.
+fn page_with(rt: &HostRuntime, lines: &str) -> io::Result<String> {
+    let page = page_of_files(rt)?;
+    match page.as_str().split_once(MARK) {
+        None => Ok(page),
+        Some((head, tail)) => Ok(format!(in rt.alloc(); "{head}{MARK}{lines}{tail}")?),
+    }
+}
+
 /// Whether what is made of the example is what the file beside it has.
 fn agrees(rt: &HostRuntime, stem: &str, made: Made) -> io::Result<bool> {
     let (ending, beside) = made.endings();
     let path = format!(in rt.alloc(); "{stem}{ending}")?;
     let example = fs::read(rt, path.as_str())?;
     let path = format!(in rt.alloc(); "{stem}{beside}")?;
-    let wanted = fs::read(rt, path.as_str())?;
+    let beside = fs::read_to_string(rt, path.as_str())?;
+    let wanted = match made {
+        Made::Outcomes => beside,
+        Made::Page => page_with(rt, beside.as_str())?,
+    };
     let mut source = MemorySource::new(rt.alloc(), example.as_slice(), PIECE, &[]).map_err(
         no_memory,
     )?;
     let mut sink = MemorySink::new(rt.alloc(), ROOM, &[]).map_err(no_memory)?;
     let status = made.write(rt.alloc(), &mut source, &mut sink);
-    Ok(matches!(&status, Status::Done) && sink.held() == wanted.as_slice())
+    Ok(matches!(&status, Status::Done) && sink.held() == wanted.as_str().as_bytes())
 }
 
 /// How many examples agree; each that does not is named.
