@@ -36,6 +36,12 @@ CONTRAST = """(() => {
     return (Math.max(x, back) + 0.05) / (Math.min(x, back) + 0.05);
   });
 })()""" % CLASSES
+# how many marks of their own are below the slider
+MARKS = """(() => {
+  const c = byId('marks'), points = c.getContext('2d').getImageData(0, 3, c.width, 1).data;
+  const line = [...points].filter((x, i) => i % 4 === 3);
+  return line.filter((x, i) => x && !line[i - 1]).length;
+})()"""
 # how many of these rows change something, and of how many the first change is inside the pane
 CHANGES_SEEN = """(() => {
   let some = 0, seen = 0;
@@ -137,6 +143,10 @@ def try_filter(browser):
     expect('no such row', browser.run('[chosen, byId("chosen").textContent]'), [22, 'there is no row 999 here'])
     browser.open(page_of(LOSS))
     expect('a lost page is a finding', press(browser, 'n'), [19])
+    browser.open(page_of(DEVICES))
+    browser.run('[...byId("findings").children].find(e => /kept/.test(e.textContent)).querySelector("input").click()')
+    expect('a kind that is switched off', press(browser, 'n n p'), [24, 27, 24])
+    expect('marks', [browser.run(MARKS), browser.run('how.off.clear(); drawMarks(); ' + MARKS)], [5, 6])
 
 
 def try_reading(browser):
