@@ -36,18 +36,28 @@ CONTRAST = """(() => {
     return (Math.max(x, back) + 0.05) / (Math.min(x, back) + 0.05);
   });
 })()""" % CLASSES
-# how many of these rows change something, and of how many the first change is not inside the pane
+# how many marks of their own are below the slider
+MARKS = """(() => {
+  const c = byId('marks'), points = c.getContext('2d').getImageData(0, 3, c.width, 1).data;
+  const line = [...points].filter((x, i) => i % 4 === 3);
+  return line.filter((x, i) => x && !line[i - 1]).length;
+})()"""
+# how many of these rows change something, and of how many the first change is inside the pane
 CHANGES_SEEN = """(() => {
-  let some = 0, unseen = 0;
+  let some = 0, seen = 0;
   for (let at = report.from; at < report.rows.length; at += %d) {
     choose(at, true);
     const change = document.querySelector('#now ins, #now del'), pane = byId('pane').getBoundingClientRect();
+    some += report.rows[at].changes.length > 0;
     if (!change) continue;
     const box = change.getBoundingClientRect();
-    some += 1;
-    unseen += box.top < pane.top || box.bottom > pane.bottom;
+    seen += box.top >= pane.top && box.bottom <= pane.bottom;
   }
-  return [some, unseen];
+  return [some, seen];
+})()"""
+CHOSEN_SEEN = """(() => {
+  const row = drawn.get(itemAt[chosen]).getBoundingClientRect(), box = byId('rows').getBoundingClientRect();
+  return row.top > box.top + 20 && row.bottom < box.bottom;
 })()"""
 # the median and the longest of the times of 300 steps from a row on, with the layout after each
 STEPS = """(() => {
@@ -76,13 +86,17 @@ def report_of(name):
         return file.read()
 
 
+def write_page(page, report):
+    head, tail = view_page.page_parts()
+    with open(page, 'w') as file:
+        file.write(head + ''.join(x + '\n' for x in view_page.page_lines(report, 0, None)) + tail)
+
+
 def page_of(name):
     """The page of a gallery race, in a file of its own in the folder that is the current one."""
-    head, tail = view_page.page_parts()
     page = name + '.html'
     if not os.path.exists(page):
-        with open(page, 'w') as file:
-            file.write(head + ''.join(x + '\n' for x in view_page.page_lines(report_of(name), 0, None)) + tail)
+        write_page(page, report_of(name))
     return page
 
 
@@ -129,6 +143,10 @@ def try_filter(browser):
     expect('no such row', browser.run('[chosen, byId("chosen").textContent]'), [22, 'there is no row 999 here'])
     browser.open(page_of(LOSS))
     expect('a lost page is a finding', press(browser, 'n'), [19])
+    browser.open(page_of(DEVICES))
+    browser.run('[...byId("findings").children].find(e => /kept/.test(e.textContent)).querySelector("input").click()')
+    expect('a kind that is switched off', press(browser, 'n n p'), [24, 27, 24])
+    expect('marks', [browser.run(MARKS), browser.run('how.off.clear(); drawMarks(); ' + MARKS)], [5, 6])
 
 
 def try_reading(browser):
@@ -150,9 +168,9 @@ def try_screens(browser):
     for width, height in ((1400, 900), (700, 450), (390, 844), (844, 390)):
         browser.size(width, height, width < 1000)
         browser.open(page_of(DEVICES), '#27')
-        seen = browser.run('(() => { const e = drawn.get(itemAt[27]).getBoundingClientRect(), b = byId("rows")'
-                           '.getBoundingClientRect(); return e.top > b.top + 20 && e.bottom < b.bottom; })()')
-        expect(f'{width} wide: the chosen row is in view', seen, True)
+        expect(f'{width} wide: the chosen row is in view', browser.run(CHOSEN_SEEN), True)
+        press(browser, 'Home End')
+        expect(f'{width} wide: the last row is in view', browser.run(CHOSEN_SEEN), True)
         expect(f'{width} wide: nothing is beside the screen',
                browser.run('document.documentElement.scrollWidth <= innerWidth'), True)
         expect(f'{width} wide: there is room for rows', browser.run('byId("rows").clientHeight > 150'), True)
@@ -160,12 +178,42 @@ def try_screens(browser):
             '(() => { const p = byId("pane").getBoundingClientRect(), q = byId("now").children[2]'
             '.getBoundingClientRect(); return q.bottom <= p.bottom && q.right <= innerWidth; })()'), True)
     browser.size(1400, 900)
+    browser.open(page_of(DEVICES), '#57')
+    browser.size(390, 844, True)
+    browser.run('new Promise(done => setTimeout(done, 200))')
+    expect('the chosen row is in view after a resize', browser.run(CHOSEN_SEEN), True)
+    browser.size(1400, 900)
     for is_dark in (False, True):
         browser.dark(is_dark)
         browser.open(page_of(RETRY))
         low = [name for name, x in zip(CLASSES, browser.run(CONTRAST)) if x < 4.5]
         expect(f'contrast of at least 4.5, dark {is_dark}', low, [])
     browser.dark(False)
+
+
+TWO_LINES = """hmm 1
+frames 4
+actor 0
+map 0 16 1 rw
+store 0 0x10000 41
+turns 0 2
+turns 0 1
+turns 0 9
+"""
+
+
+def try_changes(browser):
+    """Each change is in view; a line of the schedule that has no turn left is followed by the next."""
+    browser.open(page_of(DEVICES))
+    browser.run('setFolded(false)')
+    some, seen = browser.run(CHANGES_SEEN % 1)
+    expect('rows that change something', some > 40, True)
+    expect('each change in view', seen, some)
+    write_page('turns.html', view_outcomes.report_with(TWO_LINES, []))
+    browser.open('turns.html')
+    expect('turns of one actor, one line after the other',
+           browser.run('report.rows.map(x => [report.schedule.indexOf(x.turn), x.used])'),
+           [[0, 1], [0, 2], [1, 1], *([2, turn] for turn in range(1, 5))])
 
 
 def try_words(browser):
@@ -235,9 +283,9 @@ def try_long(browser, page):
         print(f'long page: 300 steps from row {at}: {used:.1f} ms of processor each; on the clock the median is '
               f'{median:.1f} ms, the longest {longest:.1f} ms')
         expect(f'a step from {at} under 16 ms of processor time', used < 16, True)
-    some, unseen = browser.run(CHANGES_SEEN % 97)
-    print(f'long page: {some} rows that change something, the change outside the pane in {unseen}')
-    expect('changes in view', unseen, 0)
+    some, seen = browser.run(CHANGES_SEEN % 97)
+    print(f'long page: {some} rows that change something, the change is in view in {seen}')
+    expect('changes in view', seen, some)
 
 
 def picture(browser, name, page, at, width=1400, height=700, is_dark=False, first=''):
@@ -268,7 +316,7 @@ def main():
     with tempfile.TemporaryDirectory() as room, Browser() as browser:
         os.chdir(room)
         browser.size(1400, 900)
-        for tries in (try_keys, try_filter, try_reading, try_screens, try_words, try_outcomes):
+        for tries in (try_keys, try_filter, try_reading, try_screens, try_changes, try_words, try_outcomes):
             tries(browser)
         if long_page:
             try_long(browser, long_page)
