@@ -131,8 +131,8 @@ def far_areas(rounds=99000, areas=60):
 
 def alone(pages=56000, children=PROCESSES - 1):
     """Each used page is the only one of its table, in all processes that there may be."""
-    script = Script(1)
-    script.add(0, f'map 0 0 {SPAN * pages} r')
+    script, area = Script(1), 65536
+    script.add(0, *(f'map 0 {first} {area} r' for first in range(0, SPAN * pages, area)))
     script.add(0, *(f'load 0 {address(SPAN * page)} 1' for page in range(pages)))
     script.add(0, *(f'fork 0 {child}' for child in range(1, children + 1)))
     return script
