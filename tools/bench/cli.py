@@ -30,6 +30,7 @@ class Case(NamedTuple):
     does: str
     make: Callable
     status: int = 0
+    word: str = 'replay'        # a word that reads a report has that of the script
 
 
 START = Case('start', 'one operation: what a run costs at least', histories.start)
@@ -81,6 +82,22 @@ SLOW_PATHS = [
     Case('long-accesses', 'loads and stores of 256 bytes', slow.long_accesses),
     Case('snaps', '`snap` of 64 pages', slow.snaps),
 ]
+
+
+def three_sizes(name, does, make, full, word='replay'):
+    """A path at a quarter of its size, at half of it, and in full, which show how it grows."""
+    return [Case(f'{name}-{part}', does, lambda size=full // share: make(size), word=word)
+            for part, share in SIZES.items()]
+
+
+SIZES = {'quarter': 4, 'half': 2, 'full': 1}
+GROWING = (
+    three_sizes('downward', 'a far page mapped, read and unmapped, from the last down', slow.downward, 33200)
+    + three_sizes('far-areas', 'a page protected, 59 used pages far behind it', slow.far_areas, 99000)
+    + three_sizes('alone', 'each used page alone in its table, in 32 processes', slow.alone, 56000)
+    + three_sizes('why-forks', '`why`: stores, then 31 forks', slow.forked_stores, 50000, 'why')
+    + three_sizes('why-loads', '`why`: loads of 256 bytes of many sources',
+                  lambda loads: slow.many_sources(loads=loads), 40000, 'why'))
 
 
 class Run(NamedTuple):
@@ -151,12 +168,24 @@ def measured(commands, case, script, runs, reports):
             for count, done in zip(counts, all_runs)]
 
 
+def input_of(case, path, command, folder):
+    """The file that the case's word reads: the script, or the report that the command writes of it."""
+    if case.word == 'replay':
+        return path
+    report = os.path.join(folder, 'input')
+    with open(path, 'rb') as script, open(report, 'wb') as file:
+        run_once(command, script, file)
+    return report
+
+
 def measure_case(case, commands, options):
     """Prints the line of a script. Gives its figures, or none."""
     with tempfile.TemporaryDirectory() as folder:
         path = os.path.join(options.keep or folder, case.name + '.hmm')
         with open(path, 'wb') as file:
             file.write(case.make().text())
+        path = input_of(case, path, commands[0], folder)
+        commands = [[case.word if word == 'replay' else word for word in command] for command in commands]
         reports = [open(os.path.join(folder, f'report{n}'), 'w+b') for n in range(len(commands))]
         with open(path, 'rb') as script:
             found = measured(commands, case, script, options.runs, reports)
@@ -180,6 +209,15 @@ def print_growth(figures):
         if all(three):
             ratios = ' and '.join(f'{growth(*each):.2f}' for each in zip(*three))
             print(f'{kind}: an entry of the long history takes {ratios} times as long as one of the short')
+
+
+def print_sizes(figures):
+    """What an entry of a path in full takes in units of one of a quarter of it, for each command."""
+    for name in [case.name.removesuffix('-full') for case in GROWING if case.name.endswith('-full')]:
+        three = [figures.get(START.name), figures.get(f'{name}-quarter'), figures.get(f'{name}-full')]
+        if all(three):
+            ratios = ' and '.join(f'{growth(*each):.2f}' for each in zip(*three))
+            print(f'{name}: in full an entry takes {ratios} times as long as in a quarter')
 
 
 def between(short, long):
@@ -210,7 +248,7 @@ def parsed_words():
 
 def main():
     options = parsed_words()
-    cases = [START] + [case for case in HISTORIES + PARTS + SLOW_PATHS
+    cases = [START] + [case for case in HISTORIES + PARTS + SLOW_PATHS + GROWING
                        if not options.only or any(word in case.name for word in options.only)]
     if options.list:
         print('\n'.join(f'{case.name:18} {case.does}' for case in cases))
@@ -231,6 +269,7 @@ def main():
         figures[case.name] = found
     print_growth(figures)
     print_halves(figures)
+    print_sizes(figures)
     return 0 if fine else 1
 
 

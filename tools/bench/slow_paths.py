@@ -6,7 +6,7 @@ program.
 """
 import random
 
-from writer import ALL_PAGES, Script, across, address
+from writer import ALL_PAGES, PAGE, Script, across, address
 
 MIRRORS, PROCESSES, SPAN = 32, 32, 64
 
@@ -110,6 +110,60 @@ def sparse(step=512, areas=60, pages=65536, children=8):
         script.add(0, f'fork 0 {child}', f'exit {child}')
     return script
 
+
+def downward(rounds=33200):
+    """A page far up is mapped, read and unmapped; then one of another table, before it."""
+    script = Script(1)
+    for number in range(rounds):
+        page = ALL_PAGES - 1 - SPAN * number
+        script.add(0, f'map 0 {page} 1 rw', f'load 0 {address(page)} 1', f'unmap 0 {page} 1')
+    return script
+
+
+def far_areas(rounds=99000, areas=60):
+    """A page is protected again and again, in a process that has other used pages far behind it, far apart."""
+    script, apart = Script(1), ALL_PAGES // SPAN
+    for page in [0] + [apart * number for number in range(1, areas)]:
+        script.add(0, f'map 0 {page} 1 rw', f'load 0 {address(page)} 1')
+    script.add(0, *(f'protect 0 0 1 {"rw" if number % 2 else "r"}' for number in range(rounds)))
+    return script
+
+
+def alone(pages=56000, children=PROCESSES - 1):
+    """Each used page is the only one of its table, in all processes that there may be."""
+    script, area = Script(1), 65536
+    script.add(0, *(f'map 0 {first} {area} r' for first in range(0, SPAN * pages, area)))
+    script.add(0, *(f'load 0 {address(SPAN * page)} 1' for page in range(pages)))
+    script.add(0, *(f'fork 0 {child}' for child in range(1, children + 1)))
+    return script
+
+
+# ---- what tells where a load's bytes came from
+
+def stored_bytes(stores, pages, seed):
+    """Stores of a byte, drawn."""
+    draw = random.Random(seed)
+    return [f'store 0 {address(draw.randrange(pages), draw.randrange(PAGE))} 41' for _ in range(stores)]
+
+
+def forked_stores(stores=50000, pages=4096, children=PROCESSES - 1, loads=4000):
+    """Stores, then forks, then loads in all processes."""
+    script, draw = Script(pages), random.Random(13)
+    script.add(0, f'map 0 0 {pages} rw', *stored_bytes(stores, pages, 14))
+    script.add(0, *(f'fork 0 {child}' for child in range(1, children + 1)))
+    script.add(0, *(f'load {draw.randrange(PROCESSES)} {address(draw.randrange(pages))} 64' for _ in range(loads)))
+    return script
+
+
+def many_sources(stores=50000, loads=40000, pages=64):
+    """Loads of 256 bytes, which came from many stores."""
+    script, draw = Script(pages), random.Random(15)
+    script.add(0, f'map 0 0 {pages} rw', *stored_bytes(stores, pages, 16))
+    script.add(0, *(f'load 0 {address(draw.randrange(pages), draw.randrange(PAGE - 256))} 256' for _ in range(loads)))
+    return script
+
+
+# ---- processes at many areas
 
 def areas(rounds=14000):
     """A process has 64 areas: one is unmapped and mapped again, one protected, one read; one more is refused."""

@@ -1,5 +1,5 @@
 -- Which entry stands for each address, where a few addresses tell from where on another one does.
-use Rattle.std.specs.Prelude.{◌≡◌, ℕ, zero, suc, ◌≤◌, ◌<◌, ◌&&◌, nat_le, nat_lt, if◌then◌else◌, Option, Some, None, IsSome, unwrap_or}
+use Rattle.std.specs.Prelude.{◌≡◌, ℕ, zero, suc, ◌≤◌, ◌<◌, ◌&&◌, nat_le, nat_lt, if◌then◌else◌, Option, Some, None, unwrap_or}
 use Rattle.std.specs.Ordering.{nat_cmp}
 use Rattle.std.specs.BTreeMap as tree
 use Rattle.hm_why.specs.declared.changes.Changes.{Changes}
@@ -29,10 +29,10 @@ IsLast t b (Some x) =
     (x.0 ≤ b) × (change_at t x.0 ≡ Some x.1) × ((k : ℕ) → x.0 < k → k ≤ b → change_at t k ≡ None)
 
 -- the first change from an address on, if there is one
-abbrev pub IsFirst : Changes → ℕ → Option ℕ → Type 0
+abbrev pub IsFirst : Changes → ℕ → Option (ℕ × Option ℕ) → Type 0
 IsFirst t from None = (k : ℕ) → from ≤ k → change_at t k ≡ None
 IsFirst t from (Some x) =
-    (from ≤ x) × IsSome (change_at t x) × ((k : ℕ) → from ≤ k → k < x → change_at t k ≡ None)
+    (from ≤ x.0) × (change_at t x.0 ≡ Some x.1) × ((k : ℕ) → from ≤ k → k < x.0 → change_at t k ≡ None)
 
 -- no change is left from one address up to another, and the others are as they were
 pub record IsCleared (before after : Changes) (from to : ℕ) : Type 0 where

@@ -6,11 +6,12 @@ use hm_base::NoMemory;
 use std::alloc::Global;
 use std::collections::BTreeMap;
 
-/// Up to an address, these bytes have one source.
+/// Up to an address, these bytes have one source; and the source of the byte at that address.
 #[derive(Clone, Copy)]
 pub struct Run {
     pub source: Option<u64>,
     pub end: u64,
+    pub after: Option<u64>,
 }
 
 /// The positions of entries, by address. An address with a position says that the entry there stands from this address
@@ -50,30 +51,43 @@ impl Changes {
         }
     }
 
-    /// The entry that stands for the address, and how far it does, up to an end at most.
-    pub fn run(&self, addr: u64, end: u64) -> Run
-        requires { addr < end }
+    /// How far the entry that stands for the address does, up to an end at most, and which one comes after it.
+    pub fn run(&self, addr: u64, end: u64, source: Option<u64>) -> Run
+        requires some { addr < end }
+        requires source { entry_for self.now addr ≡ source }
         ensures inside { result.end ≤ end }
         ensures further { addr < result.end }
         ensures stands { (b : ℕ) → addr ≤ b → b < result.end → entry_for self.now b ≡ result.source }
+        ensures after { result.end < end → entry_for self.now result.end ≡ result.after }
     {
-        let source = self.get(addr);
         let next = addr + 1;
         if next == end {
-            return Run { source, end };
+            return Run {
+                source,
+                end,
+                after: None,
+            };
         }
         match self.first(next) {
-            Some(found) if found < end => Run { source, end: found },
-            _ => Run { source, end },
+            Some((found, at)) if found < end => Run {
+                source,
+                end: found,
+                after: at,
+            },
+            _ => Run {
+                source,
+                end,
+                after: None,
+            },
         }
     }
 
     /// The first change from the address on.
-    fn first(&self, from: u64) -> Option<u64>
+    fn first(&self, from: u64) -> Option<(u64, Option<u64>)>
         ensures { IsFirst self.now from result }
     {
         match self.points.range(from..).next() {
-            Some((found, _)) => Some(*found),
+            Some((found, at)) => Some((*found, *at)),
             None => None,
         }
     }
@@ -83,7 +97,7 @@ impl Changes {
         ensures { IsCleared self.old self.new from to }
     {
         let mut next = self.first(from);
-        while let Some(found) = next {
+        while let Some((found, _)) = next {
             if found >= to {
                 return;
             }

@@ -46,6 +46,7 @@ fn add_sources(
     let mut run = Run {
         source: None,
         end: addr,
+        after: writers.source(proc, addr),
     };
     for byte in addr..end {
         run = writers.run_on(proc, byte, end, run);

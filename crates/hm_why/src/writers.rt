@@ -65,28 +65,33 @@ impl Writers {
         self.changes[self.slots[proc.number() as usize]].get(addr)
     }
 
-    /// The source of a byte of the process, and how far the bytes after it have the same, up to an end at most.
-    fn run(&self, proc: Proc, addr: u64, end: u64) -> Run
+    /// How far the bytes of the process from one on have its source, up to an end at most, and the next source.
+    fn run(&self, proc: Proc, addr: u64, end: u64, source: Option<u64>) -> Run
         requires sized { IsSized self.now }
         requires some { addr < end }
+        requires source { source_in self.now proc addr ≡ source }
         ensures further { addr < result.end }
         ensures stands { (b : ℕ) → addr ≤ b → b < result.end → source_in self.now proc b ≡ result.source }
+        ensures after { result.end < end → source_in self.now proc result.end ≡ result.after }
     {
-        self.changes[self.slots[proc.number() as usize]].run(addr, end)
+        self.changes[self.slots[proc.number() as usize]].run(addr, end, source)
     }
 
     /// The run of a byte, once that of the bytes before it is known: most often it is the same.
     pub fn run_on(&self, proc: Proc, addr: u64, end: u64, before: Run) -> Run
         requires sized { IsSized self.now }
         requires some { addr < end }
+        requires near { addr ≤ before.end }
         requires stands { (b : ℕ) → addr ≤ b → b < before.end → source_in self.now proc b ≡ before.source }
+        requires after { before.end < end → source_in self.now proc before.end ≡ before.after }
         ensures further { addr < result.end }
         ensures stands { (b : ℕ) → addr ≤ b → b < result.end → source_in self.now proc b ≡ result.source }
+        ensures after { result.end < end → source_in self.now proc result.end ≡ result.after }
     {
         if addr < before.end {
             before
         } else {
-            self.run(proc, addr, end)
+            self.run(proc, addr, end, before.after)
         }
     }
 

@@ -4,3 +4,4 @@ pub mod Least
 pub mod Index
 pub mod Next
 pub mod Above
+pub mod Ends

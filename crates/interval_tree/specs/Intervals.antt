@@ -52,6 +52,10 @@ abbrev pub Agrees : List (Option Pages) → List Interval → Type 0
 Agrees spans [] = Unit {0}
 Agrees spans (x ∷ xs) = (x.id < 32) × (span_at spans x.id ≡ Some x.span) × Agrees spans xs
 
+-- no number from here on has an interval
+abbrev pub IsEnd : List (Option Pages) → ℕ → Type 0
+IsEnd spans end = (m : ℕ) → end ≤ m → span_at spans m ≡ None
+
 -- an interval of the list has this number
 abbrev pub has_id : ℕ → List Interval → Bool
 has_id m [] = false

@@ -3,7 +3,7 @@
 #![tactic(auto)]
 
 ghost use Rattle.std.specs.Prelude.{◌≡◌, ◌+◌, ◌-◌, ◌≤◌, ◌<◌, None, Some, IsSome, OnOk, length, slice_set, replicate};
-ghost use Rattle.interval_tree.specs.Intervals.{Intervals, span_at, span_overlaps, next_overlapping};
+ghost use Rattle.interval_tree.specs.Intervals.{Intervals, IsEnd, span_at, span_overlaps, next_overlapping};
 
 use hm_base::{MirrorId, NoMemory, Page, Span};
 use node::{Inner, Interval, Tree, key};
@@ -18,6 +18,8 @@ mod node;
 #[derive(Drop)]
 pub struct IntervalTree {
     spans: [Option<Span>; 32],
+    // No number from here on has an interval.
+    end: u32,
     tree: Tree,
     // Nodes for later inserts; what is in them says nothing.
     spare: Vec<Box<Inner>>,
@@ -26,13 +28,13 @@ pub struct IntervalTree {
 
 impl Model for IntervalTree {
     ghost use Rattle.std.specs.Prelude.{length};
-    ghost use Rattle.interval_tree.specs.Intervals.{Intervals, IsIndex};
+    ghost use Rattle.interval_tree.specs.Intervals.{Intervals, IsIndex, IsEnd};
 
     ghost Value = { Intervals };
 
     ghost view = { λ t. record { spans = t.spans; spare = length t.spare.items } };
 
-    ghost invariant = { λ t. IsIndex t.spans t.tree.items };
+    ghost invariant = { λ t. IsIndex t.spans t.tree.items × IsEnd t.spans t.end };
 }
 
 impl IntervalTree {
@@ -42,6 +44,7 @@ impl IntervalTree {
     {
         IntervalTree {
             spans: [None; 32],
+            end: 0,
             tree: Tree::new(),
             spare: Vec::new(alloc),
             alloc,
@@ -84,6 +87,7 @@ impl IntervalTree {
         *node = Inner::alone(id, span);
         self.tree.insert(node);
         self.spans[at] = Some(span);
+        self.end = self.end.max(id.number() + 1);
     }
 
     /// Without the interval of this number, whose node is given back.
@@ -104,7 +108,7 @@ impl IntervalTree {
     {
         match after {
             None => self.tree.least_overlapping(&span, 0),
-            Some(id) => next_above(&self.spans, span, id),
+            Some(id) => next_above(&self.spans, self.end, span, id),
         }
     }
 }
@@ -121,11 +125,12 @@ fn overlaps(interval: &Option<Span>, span: Span) -> bool
     }
 }
 
-// The numbers are tried in turn: after one of them another one mostly follows at once.
-fn next_above(spans: &[Option<Span>; 32], span: Span, after: MirrorId) -> Option<MirrorId>
+// The numbers below the end are tried in turn: after one of them another one mostly follows at once.
+fn next_above(spans: &[Option<Span>; 32], end: u32, span: Span, after: MirrorId) -> Option<MirrorId>
+    requires { IsEnd spans.now end }
     ensures { result ≡ next_overlapping spans.now span (Some after) }
 {
-    for id in after.number() + 1..32 {
+    for id in after.number() + 1..end.min(32) {
         if overlaps(&spans[id as usize], span) {
             return Some(MirrorId::new(id));
         }

@@ -1,6 +1,7 @@
 use Rattle.std.proofs.Common.{Some, None, ap, sym, ◌∙◌, arith}
 use Rattle.interval_tree.specs.Intervals.{span_overlaps}
-use Rattle.interval_tree.proofs.Above.{found_above, none_above, read_at}
+use Rattle.interval_tree.proofs.Above.{found_above, read_at}
+use Rattle.interval_tree.proofs.Ends.{none_below}
 use Rattle.interval_tree.proofs.next_above.Goals as goal
 
 pub returns-then-overlaps : goal.returns-then-overlaps
@@ -10,4 +11,6 @@ returns-then-overlaps c =
     (ap (span_overlaps c.args.span) read ∙ (sym c.overlaps.ensures ∙ c.if-overlaps.true)) c.loop-id.invariant
 
 pub returns : goal.returns
-returns c = none_above c.args.spans.now c.args.span c.args.after (λ j a b. c.loop-id.invariant j a (omega arith))
+returns c =
+    none_below c.args.spans.now c.args.span c.args.after c.args.end _ c.requires c.min-id-end.ensures
+    (λ j a b. c.loop-id.invariant j a (omega (arith, b, c.loop-id-test.false)))

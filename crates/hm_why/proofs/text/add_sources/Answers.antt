@@ -12,7 +12,9 @@ loop-byte-preserved c = record {
       one_text (source_in c.args.writers.now c.args.proc) c.args.text.now c.loop-byte.text c.add_source.new.text c.args.addr c.loop-byte.byte
       c.loop-byte.auto.byte c.loop-byte.invariant.lines
       (c.in_ok-add_source.ensures ∙ ap (λ x. c.loop-byte.text ++ 32 ∷ source_text x) (sym (c.run_on-run.ensures.stands c.loop-byte.byte (omega arith) c.run_on-run.ensures.further)));
+  near = omega (arith, c.run_on-run.ensures.further);
   stands = λ b l m. c.run_on-run.ensures.stands b (omega (arith, l)) m;
+  after = c.run_on-run.ensures.after;
 }
 
 pub returns : goal.returns

@@ -6,7 +6,7 @@ use Rattle.hm_why.specs.declared.changes.Changes.{Changes}
 use Rattle.hm_why.proofs.changes.Changes.clear.Given as goal
 
 -- the changes outside the part are as they were, and the next one is the first from its start on
-pub record SoFar (before now : Changes) (from to : ℕ) (next : Option ℕ) : Type 0 where
+pub record SoFar (before now : Changes) (from to : ℕ) (next : Option (ℕ × Option ℕ)) : Type 0 where
   pub low : (k : ℕ) → k < from → change_at now k ≡ change_at before k
   pub high : (k : ℕ) → to ≤ k → change_at now k ≡ change_at before k
   pub first : IsFirst now from next
