@@ -11,7 +11,7 @@ crates/ has its line, the rooms are the same in both, and how many rooms there a
 as the page says.
 
 The other parts count, and tools/house_limits.tsv has how many there may be of each:
-    idle        crates of crates.txt's lines that no file of the crate names (docs/DECISIONS.md has why some are needed)
+    idle        crates of crates.txt's lines that no file of the crate names
     functions   functions of more than 40 lines, outside tests
     comments    definitions of specs/ with no comment
     lemmas      statements of lemmas that stand more than once, up to the names of variables
@@ -87,9 +87,9 @@ def chain(needs):
     return max(map(of, needs))
 
 
-def said(page, words_behind):
-    """The number that the page says in front of these words."""
-    found = re.search(r'(\w+) ' + words_behind, page)
+def said(page, what):
+    """The number that the page says in front of this."""
+    found = re.search(r'(\w+) ' + what, page)
     word = found.group(1).lower() if found else ''
     return NUMBERS.index(word) if word in NUMBERS else None
 
