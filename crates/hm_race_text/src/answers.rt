@@ -166,7 +166,7 @@ fn add_lines(alloc: Global, text: &mut Text, actor: u64, kinds: &[Kind]) -> Resu
     Ok(())
 }
 
-/// The lines of the answers of the first actors, so many.
+/// The lines of the answers of the first `actors` actors.
 pub fn answer_lines(alloc: Global, answers: &AnswerLists, actors: u64) -> Result<Text, NoMemory>
     requires { actors ≤ 16 }
     ensures { IfOk result (λ t. t ≡ answer_lines (map (answers_in answers.now.lists.items) (numbers 0 actors))) }
