@@ -3,10 +3,10 @@
 
     tools/compare_words.py --against 'COMMAND' [--with 'COMMAND'] [--numbers N] [--texts N] [--drawn N] [--words WORD..]
 
-For so many numbers (200) both are asked to `generate` and to `trial`: the least and greatest numbers, those that are no
-numbers of the command, and drawn ones. For so many texts (2,000) both are asked to `upgrade` and to `replay`: drawn
+For N numbers (200) both are asked to `generate` and to `trial`: the least and greatest numbers, those that are no
+numbers of the command, and drawn ones. For N texts (2,000) both are asked to `upgrade` and to `replay`: drawn
 scripts, and scripts spoiled at random (a byte changed, left out or doubled, a line left out, doubled, moved or cut).
-For so many small scripts (1,000), drawn operation by operation with turns in a drawn order, both are asked to `replay`
+For N small scripts (1,000), drawn operation by operation with turns in a drawn order, both are asked to `replay`
 and to `advise`, and on the report of each, one of two spoiled, to `check` and to say `why`. Output, status and message
 must be the same. `--words` asks these commands alone.
 

@@ -5,8 +5,8 @@
     tools/examples.py --check         names each copy that is missing, of another text, or of a file that is gone
 
 The scripts of examples/ are replayed by the gate, and the words of docs/SCRIPT.md and docs/REPORT.md are compared with
-those that scripts and reports use. The gate's programs read the data/ of their own crate alone, so it has a copy of each
-file there. A copy is never edited. --check ends with status 1 if it has named one.
+those that scripts and reports use. The gate's programs read the data/ of their own crate alone, so it has a copy of
+each file there. A copy is never edited. --check ends with status 1 if it has named one.
 """
 import os, sys
 

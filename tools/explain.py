@@ -106,7 +106,7 @@ def unfinished_text(machine, actor):
 
 
 def last_text(words, machine):
-    """What the lines behind the history say."""
+    """What the lines after the history say."""
     if words[0] == 'end':
         return f'{words[1]} entries'
     if machine is None:

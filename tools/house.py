@@ -11,10 +11,11 @@ crates/ has its line, the rooms are the same in both, and how many rooms there a
 as the page says.
 
 The other parts count, and tools/house_limits.tsv has how many there may be of each:
-    idle        crates of crates.txt's lines that no file of the crate names (docs/DECISIONS.md has why some are needed)
+    idle        crates of crates.txt's lines that no file of the crate names
     functions   functions of more than 40 lines, outside tests
     comments    definitions of specs/ with no comment
     lemmas      statements of lemmas that stand more than once, up to the names of variables
+    uncited     lemmas and helpers of proofs/ that nothing names
     unused      public items that no other code names
 
 Ends with status 1 if the map is wrong, or there is more of something than there may be. It reads text and proves
@@ -86,9 +87,9 @@ def chain(needs):
     return max(map(of, needs))
 
 
-def said(page, words_behind):
-    """The number that the page says in front of these words."""
-    found = re.search(r'(\w+) ' + words_behind, page)
+def said(page, what):
+    """The number that the page says in front of this."""
+    found = re.search(r'(\w+) ' + what, page)
     word = found.group(1).lower() if found else ''
     return NUMBERS.index(word) if word in NUMBERS else None
 
@@ -182,24 +183,49 @@ def statements(lines):
             yield at + 1, found.group(1), ' '.join([found.group(2)] + [s.strip() for s in lines[at + 1:end]])
 
 
+BOUND, BOUND_BY_LAMBDA = re.compile(r"[({]\s*([\w' ]+?)\s*:\s"), re.compile(r"λ\s+\(?([\w' ]+?)\s*[:.]")
+
+
 def plain(statement):
     """The statement with its variables numbered in the order in which they are bound."""
     names = {}
-    for group in re.findall(r"[({]\s*([\w' ]+?)\s*:\s", statement) + re.findall(r"λ\s+\(?([\w' ]+?)\s*[:.]", statement):
+    for group in BOUND.findall(statement) + BOUND_BY_LAMBDA.findall(statement):
         for name in group.split():
             names.setdefault(name, f'v{len(names)}')
     return ' '.join(names.get(word, word) for word in re.findall(r"[\w'\-]+|[^\s\w]", statement))
 
 
+def lemma_files():
+    """The path and the text of each file of lemmas; answers have names that the check gives."""
+    for crate, path, text in files('.antt', 'proofs'):
+        if crate != 'rows' and not path.endswith(('/Answers.antt', '/Invariants.antt')):
+            yield path, text
+
+
 def lemmas():
     found = collections.defaultdict(list)
-    for crate, path, text in files('.antt', 'proofs'):
-        if crate == 'rows' or path.endswith(('/Answers.antt', '/Invariants.antt')):
-            continue
+    for path, text in lemma_files():
         for line, name, statement in statements(text.split('\n')):
             if ('(' in statement or '{' in statement) and not A_VALUE.search(statement):
                 found[plain(statement)].append(f'{path}:{line} {name}')
     return sorted((', '.join(places) for places in found.values() if len(places) > 1), key=len, reverse=True)
+
+
+NAME = re.compile(r"[\w'\-]+")
+
+
+def uncited():
+    named = collections.Counter()
+    for _, _, text in files(('.rt', '.antt')):
+        named.update(NAME.findall(text))
+    rows = []
+    for path, text in lemma_files():
+        lines = text.split('\n')
+        for line, name, _ in statements(lines):
+            after = next((n for n in range(line, len(lines)) if not lines[n].strip()), len(lines))
+            own = NAME.findall('\n'.join(lines[line - 1:after])).count(name)
+            rows += [] if named[name] > own else [f'{path}:{line} {name}']
+    return rows
 
 
 ITEM = re.compile(r'^\s*pub (?:const )?(?:fn|struct|enum|trait|const|type) (\w+)', re.M)
@@ -218,7 +244,8 @@ def unused():
     return [f'{path} {name}' for path, name in items if used[name] == 1 and not in_specs[name]]
 
 
-COUNTED = {'idle': idle, 'functions': functions, 'comments': comments, 'lemmas': lemmas, 'unused': unused}
+COUNTED = {'idle': idle, 'functions': functions, 'comments': comments, 'lemmas': lemmas, 'uncited': uncited,
+           'unused': unused}
 PARTS = ('map', *COUNTED)
 
 

@@ -3,10 +3,10 @@
 
     tools/peek_runs.py [RUNS [SEED]] [--with COMMAND..]
 
-Draws so many scripts (1,000, from seed 1) with the bytes of a process to look at, and asks the command for
+Draws RUNS scripts (1,000, from seed 1) with the bytes of a process to look at, and asks the command for
 `peek P ADDR LEN`. The report must be whole and legal, as tools/reference judges it. Each peek must have the bytes that
 tools/reference's plain state has after that many entries; the counts must rise; and the last one must be of the whole
-history exactly where all the bytes have areas at the end. Prints how many peeks came. The command is
+history if and only if all the bytes have areas at the end. Prints how many peeks came. The command is
 ./hmmrun.sh --ready if none is given; any program of the same behaviour will do. Ends with status 1 at the first that is
 wrong, which is then printed. It is run by hand, outside the gate: all this is proved.
 """
@@ -38,7 +38,7 @@ def bytes_of(state, process, address, length):
 
 
 def cut(output):
-    """The report, and the peeks behind it: process, address, count and bytes."""
+    """The report, and the peeks after it: process, address, count and bytes."""
     lines = output.decode().splitlines(True)
     first = next((at for at, line in enumerate(lines) if line.startswith('peek ')), len(lines))
     peeks = []

@@ -3,11 +3,11 @@
 
     tools/quiet_share.py [SCRIPTS [SEED]] [--with COMMAND..]
 
-Draws so many scripts (1,000, from seed 1) whose operations run one at a time: each actor in turn has turns enough for
+Draws SCRIPTS scripts (1,000, from seed 1) whose operations run one at a time: each actor in turn has turns enough for
 all of its operations before another has any. Replays each with the command (./hmmrun.sh --ready; any program of the
 same behaviour will do), counts the entries of each operation in the report, and divides them by the operation's bound,
 which is computed from the script alone as docs/DEFINITIONS.md has it. Prints for each operation word how many ran, the
-most entries that one had, and the largest share of its bound that one used. Ends with status 1 where a share is above
+most entries that one had, and the largest share of its bound that one used. Ends with status 1 if a share is above
 1, or a report is not what was asked for.
 
 It is run by hand, outside the gate: that no share is above 1 is proved. What it shows is how near to the bounds

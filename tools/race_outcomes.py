@@ -8,11 +8,11 @@ The script's schedule is the set-up. From there each actor may take its turn at 
 ended. This tool shares no states: it goes through all orders of the turns that add an entry, by the definitional
 program in tools/reference. So it is for a few entries only.
 
-With --drawn it draws so many scripts (from seed 1) of two actors, whose races have at most 12 entries in every order.
+With --drawn it draws RUNS scripts (from seed 1) of two actors, whose races have at most 12 entries in every order.
 Of those with a single outcome it leaves four in five out.
 The command (./hmmraces.sh --ready; any program of the same behaviour will do) must say `whole`, must have the same
-outcomes as this tool, each once, and each schedule that it tells must lead to its outcome with all operations ended, as
-tools/reference replays it. Ends with status 1 at the first script where that fails, which is then printed. It is run by
+outcomes as this tool, each once, and each schedule that it writes must lead to its outcome with all operations ended, as
+tools/reference replays it. Ends with status 1 at the first script for which that fails, which is then printed. It is run by
 hand, outside the gate: all this is proved.
 """
 import argparse, os, random, subprocess, sys

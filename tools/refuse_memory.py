@@ -8,7 +8,7 @@ one refused, and once with that one and all later ones refused. Each run must en
 nothing, or be the same as the run without refusals. Prints the counts, and ends with 1 at the first run that differs.
 
     --long     two scripts more, made here: one of more than 1,000,000 bytes, and one of 4,194,304, the most there are
-    --most N   at most so many of the requests, spread evenly, with the first and the last among them
+    --most N   at most N of the requests, spread evenly, with the first and the last among them
     --words    these words, and not `replay`
 """
 import argparse, os, subprocess, sys, tempfile
@@ -18,7 +18,7 @@ import words
 TOP = os.path.dirname(os.path.dirname(os.path.abspath(__file__)))
 PROGRAM = os.environ.get('HMMRUN', os.path.join(TOP, 'crates/hmmrun/out/hmmrun'))
 
-# Loaded before the C library: refuses request REFUSE_AT, and those behind it where REFUSE_ALL is set; keeps how many
+# Loaded before the C library: refuses request REFUSE_AT, and those after it if REFUSE_ALL is set; keeps how many
 # requests there were in the file COUNT_TO, as 8 bytes, since a program may end without a call of destructors.
 REFUSER = r'''
 #include <fcntl.h>
@@ -50,7 +50,7 @@ LONGEST = 4_194_304
 
 
 def long_script(size):
-    """A script of exactly so many bytes: stores of 256 bytes each, and a few lines that fill it up."""
+    """A script of exactly this many bytes: stores of 256 bytes each, and a few lines that fill it up."""
     head, tail = 'hmm 1\nframes 8\nactor 0\nmap 0 16 4 rw\n', 'turns 0 1000000\n'
     store, load = 'store 0 0x10000 {}\n', 'load 0 0x10000 1\n'
     full, bare = len(store.format('5a' * 256)), len(store.format(''))

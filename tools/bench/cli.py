@@ -7,7 +7,7 @@
 
     --program COMMAND   this command, with its words, and not the proved program's `replay`
     --only WORD         the scripts alone whose name has the word; may be given more than once
-    --runs N            the best of so many runs
+    --runs N            the best of N runs
     --keep FOLDER       the scripts are written there too, as NAME.hmm
 
 The scripts are made from a fixed seed (histories.py and slow_paths.py). A command is run once for its report, and then
@@ -61,7 +61,7 @@ SLOW_PATHS = [
     Case('told-none', 'invalidations beside 32 mirrors', lambda: slow.told(99000, False)),
     Case('deferred', 'removals and insertions that wait', slow.deferred),
     Case('far-protect', 'single pages, the next used one at the end', lambda: slow.far(None)),
-    Case('near-protect', 'single pages, the next used one 2^17 behind', lambda: slow.far(1 << 17)),
+    Case('near-protect', 'single pages, the next used one 2^17 ahead', lambda: slow.far(1 << 17)),
     Case('far-unmap', 'as far-protect, by `unmap` and `map`', lambda: slow.far(None, 'unmap')),
     Case('wide-protect', 'wide spans with one used page', slow.wide),
     Case('wide-told', 'the same, in the table of a mirror too', lambda: slow.wide(word='dstore')),

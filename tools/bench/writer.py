@@ -26,7 +26,7 @@ class Script:
         self.schedule.append(f'turns {actor} {count}')
 
     def rounds(self, rounds, count, first=0):
-        """So many times, each actor from the first one on has so many turns."""
+        """Rounds, in each of which every actor from the first one on has some turns."""
         for _ in range(rounds):
             for actor in range(first, len(self.actors)):
                 self.turns(actor, count)

@@ -70,7 +70,7 @@ fn frames_of<W: Reads>(
     }
 }
 
-/// What is due to an eviction or a removal that has come to this frame, and has emptied so many.
+/// What is due to an eviction or a removal that has come to this frame, and has emptied `emptied`.
 pub fn step_evict<W: Reads>(world: &W, actor: Actor, op: &Op, next: u64, emptied: u64) -> Next
     ensures { result ≡ spec.due_frames (W.program world.now) (W.state world.now).after actor op.now next emptied }
 {

@@ -96,7 +96,7 @@ pub fn place_at(word: u64) -> Option<Place>
     }
 }
 
-// The bits of a word from one on, so many.
+// `bits` bits of a word, from one on.
 #[inline]
 fn field(word: u64, from: u32, bits: u32) -> u64
     requires within { from + bits ≤ 64 }

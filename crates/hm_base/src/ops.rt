@@ -112,7 +112,7 @@ pub enum Op {
     },
 }
 
-/// A line of a schedule: so many turns of one actor, or rounds of all until none has work left.
+/// A line of a schedule: a number of turns of one actor, or rounds of all until none has work left.
 #[derive(Clone, Copy, PartialEq, Eq, Debug)]
 pub enum ScheduleLine {
     Run { actor: Actor, count: u32 },

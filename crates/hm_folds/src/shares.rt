@@ -50,7 +50,7 @@ impl Shares {
         }
     }
 
-    /// Whether, with so many more, none is writable or there is one page at the most.
+    /// Whether, with these more, none is writable or there is one page at the most.
     pub fn has_one_writer_with(self, more: Shares) -> bool
         ensures { result ≡ has_one_writer (plus self more) }
     {

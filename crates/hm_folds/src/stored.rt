@@ -48,7 +48,7 @@ impl Stored {
         }
     }
 
-    /// Makes room for so many bytes, and changes none.
+    /// Makes room for `count` bytes, and changes none.
     fn make_room(&mut self, addr: u64, count: u64) -> Result<(), NoMemory>
         requires { addr + count < 2 ^ 64 }
         ensures same { (a : ℕ) → byte_in self.new a ≡ byte_in self.old a }

@@ -28,7 +28,7 @@ impl Model for OnePool {
 }
 
 impl OnePool {
-    /// A pool of so many frames, none of which is held.
+    /// A pool of `frames` frames, none of which is held.
     pub fn new(alloc: Global, frames: u32) -> Result<OnePool, NoMemory>
         ensures { IfOk result (λ pool. pool ≡ fresh_pool frames) }
     {
@@ -201,7 +201,7 @@ fn unlock(pool: &mut Pool, number: u32)
     }
 }
 
-/// A list of so many `None`.
+/// A list of `count` times `None`.
 fn nones<T: Copy + Drop>(alloc: Global, count: usize) -> Result<Vec<Option<T>>, NoMemory>
     ensures { IfOk result (λ nones. nones.items ≡ replicate count None) }
 {

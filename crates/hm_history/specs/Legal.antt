@@ -79,8 +79,7 @@ kept_rightly c t e = let g = t.going e.actor in elim e.kind [
   | _ ↦ true
 ]
 
--- ---- failures for want of a frame: every system frame is held, or was at the `noframe` of the same bringing home
--- or removal
+-- ---- failures since no frame was free: every system frame is held, or was when the same operation asked for one
 
 -- an entry that may come between that `noframe` and the failure or refusal
 abbrev pub is_finishing : Kind → Bool

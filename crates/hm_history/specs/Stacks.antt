@@ -290,8 +290,7 @@ after_frames v n (Kind.Drop f) seen = Phase.Frames (f.number + 1) n ∷ []
 after_frames v n (Kind.Withdrawn d) seen = Phase.Frames v n ∷ []
 after_frames v n _ seen = []
 
--- ---- the steps of a migration after its setup (mm/migrate_device.c), each about the record to which the migration
--- has come
+-- ---- the steps of a migration after its setup (mm/migrate_device.c), each about one record
 
 -- what the guard of a step does for a page with a frame: in the first step another mapping is frozen
 abbrev pub freezing_in : MoveStep → Frame → Body

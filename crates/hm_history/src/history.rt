@@ -58,7 +58,7 @@ impl History {
         self.entries.as_slice()
     }
 
-    /// Makes room for so many entries; a failure leaves the room as it was.
+    /// Makes room for n entries; a failure leaves the room as it was.
     pub fn reserve(&mut self, n: u64) -> Result<(), NoMemory>
         ensures room { OnOk result (n ≤ self.new.spare) }
         ensures same { self.new.entries ≡ self.old.entries }

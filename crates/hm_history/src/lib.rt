@@ -113,7 +113,7 @@ pub enum Kind {
     Detached(MirrorId),
     /// Ends an operation that was refused.
     Refused(Cause),
-    /// Ends a migration: so many pages were moved.
+    /// Ends a migration, with the number of pages that were moved.
     Migrated(u64),
     /// A snapshot's code for a page.
     Seen {
@@ -121,7 +121,7 @@ pub enum Kind {
         page: Page,
         code: u8,
     },
-    /// Ends `evict`: so many frames were emptied.
+    /// Ends `evict`, with the number of frames that were emptied.
     Evicted(u64),
     /// Ends `remove`.
     Removed(Dev),
@@ -256,11 +256,11 @@ pub enum Progress {
     Idle,
 }
 
-/// The history has so many entries, and takes no more.
+/// The history takes no more; it has this number of entries.
 #[derive(Clone, Copy, PartialEq, Eq, Debug)]
 pub struct Full(pub u64);
 
-/// Why no step was made: the history has so many entries and takes no more, or memory ran out.
+/// Why no step was made: the history, with this number of entries, takes no more, or memory ran out.
 #[derive(Clone, Copy, PartialEq, Eq, Debug, Error)]
 pub enum StepError {
     #[error("the history is full, with {0} entries")]

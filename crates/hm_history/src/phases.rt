@@ -173,7 +173,7 @@ pub enum Phase {
     GiveUp {
         touch: Option<Touch>,
     },
-    /// An eviction has come to this frame, and emptied so many.
+    /// An eviction has come to this frame, and has emptied `emptied`.
     Frames {
         next: u64,
         emptied: u64,

@@ -80,7 +80,7 @@ pub record Unused (place : ℕ → ℕ → Place) (to : Frame → Option Frame) 
 abbrev pub IsUnused : After → ℕ → Frame → Type 0
 IsUnused s a f = Unused s.places.place s.places.committed_to s.locks.frame a f
 
--- and it was not committed since it was taken
+-- the frame is unused, and was not committed since it was taken
 abbrev pub OwnsFrame : After → ℕ → Frame → Type 0
 OwnsFrame s a f = IsUnused s a f × (s.places.committed_to f ≡ None)
 

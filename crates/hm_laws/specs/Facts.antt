@@ -89,7 +89,7 @@ pub record Guarding (guard : ℕ → Option Guarded) (a p : ℕ) (r : Pages) (ov
       → list_any (λ k. k == m) given.told ≡ true
   pub below : list_all (λ k. not (is_above last k)) given.told ≡ true
 
--- the pages of the span below this one have no place, or no write right
+-- the span's pages below this one have no place any more
 abbrev pub EmptyBelow : After → ℕ → Pages → ℕ → Type 0
 EmptyBelow s p r n = (u : ℕ) → covers r u ≡ true → u < n → is_empty_place (s.places.place p u) ≡ true
 

@@ -9,7 +9,9 @@ use Rattle.hm_history.specs.Operation.{is_to_device, is_migration}
 use Rattle.hm_history.specs.declared.phases.Migrating.{Migrating}
 use Rattle.hm_history.specs.declared.phases.MoveStep.{MoveStep}
 
--- the steps of a migration: one is the other, or comes before it
+-- ---- the steps of a migration
+
+-- both are one step
 abbrev pub same_step : MoveStep → MoveStep → Bool
 same_step MoveStep.FreezeOthers MoveStep.FreezeOthers = true
 same_step MoveStep.TakeAndCopy MoveStep.TakeAndCopy = true

@@ -9,7 +9,7 @@ use Rattle.hm_base.specs.declared.ops.Rights.{Rights}
 use Rattle.hm_history.specs.Words.{page_of, same_pool}
 use Rattle.hm_history.specs.Operation.{op_piece, op_pieces, is_migration, is_exclusive_op}
 
--- accesses by the CPU, and through a mirror
+-- an access by the CPU
 abbrev pub is_cpu : Op → Bool
 is_cpu (Op.Load p a n) = true
 is_cpu (Op.Store p a bs) = true
@@ -49,7 +49,7 @@ abbrev pub is_attach : Op → Bool
 is_attach (Op.Attach m d p r) = true
 is_attach o = false
 
--- operations that take a page for their actor alone; the second adds to a byte of it
+-- the operation takes a page for its actor alone
 abbrev pub takes_exclusive : Op → Bool
 takes_exclusive (Op.Exclusive m v) = true
 takes_exclusive (Op.Add m a n) = true

@@ -81,7 +81,9 @@ pub record UntouchedRules (there : ℕ → Bool) (areas : ℕ → List Area) (by
   pub untouched : (p a : ℕ) → there p ≡ true → is_empty_place (place p (page_of a)) ≡ true
       → is_some (rights_at (areas p) (page_of a)) ≡ true → (bytes p a ≡ 0) ⊎ ((b : ℕ) × (map b ≡ lock_on p true))
 
--- a mirror and its interval
+-- ---- a mirror and its interval
+
+-- a mirror and its interval may be at these stages together
 abbrev pub stands_so : Attachment → Stage → Bool
 stands_so Attached InTree = true
 stands_so Attached InsertDeferred = true
@@ -112,7 +114,9 @@ pub record MirrorRules (mirrors : ℕ → Option MirrorState) (interval : ℕ �
 pub record ArrivalRules (been : ℕ → Bool) (mirrors : ℕ → Option MirrorState) : Type 0 where
   pub of_been : (m : ℕ) (x : MirrorState) → mirrors m ≡ Some x → been x.proc ≡ true
 
--- intervals and their sequences, and the guards under way
+-- ---- intervals and their sequences, and the guards under way
+
+-- the interval's removal is deferred
 abbrev pub is_leaving : Stage → Bool
 is_leaving RemoveDeferred = true
 is_leaving x = false

@@ -31,7 +31,7 @@ abbrev pub is_system : Place → Bool
 is_system (Sys n w) = true
 is_system x = false
 
--- a place names the frame; none does; none stands for it
+-- some place names the frame
 abbrev pub IsNamed : (ℕ → ℕ → Place) → Frame → Type 0
 IsNamed place f = (q : ℕ) × (u : ℕ) × (names (place q u) ≡ Some f)
 

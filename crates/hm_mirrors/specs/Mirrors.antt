@@ -68,11 +68,13 @@ entry_of xs m v = entry_in v (mirror_at xs m)
 abbrev pub table_of : List (Option Mirror) → ℕ → ℕ → Option TableEntry
 table_of xs m v = option_map shown_entry (entry_of xs m v)
 
--- what an entry leaves
+-- ---- what an entry leaves
+
+-- the mirrors with one of them changed
 abbrev pub with_mirror : List (Option Mirror) → ℕ → Option Mirror → List (Option Mirror)
 with_mirror xs m x = slice_set xs m x
 
--- a mirror with another table, or with an empty one
+-- a mirror with another table
 abbrev pub with_table : Mirror → Table → Mirror
 with_table x t = record x { table = t }
 

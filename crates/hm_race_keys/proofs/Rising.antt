@@ -37,12 +37,6 @@ split : (a b : Bool) → (a && b) ≡ true → (a ≡ true) × (b ≡ true)
 split true b e = (refl, e)
 split false b e = (e, cc)
 
-under_next : (v w : Word) → stands_before v.row (suc v.number) w ≡ false → IsUnder v.row v.number w.row w.number
-under_next v w e = grind (arith, nat_tests)
-
-under_trans : (p i q j r k : ℕ) → IsUnder p i q j → IsUnder q j r k → IsUnder p i r k
-under_trans p i q j r k a b = grind (arith, nat_tests)
-
 under : (r k : ℕ) (w : Word) → stands_before r k w ≡ false → IsUnder r k w.row (suc w.number)
 under r k w e = grind (arith, nat_tests)
 

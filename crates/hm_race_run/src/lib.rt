@@ -20,7 +20,7 @@ use skip_rules::SkipRule;
 use std::alloc::Global;
 
 /// All outcomes of a script's race: its schedule is the set-up, and from there every actor may take its turn at any
-/// time. The search goes on from at most so many states, in the order in which it found them; if it ends before
+/// time. The search goes on from at most `most` states, in the order in which it found them; if it ends before
 /// that, it knows all. It fails if memory runs out, and if a history has all its entries and one more is due.
 pub fn search<R: SkipRule>(
     alloc: Global,

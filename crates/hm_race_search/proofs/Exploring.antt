@@ -129,13 +129,6 @@ grown_pushed form c h xs ys x o is k e p aa room at l =
     left : todo_from ys at ≡ todo_from xs at ++ turns ∷ []
     left = ap (λ z. todo_from z at) is ∙ todo_pushed xs x at l
 
--- a turn of an actor: nothing is due
-pub gone_none : (c : Program) (h : List Entry) (known : List KnownValue) (todo : List (List ℕ)) (x : Point) (a : ℕ) → is_entry (due_in c x.state a) ≡ false → GoneOnBy c h known todo known todo x a
-gone_none c h known todo x a none = record { on = λ e d. absurd (differ (sym (ap is_entry d) ∙ none)); before = λ g k. k; explores = λ o k. k; no_fewer = omega arith }
-  where
-    differ : true ≡ false → ⊥
-    differ q = cc
-
 -- or the state after it is known
 pub gone_some : (c : Program) (h : List Entry) (known more : List KnownValue) (todo left : List (List ℕ)) (x : Point) (turns : List ℕ) (a : ℕ) → x ≡ point_at c h turns → Grown c h known todo more left (form_of c (point_at c h (turns ++ a ∷ []))) → GoneOnBy c h known todo more left x a
 gone_some c h known more todo left x turns a is g = record { on = on; before = g.before; explores = g.explores; no_fewer = g.no_fewer }

@@ -198,7 +198,7 @@ fn begin<R: Race>(race: &R, alloc: Global) -> Result<States<R::Key>, StepError>
     }
 }
 
-/// All states to which the race can come, if these are at most so many; else more than so many of them. It comes
+/// All states to which the race can come, if these are at most `most`; else more than `most` of them. It comes
 /// first to the states that are the fewest turns away.
 pub fn explore<R: Race>(race: &R, alloc: Global, most: u64) -> Result<Explored<R::Key>, StepError>
     ensures complete { IfOk result (λ x. x.whole ≡ true

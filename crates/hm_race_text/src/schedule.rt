@@ -11,7 +11,7 @@ use std::alloc::Global;
 /// As many turns as a line of a schedule has at most.
 const MOST_TURNS: u32 = 1_000_000;
 
-/// Adds the line of so many turns of the actor.
+/// Adds the line of `count` turns of the actor.
 #[tactic(auto, using(std::proofs::Common::append_assoc))]
 fn add_line(alloc: Global, text: &mut Text, actor: Actor, count: u32) -> Result<(), NoMemory>
     ensures { OnOk result (text.new ≡ text.old ++ lines_text (Run actor count ∷ [])) }

@@ -26,7 +26,7 @@ use hm_report::Written;
 use skip_rules::SkipRule;
 use std::alloc::Global;
 
-/// Writes the outcomes that a search has found, of so many actors.
+/// Writes the outcomes that a search has found, of a race of `actors` actors.
 fn write_ways<K: Sink>(
     alloc: Global,
     actors: u64,

@@ -39,7 +39,7 @@ fn told_turns(alloc: Global, drains: bool, turns: &[Actor]) -> Result<ListOf<Act
     Ok(told)
 }
 
-/// The block of the way to a state, of so many actors.
+/// The block of the way to a state of a race of `actors` actors.
 fn block_of(alloc: Global, actors: u64, drains: bool, known: &Known<Key>) -> Result<Block, NoMemory>
     requires { actors ≤ 16 }
     ensures { IfOk result (λ b. b ≡ block_of (way_by actors drains (known_of form_in known.now))) }

@@ -10,7 +10,7 @@ use Rattle.hm_base.specs.declared.ops.Op.{Op}
 use Rattle.hm_history.specs.Words.{page_of}
 use Rattle.hm_base.specs.Pages.{lies_in}
 use Rattle.hm_history.specs.Plain.{is_attached_state, MirrorState, mirror_passes, mirror_proc, in_window}
-use Rattle.hm_history.specs.Sequences.{Sequences, Interval, interval_seq}
+use Rattle.hm_history.specs.Sequences.{Interval, interval_seq}
 use Rattle.hm_history.specs.Locks.{writer}
 use Rattle.hm_history.specs.After.{After}
 use Rattle.hm_history.specs.Operation.{op_piece, op_mirror, op_writes}
@@ -108,9 +108,6 @@ stack_noted s t a o xs (Phase.Guard q r met told (Body.Fresh g) ∷ Phase.Moves 
 stack_noted s t a o xs (Phase.Lost u g ∷ Phase.Moves step v ∷ []) so h = (tt, (tt, tt))
 stack_noted s t a o xs (Phase.Drop g ∷ Phase.Moves step v ∷ []) so h = (tt, (tt, tt))
 stack_noted s t a o xs l so h = absurd h.0
-
-ended_noted : (s : Sequences) (l : List Phase) → l ≡ [] → NotedStack s 0 l
-ended_noted s l e = subst (NotedStack s 0) (sym e) tt
 
 pub known_noted : (s : After) (t : Past) (a : ℕ) (o : Op) (g : Going) → Ruled s → HoldsAll s t a (facts o g.pages g.stack) → NotedStack s.sequences (op_mirror o) g.stack
 known_noted s t a o g so h = stack_noted s t a o g.pages g.stack so h

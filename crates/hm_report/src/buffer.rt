@@ -13,7 +13,7 @@ pub const PIECE: usize = 4096;
 /// How many bytes a buffer holds: a piece, and what is formatted after it.
 pub const ROOM: usize = 8192;
 
-/// Bytes that wait until there is a piece of them: so many, at the front of a block of this room.
+/// Bytes that wait until there is a piece of them, at the front of a block.
 #[derive(Drop)]
 pub struct Buffer {
     bytes: Vec<u8>,

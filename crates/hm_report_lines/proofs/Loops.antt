@@ -21,9 +21,6 @@ pub record Passed (bytes rest : List ℕ) (count : ℕ) : Type 0 where
   pub many : count ≡ length before
   pub none : list_all is_script_line before ≡ true
 
-pub passed_none : (bytes : List ℕ) → Passed bytes bytes 0
-passed_none bytes = record { before = []; parts = refl; many = refl; none = refl }
-
 pub passed_more : (bytes rest line after : List ℕ) (count : ℕ) → Passed bytes rest count → lines rest ≡ line ∷ lines after → is_script_line line ≡ true → Passed bytes after (count + 1)
 passed_more bytes rest line after count p cut other = record {
   before = p.before ++ line ∷ [];
@@ -66,9 +63,6 @@ nothing_left bytes (b ∷ rest) count p e = absurd (omega arith)
 pub front_all : (bytes rest : List ℕ) (count : ℕ) → Passed bytes rest count → length rest ≡ 0 → FrontOf bytes bytes None
 front_all bytes rest count p e = record { none = ap (list_all is_script_line) (nothing_left bytes rest count p e) ∙ p.none; goes_on = refl }
 
-pub all_count : (bytes rest : List ℕ) (count : ℕ) → Passed bytes rest count → length rest ≡ 0 → count ≡ length (lines bytes)
-all_count bytes rest count p e = p.many ∙ ap length (sym (nothing_left bytes rest count p e))
-
 -- ---- two texts
 
 pub unequal : (x y : List ℕ) (r : Bool) → r ≡ not (bytes_eq x y) → r ≡ true → x ≡ y → ⊥
@@ -87,9 +81,6 @@ pub record Shared (text other rest others : List ℕ) (count : ℕ) : Type 0 whe
   pub mine : lines text ≡ before ++ lines rest
   pub theirs : lines other ≡ before ++ lines others
   pub many : count ≡ length before
-
-pub shared_none : (text other : List ℕ) → Shared text other text other 0
-shared_none text other = record { before = []; mine = refl; theirs = refl; many = refl }
 
 pub shared_more : (text other rest others line same after more : List ℕ) (count : ℕ) → Shared text other rest others count → lines rest ≡ line ∷ lines after → lines others ≡ same ∷ lines more → line ≡ same → Shared text other after more (count + 1)
 shared_more text other rest others line same after more count s cut cuts equal = record {

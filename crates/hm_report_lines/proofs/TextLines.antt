@@ -19,7 +19,7 @@ use Rattle.hm_report.specs.Words.{actor_text, kind_words}
 use Rattle.hm_report.specs.Report.{entry_line, entry_lines}
 use Rattle.hm_report_lines.specs.Parts.{is_script_line, entry_list}
 use Rattle.hm_report_lines.proofs.Cutting.{lines_whole}
-use Rattle.hm_report_lines.proofs.Words.{is_whole, are_whole, digits_whole, hex_whole, right_whole, kind_whole, join_whole}
+use Rattle.hm_report_lines.proofs.Words.{is_whole, are_whole, num, digits_whole, hex_whole, right_whole, kind_whole, join_whole}
 
 pub lines_line : (ws : List (List ℕ)) (rest : List ℕ) → are_whole ws ≡ true → lines (line ws ++ rest) ≡ line ws ∷ lines rest
 lines_line ws rest h = ap lines (append_assoc (join_with_byte 32 ws) (10 ∷ []) rest) ∙ lines_whole (join_with_byte 32 ws) rest (join_whole ws h)
@@ -68,9 +68,6 @@ module _ (p : List (List ℕ) → Bool) (each : Each p) where
       let s = list_all-append p (skip_lines c.skip) (actor_lines 0 c.actors ++ map schedule_words c.schedule) ∙ (rw (skip_all c.skip, a) refl) in
       let d = list_all-append p (device_lines 0 c.devices) (skip_lines c.skip ++ (actor_lines 0 c.actors ++ map schedule_words c.schedule)) ∙ (rw (devices_all 0 c.devices, s) refl) in
       rw (each.header c.version, each.frames c.frames, d) refl
-
-num : (n : ℕ) → is_whole (decimal n) ≡ true
-num n = digits_whole 10 n
 
 op_whole : (o : Op) → are_whole (op_words o) ≡ true
 op_whole (Map p s r) = rw (num p, num s.first, num s.count, right_whole r) refl

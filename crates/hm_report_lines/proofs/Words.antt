@@ -91,7 +91,7 @@ kept_whole (KeptAt.Frame f) = frame_whole f
 
 -- ---- words of entries
 
-num : (n : ℕ) → is_whole (decimal n) ≡ true
+pub num : (n : ℕ) → is_whole (decimal n) ≡ true
 num n = digits_whole 10 n
 
 addr : (a : ℕ) → is_whole (digits 16 false a) ≡ true

@@ -269,7 +269,7 @@ impl Draws {
         Ok(ops)
     }
 
-    /// Adds so many operations to the list.
+    /// Adds `count` operations to the list.
     fn add_ops(&mut self, alloc: Global, ops: &mut OpList, count: u64) -> Result<(), NoMemory>
         ensures { OnOk result
             (let more = drawn_list drawn_op self.old.state count in (ops.new ≡ ops.old ++ more.value)
@@ -282,7 +282,7 @@ impl Draws {
         Ok(())
     }
 
-    /// Adds so many actors.
+    /// Adds `count` actors.
     fn add_actors(
         &mut self,
         alloc: Global,
@@ -300,7 +300,7 @@ impl Draws {
         Ok(())
     }
 
-    /// Adds so many schedule lines.
+    /// Adds `count` schedule lines.
     fn add_lines(&mut self, schedule: &mut Schedule, count: u64) -> Result<(), NoMemory>
         ensures { OnOk result (schedule.new ≡ schedule.old ++ (drawn_list drawn_line self.old.state count).value) }
     {

@@ -74,7 +74,7 @@ fn has_no_empty_word(line: &[u8]) -> bool
     !rest.is_empty()
 }
 
-/// Whether there are so many words, none of them empty.
+/// Whether there are `count` words, none of them empty.
 #[tactic(auto, unfolding(crate::specs::Reading::shape))]
 fn shape_of(line: &[u8], count: usize) -> Result<(), Reason>
     ensures { result ≡ shape count (split line.now) }
@@ -114,7 +114,7 @@ impl<'a> LineWords<'a> {
         word_at(self.line, at)
     }
 
-    /// Whether there are so many words, none of them empty.
+    /// Whether there are `count` words, none of them empty.
     pub fn shape(&self, count: usize) -> Result<(), Reason>
         ensures { result ≡ shape count self.now }
     {

@@ -89,7 +89,7 @@ fn access_of(addr: u64, len: u64) -> Result<u32, Reason>
     Ok(len as u32)
 }
 
-/// The line of an operation in a script with so many devices.
+/// The line of an operation, in a script with this number of devices.
 #[derive(Drop)]
 pub struct OpLine<'a> {
     pub words: LineWords<'a>,

@@ -48,7 +48,9 @@ plain_of x = record plain_start {
 abbrev pub locks_of : SpacesValue → Locks
 locks_of x = record locks_start { map = λ a. slice_index_or x.map_locks a None }
 
--- each part after an entry of an actor
+-- ---- each part after an entry
+
+-- which processes are there after an entry
 abbrev pub there_next : Kind → List Bool → List Bool
 there_next (Kind.Forked p c) xs = slice_set xs c true
 there_next (Kind.Exited p) xs = slice_set xs p false

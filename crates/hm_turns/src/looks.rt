@@ -35,7 +35,7 @@ pub enum Look {
     Locked(Actor),
     /// Nobody has, and some byte has no area.
     Unmapped,
-    /// All the bytes were copied, after so many entries.
+    /// All the bytes were copied, as they were after this number of entries.
     Filled(u64),
 }
 

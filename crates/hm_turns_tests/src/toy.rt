@@ -8,7 +8,7 @@ use hm_turns::Stepped;
 use std::alloc::Global;
 use std::marker::Model;
 
-/// A script of so many actors, each of which has so many entries to add.
+/// A script of `actors` actors, each of which has `entries` entries to add.
 pub fn script_for(alloc: Global, actors: u32, entries: u32) -> Result<Script, NoMemory>
     requires actors { actors ≤ 16 }
     requires entries { entries ≤ 16384 }
@@ -48,7 +48,7 @@ impl Model for Toy {
 }
 
 impl Toy {
-    /// A step that finds so many entries fails for want of memory.
+    /// A step that finds `room` entries fails, as if memory had run out.
     pub fn new(alloc: Global, script: Script, room: u64) -> Toy
         ensures { (result.script ≡ script) × (result.history ≡ []) × (result.halt ≡ None) }
     {

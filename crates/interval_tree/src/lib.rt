@@ -51,7 +51,7 @@ impl IntervalTree {
         }
     }
 
-    /// Room for at least so many intervals more; after a failure there may be some of it.
+    /// Room for at least n intervals more; after a failure there may be some of it.
     pub fn reserve(&mut self, n: u64) -> Result<(), NoMemory>
         ensures room { OnOk result (n ≤ self.new.spare) }
         ensures spans { self.new.spans ≡ self.old.spans }
@@ -138,7 +138,7 @@ fn next_above(spans: &[Option<Span>; 32], end: u32, span: Span, after: MirrorId)
     None
 }
 
-// At least so many nodes.
+// At least n nodes.
 fn fill(spare: &mut Vec<Box<Inner>>, alloc: Global, n: usize) -> Result<(), NoMemory>
     ensures room { OnOk result (n ≤ length spare.new.items) }
     ensures kept { length spare.old.items ≤ length spare.new.items }

@@ -15,7 +15,7 @@ fn agree(areas: &Areas, rights: &[Option<Rights>; PAGES]) -> bool {
     true
 }
 
-// Whether each page from the first on, so many, has what the test wants: an area, or none.
+// Whether each of `count` pages from the first on has what the test wants: an area, or none.
 fn all_have(rights: &[Option<Rights>; PAGES], first: usize, count: usize, area: bool) -> bool {
     for (page, right) in rights.iter().enumerate() {
         if first <= page && page - first < count && right.is_some() != area {

@@ -139,7 +139,7 @@ fn reserve_in(blocks: &mut Vec<Block>, alloc: Global, at: usize) -> Result<(), N
     }
 }
 
-/// At least so many blocks, the new ones without entries.
+/// At least `count` blocks, the new ones without entries.
 fn grow(blocks: &mut Vec<Block>, alloc: Global, count: usize) -> Result<(), NoMemory>
     ensures { MatchResult result
         (λ _. blocks.new.items ≡ blocks.old.items ++ replicate (count - length blocks.old.items) empty_block)

@@ -94,7 +94,7 @@ next_told s r after = find (is_above after) (overlapping s r)
 abbrev pub some_overlap : Sequences → Pages → Bool
 some_overlap s r = nat_lt 0 (length (overlapping s r))
 
--- the sequence after a start, an end and an insert, and the interval's after an insert
+-- the process's sequence after a start: it becomes odd if the invalidation meets an interval
 abbrev pub seq_started : Sequences → Pages → ℕ
 seq_started s r = if some_overlap s r && not (is_odd s.seq) then s.seq + 1 else s.seq
 
@@ -119,7 +119,7 @@ seq_inserted s = if raised_by_insert s then s.seq + 1 else s.seq
 abbrev pub interval_inserted : Sequences → ℕ
 interval_inserted s = if is_odd s.seq then s.seq else if nat_lt 0 s.active then s.seq + 1 else (s.seq - 1)
 
--- the deferred inserts and removes are made
+-- the stage of an interval after its deferred insert or removal was made
 abbrev pub settled_stage : Stage → Stage
 settled_stage InTree = InTree
 settled_stage InsertDeferred = InTree
@@ -141,7 +141,9 @@ abbrev pub with_stage : Stage → Option Interval → Option Interval
 with_stage t None = None
 with_stage t (Some x) = Some (record x { stage = t })
 
--- what each call leaves
+-- ---- what each call leaves
+
+-- an invalidation has begun
 abbrev pub started : Sequences → Pages → Sequences
 started s r = record s { seq = seq_started s r; active = s.active + 1 }
 

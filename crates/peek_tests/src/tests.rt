@@ -103,7 +103,7 @@ struct Looked {
     was_copied: bool,
 }
 
-/// Makes so many turns. Then one thread takes a copy, another makes a turn, and the first checks its copy. At last it
+/// Makes some turns. Then one thread takes a copy, another makes a turn, and the first checks its copy. At last it
 /// takes another and checks that.
 fn meet<R: Threads + Wait + Sync, S: Stepped + Looks + Send>(
     rt: &R,

@@ -23,7 +23,7 @@ impl Model for RevMaps {
 }
 
 impl RevMaps {
-    /// The maps of so many frames, none of which has a use.
+    /// The maps of `frames` frames, none of which has a use.
     pub fn new(alloc: Global, frames: u32) -> Result<RevMaps, NoMemory>
         ensures { IfOk result (λ maps. maps ≡ replicate frames unused) }
     {

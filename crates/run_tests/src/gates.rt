@@ -16,8 +16,8 @@ impl Gate for Open {
     }
 }
 
-/// Holds the second actor until the first has added so many entries, and then the first, inside that call, until the
-/// second has added one.
+/// Holds the second actor until the first has added a number of entries, and then the first, inside that call, until
+/// the second has added one.
 #[derive(Drop)]
 pub struct Meets {
     at: u64,

@@ -1,7 +1,7 @@
 // A copy, and what the calls about one answer.
 use hm_base::{Actor, Bytes, Proc};
 
-/// Bytes of a process as they were after so many entries.
+/// Bytes of a process as they were after a number of entries.
 #[derive(Drop)]
 pub struct Snapshot {
     pub proc: Proc,

@@ -173,8 +173,7 @@ impl PlaceState {
         }
     }
 
-    // Whether no page of a frame would share with a writable one, with so many pages more of it and so many fewer of
-    // another.
+    // Whether no page of a frame would share with a writable one, after pages have moved to it from another.
     fn has_one_writer_after(
         &self,
         to: &Option<Frame>,

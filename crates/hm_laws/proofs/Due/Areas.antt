@@ -95,7 +95,7 @@ none_narrow s p r u cv l = absurd (outside u cv l)
     outside : (u : ℕ) → covers r u ≡ true → u < r.first → ⊥
     outside u cv l = grind (arith, nat_tests)
 
-least_first : (n : ℕ) → nat_le n n ≡ true
+pub least_first : (n : ℕ) → nat_le n n ≡ true
 least_first n = grind (arith, nat_tests)
 
 pub unmap_ok : (c : Program) (s : After) (t : Past) (a p : ℕ) (r : Pages) (xs : List Migrating) → a < 16 → Sound c s t → HoldsAll s t a (locked (Op.Unmap p r)) → area_refusal s.plain (Op.Unmap p r) ≡ None → Good c s t a (Op.Unmap p r) xs Phase.Locked [] (Do (due_areas s (Op.Unmap p r)))

@@ -25,6 +25,7 @@ use Rattle.hm_laws.proofs.Due.Good.{Good, Led, either, rlock_ok, release_none, n
 use Rattle.hm_laws.proofs.Due.Guards.{started, start_takes}
 use Rattle.hm_history.proofs.Updates.{here_at}
 use Rattle.hm_laws.proofs.Due.Mirrors.{window_some}
+use Rattle.hm_laws.proofs.Due.Areas.{least_first}
 
 -- the lock, where the pages lie in the window of the mirror
 covered_in : (x : Option MirrorState) (r : Pages) (v : ℕ) → mirror_passes (λ y. is_attached_state y && lies_in r y.window) x ≡ true → covers r v ≡ true → mirror_passes (λ y. covers y.window v) x ≡ true
@@ -55,14 +56,11 @@ none_listed = record { rising = refl; apart = λ y z f m n i j. absurd m; own = 
 at_itself : (n : ℕ) → (n == n) ≡ true
 at_itself n = grind (arith, nat_tests)
 
-at_most_itself : (n : ℕ) → nat_le n n ≡ true
-at_most_itself n = grind (arith, nat_tests)
-
 pub migrate_ready : (s : After) (t : Past) (a : ℕ) (o : Op) (xs : List Migrating) → is_migration o ≡ true → HoldsAll s t a (No_guard ∷ Locks_only [] ∷ Is (is_nil xs) ∷ Read_locked (Who.Mirror (op_mirror o)) ∷ Windowed_all (op_mirror o) (op_range o) ∷ []) →
     (met : Bool) → HoldsAll (next s a (start_entry s (mirror_proc s.plain (op_mirror o)) (op_range o))) t a (In_guard (mirror_proc s.plain (op_mirror o)) (op_range o) met None ∷ []) →
     HoldsAll (next s a (start_entry s (mirror_proc s.plain (op_mirror o)) (op_range o))) t a (facts o xs (Phase.Guard (mirror_proc s.plain (op_mirror o)) (op_range o) met None (Body.Select (op_range o).first) ∷ Phase.Moves FreezeOthers (op_range o).first ∷ []))
 migrate_ready s t a o xs m h met g = subst (λ ys. HoldsAll (next s a (start_entry s (mirror_proc s.plain (op_mirror o)) (op_range o))) t a (facts o ys (Phase.Guard (mirror_proc s.plain (op_mirror o)) (op_range o) met None (Body.Select (op_range o).first) ∷ Phase.Moves FreezeOthers (op_range o).first ∷ []))) (sym (no_records xs h.1.1.0))
-    (g.0, (h.1.0, ((h.1.1.1.0.0, refl, refl), (refl, (at_itself (op_range o).first, (at_most_itself (op_range o).first, (refl, (h.1.1.1.1.0, (m, (none_listed, (h.1.1.1.0, tt)))))))))))
+    (g.0, (h.1.0, ((h.1.1.1.0.0, refl, refl), (refl, (at_itself (op_range o).first, (least_first (op_range o).first, (refl, (h.1.1.1.1.0, (m, (none_listed, (h.1.1.1.0, tt)))))))))))
 
 pub migrate_ready_ok : (c : Program) (s : After) (t : Past) (a : ℕ) (o : Op) (xs : List Migrating) → a < 16 → is_migration o ≡ true → HoldsAll s t a (No_guard ∷ Locks_only [] ∷ Is (is_nil xs) ∷ Read_locked (Who.Mirror (op_mirror o)) ∷ Windowed_all (op_mirror o) (op_range o) ∷ []) →
     Allowed c s t a (start_entry s (mirror_proc s.plain (op_mirror o)) (op_range o)) × HoldsAll (next s a (start_entry s (mirror_proc s.plain (op_mirror o)) (op_range o))) t a (facts o xs (Phase.Guard (mirror_proc s.plain (op_mirror o)) (op_range o) (some_overlap s.sequences (mirror_proc s.plain (op_mirror o)) (op_range o)) None (Body.Select (op_range o).first) ∷ Phase.Moves FreezeOthers (op_range o).first ∷ []))

@@ -1,5 +1,5 @@
 -- Guards of one page.
-use Rattle.std.proofs.Common.{◌≡◌, ℕ, ◌+◌, ◌<◌, ◌≤◌, Bool, true, false, ◌&&◌, not, is_none, if◌then◌else◌, Option, Some, None, List, [], ◌∷◌, refl, sym, ap, ◌∙◌, arith}
+use Rattle.std.proofs.Common.{◌≡◌, ℕ, ◌+◌, ◌<◌, Bool, true, false, ◌&&◌, not, is_none, if◌then◌else◌, Option, Some, None, List, [], ◌∷◌, refl, sym, ap, ◌∙◌, arith}
 use Rattle.hm_base.specs.Pages.{Pages}
 use Rattle.hm_base.specs.Program.{Program}
 use Rattle.hm_base.specs.declared.Frame.{Frame}
@@ -46,9 +46,6 @@ InGuard c s t a o xs p r met told body below k = Good c s t a o xs (Phase.Guard 
 pub told_in : (c : Program) (s : After) (t : Past) (a : ℕ) (o : Op) (xs : List Migrating) (p : ℕ) (r : Pages) (met : Bool) (told : Option ℕ) (body : Body) (below : List Phase) → Sound c s t → on_fault body below ≡ true →
     InGuard c s t a o xs p r met told body below (body_or_end s p r (due_body s a o p r (s.places.place p r.first) body)) → InGuard c s t a o xs p r met told body below (due_guard s a o p r met told body)
 told_in c s t a o xs p r met told body below so on h = either_option (InGuard c s t a o xs p r met told body below) (to_tell s p r met told) _ _ (λ e. h) (λ m e g. (told_falls c s t a o xs p r met told body below m so e, on))
-
-end_less : (m n k : ℕ) → n ≤ k → n < m + (1 + k)
-end_less m n k h = omega arith
 
 -- the taken frame put in place
 pub replace_in : (c : Program) (s : After) (t : Past) (a : ℕ) (o : Op) (xs : List Migrating) (p : ℕ) (r : Pages) (met : Bool) (told : Option ℕ) (over : Place) (g : Frame) (touch : Touch) →

@@ -131,9 +131,6 @@ others_fit t m g d e k l h i j = omega (arith, mul-le-mul_right (g + 1) i, one d
     one : (d g : ℕ) → (d + 1) * (g + 1) ≡ d * (g + 1) + (g + 1)
     one d g = grind arith
 
-add_less : (m n h i : ℕ) → m < n → h ≤ i → m + h < n + i
-add_less m n h i k l = omega arith
-
 pub alone_steps : (c : Program) (s : After) (t : Past) (a : ℕ) (o : Op) (xs : List Migrating) (f : Frame) (w : KeptAt) (touch : Touch) → Sound c s t → Few c s → Fits o touch → of_system f ≡ false → StepsTo c s a o xs (Phase.Emptying f w) (Phase.Decide touch ∷ []) OnAccess (Do (due_emptying c s f w))
 alone_steps c s t a o xs f w touch so fw ft dev = either_option P (lowest_direct s.places f) _ _
     (λ e. either_option P (lowest_free c s.places PoolId.System) _ _ (λ i. (omega (arith, gives, later_less c o touch ft, home_tail), refl)) (λ g i. (omega arith, refl)))

@@ -56,9 +56,6 @@ answered top c s a o xs k touch n i e = either (λ x. PieceTo top c s a o xs k t
 given_up : (top : Phase) (c : Program) (s : After) (a : ℕ) (o : Op) (xs : List Migrating) (k : ℕ) (touch : Touch) (m : Cause) (n : ℕ) → is_access o ≡ true → n ≡ 1 + later c o k → PieceTo top c s a o xs k touch n (Do (failed o k m))
 given_up top c s a o xs k touch m n i e = (omega (arith, e, (ends_left c (next s a (failed o k m)) a o xs k i).0), (ends_left c s a o xs k i).1)
 
-more : (n : ℕ) → n < 1 + n
-more n = omega arith
-
 -- by the CPU
 cpu_to : (top : Phase) (c : Program) (s : After) (a : ℕ) (o : Op) (xs : List Migrating) (k p : ℕ) → is_access o ≡ true → PieceTo top c s a o xs k (Cpu k) (cpu_left c s a o k p) (due_cpu s o k p)
 cpu_to top c s a o xs k p i = either (PieceTo top c s a o xs k (Cpu k) (cpu_left c s a o k p)) (s.plain.there p) _ _

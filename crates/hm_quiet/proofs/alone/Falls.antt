@@ -1,33 +1,19 @@
 -- What it is that the bound falls at an entry, and the simplest entries.
-use Rattle.std.proofs.Common.{ℕ, ◌+◌, ◌<◌, List, [], ◌∷◌, arith}
+use Rattle.std.proofs.Common.{ℕ, ◌<◌, List, ◌∷◌}
 use Rattle.std.specs.Prelude.{⊤}
-use Rattle.hm_base.specs.Pages.{Pages}
 use Rattle.hm_base.specs.Program.{Program}
 use Rattle.hm_base.specs.declared.ops.Op.{Op}
-use Rattle.hm_history.specs.Locks.{lowest_other}
 use Rattle.hm_history.specs.After.{After}
 use Rattle.hm_history.specs.Stacks.{stack_after}
 use Rattle.hm_history.specs.Going.{seen_at, recorded}
-use Rattle.hm_history.specs.Due.{due_begin}
 use Rattle.hm_history.specs.declared.phases.Migrating.{Migrating}
 use Rattle.hm_history.specs.declared.phases.Phase.{Phase}
 use Rattle.hm_history.specs.declared.phases.Next.{Next}
 use Rattle.hm_history.specs.declared.phases.Next.TheVariants.{Do, Wait}
 use Rattle.hm_laws.specs.Allowed.{next}
-use Rattle.hm_laws.proofs.Due.Good.{either, either_option}
 use Rattle.hm_quiet.proofs.measure.Left.{left}
 
 -- what is left after an entry is less than before
 abbrev pub Falls : Program → After → ℕ → Op → List Migrating → Phase → List Phase → Next → Type 0
 Falls c s a o xs top below (Do k) = left c (next s a k) a o (recorded top (seen_at s o xs top k).page xs k) (stack_after o (top ∷ below) k (seen_at s o xs top k)) < left c s a o xs (top ∷ below)
 Falls c s a o xs top below (Wait y) = ⊤
-
-one_left : (n : ℕ) → 0 < 1 + n
-one_left n = omega arith
-
-more_left : (n : ℕ) → n < 1 + n
-more_left n = omega arith
-
--- map
-pub map_begins : (c : Program) (s : After) (a : ℕ) (xs : List Migrating) (p : ℕ) (r : Pages) (w : _) → Falls c s a (Op.Map p r w) xs Phase.Begin [] (due_begin s a (Op.Map p r w))
-map_begins c s a xs p r w = either (Falls c s a (Op.Map p r w) xs Phase.Begin []) (s.plain.there p) _ _ (λ i. either_option (Falls c s a (Op.Map p r w) xs Phase.Begin []) (lowest_other s.locks p a) _ _ (λ j. omega arith) (λ b j. tt)) (λ i. omega arith)

@@ -54,10 +54,6 @@ use Rattle.hm_laws.proofs.Other.Emptied.{direct_of}
 abbrev pub OnFrames : List Phase → Type 0
 OnFrames st = on_frames st ≡ true
 
--- frames from one on
-x_of : Program → Op → ℕ
-x_of c o = slice_index c.devices (op_device o)
-
 next_frame : (x v k h : ℕ) → v ≤ k → k < x → (x - (k + 1)) * h + h ≤ (x - v) * h
 next_frame x v k h l m = omega (arith, mul-le-mul_right h (less x v k l m), one (x - (k + 1)) h)
   where

@@ -1,5 +1,5 @@
 -- What is left of a fault, by the place of its page.
-use Rattle.std.proofs.Common.{◌≡◌, ℕ, suc, ◌+◌, ◌*◌, ◌-◌, ◌<◌, ◌≤◌, ◌⊎◌, inl, inr, Bool, true, false, nat_lt, if◌then◌else◌, List, [], ◌∷◌, refl, ap, ◌∙◌, subst, arith, length}
+use Rattle.std.proofs.Common.{◌≡◌, ℕ, suc, ◌+◌, ◌*◌, ◌-◌, ◌<◌, ◌≤◌, Bool, true, false, nat_lt, if◌then◌else◌, List, [], ◌∷◌, refl, ap, ◌∙◌, subst, arith, length}
 use Rattle.std.proofs.lemmas.Bool.Decides.{nat_tests}
 use Rattle.hm_base.specs.Program.{Program}
 use Rattle.hm_base.specs.declared.Place.{Place}
@@ -9,7 +9,6 @@ use Rattle.hm_history.specs.Operation.{op_pieces, op_writes, op_who}
 use Rattle.hm_history.specs.Plain.{proc_of}
 use Rattle.hm_history.specs.Stacks.{piece_ends}
 use Rattle.hm_history.specs.Going.{touch_page}
-use Rattle.hm_history.specs.Due.{suits}
 use Rattle.hm_history.specs.declared.phases.Migrating.{Migrating}
 use Rattle.hm_history.specs.declared.phases.Touch.{Touch}
 use Rattle.hm_history.specs.declared.phases.Touch.TheVariants.{Cpu, Walk, Sole}
@@ -46,12 +45,6 @@ stage_writable c y a o (Walk k at q) n = by (op_writes o)
     by true = omega arith
     by false = omega arith
 stage_writable c y a o Sole n = omega arith
-
--- the zero page, for a load
-pub stage_zero : (c : Program) (y : View) (a : ℕ) (o : Op) (touch : Touch) → op_writes o ≡ false → is_ready touch Place.Zero ≡ false → stage c y a o touch Place.Zero ≤ ready c o touch ⊎ (touch ≡ Sole)
-stage_zero c y a o (Cpu k) e f = inl (omega (arith, stage_over c y a o (Cpu k) Place.Zero (ap (λ b. suits b Place.Zero) e)))
-stage_zero c y a o (Walk k at q) e f = inl (omega (arith, stage_over c y a o (Walk k at q) Place.Zero (ap (λ b. suits b Place.Zero) e)))
-stage_zero c y a o Sole e f = inr refl
 
 pub home_most : (c : Program) (y : View) (a : ℕ) (o : Op) (touch : Touch) → decide_most c y a o touch ≤ home_now c y a o touch
 home_most c y a o touch = by (y.place (proc_of y.plain (op_who o)) (touch_page o touch))

@@ -36,12 +36,6 @@ StartsAt c s a o xs touch z = body_left c (view s) s.locks.frame a o xs (touch_p
 start_less : (m k n t : ℕ) → t ≤ m → k + m < n → t + k < n
 start_less m k n t h i = omega arith
 
-is_caught : (x : Place) → Bool
-is_caught (Place.Own d n w) = true
-is_caught (Place.Exclusive n b) = true
-is_caught (Place.Sys n w) = true
-is_caught x = false
-
 on_caught : (c : Program) (touch : Touch) (p : ℕ) (r : Pages) (met : Bool) (told : Option ℕ) (x : Place) → on_access (Phase.Guard p r met told (body_of_fault x) ∷ Phase.Decide touch ∷ []) ≡ true
 on_caught c touch p r met told (Place.Own d n w) = refl
 on_caught c touch p r met told (Place.Exclusive n b) = refl

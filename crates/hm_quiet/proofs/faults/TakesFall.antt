@@ -140,10 +140,6 @@ take_dec c s a o xs touch g x e v r w co rp = subst (TakesAt c s a o xs touch g)
 pub take_or_dec : (c : Program) (s : After) (a : ℕ) (o : Op) (xs : List Migrating) (touch : Touch) (k : ℕ) (x : Place) → is_access o ≡ true → Fits o touch → s.places.place (touch_proc s o) (touch_page o touch) ≡ x → is_over (view s) a o touch x ≡ false → is_ready touch x ≡ false → op_writes o ≡ true → is_core x ≡ true → repeats_now s o touch ≡ false → Decs c s a o xs touch (take_or c s (fails o k Cause.NoFrame))
 take_or_dec c s a o xs touch k x i f e v r w co rp = either_option (Decs c s a o xs touch) (lowest_free c s.places PoolId.System) _ _ (λ j. fails_dec c s a o xs touch k Cause.NoFrame i f) (λ g j. take_dec c s a o xs touch g x e v r w co rp)
 
--- a page placed outside a guard
-abbrev PlacesAt : Program → After → ℕ → Op → Touch → Place → Place → Type 0
-PlacesAt c s a o touch x z = decide_left c (next s a (Kind.Place (touch_proc s o) (touch_page o touch) x)) a o touch < stage c (view s) a o touch z
-
 placed_now : (c : Program) (s : After) (a : ℕ) (o : Op) (touch : Touch) (x : Place) → repeats_now s o touch ≡ false → decide_left c (next s a (Kind.Place (touch_proc s o) (touch_page o touch) x)) a o touch ≡ stage c (view s) a o touch x
 placed_now c s a o touch x r = if_false _ _ _ (same touch r) ∙ now_placed c (view s) a o touch x
   where

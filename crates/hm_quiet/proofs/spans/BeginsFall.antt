@@ -51,9 +51,6 @@ even c s t a p so al idle = by (is_odd (s.sequences.seq p)) refl
 wlock_steps : (c : Program) (s : After) (a : ℕ) (o : Op) (xs : List Migrating) (p : ℕ) → StepsTo c s a o xs Phase.Begin [] OnSimple (Do (Kind.Wlock p)) → StepsTo c s a o xs Phase.Begin [] OnSimple (Do (Kind.Refused Cause.NoProcess)) → StepsTo c s a o xs Phase.Begin [] OnSimple (under_wlock s a p)
 wlock_steps c s a o xs p h k = either (StepsTo c s a o xs Phase.Begin [] OnSimple) (s.plain.there p) _ _ (λ i. either_option (StepsTo c s a o xs Phase.Begin [] OnSimple) (lowest_other s.locks p a) _ _ (λ j. h) (λ b j. tt)) (λ i. k)
 
-one_less : (n : ℕ) → n < 1 + n
-one_less n = omega arith
-
 some_left : (n : ℕ) → 0 < 1 + n
 some_left n = omega arith
 

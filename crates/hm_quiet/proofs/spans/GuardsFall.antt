@@ -26,7 +26,7 @@ use Rattle.hm_history.proofs.Tests.{true_false}
 use Rattle.hm_laws.specs.Past.{Past, past_next}
 use Rattle.hm_laws.specs.Sound.{Sound}
 use Rattle.hm_laws.specs.Allowed.{next, HasChild}
-use Rattle.hm_laws.specs.Shapes.{zaps, narrows, widens, is_add, is_snap, is_fork}
+use Rattle.hm_laws.specs.Shapes.{zaps, narrows, widens, is_add, is_snap}
 use Rattle.hm_laws.specs.Facts.{answering, zapping, HoldsAll, facts}
 use Rattle.hm_laws.proofs.Due.Good.{Good, either, either_option}
 use Rattle.hm_laws.proofs.Due.Guards.{number_is}
@@ -170,11 +170,6 @@ pages_steps c s a o xs v i = cc
 pub drop_steps : (c : Program) (s : After) (a : ℕ) (o : Op) (xs : List Migrating) (f : Frame) (below : List Phase) → on_drop below ≡ true → StepsTo c s a o xs (Phase.Drop f) below OnSimple (Do (Kind.Drop f))
 drop_steps c s a o xs f (Phase.Guard p r met told (Body.Zap v) ∷ Phase.Answer ∷ []) h = (omega arith, refl)
 drop_steps c s a o xs f below h = cc
-
--- a fork's pages
-fork_adds : (o : Op) → is_fork o ≡ true → is_add o ≡ false
-fork_adds (Op.Fork p d) z = refl
-fork_adds o z = cc
 
 to_half : (m k n : ℕ) → k + 1 ≤ n → m + (2 * k + 3) < m + (2 * n + 2)
 to_half m k n h = omega arith
