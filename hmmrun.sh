@@ -33,6 +33,7 @@ words_hmmrun() {
     cat <<'END'
   replay               reads a script: its report
   threads              reads a script: the report of a run in which each actor goes from a thread of its own
+  race                 reads a script: as threads, but the schedule's turns come first
   generate N           a script of 4,000 operations that is drawn from the number N
   trial N              a summary of that script's run
   upgrade              reads a script: its text in version 2 of the language
@@ -140,7 +141,7 @@ read_words() {
         hmmrun)
             [ $# -gt 0 ] || refuse 'which word?'
             case $1 in
-                replay | threads | upgrade | check | advise | why) takes=0 ;;
+                replay | threads | race | upgrade | check | advise | why) takes=0 ;;
                 generate | trial)
                     [ $# -eq 2 ] || refuse "\`$1\` takes one number, and no file"
                     need_numbers "$2"
@@ -149,7 +150,7 @@ read_words() {
                     [ $# -ge 4 ] || refuse '`peek` takes three words: P ADDR LEN'
                     need_bytes "${@:2:3}"
                     takes=3 ;;
-                *) refuse "there is no word \`$1\`$(nearest "$1" replay threads generate trial upgrade check peek \
+                *) refuse "there is no word \`$1\`$(nearest "$1" replay threads race generate trial upgrade check peek \
                     advise why --quick --ready --path --help --version)" ;;
             esac
             words=("${@:1:takes + 1}")

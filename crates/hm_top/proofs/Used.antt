@@ -24,7 +24,7 @@ is_used_alone io e Alone.Check does usage = subst (HasJudged e.script e.history.
 
 pub is_used : (io : Traffic) (e : Ended) (c : Command) → Does (Some c) io e → e.status ≡ Status.Usage → ⊥
 is_used io e (Command.Alone x) does usage = is_used_alone io e x does usage
-is_used io e Command.Threads does usage = subst (HasRead (IsItsText e.script) io.source io.source_after) usage does.read
+is_used io e (Command.Threads begin) does usage = subst (HasRead (IsItsText e.script) io.source io.source_after) usage does.read
 is_used io e (Command.Peek asked) does usage = subst (HasRead (IsItsText e.script) io.source io.source_after) usage does.threads.read
 
 pub does_alone_so : (io : Traffic) (e : Ended) (x y : Alone) → x ≡ y → DoesAlone y io e → DoesAlone x io e

@@ -5,6 +5,7 @@ use Rattle.hm_script.specs.Numerals.{address, number}
 use Rattle.hm_script.specs.declared.reason.Reason.{Reason}
 use Rattle.hm_turns.specs.Looking.{IsLook}
 use Rattle.hm_top.specs.declared.command.Alone.{Alone}
+use Rattle.hm_top.specs.declared.command.Begin.{Begin}
 use Rattle.hm_top.specs.declared.command.Command.{Command}
 
 -- the command that takes a number, where the word spells one: decimal, without leading zeros, below 2 ^ 64
@@ -15,11 +16,12 @@ numbered command (Err why) = None
 -- the command of one word
 abbrev pub plain_command : List ℕ → Option Command
 plain_command w = if bytes_eq w (codes "replay") then Some (Command.Alone Alone.Replay)
-    else (if bytes_eq w (codes "threads") then Some Command.Threads
+    else (if bytes_eq w (codes "threads") then Some (Command.Threads Begin.AtOnce)
+    else (if bytes_eq w (codes "race") then Some (Command.Threads Begin.AfterSchedule)
     else (if bytes_eq w (codes "upgrade") then Some (Command.Alone Alone.Upgrade)
     else (if bytes_eq w (codes "check") then Some (Command.Alone Alone.Check)
     else (if bytes_eq w (codes "advise") then Some (Command.Alone Alone.Advise)
-    else (if bytes_eq w (codes "why") then Some (Command.Alone Alone.Why) else None)))))
+    else (if bytes_eq w (codes "why") then Some (Command.Alone Alone.Why) else None))))))
 
 -- the command of a word and a number
 abbrev pub numbered_command : List ℕ → List ℕ → Option Command

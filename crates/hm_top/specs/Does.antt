@@ -27,5 +27,5 @@ DoesAlone Alone.Why io ended = Explains io ended
 abbrev pub Does : Option Command → Traffic → Ended → Type 0
 Does None io ended = Refuses io ended
 Does (Some (Command.Alone x)) io ended = DoesAlone x io ended
-Does (Some Command.Threads) io ended = RunsThreads io ended
+Does (Some (Command.Threads begin)) io ended = RunsThreads io ended
 Does (Some (Command.Peek asked)) io ended = RunsPeeked asked.proc asked.addr asked.len io ended

@@ -33,13 +33,22 @@ pub enum Alone {
     Why,
 }
 
+/// How a run from threads begins.
+#[derive(Clone, Copy, Debug, PartialEq, Eq)]
+pub enum Begin {
+    /// All actors race from the start, and the schedule is not used.
+    AtOnce,
+    /// The schedule's turns are made first, up to its `drain`. The race goes on from there.
+    AfterSchedule,
+}
+
 /// What the program does, by its words.
 #[derive(Clone, Copy, Debug, PartialEq, Eq)]
 pub enum Command {
     /// What the calling thread does alone, which waits for nobody.
     Alone(Alone),
     /// Runs each actor of a script from a thread of its own, and writes the report.
-    Threads,
+    Threads(Begin),
     /// Does what `threads` does, with a watcher that looks at bytes of a process, and writes what it saw too.
     Peek(Asked),
 }
@@ -52,7 +61,10 @@ fn plain_command(word: &str) -> Option<Command>
         return Some(Command::Alone(Alone::Replay));
     }
     if word == "threads" {
-        return Some(Command::Threads);
+        return Some(Command::Threads(Begin::AtOnce));
+    }
+    if word == "race" {
+        return Some(Command::Threads(Begin::AfterSchedule));
     }
     if word == "upgrade" {
         return Some(Command::Alone(Alone::Upgrade));

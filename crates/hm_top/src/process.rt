@@ -6,10 +6,10 @@ ghost use Rattle.hm_edge.specs.Traffic.{IsUntouched, traffic};
 ghost use Rattle.hm_top.specs.Runs.{Runs, name, usage};
 
 use crate::top::run;
-use hm_base::{Actor, NoMemory};
+use hm_base::NoMemory;
 use hm_edge::{Status, finish, words_after_name};
 use hm_io::{Sink, Source};
-use hm_workers::Gate;
+use hm_workers::Mixing;
 use skip_rules::{BoxedRule, Kept, Leans};
 use std::alloc::Global;
 use std::env::Args;
@@ -22,16 +22,7 @@ pub const NAME: &str = "hmmrun";
 
 /// What it says if its words are none of the forms.
 pub const USAGE: &str =
-    "usage: hmmrun replay | threads | generate N | trial N | upgrade | check | peek P ADDR LEN | advise | why";
-
-/// Lets each actor go on whenever its worker asks.
-struct Open;
-
-impl Gate for Open {
-    fn admits(&self, _actor: Actor, _added: u64) -> bool {
-        true
-    }
-}
+    "usage: hmmrun replay | threads | race | generate N | trial N | upgrade | check | peek P ADDR LEN | advise | why";
 
 /// Makes the call, with the rules that this driver keeps.
 fn call<R: Threads + Wait + Sync, S: Source, K: Sink>(
@@ -40,6 +31,7 @@ fn call<R: Threads + Wait + Sync, S: Source, K: Sink>(
     words: Vec<String>,
     source: &mut S,
     sink: &mut K,
+    seed: u64,
 ) -> Result<Status, NoMemory>
     ensures ran { IfOk result (Runs (map string_bytes words.items)
         (traffic S.state K.state source.old source.new sink.old sink.new)) }
@@ -51,7 +43,8 @@ fn call<R: Threads + Wait + Sync, S: Source, K: Sink>(
     )?;
     let leans: BoxedRule = Box::new(alloc, |x: u64, y: u64| x >= 4 && x - 4 >= y)?;
     let (skip, leans) = (Kept::new(skips), Leans::new(leans));
-    let ended = run(rt, alloc, words, source, sink, &Open, &skip, &leans);
+    let gate = Mixing::new(rt, alloc, seed)?;
+    let ended = run(rt, alloc, words, source, sink, &gate, &skip, &leans);
     Ok(ended.status)
 }
 
@@ -62,6 +55,7 @@ fn begin<R: Threads + Wait + Sync, S: Source, K: Sink>(
     args: io::Result<Args>,
     source: &mut S,
     sink: &mut K,
+    seed: u64,
 ) -> Status
     ensures { Begins Runs (arguments (λ x. map string_bytes (into_iter_items x)) args)
         (traffic S.state K.state source.old source.new sink.old sink.new) result }
@@ -70,14 +64,14 @@ fn begin<R: Threads + Wait + Sync, S: Source, K: Sink>(
         Ok(words) => words,
         Err(status) => return status,
     };
-    match call(rt, alloc, words, source, sink) {
+    match call(rt, alloc, words, source, sink, seed) {
         Ok(status) => status,
         Err(NoMemory) => Status::NoMemory,
     }
 }
 
 /// Does what the arguments ask for, whose first is the program's name, and says on the error stream how it ended if not
-/// all was done. Gives the exit code.
+/// all was done. Gives the exit code. Threads mix by draws from the seed.
 pub fn program<R: Threads + Wait + Sync, S: Source, K: Sink, E: Sink>(
     rt: &R,
     alloc: Global,
@@ -85,11 +79,12 @@ pub fn program<R: Threads + Wait + Sync, S: Source, K: Sink, E: Sink>(
     source: &mut S,
     sink: &mut K,
     errors: &mut E,
+    seed: u64,
 ) -> u8
     ensures { Exits Runs name usage (arguments (λ x. map string_bytes (into_iter_items x)) args)
         (traffic S.state K.state source.old source.new sink.old sink.new) (E.state errors.old) (E.state errors.new)
         result }
 {
-    let status = begin(rt, alloc, args, source, sink);
+    let status = begin(rt, alloc, args, source, sink, seed);
     finish(alloc, NAME, USAGE, &status, errors)
 }

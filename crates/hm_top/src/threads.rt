@@ -1,10 +1,11 @@
-// The word `threads`.
+// The words `threads` and `race`.
 ghost use Rattle.std.specs.Prelude.{◌≡◌, [], IfOk, Some, true, false};
 ghost use Rattle.hm_base.specs.Program.{IsScript};
 ghost use Rattle.hm_history.specs.Legal.{Legal};
 ghost use Rattle.hm_top.specs.RunsThreads.{AllEnded, RunsThreads, StoppedFull};
 ghost use Rattle.hm_edge.specs.Traffic.{traffic};
 
+use crate::command::Begin;
 use crate::ended::Ended;
 use crate::output::report_run;
 use crate::schedule::Ran;
@@ -14,7 +15,7 @@ use hm_history::StepError;
 use hm_io::{Sink, Source};
 use hm_machine::Machine;
 use hm_script::one_text;
-use hm_workers::{Gate, run_all};
+use hm_workers::{Gate, Staged, run_all};
 use skip_rules::Kept;
 use std::alloc::Global;
 use std::sync::Wait;
@@ -54,6 +55,30 @@ fn run_threads<R: Threads + Wait + Sync, G: Gate + Sync>(
     })
 }
 
+/// Does so, after the turns of the script's schedule if these come first.
+fn run_from<R: Threads + Wait + Sync, G: Gate + Sync>(
+    rt: &R,
+    alloc: Global,
+    script: Script,
+    gate: &G,
+    skip: &Kept,
+    begin: Begin,
+) -> Result<Ran, NoMemory>
+    ensures script { IfOk result (λ r. r.script ≡ script) }
+    ensures legal { IfOk result (λ r. Legal r.script r.history.entries) }
+    ensures ended { IfOk result (λ r. r.full ≡ false → AllEnded script r.history.entries) }
+    ensures full { IfOk result (λ r. r.full ≡ true → StoppedFull script r.history.entries) }
+    ensures receipt { IfOk result (λ r. r.receipt ≡ Some r.history.entries) }
+{
+    match begin {
+        Begin::AtOnce => run_threads(rt, alloc, script, gate, skip),
+        Begin::AfterSchedule => {
+            let staged = Staged::new(rt, alloc, &script.schedule, gate)?;
+            run_threads(rt, alloc, script, &staged, skip)
+        }
+    }
+}
+
 /// Reads a script, runs each actor from a thread of its own to its end, and writes the report.
 pub fn threads<R: Threads + Wait + Sync, S: Source, K: Sink, G: Gate + Sync>(
     rt: &R,
@@ -62,6 +87,7 @@ pub fn threads<R: Threads + Wait + Sync, S: Source, K: Sink, G: Gate + Sync>(
     sink: &mut K,
     gate: &G,
     skip: &Kept,
+    begin: Begin,
 ) -> Ended
     ensures does { RunsThreads
         (traffic S.state K.state source.old source.new sink.old sink.new) result }
@@ -71,7 +97,7 @@ pub fn threads<R: Threads + Wait + Sync, S: Source, K: Sink, G: Gate + Sync>(
         Ok(script) => script,
         Err(status) => return Ended::stopped(alloc, status),
     };
-    match run_threads(rt, alloc, script, gate, skip) {
+    match run_from(rt, alloc, script, gate, skip, begin) {
         Ok(ran) => report_run(alloc, ran, sink),
         Err(_) => Ended::stopped(alloc, Status::NoMemory),
     }

@@ -46,7 +46,7 @@ fn do_alone<S: Source, K: Sink>(
     }
 }
 
-/// Does what the words after the program's name ask for, if that is neither `threads` nor `peek`, which are none of its
+/// Does what the words after the program's name ask for, if that is none of `threads`, `race` and `peek`, which are none of its
 /// forms: reads from the source, runs, and writes to the sink. It waits for nobody. The rules are the caller's: which
 /// pages a migration skips, and where a page should live.
 pub fn run_alone<S: Source, K: Sink>(
@@ -69,7 +69,7 @@ pub fn run_alone<S: Source, K: Sink>(
 }
 
 /// Does what the words after the program's name ask for: reads from the source, runs, and writes to the sink. With
-/// `threads` and `peek` each actor goes from a thread of its own, when the gate admits it. Other words wait for nobody.
+/// `threads`, `race` and `peek` each actor goes from a thread of its own, when the gate admits it. Other words wait for nobody.
 /// The rules are the caller's: which pages a migration skips, and where a page should live.
 pub fn run<R: Threads + Wait + Sync, S: Source, K: Sink, G: Gate + Sync>(
     rt: &R,
@@ -91,7 +91,7 @@ pub fn run<R: Threads + Wait + Sync, S: Source, K: Sink, G: Gate + Sync>(
 {
     match Command::of(words.as_slice()) {
         Some(Command::Peek(asked)) => peek(rt, alloc, source, sink, gate, skip, &asked),
-        Some(Command::Threads) => threads(rt, alloc, source, sink, gate, skip),
+        Some(Command::Threads(begin)) => threads(rt, alloc, source, sink, gate, skip, begin),
         Some(Command::Alone(what)) => do_alone(alloc, what, source, sink, skip, leans),
         None => Ended::stopped(alloc, Status::Usage),
     }

@@ -1,10 +1,11 @@
 // Each test runs the calls of the turn and its workers on the small value.
+ghost use Rattle.std.specs.Prelude.{◌<◌};
 
 use crate::toy::{Toy, script_for};
-use hm_base::{Actor, Proc};
+use hm_base::{Actor, Proc, Schedule, ScheduleLine};
 use hm_history::{Entry, Progress, StepError};
 use hm_turns::{Stepped, Turn, Turns};
-use hm_workers::{Gate, run_all};
+use hm_workers::{Gate, Mixing, Staged, run_all};
 use std::alloc::Global;
 use std::sync::atomic::{AtomicU64, Ordering};
 use std::test::Fail;
@@ -170,6 +171,87 @@ fn a_closed_gate_holds_workers_apart(rt: HostRuntime) -> Result<(), Fail> {
 fn want_of_memory_ends_all_workers(rt: HostRuntime) -> Result<(), Fail> {
     let toy = Toy::new(rt.alloc(), script_for(rt.alloc(), 3, 500)?, 700);
     let (toy, _receipt) = run_all(&rt, rt.alloc(), toy, 3, &Open)?;
+    assert!(rt; toy.length() == 700);
+    assert!(rt; toy.halted() == Some(StepError::NoMemory));
+    Ok(())
+}
+
+// So many turns of an actor.
+fn turns_of(number: u32, count: u32) -> ScheduleLine
+    requires { number < 16 }
+{
+    ScheduleLine::Run {
+        actor: Actor::new(number),
+        count,
+    }
+}
+
+// Whether the first entries are these actors'.
+fn begins_with(entries: &[Entry], actors: &[u32]) -> bool {
+    entries.len() >= actors.len()
+        && entries
+            .iter()
+            .zip(actors)
+            .all(|(entry, actor)| entry.actor.number() == *actor)
+}
+
+#[test]
+fn a_schedule_comes_first(rt: HostRuntime) -> Result<(), Fail> {
+    let toy = Toy::new(rt.alloc(), script_for(rt.alloc(), 2, 4)?, 8);
+    let mut schedule = Schedule::new(rt.alloc());
+    // The second turn of actor 1 waits, and adds no entry.
+    schedule.push(turns_of(1, 2))?;
+    schedule.push(turns_of(0, 2))?;
+    schedule.push(turns_of(1, 1))?;
+    schedule.push(turns_of(0, 1))?;
+    let gate = Staged::new(&rt, rt.alloc(), &schedule, &Open)?;
+    let (toy, _receipt) = run_all(&rt, rt.alloc(), toy, 2, &gate)?;
+    assert!(rt; toy.length() == 8 && toy.halted().is_none());
+    assert!(rt; begins_with(toy.entries(), &[1, 0, 0, 1, 0]));
+    Ok(())
+}
+
+#[test]
+fn a_schedule_names_who_has_ended(rt: HostRuntime) -> Result<(), Fail> {
+    let toy = Toy::new(rt.alloc(), script_for(rt.alloc(), 2, 3)?, 6);
+    let mut schedule = Schedule::new(rt.alloc());
+    schedule.push(turns_of(0, 99))?;
+    schedule.push(turns_of(1, 1))?;
+    schedule.push(turns_of(0, 99))?;
+    let mixing = Mixing::new(&rt, rt.alloc(), 7)?;
+    let gate = Staged::new(&rt, rt.alloc(), &schedule, &mixing)?;
+    let (toy, _receipt) = run_all(&rt, rt.alloc(), toy, 2, &gate)?;
+    assert!(rt; toy.length() == 6 && toy.halted().is_none());
+    assert!(rt; begins_with(toy.entries(), &[0, 0, 0, 1, 1, 1]));
+    Ok(())
+}
+
+// How often the next entry is another actor's.
+fn changes(entries: &[Entry]) -> usize {
+    entries
+        .iter()
+        .zip(entries.iter().skip(1))
+        .filter(|(first, second)| first.actor.number() != second.actor.number())
+        .count()
+}
+
+#[test]
+fn a_mixing_gate(rt: HostRuntime) -> Result<(), Fail> {
+    for (actors, least) in [(1, 0), (2, 20), (4, 50)] {
+        let toy = Toy::new(rt.alloc(), script_for(rt.alloc(), actors, 500)?, 2_000);
+        let gate = Mixing::new(&rt, rt.alloc(), 7)?;
+        let (toy, _receipt) = run_all(&rt, rt.alloc(), toy, actors, &gate)?;
+        assert!(rt; toy.length() == 500 * u64::from(actors) && toy.halted().is_none());
+        assert!(rt; changes(toy.entries()) >= least);
+    }
+    Ok(())
+}
+
+#[test]
+fn a_halt_ends_all_that_are_mixed(rt: HostRuntime) -> Result<(), Fail> {
+    let toy = Toy::new(rt.alloc(), script_for(rt.alloc(), 3, 500)?, 700);
+    let gate = Mixing::new(&rt, rt.alloc(), 7)?;
+    let (toy, _receipt) = run_all(&rt, rt.alloc(), toy, 3, &gate)?;
     assert!(rt; toy.length() == 700);
     assert!(rt; toy.halted() == Some(StepError::NoMemory));
     Ok(())

@@ -3,17 +3,22 @@
 
 mod dealing;
 mod gate;
+mod meeting;
+mod mixing;
 mod passes;
 mod peeked;
 mod peeks;
 mod run;
+mod staged;
 mod watching;
 mod workers;
 
 pub use dealing::{deal, gather};
 pub use gate::Gate;
+pub use mixing::Mixing;
 pub use passes::Passes;
 pub use peeked::run_peeked;
 pub use peeks::{Peek, PeekList};
 pub use run::{peek_all, run_all};
+pub use staged::Staged;
 pub use workers::run_actors;

@@ -5,18 +5,21 @@ ghost use Rattle.hm_turns.specs.Sights.{all_shares};
 ghost use Rattle.hm_workers.specs.Watching.{Checks, HasKept, HasWatched, IsKept, LastsTo, RightPeeks, peek_of};
 
 use crate::peeks::{Peek, PeekList, is_newer};
-use crate::workers::back_off;
 use hm_base::{Bytes, NoMemory, Proc};
 use hm_turns::{Looks, Pass, Stepped, Turns};
 use seq_copies::{Snapshot, Taken, still, take_copy};
 use std::alloc::Global;
 use std::sync::atomic::{AtomicBool, Ordering};
+use std::thread;
 
 /// The most tries of a watcher, each of which takes a copy or checks one.
 const MOST_TRIES: u32 = 100_000;
 
 /// The most peeks that it records.
 const MOST_PEEKS: u64 = 1_000;
+
+/// After so many looks at the end a pause lets other threads go first.
+const LOOKS_A_YIELD: u32 = 4096;
 
 /// Bytes of a process: the address of the first, and how many.
 #[derive(Clone, Copy)]
@@ -166,6 +169,18 @@ fn try_once<S: Looks>(
     }
 }
 
+// Lets the work go on, the longer the more tries were made, so that the tries last.
+fn pause(tries: u32, ended: &AtomicBool) {
+    for look in 0..tries {
+        if ended.load(Ordering::SeqCst) {
+            return;
+        }
+        if look % LOOKS_A_YIELD == LOOKS_A_YIELD - 1 {
+            thread::yield_now();
+        }
+    }
+}
+
 /// Takes copies and checks them until it is told that the work has ended, or the value is halted, or there are enough
 /// peeks, or enough tries were made. A copy is checked at once, and as long as it holds again.
 pub(crate) fn watch<S: Looks>(
@@ -183,8 +198,7 @@ pub(crate) fn watch<S: Looks>(
 {
     let mut peeks = PeekList::new(alloc);
     let mut copy = None;
-    let mut yields = 1u32;
-    for _ in 0..MOST_TRIES {
+    for tries in 0..MOST_TRIES {
         if ended.load(Ordering::SeqCst) || peeks.len() >= MOST_PEEKS {
             return Ok(peeks);
         }
@@ -192,11 +206,11 @@ pub(crate) fn watch<S: Looks>(
             Tried::Copied(taken) => copy = Some(taken),
             Tried::Kept(kept) => {
                 copy = Some(kept);
-                yields = back_off(yields);
+                pause(tries, ended);
             }
             Tried::Nothing => {
                 copy = None;
-                yields = back_off(yields);
+                pause(tries, ended);
             }
             Tried::Halted => return Ok(peeks),
         }

@@ -57,24 +57,12 @@ fn try_once<S: Stepped, G: Gate>(
 {
     let (actor, added) = worker;
     if gate.admits(actor, added) {
-        next_of(turns.try_turn(pass, actor))
+        let turn = turns.try_turn(pass, actor);
+        gate.tried(actor, &turn);
+        next_of(turn)
     } else {
-        Next::Again
-    }
-}
-
-/// After so many tries in a row that added nothing a worker lets others go first no longer.
-const MOST_YIELDS: u32 = 64;
-
-// Lets others go first, the longer the oftener nothing was added. Answers for how long to do so the next time.
-pub(crate) fn back_off(yields: u32) -> u32 {
-    for _ in 0..yields {
         thread::yield_now();
-    }
-    if yields < MOST_YIELDS {
-        yields * 2
-    } else {
-        yields
+        Next::Again
     }
 }
 
@@ -92,14 +80,10 @@ fn work<R: Wait, S: Stepped, G: Gate>(
 {
     let first = Snapshot::of(&pass);
     let mut added = 0u64;
-    let mut yields = 1u32;
     for _ in rt.forever() {
         match try_once(turns, &first, &mut pass, (actor, added), gate) {
-            Next::Added => {
-                added = added.saturating_add(1);
-                yields = 1;
-            }
-            Next::Again => yields = back_off(yields),
+            Next::Added => added = added.saturating_add(1),
+            Next::Again => (),
             Next::Done => return pass,
         }
     }
@@ -171,6 +155,7 @@ pub fn run_actors<R: Threads + Wait + Sync, S: Stepped + Send, G: Gate + Sync>(
 {
     turns.facts();
     let Passes { items } = passes;
+    gate.begins(items.len() as u64);
     let jobs = jobs_of(alloc, items)?;
     match run_jobs(rt, turns, jobs, gate) {
         Ok(items) => Ok(Passes { items }),

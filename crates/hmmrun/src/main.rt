@@ -5,6 +5,18 @@ use hm_io::{StreamSink, StreamSource};
 use hm_top::program;
 use std::env;
 use std::process::ExitCode;
+use std::time::{SystemTime, UNIX_EPOCH};
+
+/// A number that no two runs need share; 0 if the clock cannot be read.
+fn seed(rt: &HostRuntime) -> u64 {
+    match SystemTime::now(rt) {
+        Ok(now) => match now.duration_since(UNIX_EPOCH) {
+            Ok(since) => u64::from(since.subsec_nanos()),
+            Err(_) => 0,
+        },
+        Err(_) => 0,
+    }
+}
 
 fn main(rt: HostRuntime) -> ExitCode {
     ExitCode::from(program(
@@ -14,5 +26,6 @@ fn main(rt: HostRuntime) -> ExitCode {
         &mut StreamSource::new(rt.stdin()),
         &mut StreamSink::new(rt.stdout()),
         &mut StreamSink::new(rt.stderr()),
+        seed(&rt),
     ))
 }

@@ -5,3 +5,5 @@
 mod meeting;
 #[cfg(test)]
 mod tests;
+#[cfg(test)]
+mod watched;

@@ -2,15 +2,18 @@
 ghost use Rattle.std.specs.Prelude.{◌≡◌, ◌<◌, [], length, None, IfOk};
 
 use crate::meeting::Sign;
+use crate::watched::{Counted, Held};
 use hm_base::{Actor, NoMemory, Proc};
 use hm_machine::Machine;
 use hm_script::parse;
 use hm_turns::{Looks, Pass, Stepped, Turns};
+use hm_workers::peek_all;
 use seq_copies::{Snapshot, Taken, still, take_copy};
 use skip_rules::SkipRule;
 use std::alloc::Global;
 use std::process::Abort;
 use std::sync::Wait;
+use std::sync::atomic::AtomicU64;
 use std::test::Fail;
 use std::thread::{Threads, join_mut};
 
@@ -134,10 +137,10 @@ fn meet<R: Threads + Wait + Sync, S: Stepped + Looks + Send>(
 
 /// The machine of the script with the two stores.
 fn machine<R: Abort>(rt: &R, alloc: Global) -> Result<Machine<Multiples>, Fail>
-    ensures { IfOk result (λ m. (m.history ≡ []) × (m.halted ≡ None) × (0 < length m.script.actors)) }
+    ensures { IfOk result (λ m. (m.history ≡ []) × (m.halted ≡ None) × (length m.script.actors ≡ 1)) }
 {
     let script = parse(alloc, STORES)?;
-    assert!(rt; script.actors.len() > 0);
+    assert!(rt; script.actors.len() == 1);
     Ok(Machine::new(alloc, script, Multiples)?)
 }
 
@@ -156,5 +159,32 @@ fn no_store_between_copy_and_check(rt: HostRuntime) -> Result<(), Fail> {
     assert!(rt; looked.was_copied);
     assert!(rt; matches!(looked.first, Seen::Holds(0x42)));
     assert!(rt; matches!(looked.second, Seen::Holds(0x42)));
+    Ok(())
+}
+
+#[test]
+fn a_watcher_looks_after_each_store(rt: HostRuntime) -> Result<(), Fail> {
+    let looks = AtomicU64::new(0);
+    let gate = Held::new(7, &looks);
+    let inner = machine(&rt, rt.alloc())?;
+    let counted = Counted {
+        inner,
+        looks: &looks,
+    };
+    let proc = Proc::new(0);
+    let (counted, _receipt, peeks) = peek_all(
+        &rt,
+        rt.alloc(),
+        counted,
+        1,
+        &gate,
+        proc,
+        0x10000,
+        1,
+    )?;
+    assert!(rt; gate.missed() == 0);
+    assert!(rt; counted.length() == 8);
+    let last = peeks.get(peeks.len().saturating_sub(1));
+    assert!(rt; last.is_some_and(|peek| peek.count == 8));
     Ok(())
 }

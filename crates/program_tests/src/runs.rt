@@ -8,7 +8,7 @@ use std::test::Fail;
 use std::thread::Threads;
 
 const USAGE: &str =
-    "hmmrun: usage: hmmrun replay | threads | generate N | trial N | upgrade | check | \
+    "hmmrun: usage: hmmrun replay | threads | race | generate N | trial N | upgrade | check | \
     peek P ADDR LEN | advise | why\n";
 
 fn run<R: Abort + Threads + Wait + Sync>(
@@ -25,6 +25,7 @@ fn run<R: Abort + Threads + Wait + Sync>(
         &mut streams.source,
         &mut streams.sink,
         &mut streams.errors,
+        7,
     );
     compare(rt, case, &streams, code);
     Ok(())
@@ -35,6 +36,7 @@ fn hmmrun_ends_with_each_code(rt: HostRuntime) -> Result<(), Fail> {
     for wanted in [
         expected("replay", EMPTY, 0, EMPTY_REPORT, ""),
         expected("threads", EMPTY, 0, EMPTY_REPORT, ""),
+        expected("race", EMPTY, 0, EMPTY_REPORT, ""),
         expected("check", EMPTY_REPORT, 0, "legal 0\n", ""),
         expected("check", EMPTY, 1, "bad 3\n", "hmmrun: not legal\n"),
         expected("", EMPTY, 2, "", USAGE),

@@ -64,6 +64,7 @@ fn words_that_it_has_not(rt: HostRuntime) -> Result<(), Fail> {
         "again",
         "",
         "threads 2",
+        "race 2",
         "generate",
         "generate 07",
         "trial 18446744073709551616",
@@ -88,6 +89,7 @@ fn a_read_that_fails(rt: HostRuntime) -> Result<(), Fail> {
     for (words, code, text) in [
         ("replay", 0, ""),
         ("threads", 0, ""),
+        ("race", 0, ""),
         ("upgrade", 0, ""),
         ("check", 1, "not legal"),
     ] {
