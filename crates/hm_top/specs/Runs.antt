@@ -12,7 +12,7 @@ name = codes "hmmrun"
 
 -- what it says if its words are none of the forms
 abbrev pub usage : List ℕ
-usage = codes "usage: hmmrun replay | threads | race | generate N | trial N | upgrade | check | peek P ADDR LEN | advise | why"
+usage = codes "usage: hmmrun replay | threads | generate N | trial N | upgrade | check | peek P ADDR LEN | advise | why"
 
 -- A call was made, which ended with this status.
 pub record Runs (words : List (List ℕ)) (io : Traffic) (status : Status) : Type 0 where

@@ -22,7 +22,7 @@ pub const NAME: &str = "hmmrun";
 
 /// What it says if its words are none of the forms.
 pub const USAGE: &str =
-    "usage: hmmrun replay | threads | race | generate N | trial N | upgrade | check | peek P ADDR LEN | advise | why";
+    "usage: hmmrun replay | threads | generate N | trial N | upgrade | check | peek P ADDR LEN | advise | why";
 
 /// Makes the call, with the rules that this driver keeps.
 fn call<R: Threads + Wait + Sync, S: Source, K: Sink>(

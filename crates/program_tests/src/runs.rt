@@ -8,7 +8,7 @@ use std::test::Fail;
 use std::thread::Threads;
 
 const USAGE: &str =
-    "hmmrun: usage: hmmrun replay | threads | race | generate N | trial N | upgrade | check | \
+    "hmmrun: usage: hmmrun replay | threads | generate N | trial N | upgrade | check | \
     peek P ADDR LEN | advise | why\n";
 
 fn run<R: Abort + Threads + Wait + Sync>(
