@@ -11,6 +11,7 @@ pub mod Faults
 pub mod Fork
 pub mod Frames
 pub mod Freezes
+pub mod FromOp
 pub mod Good
 pub mod Guards
 pub mod LeftFrames

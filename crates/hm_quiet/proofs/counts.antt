@@ -2,7 +2,6 @@
 pub mod CountsBelow
 pub mod PagesFrom
 pub mod FewOfEach
-pub mod FromTheirOperation
 pub mod MappedPages
 pub mod CountsKept
 pub mod UsesOfAFrame

@@ -12,7 +12,7 @@ use Rattle.hm_history.specs.declared.phases.Phase.{Phase}
 use Rattle.hm_laws.specs.Past.{Past}
 use Rattle.hm_laws.specs.Facts.{is_detach, is_fork, is_add, is_snap, takes_lock, begins, has_piece, facts, HoldsAll}
 use Rattle.hm_underway.specs.Refused.{ChangesNothing}
-use Rattle.hm_underway.proofs.FromOp.{stores, is_access, refuses, FromOp}
+use Rattle.hm_laws.proofs.Due.FromOp.{stores, is_access, refuses, FromOp}
 use Rattle.hm_underway.proofs.Early.{has_early, was_early}
 
 -- a fork and a detach change the plain state before their last entry
@@ -81,16 +81,16 @@ left_early o st m e h = by (midway o) (has_early st) m e h
 
 -- what changes the plain state ends the operation, or makes it midway
 changes_not : (o : Op) (top : Phase) (below : List Phase) (k : Kind) (seen : Seen) → FromOp o top k → (after_top o top below k seen ≡ [] → ⊥) → is_clean o (after_top o top below k seen) ≡ true → changes k ≡ false
-changes_not o top below (Kind.Mapped p r w) seen f ne cl = absurd (ne (ap (λ t. after_top o t below (Kind.Mapped p r w) seen) f))
+changes_not o top below (Kind.Mapped p r w) seen f ne cl = absurd (ne (ap (λ t. after_top o t below (Kind.Mapped p r w) seen) f.1))
 changes_not o top below (Kind.Unmapped p r) seen (inl f) ne cl = absurd (ne (ap (λ t. after_top o t below (Kind.Unmapped p r) seen) f))
 changes_not o top below (Kind.Unmapped p r) seen (inr f) ne cl = absurd (ne (ap (λ t. after_top o t below (Kind.Unmapped p r) seen) f))
 changes_not o top below (Kind.Protected p r w) seen f ne cl = absurd (ne (ap (λ t. after_top o t below (Kind.Protected p r w) seen) f))
 changes_not o top below (Kind.Stored x at bs) seen f ne cl = not_both (stores o) f (and_parts (not (stores o)) _ cl).0
 changes_not o top below (Kind.Added m at was now) seen f ne cl = not_both (stores o) f (and_parts (not (stores o)) _ cl).0
-changes_not o top below (Kind.Named p d) seen f ne cl = left_early o (after_top o top below (Kind.Named p d) seen) (fork_midway o f.0) (ap (λ t. has_early (after_top o t below (Kind.Named p d) seen)) f.1) (and_parts (not (stores o)) _ cl).1
+changes_not o top below (Kind.Named p d) seen f ne cl = left_early o (after_top o top below (Kind.Named p d) seen) (fork_midway o (ap is_fork f.0)) (ap (λ t. has_early (after_top o t below (Kind.Named p d) seen)) f.1) (and_parts (not (stores o)) _ cl).1
 changes_not o top below (Kind.Forked p d) seen f ne cl = absurd (ne (ap (λ t. after_top o t below (Kind.Forked p d) seen) f))
 changes_not o top below (Kind.Exited p) seen f ne cl = absurd (ne (ap (λ t. after_top o t below (Kind.Exited p) seen) f))
-changes_not o top below (Kind.Attached m d p r q) seen f ne cl = absurd (ne (ap (λ t. after_top o t below (Kind.Attached m d p r q) seen) f))
+changes_not o top below (Kind.Attached m d p r q) seen f ne cl = absurd (ne (ap (λ t. after_top o t below (Kind.Attached m d p r q) seen) f.1))
 changes_not o top below (Kind.Detaching m q) seen f ne cl = left_early o (after_top o top below (Kind.Detaching m q) seen) (detach_midway o f.0) (ap (λ t. has_early (after_top o t below (Kind.Detaching m q) seen)) f.1) (and_parts (not (stores o)) _ cl).1
 changes_not o top below (Kind.Detached m) seen (inl f) ne cl = absurd (ne (ap (λ t. after_top o t below (Kind.Detached m) seen) f))
 changes_not o top below (Kind.Detached m) seen (inr f) ne cl = absurd (ne (ap (λ t. after_top o t below (Kind.Detached m) seen) f.1))

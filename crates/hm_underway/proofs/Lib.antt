@@ -1,6 +1,5 @@
 pub mod Upgraded
 pub mod Busy
-pub mod FromOp
 pub mod Early
 pub mod Clean
 pub mod Refused

@@ -22,7 +22,7 @@ use Rattle.hm_laws.specs.Stands.{Standing}
 use Rattle.hm_laws.proofs.Histories.Sound.{Small, Turn, small, at_start, standing_on, standing_after, turn_of, after_is}
 use Rattle.hm_history.proofs.Updates.{here_at, other_at, with_case}
 use Rattle.hm_underway.specs.Refused.{operation_of, ChangesNothing, OwnChangeNothing, IsRefused, RefusedLeavesPlain, RefusedRemovalWithdraws}
-use Rattle.hm_underway.proofs.FromOp.{FromOp, Given, from_op}
+use Rattle.hm_laws.proofs.Due.FromOp.{FromOp, Given, from_op}
 use Rattle.hm_underway.proofs.Clean.{is_clean, unchanged, clean_before, refused_clean}
 
 -- one entry more

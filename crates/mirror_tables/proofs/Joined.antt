@@ -11,6 +11,7 @@ use Rattle.mirror_tables.specs.Blocks.{Block}
 use Rattle.mirror_tables.specs.Entries.{block_of}
 use Rattle.mirror_tables.specs.Directory.{all_entries, in_block, AllKeys, IsBlockOf, block_at}
 use Rattle.mirror_tables.specs.declared.entry.MirrorEntry.{MirrorEntry}
+use Rattle.mirror_tables.proofs.Places.{less, other}
 
 -- what a test of a block says
 pub number_of : (a : Bool) (x k : ℕ) → (a && eqb x k) ≡ true → x ≡ k
@@ -103,14 +104,8 @@ above_from : (w : Pages) (n p : ℕ) (bs : List Block) → From w n bs → block
 above_from w n p [] h l = tt
 above_from w n p (b ∷ bs) h l = above_append p b.entries (all_entries bs) (above_of w n p b.entries h.0.here l) (above_from w (suc n) p bs h.1 (omega arith))
 
-less : (a b : ℕ) → a < b → ltb a b ≡ true
-less a b l = grind (arith, nat_tests)
-
 not_less : (a b : ℕ) → b < a → ltb a b ≡ false
 not_less a b l = grind (arith, nat_tests)
-
-other : (a b : ℕ) → b < a → eqb a b ≡ false
-other a b l = grind (arith, nat_tests)
 
 put_left : (p : ℕ) (e : MirrorEntry) (xs ys : List (ℕ × MirrorEntry)) → Above p ys → sorted.put nat_cmp p e (xs ++ ys) ≡ sorted.put nat_cmp p e xs ++ ys
 put_left p e [] [] h = refl

@@ -17,7 +17,7 @@ further h = record { within = omega (arith, h.within); below = λ k l. h.below (
 at_start : {x : ℕ × MirrorEntry} {es : List (ℕ × MirrorEntry)} {page : ℕ} → IsPlace (x ∷ es) page 0 → IsPlace es page 0
 at_start h = record { within = omega arith; below = λ k l. absurd (omega arith); from = λ k l m. h.from (suc k) (omega arith) (omega arith) }
 
-less : (a b : ℕ) → a < b → ltb a b ≡ true
+pub less : (a b : ℕ) → a < b → ltb a b ≡ true
 less a b l = grind (arith, nat_tests)
 
 not_less : (a b : ℕ) → b ≤ a → ltb a b ≡ false
@@ -26,7 +26,7 @@ not_less a b l = grind (arith, nat_tests)
 equal : (a b : ℕ) → a ≡ b → eqb a b ≡ true
 equal a b e = grind (arith, nat_tests)
 
-other : (a b : ℕ) → b < a → eqb a b ≡ false
+pub other : (a b : ℕ) → b < a → eqb a b ≡ false
 other a b l = grind (arith, nat_tests)
 
 -- a page that has no entry is put in at its place

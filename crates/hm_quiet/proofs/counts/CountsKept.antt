@@ -28,7 +28,7 @@ use Rattle.hm_laws.specs.Stands.{Standing}
 use Rattle.hm_laws.proofs.Histories.Sound.{Small, Turn, turn_of, small}
 use Rattle.hm_quiet.proofs.measure.Left.{pages_from}
 use Rattle.hm_quiet.proofs.measure.Counts.{is_attach_of, is_fork_to, some_op, sum_upto, mapped_by, mapped_so_far, Counted}
-use Rattle.hm_quiet.proofs.counts.FromTheirOperation.{FromOp, Given, from_op}
+use Rattle.hm_laws.proofs.Due.FromOp.{FromOp, Given, from_op}
 use Rattle.hm_quiet.proofs.counts.MappedPages.{pages_without, pages_with, pages_added}
 use Rattle.hm_quiet.proofs.counts.FewOfEach.{few_of}
 use Rattle.hm_quiet.proofs.alone.Ends.{Counting, going_at}
@@ -150,14 +150,14 @@ given_of : (c : Program) (s : After) (a : ℕ) (o : Op) (xs : List Migrating) (t
 given_of c s a o xs top k e = subst (Given o top) e (from_op c s a o xs top)
 
 attached_of : (c : Program) (a i : ℕ) (o : Op) (top : Phase) (k : Kind) (m : ℕ) → op_at c a i ≡ Some o → FromOp o top k → Comes k m → some_op (is_attach_of m) c ≡ true
-attached_of c a i o top (Kind.Attached j d p r q) m e h cm = op_passes c (is_attach_of m) a i o e (ap (is_attach_of m) h ∙ same cm)
+attached_of c a i o top (Kind.Attached j d p r q) m e h cm = op_passes c (is_attach_of m) a i o e (ap (is_attach_of m) h.0 ∙ same cm)
   where
     same : j ≡ m → (j == m) ≡ true
     same k = grind (arith, nat_tests)
 attached_of c a i o top k m e h cm = absurd cm
 
 child_of : (c : Program) (a i : ℕ) (o : Op) (top : Phase) (k : Kind) (q : ℕ) → op_at c a i ≡ Some o → FromOp o top k → Names k q → some_op (is_fork_to q) c ≡ true
-child_of c a i o top (Kind.Named p d) q e h cm = op_passes c (is_fork_to q) a i o e (ap (is_fork_to q) h ∙ same cm)
+child_of c a i o top (Kind.Named p d) q e h cm = op_passes c (is_fork_to q) a i o e (ap (is_fork_to q) h.0 ∙ same cm)
   where
     same : d ≡ q → (d == q) ≡ true
     same k = grind (arith, nat_tests)

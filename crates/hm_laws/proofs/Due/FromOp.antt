@@ -1,4 +1,4 @@
--- Where an entry comes from that changes the plain state, or refuses an operation.
+-- Which operation and which phase an entry comes from that changes the plain state, or refuses an operation.
 use Rattle.std.proofs.Common.{◌≡◌, ◌⊎◌, inl, inr, ℕ, ◌+◌, Bool, true, false, ◌==◌, ◌&&◌, ◌||◌, not, nat_lt, if◌then◌else◌, is_some, is_none, Option, Some, None, List, refl}
 use Rattle.std.specs.Prelude.{⊤}
 use Rattle.hm_base.specs.Pages.{Pages, one_page}
@@ -60,15 +60,15 @@ refuses o top = false
 
 abbrev pub FromOp : Op → Phase → Kind → Type 0
 FromOp o top (Kind.Refused why) = refuses o top ≡ true
-FromOp o top (Kind.Mapped p r w) = top ≡ Phase.Locked
+FromOp o top (Kind.Mapped p r w) = (o ≡ Op.Map p r w) × (top ≡ Phase.Locked)
 FromOp o top (Kind.Unmapped p r) = (top ≡ Phase.Locked) ⊎ (top ≡ Phase.Answer)
 FromOp o top (Kind.Protected p r w) = top ≡ Phase.Answer
 FromOp o top (Kind.Stored x at bs) = stores o ≡ true
 FromOp o top (Kind.Added m at was now) = stores o ≡ true
-FromOp o top (Kind.Named p d) = (is_fork o ≡ true) × (top ≡ Phase.Locked)
+FromOp o top (Kind.Named p d) = (o ≡ Op.Fork p d) × (top ≡ Phase.Locked)
 FromOp o top (Kind.Forked p d) = top ≡ Phase.Answer
 FromOp o top (Kind.Exited p) = top ≡ Phase.Answer
-FromOp o top (Kind.Attached m d p r q) = top ≡ Phase.Begin
+FromOp o top (Kind.Attached m d p r q) = (o ≡ Op.Attach m d p r) × (top ≡ Phase.Begin)
 FromOp o top (Kind.Detaching m q) = (is_detach o ≡ true) × (top ≡ Phase.Begin)
 FromOp o top (Kind.Detached m) = (top ≡ Phase.Begin) ⊎ ((q : ℕ) × (top ≡ Phase.Detaching q))
 FromOp o top k = ⊤
@@ -272,7 +272,7 @@ begin_from s a (Op.Unmap p r) = under_wlock_from s a (Op.Unmap p r) p
 begin_from s a (Op.Protect p r w) = under_wlock_from s a (Op.Protect p r w) p
 begin_from s a (Op.Exit p) = under_wlock_from s a (Op.Exit p) p
 begin_from s a (Op.Fork p d) = under_wlock_from s a (Op.Fork p d) p
-begin_from s a (Op.Attach m d p r) = either (FromOp (Op.Attach m d p r) Phase.Begin) (is_some (s.plain.mirrors m)) _ _ (λ e. refl) (λ e. either (FromOp (Op.Attach m d p r) Phase.Begin) (s.plain.there p) _ _ (λ i. refl) (λ i. refl))
+begin_from s a (Op.Attach m d p r) = either (FromOp (Op.Attach m d p r) Phase.Begin) (is_some (s.plain.mirrors m)) _ _ (λ e. refl) (λ e. either (FromOp (Op.Attach m d p r) Phase.Begin) (s.plain.there p) _ _ (λ i. (refl, refl)) (λ i. refl))
 begin_from s a (Op.Detach m) = either (FromOp (Op.Detach m) Phase.Begin) (is_attached s.plain m) _ _ (λ e. either (FromOp (Op.Detach m) Phase.Begin) (not (is_odd (process_seq s m)) || insert_deferred s.sequences m) _ _ (λ i. inl refl) (λ i. (refl, refl))) (λ e. refl)
 begin_from s a (Op.Snap m r) = in_window_from s (Op.Snap m r) m r
 begin_from s a (Op.ToDevice m r) = in_window_from s (Op.ToDevice m r) m r
@@ -281,7 +281,7 @@ begin_from s a (Op.Exclusive m v) = in_window_from s (Op.Exclusive m v) m (one_p
 begin_from s a o = refl
 
 areas_from : (s : After) (o : Op) → FromOp o Phase.Locked (due_areas s o)
-areas_from s (Op.Map p r w) = refl
+areas_from s (Op.Map p r w) = (refl, refl)
 areas_from s (Op.Unmap p r) = either (FromOp (Op.Unmap p r) Phase.Locked) (meets r (s.plain.areas p)) _ _ (λ e. tt) (λ e. inl refl)
 areas_from s (Op.Protect p r w) = tt
 areas_from s (Op.Exit p) = tt
