@@ -23,15 +23,6 @@ set_other (x ∷ xs) zero (suc q) v d = refl
 set_other (x ∷ xs) (suc p) zero v d = refl
 set_other (x ∷ xs) (suc p) (suc q) v d = set_other xs p q v (λ e. d (ap (λ n. suc n) e))
 
-pub end_here : {X : Type 0} → (xs : List X) (v : X) → slice_get (xs ++ v ∷ []) (length xs) ≡ Some v
-end_here [] v = refl
-end_here (x ∷ xs) v = end_here xs v
-
-pub end_low : {X : Type 0} → (xs ys : List X) (k : ℕ) → k < length xs → slice_get (xs ++ ys) k ≡ slice_get xs k
-end_low [] ys k l = absurd (omega (arith, l))
-end_low (x ∷ xs) ys zero l = refl
-end_low (x ∷ xs) ys (suc k) l = end_low xs ys k (omega (arith, l))
-
 -- a process that gets a copy of its changes at a free place keeps its sources, and so do the others
 pub own_sources : (slots : List ℕ) (xs ys : List Changes) (p own shared : ℕ) (copy old : Changes) → slice_get slots p ≡ Some shared → slice_get xs shared ≡ Some old → ((b : ℕ) → entry_for copy b ≡ entry_for old b) → IsFree slots own →
     ((q k : ℕ) → slice_get slots q ≡ Some k → k < length xs) → IsPut xs ys own copy → (q b : ℕ) →
