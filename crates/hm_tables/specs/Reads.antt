@@ -10,6 +10,7 @@ use Rattle.hm_tables.specs.Values.{Tables, table_of, uses_in, place_of_word}
 use Rattle.hm_tables.specs.declared.places.PageTest.{PageTest}
 use Rattle.hm_tables.specs.declared.places.PageTest.TheVariants.{Used, Writable}
 
+-- what a search for a page asks of its place
 abbrev pub page_test : PageTest → Place → Bool
 page_test Used = is_used
 page_test Writable = writable
@@ -35,9 +36,11 @@ is_likely Writable w = is_marked w
 abbrev pub next_likely : Map → PageTest → ℕ → Option (ℕ × ℕ)
 next_likely m test from = find (λ e. nat_le from e.0 && is_likely test e.1) m.words
 
+-- the first page of a process from there on whose place passes
 abbrev pub next_page_of : Tables → (Place → Bool) → ℕ → ℕ → Option ℕ
 next_page_of x test p from = next_in_table (table_of x p) test from
 
+-- the same, if it lies before an end
 abbrev pub next_page_before : Tables → (Place → Bool) → ℕ → ℕ → ℕ → Option ℕ
 next_page_before x test p from end = next_in_span (table_of x p) test from end
 
@@ -45,6 +48,7 @@ next_page_before x test p from end = next_in_span (table_of x p) test from end
 abbrev pub lowest_of : Tables → (Bool → Bool) → Frame → Option (ℕ × ℕ)
 lowest_of x test f = first_use (λ u. test u.moving) (uses_in x.pools f).list
 
+-- how many pages name the frame
 abbrev pub use_count : Tables → Frame → ℕ
 use_count x f = length (uses_in x.pools f).list
 

@@ -14,6 +14,7 @@ abbrev pub is_once : List (ℕ × ℕ) → Bool
 is_once [] = true
 is_once (x ∷ xs) = not (list_any (is_page x.0 x.1) xs) && is_once xs
 
+-- the tables are those of these places: each page has its place there, and each that is not empty is listed once
 pub record TablesShown (c : Program) (place : ℕ → ℕ → Place) (placed : List (ℕ × ℕ)) (x : Tables) : Type 0 where
   pub tables : IsTables x
   pub sizes : (pool : PoolId) → size_in x.pools pool ≡ pool_size c pool

@@ -15,10 +15,12 @@ use Rattle.hm_tables.specs.Values.{Tables, no_words, table_of, pool_in, size_in,
 abbrev pub frames_of : Program → ℕ → ℕ
 frames_of c n = if n == 0 then c.frames else slice_index c.devices (n - 1)
 
+-- the first n pools of a script, with no frame in use
 abbrev pub first_pools : Program → ℕ → List (List Uses)
 first_pools c zero = []
 first_pools c (suc n) = first_pools c n ++ (replicate (frames_of c n) unused ∷ [])
 
+-- the tables before the first entry: no process has a word, no frame a use
 abbrev pub tables_start : Program → Tables
 tables_start c = record { processes = replicate 32 no_words; pools = first_pools c 5 }
 
@@ -52,6 +54,7 @@ keeps_frame (Some f) y = is_frame (names y) f
 abbrev pub freezes : Place → Place → Bool
 freezes old y = is_moving y && keeps_frame (names old) y
 
+-- and neither is a migration entry: the use of the page stays as it is
 abbrev pub keeps_use : Place → Place → Bool
 keeps_use old y = not (is_moving old) && (not (is_moving y) && keeps_frame (names old) y)
 
@@ -62,6 +65,7 @@ uses_next p v old y pools =
     else if keeps_use old y then pools
     else with_use_of p v (is_moving y) (names y) (without_use_of p v (names old) pools)
 
+-- the tables after an entry: a place changes, or a process that has exited gives its room back
 abbrev pub tables_next : Kind → Tables → Tables
 tables_next (Kind.Place p v y) x = record {
   processes = slice_set x.processes p (table_with (table_of x p) v y);
@@ -75,6 +79,7 @@ abbrev pub FrameFits : (PoolId → ℕ) → Option Frame → Type 0
 FrameFits size None = Unit {0}
 FrameFits size (Some f) = f.number < size f.pool
 
+-- the frame that the entry puts at a page is one of its pool
 abbrev pub TablesFit : (PoolId → ℕ) → Kind → Type 0
 TablesFit size (Kind.Place p v y) = FrameFits size (names y)
 TablesFit size _ = Unit {0}
@@ -84,6 +89,7 @@ abbrev pub HasUseRoom : List (List Uses) → Option Frame → Type 0
 HasUseRoom pools None = Unit {0}
 HasUseRoom pools (Some f) = 1 ≤ (uses_in pools f).room
 
+-- there is room for the word and the use that the entry adds, so that it cannot run out of memory
 abbrev pub TablesRoom : Kind → Tables → Type 0
 TablesRoom (Kind.Place p v y) x = (is_reserved (table_of x p) v ≡ true) × HasUseRoom x.pools (names y)
 TablesRoom _ x = Unit {0}
@@ -114,6 +120,7 @@ pub record SamePools (before after : List (List Uses)) : Type 0 where
   pub sizes : (pool : PoolId) → size_in after pool ≡ size_in before pool
   pub lists : (f : Frame) → (uses_in after f).list ≡ (uses_in before f).list
 
+-- the same words and uses; only room may have changed
 pub record SameTables (x y : Tables) : Type 0 where
   pub processes : length y.processes ≡ length x.processes
   pub words : (p : ℕ) → (table_of y p).words ≡ (table_of x p).words

@@ -16,12 +16,15 @@ pub record Tables : Type 0 where
   pub processes : List Map
   pub pools : List (List Uses)
 
+-- a table of no page
 abbrev pub no_words : Map
 no_words = record { words = []; blocks = [] }
 
+-- the table of a process; one of no page if the number is none
 abbrev pub table_of : Tables → ℕ → Map
 table_of x p = slice_index_or x.processes p no_words
 
+-- the uses of the frames of a pool
 abbrev pub pool_in : List (List Uses) → PoolId → List Uses
 pool_in pools pool = slice_index_or pools (pool_field pool) []
 
@@ -29,6 +32,7 @@ pool_in pools pool = slice_index_or pools (pool_field pool) []
 abbrev pub size_in : List (List Uses) → PoolId → ℕ
 size_in pools pool = length (pool_in pools pool)
 
+-- the uses of a frame: which pages name it
 abbrev pub uses_in : List (List Uses) → Frame → Uses
 uses_in pools f = uses_of (pool_in pools f.pool) f.number
 
@@ -36,9 +40,11 @@ uses_in pools f = uses_of (pool_in pools f.pool) f.number
 unfoldable pub place_of_word : ℕ → Place
 place_of_word w = unwrap_or (place_at w) Empty
 
+-- the place of a page in a table; the empty place if it has no word
 abbrev pub place_in_table : Map → ℕ → Place
 place_in_table m v = place_of_word (word_at m v)
 
+-- the place of a page of a process
 abbrev pub place_of : Tables → ℕ → ℕ → Place
 place_of x p v = place_in_table (table_of x p) v
 
@@ -46,6 +52,7 @@ place_of x p v = place_in_table (table_of x p) v
 abbrev pub table_with : Map → ℕ → Place → Map
 table_with m v x = if is_empty_place x then without_word m v else with_word m v (word_of x)
 
+-- the place is a migration entry
 abbrev pub is_moving : Place → Bool
 is_moving x = is_some (moving_frame x)
 

@@ -10,6 +10,7 @@ part_of (Ok from) (Ok to) = Some (Asked.Part from to)
 part_of (Ok from) (Err why) = None
 part_of (Err why) to = None
 
+-- the rows that two words ask for
 abbrev pub part : List ℕ → List ℕ → Option Asked
 part from to = part_of (number from) (number to)
 

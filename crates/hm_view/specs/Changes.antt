@@ -43,6 +43,7 @@ abbrev pub locker_text : Option ℕ → List ℕ
 locker_text None = codes "-"
 locker_text (Some b) = actor_text b
 
+-- the word of a frame: who has it locked now
 abbrev pub frame_change : Locks → Frame → List ℕ
 frame_change s f = codes " f" ++ (frame_text f ++ (codes "=" ++ locker_text (s.frame f)))
 
@@ -54,6 +55,7 @@ proc_change s p = codes " " ++ (proc_text p ++ (codes "=" ++ decimal (s.seq p)))
 abbrev pub mirror_change : Sequences → ℕ → List ℕ
 mirror_change s m = codes " " ++ (mirror_text m ++ (codes "=" ++ decimal (interval_seq s m)))
 
+-- the words of the sequences that an entry moves or notes
 abbrev pub seq_change : Sequences → Kind → List ℕ
 seq_change s (Kind.Start p r q) = proc_change s p
 seq_change s (Kind.End p r q) = proc_change s p

@@ -26,6 +26,7 @@ procs_about (Kind.End p r q) = p ∷ []
 procs_about (Kind.Attached m d p r q) = p ∷ []
 procs_about k = []
 
+-- the mirrors whose sequences they tell
 abbrev pub mirrors_about : Kind → List ℕ
 mirrors_about (Kind.Told m r q) = m ∷ []
 mirrors_about (Kind.Attached m d p r q) = m ∷ []

@@ -34,9 +34,11 @@ is_finding (Kind.Migrated n) = true
 is_finding (Kind.Evicted n) = true
 is_finding k = false
 
+-- the line of an entry, if it stands at the head
 abbrev pub finding : ℕ → Entry → List ℕ
 finding i e = if is_finding e.kind then entry_line i e else []
 
+-- the same of the entry at a position, if there is one
 abbrev pub finding_at : List Entry → ℕ → List ℕ
 finding_at h i = elim (slice_get h i) [ None ↦ [] | Some e ↦ finding i e ]
 

@@ -64,6 +64,7 @@ numbered n (p ∷ ps) = record { actor = n; pass = p } ∷ numbered (suc n) ps
 abbrev pub IsJobOf : Desk → Job → Type 0
 IsJobOf desk j = (j.pass.desk ≡ desk) × (j.actor < length desk.script.actors)
 
+-- what a worker makes of its job: its actor's operations end, with the pass that it got
 abbrev pub DoesJob : (Program → List Entry → ℕ → Progress) → Job → Sight → Type 0
 DoesJob due j p = Works due j.actor j.pass p
 
