@@ -50,7 +50,7 @@ abbrev pub keeps_frame : Option Frame → Place → Bool
 keeps_frame None y = false
 keeps_frame (Some f) y = is_frame (names y) f
 
--- and is a migration entry, or neither is
+-- and is a migration entry now
 abbrev pub freezes : Place → Place → Bool
 freezes old y = is_moving y && keeps_frame (names old) y
 

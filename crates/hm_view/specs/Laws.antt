@@ -19,7 +19,7 @@ abbrev pub map_text : Option MapLock → List ℕ
 map_text None = codes "-"
 map_text (Some x) = (if x.writes then codes "writes/" else codes "reads/") ++ proc_text x.proc
 
--- the processes and the mirrors whose sequences an entry's words tell
+-- the processes whose sequences an entry's words tell
 abbrev pub procs_about : Kind → List ℕ
 procs_about (Kind.Start p r q) = p ∷ []
 procs_about (Kind.End p r q) = p ∷ []

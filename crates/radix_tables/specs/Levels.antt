@@ -13,6 +13,7 @@ pub record AreBits (test : ℕ → Bool) (words bits : List ℕ) : Type 0 where
   pub covers : length words ≤ 64 * length bits
   pub each : (k : ℕ) → bit bits k ≡ test (slice_index words k)
 
+-- a page has this word: it is not 0
 abbrev pub is_used : ℕ → Bool
 is_used w = not (w == 0)
 
@@ -20,18 +21,24 @@ is_used w = not (w == 0)
 abbrev pub from_sixth : Levels → List (List ℕ)
 from_sixth l = l.sixth.items ∷ []
 
+-- from the fifth on
 abbrev pub from_fifth : Levels → List (List ℕ)
 from_fifth l = l.fifth.items ∷ from_sixth l
 
+-- from the fourth on
 abbrev pub from_fourth : Levels → List (List ℕ)
 from_fourth l = l.fourth.items ∷ from_fifth l
 
+-- from the third on
 abbrev pub from_third : Levels → List (List ℕ)
 from_third l = l.third.items ∷ from_fourth l
 
+-- from the second on: all that lead to a table of words
 abbrev pub from_second : Levels → List (List ℕ)
 from_second l = l.second.items ∷ from_third l
 
+-- the levels fit together: each entry names a table that is there, and the bits say which words are used
+-- and which are marked
 pub record IsLevels (l : Levels) : Type 0 where
   pub words : IsWhole l.words.items
   pub tables : AreTables (length l.words.items) (from_second l)

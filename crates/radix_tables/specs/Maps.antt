@@ -13,12 +13,15 @@ pub record Map : Type 0 where
 abbrev pub word_at : Map → ℕ → ℕ
 word_at m page = unwrap_or (sorted.find nat_cmp page m.words) 0
 
+-- there is room for the word of the page, so that setting it asks for no memory
 abbrev pub is_reserved : Map → ℕ → Bool
 is_reserved m page = list_any (λ b. b == page / 64) m.blocks
 
+-- the map once the page has the word
 abbrev pub with_word : Map → ℕ → ℕ → Map
 with_word m page word = record m { words = sorted.put nat_cmp page word m.words }
 
+-- the map once the page has none
 abbrev pub without_word : Map → ℕ → Map
 without_word m page = record m { words = sorted.where_key nat_cmp (λ v. not (v == page)) m.words }
 
@@ -27,6 +30,7 @@ abbrev pub room_left : List (ℕ × ℕ) → List ℕ → List ℕ
 room_left [] blocks = []
 room_left (_ ∷ _) blocks = blocks
 
+-- the map once it has given its room back, which it does if it has no word
 abbrev pub given_back : Map → Map
 given_back m = record m { blocks = room_left m.words m.blocks }
 
@@ -62,11 +66,14 @@ page_count = 2 ^ 36
 unfoldable pub block_count : ℕ
 block_count = 2 ^ 30
 
+-- the numbers of all pages
 abbrev pub pages : List ℕ
 pages = range_with_len 0 page_count
 
+-- the numbers of all blocks
 abbrev pub blocks : List ℕ
 blocks = range_with_len 0 block_count
 
+-- the map of functions that give for each page its word, and for each block its table, 0 if there is none
 abbrev pub map_of : (ℕ → ℕ) → (ℕ → ℕ) → Map
 map_of word table = record { words = pairs word pages; blocks = filter (λ b. not (table b == 0)) blocks }
