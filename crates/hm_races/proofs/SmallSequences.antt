@@ -7,6 +7,7 @@ use Rattle.hm_history.specs.Words.{with_at}
 use Rattle.hm_history.specs.Sequences.{Sequences, Interval, Guarded, Stage, InsertDeferred, InTree, RemoveDeferred, Out, is_odd, interval_proc, some_overlap, is_last_end, raised_by_insert, applied, applied_stage, with_seq, with_stage, sequences_next}
 use Rattle.hm_history.specs.declared.Kind.{Kind}
 use Rattle.hm_laws.specs.Sound.{SequenceRules}
+use Rattle.hm_laws.proofs.Migration.Setup.{at_itself}
 use Rattle.hm_races.specs.Numbers.{small, small_of, small_interval, small_sequences, small_kind}
 use Rattle.hm_races.proofs.SmallWords.{parity, small_twice, Rightly, rightly, now_same, raised, raised_same, seqs_same, some_overlap_same, overlapping_same, proc_same}
 use Rattle.hm_history.proofs.Updates.{here_at}
@@ -44,12 +45,9 @@ standing_small : (g : ℕ → ℕ) (t : Stage) (z : Option Interval) → small_i
 standing_small g t None = refl
 standing_small g t (Some x) = refl
 
-itself : (n : ℕ) → (n == n) ≡ true
-itself n = grind (arith, nat_tests)
-
 told_small : (f : ℕ → ℕ) (z : Option Interval) (p : ℕ) → ((x : Interval) → z ≡ Some x → x.proc ≡ p) → small_interval f (with_seq (f p) z) ≡ small_interval (λ q. small (f q)) (with_seq (small (f p)) (small_interval f z))
 told_small f None p h = refl
-told_small f (Some x) p h = ap (λ b. Some (record x { seq = small_of b })) (ap (λ q. f p == f q) (h x refl) ∙ (itself (f p) ∙ (sym (itself (small (f p))) ∙ ap (λ q. small (f p) == small (f q)) (sym (h x refl)))))
+told_small f (Some x) p h = ap (λ b. Some (record x { seq = small_of b })) (ap (λ q. f p == f q) (h x refl) ∙ (at_itself (f p) ∙ (sym (at_itself (small (f p))) ∙ ap (λ q. small (f p) == small (f q)) (sym (h x refl)))))
 
 proc_is : (s : Sequences) (m : ℕ) (x : Interval) → s.interval m ≡ Some x → x.proc ≡ interval_proc s m
 proc_is s m x e = ap (λ z. elim z as (λ y. ℕ) [ None ↦ 0 | Some y ↦ y.proc ]) (sym e)
@@ -67,8 +65,8 @@ abbrev inserted : Bool → Bool → ℕ → ℕ
 inserted odd active n = if odd then n else if active then n + 1 else (n - 1)
 
 inserted_tells : (o v : Bool) (n : ℕ) → is_odd n ≡ o → 2 ≤ n → (inserted o v n == raised (not o && v) n) ≡ (inserted o v (small n) == raised (not o && v) (small n))
-inserted_tells true v n e h = itself n ∙ sym (itself (small n))
-inserted_tells false true n e h = itself (n + 1) ∙ sym (itself (small n + 1))
+inserted_tells true v n e h = at_itself n ∙ sym (at_itself (small n))
+inserted_tells false true n e h = at_itself (n + 1) ∙ sym (at_itself (small n + 1))
 inserted_tells false false n e h = no ∙ ap (λ b. (if b then 3 else 2) - 1 == (if b then 3 else 2)) (sym e)
   where
     no : (n - 1 == n) ≡ false

@@ -194,7 +194,7 @@ from_first n = grind (arith, nat_tests)
 abbrev pub fork_guard : Op → ℕ → Pages → Bool → Option ℕ → ℕ → Bool → List Fact
 fork_guard o p r met told n half = In_guard p r met told ∷ Locks_only [] ∷ Over p r (proc_of_op o) (op_span o) ∷ forking o n half
 
-not_itself : (c : Program) (s : After) (t : Past) (a p d : ℕ) → Sound c s t → s.plain.there p ≡ true → HasChild s t a d → d ≡ p → ⊥
+pub not_itself : (c : Program) (s : After) (t : Past) (a p d : ℕ) → Sound c s t → s.plain.there p ≡ true → HasChild s t a d → d ≡ p → ⊥
 not_itself c s t a p d so th h e = true_false (s.plain.been d) (ap s.plain.been e ∙ so.processes.there_been p th) h.1
 
 -- which page of the fork was placed: the parent's, or the child's

@@ -53,7 +53,7 @@ no_records (x ∷ xs) h = cc
 none_listed : WellListed []
 none_listed = record { rising = refl; apart = λ y z f m n i j. absurd m; own = λ y f m i j. absurd m }
 
-at_itself : (n : ℕ) → (n == n) ≡ true
+pub at_itself : (n : ℕ) → (n == n) ≡ true
 at_itself n = grind (arith, nat_tests)
 
 pub migrate_ready : (s : After) (t : Past) (a : ℕ) (o : Op) (xs : List Migrating) → is_migration o ≡ true → HoldsAll s t a (No_guard ∷ Locks_only [] ∷ Is (is_nil xs) ∷ Read_locked (Who.Mirror (op_mirror o)) ∷ Windowed_all (op_mirror o) (op_range o) ∷ []) →

@@ -63,7 +63,7 @@ last_snoc test h e = last_from_snoc test 0 None h e ∙ ap (λ n. if test e then
     zero_more : 0 + length h ≡ length h
     zero_more = omega arith
 
-length_snoc : (h : List Entry) (e : Entry) → length (h ++ e ∷ []) ≡ length h + 1
+pub length_snoc : (h : List Entry) (e : Entry) → length (h ++ e ∷ []) ≡ length h + 1
 length_snoc [] e = refl
 length_snoc (x ∷ h) e = ap suc (length_snoc h e) ∙ more
   where

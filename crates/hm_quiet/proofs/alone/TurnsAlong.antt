@@ -1,7 +1,6 @@
 -- From entries that are due to an actor one after the other to its turns.
 use Rattle.std.proofs.Common.{◌≡◌, ℕ, ◌+◌, ◌<◌, ◌≤◌, true, false, Option, Some, None, List, [], ◌∷◌, ◌++◌, sym, ap, ◌∙◌, subst, arith, length, fold}
 use Rattle.std.proofs.Common.{append_assoc, append-nil}
-use Rattle.std.proofs.Math.ListN.{length-append}
 use Rattle.std.proofs.lemmas.Bool.Decides.{nat_tests}
 use Rattle.std.proofs.lemmas.List.Sums.{fold-append}
 use Rattle.hm_base.specs.Program.{Program, IsScript}
@@ -18,6 +17,7 @@ use Rattle.hm_history.specs.declared.phases.Next.TheVariants.{Do, Wait}
 use Rattle.hm_laws.specs.Past.{Past, past_start, past_next}
 use Rattle.hm_laws.specs.Stands.{Standing}
 use Rattle.hm_laws.proofs.Histories.Sound.{Small, small, at_start, turn as turn_stands}
+use Rattle.hm_laws.proofs.Past.Told.{length_snoc}
 use Rattle.hm_quiet.proofs.measure.Counts.{Counted}
 use Rattle.hm_quiet.proofs.alone.Ends.{DueAlong}
 use Rattle.hm_quiet.proofs.counts.CountsKept.{counted_next, counted_start}
@@ -73,10 +73,7 @@ pub along_due : (c : Program) (h : List Entry) (a : ℕ) (es : List Entry) → D
 along_due c h a [] d = tt
 along_due c h a (e ∷ es) d = (due_own c (state_of c h) a e d.0, along_due c (h ++ e ∷ []) a es (subst (λ u. DueAlong c u a es) (sym (state_of-snoc c h e)) d.1))
 
-pub one_more : (h : List Entry) (e : Entry) → length (h ++ e ∷ []) ≡ length h + 1
-one_more h e = length-append h (e ∷ [])
-
 pub along_turns : (c : Program) (h : List Entry) (a : ℕ) (es : List Entry) → DueAlong c (state_of c h) a es → length h + length es ≤ 2000000 → turns c h a (length es) ≡ h ++ es
 along_turns c h a [] d l = sym (append-nil h)
 along_turns c h a (e ∷ es) d l = ap (λ g. turns c g a (length es)) (turned c h a e d.0 (omega arith))
-    ∙ (along_turns c (h ++ e ∷ []) a es (subst (λ u. DueAlong c u a es) (sym (state_of-snoc c h e)) d.1) (omega (arith, one_more h e, l)) ∙ append_assoc h (e ∷ []) es)
+    ∙ (along_turns c (h ++ e ∷ []) a es (subst (λ u. DueAlong c u a es) (sym (state_of-snoc c h e)) d.1) (omega (arith, length_snoc h e, l)) ∙ append_assoc h (e ∷ []) es)

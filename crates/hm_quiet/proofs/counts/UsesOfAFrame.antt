@@ -15,6 +15,7 @@ use Rattle.hm_laws.specs.Past.{Past}
 use Rattle.hm_laws.specs.Sound.{Sound}
 use Rattle.hm_laws.proofs.State.Search.{lowest_none}
 use Rattle.hm_laws.proofs.Kept.PlaceLocks.{lowest_passes}
+use Rattle.hm_laws.proofs.Due.Spans.{this_page}
 use Rattle.hm_quiet.proofs.measure.Left.{View, view, placed_view, count_upto, direct_at, moving_at, frame_page}
 use Rattle.hm_quiet.proofs.counts.CountsBelow.{count_more, count_less}
 
@@ -58,15 +59,12 @@ count_some t (suc n) i e l = by (cases_eq i n) (λ m. count_some t n i e m)
 other_process : (place : ℕ → ℕ → Place) (p v : ℕ) (x : Place) (q : ℕ) → (q ≡ p → ⊥) → with_place place p v x q v ≡ place q v
 other_process place p v x q ne = grind (arith, nat_tests)
 
-this_process : (place : ℕ → ℕ → Place) (p v : ℕ) (x : Place) → with_place place p v x p v ≡ x
-this_process place p v x = grind (arith, nat_tests)
-
 pub other_page : (place : ℕ → ℕ → Place) (p v : ℕ) (x : Place) (q u : ℕ) → (u ≡ v → ⊥) → with_place place p v x q u ≡ place q u
 other_page place p v x q u ne = grind (arith, nat_tests)
 
 -- frozen: one fewer names it directly, and at most one more does as under way
 pub direct_frozen : (y : View) (p v : ℕ) (f : Frame) (w : Bool) → p < 32 → is_frame (names_directly (y.place p v)) f ≡ true → direct_at (placed_view y p v (Place.Moving f w)) f v + 1 ≤ direct_at y f v
-direct_frozen y p v f w l e = omega (arith, count_less (λ q. is_frame (names_directly (with_place y.place p v (Place.Moving f w) q v)) f) (λ q. is_frame (names_directly (y.place q v)) f) 32 p (λ k m h. by k (cases_eq k p) h) l (ap (λ z. is_frame (names_directly z) f) (this_process y.place p v (Place.Moving f w))) e)
+direct_frozen y p v f w l e = omega (arith, count_less (λ q. is_frame (names_directly (with_place y.place p v (Place.Moving f w) q v)) f) (λ q. is_frame (names_directly (y.place q v)) f) 32 p (λ k m h. by k (cases_eq k p) h) l (ap (λ z. is_frame (names_directly z) f) (this_page y.place p v (Place.Moving f w))) e)
   where
     by : (k : ℕ) → (k ≡ p) ⊎ (k ≡ p → ⊥) → is_frame (names_directly (with_place y.place p v (Place.Moving f w) k v)) f ≡ true → is_frame (names_directly (y.place k v)) f ≡ true
     by k (inl i) h = ap (λ q. is_frame (names_directly (y.place q v)) f) i ∙ e
@@ -77,7 +75,7 @@ moving_frozen y p v f x = count_plus (λ q. is_frame (moving_frame (with_place y
 
 -- returned: one fewer is under way
 pub moving_returned : (y : View) (p v : ℕ) (f : Frame) (x : Place) → p < 32 → is_frame (moving_frame (y.place p v)) f ≡ true → is_frame (moving_frame x) f ≡ false → moving_at (placed_view y p v x) f v + 1 ≤ moving_at y f v
-moving_returned y p v f x l e n = omega (arith, count_less (λ q. is_frame (moving_frame (with_place y.place p v x q v)) f) (λ q. is_frame (moving_frame (y.place q v)) f) 32 p (λ k m h. by k (cases_eq k p) h) l (ap (λ z. is_frame (moving_frame z) f) (this_process y.place p v x) ∙ n) e)
+moving_returned y p v f x l e n = omega (arith, count_less (λ q. is_frame (moving_frame (with_place y.place p v x q v)) f) (λ q. is_frame (moving_frame (y.place q v)) f) 32 p (λ k m h. by k (cases_eq k p) h) l (ap (λ z. is_frame (moving_frame z) f) (this_page y.place p v x) ∙ n) e)
   where
     by : (k : ℕ) → (k ≡ p) ⊎ (k ≡ p → ⊥) → is_frame (moving_frame (with_place y.place p v x k v)) f ≡ true → is_frame (moving_frame (y.place k v)) f ≡ true
     by k (inl i) h = ap (λ q. is_frame (moving_frame (y.place q v)) f) i ∙ e

@@ -17,10 +17,11 @@ use Rattle.hm_history.specs.declared.Progress.{Progress}
 use Rattle.hm_history.specs.declared.phases.Phase.{Phase}
 use Rattle.hm_history.specs.Overrun.{overruns_turn, some_overruns}
 use Rattle.hm_laws.proofs.Histories.Sound.{small}
+use Rattle.hm_laws.proofs.Past.Told.{length_snoc}
 use Rattle.hm_quiet.specs.Rest.{IsAtRest}
 use Rattle.hm_quiet.specs.Quiet.{bounds_left, all_bounds}
 use Rattle.hm_quiet.proofs.alone.Ends.{DueAlong}
-use Rattle.hm_quiet.proofs.alone.TurnsAlong.{stood_at, turned, has, one_more, state_after, along_due}
+use Rattle.hm_quiet.proofs.alone.TurnsAlong.{stood_at, turned, has, state_after, along_due}
 use Rattle.hm_quiet.proofs.alone.RunsOut.{EachEnds, RunsOut, runs_out}
 
 -- an actor with no more operations is idle
@@ -51,7 +52,7 @@ turns_along c h a [] n d l m e = turns_stop c h a n (subst (λ g. is_entry (due 
 turns_along c h a (x ∷ es) zero d l m e = absurd (omega arith)
 turns_along c h a (x ∷ es) (suc n) d l m e = on_true (turns_on c (turn c h a) a n) h (is_entry (due c h a)) (has_room h) (ap is_entry d.0) (has h (omega arith))
     ∙ (ap (λ g. turns_on c g a n) (turned c h a x d.0 (omega arith))
-    ∙ (turns_along c (h ++ x ∷ []) a es n (subst (λ u. DueAlong c u a es) (sym (state_of-snoc c h x)) d.1) (omega (arith, one_more h x, l)) (omega (arith, m)) (subst (λ g. is_entry (due c g a) ≡ false) (sym (append_assoc h (x ∷ []) es)) e)
+    ∙ (turns_along c (h ++ x ∷ []) a es n (subst (λ u. DueAlong c u a es) (sym (state_of-snoc c h x)) d.1) (omega (arith, length_snoc h x, l)) (omega (arith, m)) (subst (λ g. is_entry (due c g a) ≡ false) (sym (append_assoc h (x ∷ []) es)) e)
     ∙ append_assoc h (x ∷ []) es))
 
 -- the actors from one on, so many, each alone until it is idle

@@ -1,7 +1,6 @@
 -- The steps of a migration move each page that it selected, or leave it for one of two reasons.
-use Rattle.std.proofs.Common.{◌≡◌, ℕ, ◌+◌, ◌⊎◌, inl, inr, Bool, true, false, ◌==◌, is_some, Option, Some, None, List, [], ◌∷◌, ◌++◌, refl, sym, subst, arith}
+use Rattle.std.proofs.Common.{◌≡◌, ℕ, ◌+◌, ◌⊎◌, inl, inr, Bool, true, false, is_some, Option, Some, None, List, [], ◌∷◌, ◌++◌, refl, sym, subst}
 use Rattle.std.specs.Prelude.{count_by}
-use Rattle.std.proofs.lemmas.Bool.Decides.{nat_tests}
 use Rattle.hm_base.specs.Pages.{one_page}
 use Rattle.hm_base.specs.Program.{Program}
 use Rattle.hm_base.specs.declared.cause.Cause.{Cause}
@@ -41,6 +40,7 @@ use Rattle.hm_quiet.proofs.keeping.FreshStays.{FreshCome, come_fresh}
 use Rattle.hm_quiet.proofs.keeping.SelectedPages.{Left, Given, GivenCome, given_more, left_by, in_first_step, come_given, dealt_other, given_past, given_with}
 use Rattle.hm_quiet.proofs.measure.Shapes.{no_test}
 use Rattle.hm_laws.proofs.Migration.PagePast.{not_before}
+use Rattle.hm_laws.proofs.Migration.Setup.{at_itself}
 
 -- of the last entry of a migration, after which its records are given up
 pub record Answered (c : Program) (o : Op) (xs : List Migrating) (done : List Entry) (last : Kind) : Type 0 where
@@ -78,12 +78,9 @@ others_deals c s a o xs v page (Some f) g m done d = by (lowest_direct s.places 
     by None i = absurd (no_test i)
     by (Some x) i = in_first_step c o xs FreezeOthers page None (done ++ record { actor = a; kind = start_entry s x.0 (one_page x.1) } ∷ []) refl
 
-same_number : (v : ℕ) → (v == v) ≡ true
-same_number v = grind (arith, nat_tests)
-
 fetch_deals : (c : Program) (s : After) (a : ℕ) (o : Op) (xs : List Migrating) (step : MoveStep) (v page : ℕ) (f g : Option Frame) (m : Bool) (done : List Entry) → Given c o xs TakeAndCopy page None done → DealTo c s a o xs step v done (Some (record { page = page; source = f; dest = g; moved = m })) (fetch_page c s o page)
 fetch_deals c s a o xs step v page f g m done gv = either P (skips c o page) _ _ (λ e. stays (Kind.Kept (KeptAt.Page page) KeptWhy.Skipped) (inl e))
-    (λ e. either_option P (lowest_free c s.places (pool_of s o)) _ _ (λ i. stays (Kind.Kept (KeptAt.Page page) KeptWhy.NoFrame) (left_by c o done (record { actor = a; kind = Kind.Kept (KeptAt.Page page) KeptWhy.NoFrame }) page (same_number page))) (λ h i. taken h f))
+    (λ e. either_option P (lowest_free c s.places (pool_of s o)) _ _ (λ i. stays (Kind.Kept (KeptAt.Page page) KeptWhy.NoFrame) (left_by c o done (record { actor = a; kind = Kind.Kept (KeptAt.Page page) KeptWhy.NoFrame }) page (at_itself page))) (λ h i. taken h f))
   where
     P : Kind → Type 0
     P = DealTo c s a o xs step v done (Some (record { page = page; source = f; dest = g; moved = m }))

@@ -22,16 +22,16 @@ use Rattle.hm_history.specs.declared.phases.Migrating.{Migrating}
 use Rattle.hm_history.specs.declared.phases.Phase.{Phase}
 use Rattle.hm_history.specs.declared.phases.Body.{Body}
 use Rattle.hm_history.specs.declared.phases.Next.TheVariants.{Do}
-use Rattle.hm_history.proofs.Tests.{true_false}
 use Rattle.hm_laws.specs.Past.{Past, past_next}
 use Rattle.hm_laws.specs.Sound.{Sound}
-use Rattle.hm_laws.specs.Allowed.{next, HasChild}
+use Rattle.hm_laws.specs.Allowed.{next}
 use Rattle.hm_laws.specs.Shapes.{zaps, narrows, widens, is_add, is_snap}
 use Rattle.hm_laws.specs.Facts.{answering, zapping, HoldsAll, facts}
 use Rattle.hm_laws.proofs.Due.Good.{Good, either, either_option}
 use Rattle.hm_laws.proofs.Due.Guards.{number_is}
 use Rattle.hm_laws.proofs.State.NextPage.{NextSays, next_says}
 use Rattle.hm_laws.proofs.Due.Spans.{no_empty_used, no_empty_writable}
+use Rattle.hm_laws.proofs.Due.Fork.{not_itself}
 use Rattle.hm_quiet.proofs.measure.Left.{left, told_left, zap_left, span_from, pages_from, piece_left}
 use Rattle.hm_quiet.proofs.measure.Shapes.{on_drop, is_simple}
 use Rattle.hm_quiet.proofs.alone.Ends.{StepsTo}
@@ -176,9 +176,6 @@ to_half m k n h = omega arith
 
 from_half : (m k : ℕ) → m + (2 * k + 2) < m + (2 * k + 3)
 from_half m k = omega arith
-
-not_itself : (c : Program) (s : After) (t : Past) (a p d : ℕ) → Sound c s t → s.plain.there p ≡ true → HasChild s t a d → d ≡ p → ⊥
-not_itself c s t a p d so th h e = true_false (s.plain.been d) (ap s.plain.been e ∙ so.processes.there_been p th) h.1
 
 abbrev ForkP : Program → After → Past → ℕ → ℕ → ℕ → List Migrating → Pages → Bool → Option ℕ → ℕ → Bool → Kind → Type 0
 ForkP c s t a p d xs r met told n half k = Good c s t a (Op.Fork p d) xs (Phase.Guard p r met told (Body.Fork n half)) (Phase.Answer ∷ []) (Do k) → GuardSteps c s a (Op.Fork p d) xs p r met told (Body.Fork n half) k
