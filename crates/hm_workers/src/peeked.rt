@@ -8,23 +8,23 @@ ghost use Rattle.hm_workers.specs.Watching.{HasWatched};
 use crate::gate::Gate;
 use crate::passes::Passes;
 use crate::peeks::PeekList;
-use crate::watching::{Asked, watch};
+use crate::watching::{Asked, Signs, watch};
 use crate::workers::run_actors;
 use hm_base::{NoMemory, Proc};
 use hm_turns::{Looks, Pass, Stepped, Turns};
 use std::alloc::Global;
 use std::sync::Wait;
-use std::sync::atomic::{AtomicBool, Ordering};
+use std::sync::atomic::Ordering;
 use std::thread::{Threads, join_mut};
 
-// Runs the actors, and tells when all have ended.
+// Runs the actors once the watcher is there, and tells when all have ended.
 fn run_and_tell<R: Threads + Wait + Sync, S: Stepped + Send, G: Gate + Sync>(
     rt: &R,
     alloc: Global,
     turns: &Turns<S>,
     passes: &mut Option<Passes>,
     gate: &G,
-    ended: &AtomicBool,
+    signs: &Signs,
 ) -> Result<Passes, NoMemory>
     requires { MatchOption passes.old ⊥
         (λ ps. AreOf turns.now ps × (length ps ≡ length turns.now.script.actors)) }
@@ -33,8 +33,9 @@ fn run_and_tell<R: Threads + Wait + Sync, S: Stepped + Send, G: Gate + Sync>(
     let Some(passes) = passes.take() else {
         unreachable!();
     };
+    signs.meeting.attend(2);
     let done = run_actors(rt, alloc, turns, passes, gate);
-    ended.store(true, Ordering::SeqCst);
+    signs.ended.store(true, Ordering::SeqCst);
     done
 }
 
@@ -61,15 +62,15 @@ pub fn run_peeked<R: Threads + Wait + Sync, S: Stepped + Looks + Send, G: Gate +
     ensures watcher { HasWatched 100000 watcher.old watcher.new }
 {
     let asked = Asked { proc, addr, len };
-    let ended = AtomicBool::new(false);
+    let signs = Signs::new();
     let mut waiting = Some(passes);
     let (peeks, done) = join_mut(
         rt,
-        &mut || watch(alloc, turns, &asked, &ended, watcher),
+        &mut || watch(alloc, turns, &asked, &signs, watcher),
         &mut ||
             requires { MatchOption waiting ⊥
                 (λ ps. AreOf turns.now ps × (length ps ≡ length turns.now.script.actors)) }
-        { run_and_tell(rt, alloc, turns, &mut waiting, gate, &ended) },
+        { run_and_tell(rt, alloc, turns, &mut waiting, gate, &signs) },
     );
     Ok((done?, peeks?))
 }

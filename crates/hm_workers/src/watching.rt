@@ -4,6 +4,7 @@ ghost use Rattle.hm_turns.specs.Looking.{IsLook};
 ghost use Rattle.hm_turns.specs.Sights.{all_shares};
 ghost use Rattle.hm_workers.specs.Watching.{Checks, HasKept, HasWatched, IsKept, LastsTo, RightPeeks, peek_of};
 
+use crate::meeting::Meeting;
 use crate::peeks::{Peek, PeekList, is_newer};
 use hm_base::{Bytes, NoMemory, Proc};
 use hm_turns::{Looks, Pass, Stepped, Turns};
@@ -18,7 +19,10 @@ const MOST_TRIES: u32 = 100_000;
 /// The most peeks that it records.
 const MOST_PEEKS: u64 = 1_000;
 
-/// After so many looks at the end a pause lets other threads go first.
+/// So many tries make a pause longer by one look at whether the work has ended.
+const TRIES_A_LOOK: u32 = 8;
+
+/// After so many looks a pause lets other threads go first.
 const LOOKS_A_YIELD: u32 = 4096;
 
 /// Bytes of a process: the address of the first, and how many.
@@ -27,6 +31,26 @@ pub(crate) struct Asked {
     pub(crate) proc: Proc,
     pub(crate) addr: u64,
     pub(crate) len: u32,
+}
+
+/// What the watcher and those who run the actors tell each other.
+#[derive(Drop)]
+pub(crate) struct Signs {
+    /// They wait for one another before they begin: 1 is the watcher's bit, 2 the others'.
+    pub(crate) meeting: Meeting,
+    /// All actors have ended.
+    pub(crate) ended: AtomicBool,
+}
+
+impl Signs {
+    pub(crate) fn new() -> Signs {
+        let meeting = Meeting::new();
+        meeting.begin(2);
+        Signs {
+            meeting,
+            ended: AtomicBool::new(false),
+        }
+    }
 }
 
 /// What the check of a copy comes to.
@@ -169,9 +193,9 @@ fn try_once<S: Looks>(
     }
 }
 
-// Lets the work go on, the longer the more tries were made, so that the tries last.
+// Lets the work go on for a while, the longer the more tries were made, so that the tries last.
 fn pause(tries: u32, ended: &AtomicBool) {
-    for look in 0..tries {
+    for look in 0..tries / TRIES_A_LOOK {
         if ended.load(Ordering::SeqCst) {
             return;
         }
@@ -187,7 +211,7 @@ pub(crate) fn watch<S: Looks>(
     alloc: Global,
     turns: &Turns<S>,
     asked: &Asked,
-    ended: &AtomicBool,
+    signs: &Signs,
     pass: &mut Pass,
 ) -> Result<PeekList, NoMemory>
     requires own { pass.old.desk ≡ turns.now }
@@ -196,21 +220,22 @@ pub(crate) fn watch<S: Looks>(
     ensures few { IfOk result (λ peeks. length peeks ≤ MOST_PEEKS) }
     ensures pass { HasWatched MOST_TRIES pass.old pass.new }
 {
+    signs.meeting.attend(1);
     let mut peeks = PeekList::new(alloc);
     let mut copy = None;
     for tries in 0..MOST_TRIES {
-        if ended.load(Ordering::SeqCst) || peeks.len() >= MOST_PEEKS {
+        if signs.ended.load(Ordering::SeqCst) || peeks.len() >= MOST_PEEKS {
             return Ok(peeks);
         }
         match try_once(alloc, turns, asked, copy, &mut peeks, pass)? {
             Tried::Copied(taken) => copy = Some(taken),
             Tried::Kept(kept) => {
                 copy = Some(kept);
-                pause(tries, ended);
+                pause(tries, &signs.ended);
             }
             Tried::Nothing => {
                 copy = None;
-                pause(tries, ended);
+                pause(tries, &signs.ended);
             }
             Tried::Halted => return Ok(peeks),
         }
