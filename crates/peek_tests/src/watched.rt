@@ -51,12 +51,14 @@ impl<S: Looks> Looks for Counted<'_, S> {
     }
 }
 
-/// Holds an actor that has added so many entries or more, each time until there was a new look.
+/// Holds an actor that has added so many entries or more, once after each of them, until there was a new look.
 #[derive(Drop)]
 pub struct Held<'a> {
     from: u64,
     looks: &'a AtomicU64,
     seen: AtomicU64,
+    /// After how many entries the actor was held last.
+    held_at: AtomicU64,
     missed: AtomicU64,
 }
 
@@ -66,6 +68,7 @@ impl<'a> Held<'a> {
             from,
             looks,
             seen: AtomicU64::new(0),
+            held_at: AtomicU64::new(0),
             missed: AtomicU64::new(0),
         }
     }
@@ -78,7 +81,7 @@ impl<'a> Held<'a> {
 
 impl Gate for Held<'_> {
     fn admits(&self, _actor: Actor, added: u64) -> bool {
-        if added < self.from {
+        if added < self.from || self.held_at.swap(added, Ordering::SeqCst) == added {
             return true;
         }
         for _ in 0..LOOKS {
