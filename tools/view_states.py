@@ -123,24 +123,29 @@ def shown(browser, data):
     return zip(said, waiting, used, strict=True)
 
 
+def compare(browser, names):
+    """Says the first wrong row of each report, and how many reports there are. Gives how many are wrong."""
+    wrong = rows = 0
+    for name in names:
+        with open(name, 'rb') as report:
+            data = report.read()
+        wanted = zip(states(data), waits(data), turns(data), strict=True)
+        pairs = list(zip(wanted, shown(browser, data), strict=True))
+        bad = [at for at, (a, b) in enumerate(pairs) if a != b]
+        for at in bad[:1]:
+            print(f'{name}: row {at}: {[(x, y) for x, y in zip(*pairs[at]) if x != y]}')
+        wrong, rows = wrong + bool(bad), rows + len(pairs)
+    print(f'{len(names)} reports with {rows} rows, {wrong} wrong')
+    return wrong
+
+
 def main():
     words.begin(__doc__)
-    wrong, names = 0, sys.argv[1:]
+    names = sys.argv[1:]
     if not names:
         words.refuse('no report is given, so nothing is compared')
-    rows = 0
     with Browser() as browser:
-        for name in names:
-            with open(name, 'rb') as report:
-                data = report.read()
-            wanted = zip(states(data), waits(data), turns(data), strict=True)
-            pairs = list(zip(wanted, shown(browser, data), strict=True))
-            bad = [at for at, (a, b) in enumerate(pairs) if a != b]
-            for at in bad[:1]:
-                print(f'{name}: row {at}: {[(x, y) for x, y in zip(*pairs[at]) if x != y]}')
-            wrong, rows = wrong + bool(bad), rows + len(pairs)
-    print(f'{len(names)} reports with {rows} rows, {wrong} wrong')
-    sys.exit(wrong > 0)
+        sys.exit(compare(browser, names) > 0)
 
 
 if __name__ == '__main__':

@@ -1,19 +1,21 @@
 #!/usr/bin/env python3
-"""Tries the page of a report in a headless Chromium: its keys, filter, folds, narrow and dark screens, and its speed.
+"""Tries the page of a report in a headless Chromium: its states, keys, filter, folds, narrow and dark screens, and speed.
 
-    tools/view_tests.py                       tries the pages of gallery races, and what it says of every kind of row
+    tools/view_tests.py                       tries the states of all examples at all rows, the pages of gallery races,
+                                              and what a page says of every kind of row
     tools/view_tests.py --pictures            the same, and writes the pictures of docs/
     tools/view_tests.py --long PAGE           the same with a long page as well, which hmmview wrote, and its times
     tools/view_tests.py --pictures --long PAGE
 
 For a long page: ./hmmrun.sh generate 1 | ./hmmrun.sh replay | ./hmmview.sh 0 20000 > PAGE. Ends with status 1 if
-something is wrong. tools/view_states.py compares the states.
+something is wrong. The states are compared by tools/view_states.py.
 """
 import glob, os, sys, tempfile
 
 import explain
 import view_outcomes
 import view_page
+import view_states
 import words
 from view_browser import Browser
 
@@ -307,6 +309,12 @@ def draw_pictures(browser, long_page):
     picture(browser, 'view_outcomes.png', 'outcomes.html', '', first='showOutcome(1); showOutcome(3)')
 
 
+def examples():
+    """The reports of examples/, those of races aside."""
+    folders = [os.path.join(view_page.TOP, 'examples', name) for name in ('', 'worked', 'gallery')]
+    return [path for folder in folders for path in sorted(glob.glob(os.path.join(folder, '*.report')))]
+
+
 def main():
     words.begin(__doc__)
     given = [x for x in sys.argv[1:] if x != '--pictures']
@@ -316,6 +324,7 @@ def main():
     with tempfile.TemporaryDirectory() as room, Browser() as browser:
         os.chdir(room)
         browser.size(1400, 900)
+        wrong.extend(['a state'] * view_states.compare(browser, examples()))
         for tries in (try_keys, try_filter, try_reading, try_screens, try_changes, try_words, try_outcomes):
             tries(browser)
         if long_page:
