@@ -6,8 +6,8 @@
 Prints four tables:
 
 - long scripts (`generate 5` to `8`, eight actors): how many entries there are for each change of the actor under
-  `threads`, and the time of an entry in units of one of the same script under `replay`. The time is that of a clock, the
-  least of RUNS runs (5);
+  `threads`, and its time in units of that of `replay` of the same entries: of the script with a schedule that makes
+  these turns. The time is that of a clock, at the median of RUNS runs (9);
 - short drawn scripts (300): of those in which two actors add four entries or more, in how many some actor goes on after
   another came between;
 - one actor alone, 15,000 stores: the time beside `replay`;
@@ -17,7 +17,7 @@ Each report is judged by the command's own `check`. The command is ./hmmrun.sh -
 program if it is built, or else the unproved one. For two processors run it under `taskset -c 0,1`. Ends with status 1
 if a report is not legal. It is run by hand, outside the gate.
 """
-import argparse, collections, random, re, subprocess, sys, time
+import argparse, collections, itertools, random, re, subprocess, sys, time
 
 import compare_words
 import words
@@ -46,9 +46,15 @@ def judge(command, report):
 
 
 def least(command, word, script, runs):
-    """The last report of so many runs, and the least time of one."""
-    done = [run(command, [word], script) for _ in range(runs)]
-    return done[-1][0], min(took for _, took in done)
+    """The least time of so many runs."""
+    return min(run(command, [word], script)[1] for _ in range(runs))
+
+
+def same_turns(script, report):
+    """The script with a schedule of the turns that the report has."""
+    lines = [line for line in script.split(b'\n')[:-1] if line.split(b' ')[0] not in (b'turns', b'drain', b'rounds')]
+    turns = [b'turns %s %d' % (actor, len(list(part))) for actor, part in itertools.groupby(actors_of(report))]
+    return b'\n'.join(lines + turns) + b'\n'
 
 
 def changes(actors):
@@ -58,13 +64,17 @@ def changes(actors):
 def long_scripts(command, runs):
     for number in range(5, 9):
         script = run(command, ['generate', str(number)], b'')[0]
-        report, took = least(command, 'threads', script, runs)
-        judge(command, report)
-        plain, beside = least(command, 'replay', script, runs)
-        actors, others = actors_of(report), actors_of(plain)
-        each, other = took / len(actors), beside / len(others)
-        print(f'generate {number}: {len(actors)} entries, {len(actors) / max(1, changes(actors)):.1f} for each change of the '
-              f'actor, {each * 1e6:.2f} us an entry, {each / other:.1f} times replay')
+        ratios, mixes = [], []
+        for _ in range(runs):
+            report, took = run(command, ['threads'], script)
+            judge(command, report)
+            again = same_turns(script, report)
+            if run(command, ['replay'], again)[0].split(b'\nhistory\n')[1] != report.split(b'\nhistory\n')[1]:
+                sys.exit('thread_mix.py: the same turns have another history')
+            ratios.append(took / least(command, 'replay', again, 3))
+            mixes.append(len(actors_of(report)) / max(1, changes(actors_of(report))))
+        print(f'generate {number}: {min(mixes):.1f} to {max(mixes):.1f} entries for each change of the actor; '
+              f'{sorted(ratios)[runs // 2]:.1f} times replay of the same entries ({min(ratios):.1f} to {max(ratios):.1f})')
 
 
 def goes_on(actors):
@@ -87,12 +97,12 @@ def short_scripts(command, count):
 def alone(command, runs):
     stores = '\n'.join(f'store 0 {(16 + at % 64) * PAGE:#x} {at % 256:02x}' for at in range(15_000))
     script = f'hmm 1\nframes 200\nactor 0\nmap 0 16 64 rw\n{stores}\ndrain\n'.encode()
-    took, beside = least(command, 'threads', script, runs)[1], least(command, 'replay', script, runs)[1]
+    took, beside = least(command, 'threads', script, runs), least(command, 'replay', script, runs)
     print(f'one actor, 15,000 stores: {took * 1e3:.1f} ms, replay {beside * 1e3:.1f} ms')
 
 
 def peeked(command, runs):
-    actors = [f'actor {actor}\n' + ''.join(f'store 0 {16 * PAGE + actor:#x} {at % 256:02x}\n' for at in range(350))
+    actors = [f'actor {actor}\n' + ''.join(f'store 0 {16 * PAGE + actor:#x} {at % 256:02x}\n' for at in range(640))
               for actor in range(8)]
     script = ('hmm 1\nframes 20\n' + actors[0].replace('\n', '\nmap 0 16 1 rw\n', 1) + ''.join(actors[1:])).encode()
     told = []
@@ -108,7 +118,7 @@ def main():
     parse = argparse.ArgumentParser(usage=__doc__)
     parse.add_argument('--short', type=int, default=300)
     parse.add_argument('--peeks', type=int, default=20)
-    parse.add_argument('--runs', type=int, default=5)
+    parse.add_argument('--runs', type=int, default=9)
     parse.add_argument('--with', dest='command', nargs='+')
     given = parse.parse_args()
     command = given.command or words.ready()
