@@ -27,7 +27,7 @@ OTHER_WORDS = [
     (r'^(a\d+ failed .*) e9$', r'\1 4'),
     (r'^(a\d+ seen m\d+ \d+) (ff|e22)$', r'\1 00'),                # no-area-code
     (r'^(a\d+ excluded m\d+ \d+) e2$', r'\1')]                     # it was had and lost again
-ADDS_WORDS = [(r'^(a\d+ failed m\d+ 0x[0-9a-f]+ 1) e16$', r'\1 2')]    # exclusive-errno, of a `dadd`
+ADDS_WORDS = [(r'(a\d+ failed m\d+ 0x[0-9a-f]+ 1) e16', r'\1 2')]     # exclusive-errno, of a `dadd`
 STOCK_WORDS = [(r'^(a\d+ migrated) \d+$', r'\1 *')]                # the number is not given
 
 
@@ -38,9 +38,8 @@ class Race:
             self.text = file.read()
         self.kernel, self.take_all = SPECIAL.get(name, ('changed', 1))
         self.setup, self.actors = self.parts()
-        has_adds = any(op.startswith('dadd') for ops in self.actors for op in ops)
-        is_stock = self.kernel == 'stock'
-        self.other_words = OTHER_WORDS + (ADDS_WORDS if has_adds else []) + (STOCK_WORDS if is_stock else [])
+        self.has_adds = any(op.startswith('dadd') for ops in self.actors for op in ops)
+        self.other_words = OTHER_WORDS + (STOCK_WORDS if self.kernel == 'stock' else [])
 
     def parts(self):
         """The operations of the set-up, and those of each actor after it, as the guest makes them."""
@@ -79,8 +78,9 @@ def all_names():
     return sorted(name[:-len('.hmm')] for name in os.listdir(FOLDER) if name.endswith('.hmm'))
 
 
-def in_words_of_the_model(outcome, race):
-    """An outcome of the guest, with the script's word for what the driver has another word for."""
+def in_words_of_the_model(outcome, race, listed):
+    """An outcome of the guest, with the script's word for what the driver has another word for. A `dadd` that fails
+    with e16 fails with cause 2, if that is listed."""
     said = []
     for answer in outcome.strip('|').split('|'):
         for pattern, other in race.other_words:
@@ -88,7 +88,12 @@ def in_words_of_the_model(outcome, race):
         said.append(answer)
         if re.match(r'a\d+ detached', answer):
             said.append(answer.split()[0] + ' evicted *')
-    return '|'.join(said)
+    whole = '|'.join(said)
+    for pattern, other in ADDS_WORDS if race.has_adds else []:
+        forbidden = re.sub(pattern, other, whole)
+        if any(is_like(one, forbidden) for one in listed):
+            return forbidden
+    return whole
 
 
 def is_like(listed, seen):
@@ -104,7 +109,7 @@ def name_of(outcome, race, listed):
     if re.search(r'a\d+ refused e16', outcome):
         return 'exclusive-busy'
     if re.search(r'a\d+ failed m\d+ 0x[0-9a-f]+ \d+ e16', outcome):
-        return 'no-time-out'
+        return 'exclusive-busy' if race.has_adds else 'no-time-out'
     if re.search(r'failed m\d+ 0x[0-9a-f]+ 1 1', outcome) and any('todev' in op for op in race.setup):
         return 'own-read-only'
     if 'migrated 0' in outcome and any(is_like(one, outcome.replace('migrated 0', 'migrated 1')) for one in listed):
@@ -184,7 +189,7 @@ class Judged:
         self.race, self.runs, self.rows = race, runs, []
         counts = Counter()
         for outcome, count in seen.items():
-            counts[in_words_of_the_model(outcome, race)] += count
+            counts[in_words_of_the_model(outcome, race, listed)] += count
         listed_as = {}          # an outcome as it is kept, `*` for what the guest does not tell -> how often it came
         for one in listed:
             like = next((other for other in counts if is_like(one, other)), one)
