@@ -9,7 +9,7 @@ use std::sync::Wait;
 use std::sync::atomic::{AtomicU64, Ordering};
 
 /// How often an actor that waits looks whether it may go, before it sleeps.
-const LOOKS: u64 = 1 << 13;
+const LOOKS: u64 = 1 << 17;
 
 /// At most so many wait without sleep at the same time.
 const MOST_AWAKE: u32 = 1;
