@@ -14,6 +14,7 @@ pub mod places;
 pub mod processes;
 mod questions;
 pub mod rows;
+pub mod shared_answers;
 pub mod sparse;
 pub mod table_entries;
 pub mod tables;
