@@ -1,3 +1,10 @@
+pub mod Answers
+pub mod Arrays
+pub mod FrameTables
+pub mod PagePlaces
+pub mod Questions
 pub mod Rows
+pub mod Sparse
+pub mod TableEntries
 pub mod Trail
 pub mod Words

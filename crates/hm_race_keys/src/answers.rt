@@ -15,7 +15,7 @@ pub struct AnswerLists {
 }
 
 // What an entry answers, if it answers anything; of an `attached` its sequence is left out.
-fn answer_of(alloc: Global, kind: &Kind) -> Result<Option<Kind>, NoMemory>
+pub(crate) fn answer_of(alloc: Global, kind: &Kind) -> Result<Option<Kind>, NoMemory>
     ensures { IfOk result (λ o. o ≡ answer_of kind.now) }
 {
     let answer = match kind {
@@ -103,7 +103,7 @@ fn answer_of(alloc: Global, kind: &Kind) -> Result<Option<Kind>, NoMemory>
 }
 
 // Whether the two answers are the same.
-fn same_kind(one: &Kind, other: &Kind) -> bool
+pub(crate) fn same_kind(one: &Kind, other: &Kind) -> bool
     ensures { result ≡ true → one.now ≡ other.now }
 {
     match (one, other) {
