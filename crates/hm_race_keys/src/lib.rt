@@ -1,10 +1,15 @@
-// The keys of the states of a race: what of a state an outcome can depend on, as words, kept entry by entry.
+// The keys of the states of a race: what of a state an outcome can depend on, kept entry by entry.
 #![tactic(auto)]
 
 pub mod answers;
 pub mod flags;
+pub mod frame_locks;
 pub mod frames;
+pub mod held_frames;
+pub mod page_places;
 pub mod places;
 pub mod processes;
 pub mod rows;
+pub mod sparse;
+pub mod table_entries;
 pub mod tables;
