@@ -1,5 +1,8 @@
+pub mod Counting
 pub mod FramesRead
+pub mod Listing
 pub mod Named
+pub mod Naming
 pub mod Ordered
 pub mod Placing
 pub mod Rising

@@ -1,5 +1,7 @@
+pub mod Arrays
 pub mod FrameTables
 pub mod PagePlaces
+pub mod Questions
 pub mod Rows
 pub mod Sparse
 pub mod TableEntries

@@ -1,9 +1,10 @@
 // Which devices are withdrawn or removed, and who has mmap locks, after a history.
 ghost use Rattle.std.specs.Prelude.{◌≡◌, ◌==◌, ℕ, None, Some, true, false, OnOk};
 ghost use Rattle.hm_history.specs.Words.{with_at};
-ghost use Rattle.hm_history.specs.Locks.{releases, locks_start, map_next};
+ghost use Rattle.hm_history.specs.Locks.{locks_start, map_next};
 ghost use Rattle.hm_race_keys.specs.Trail.{flags_in, withdrawn_next, removed_next, map_in};
 
+use crate::map_locks::releases;
 use crate::rows::Rows;
 use hm_base::{Actor, Dev, NoMemory, Proc};
 use hm_history::Kind;
@@ -56,27 +57,6 @@ impl FlagRows {
 #[derive(Drop)]
 pub struct MapRows {
     pub rows: Rows,
-}
-
-fn releases(kind: &Kind) -> bool
-    ensures { result ≡ releases kind.now }
-{
-    match kind {
-        Kind::Loaded { .. }
-        | Kind::Stored { .. }
-        | Kind::Failed { .. }
-        | Kind::Refused(..)
-        | Kind::Mapped { .. }
-        | Kind::Unmapped { .. }
-        | Kind::Protected { .. }
-        | Kind::Forked { .. }
-        | Kind::Exited(..)
-        | Kind::Migrated(..)
-        | Kind::Retry(..)
-        | Kind::Excluded { .. }
-        | Kind::Runlock(..) => true,
-        _ => false,
-    }
 }
 
 impl MapRows {

@@ -2,13 +2,15 @@
 ghost use Rattle.std.specs.Prelude.{◌≡◌, ℕ, true, [], Some, None, IfOk, OnOk, OnErr};
 ghost use Rattle.hm_base.specs.declared.Frame.{Frame as AnyFrame};
 ghost use Rattle.hm_history.specs.Words.{with_frame};
-ghost use Rattle.hm_history.specs.Locks.{locks_start, frame_placed, is_locker, other_locker};
+ghost use Rattle.hm_history.specs.Locks.{locks_start, frame_placed, is_locker, other_locker, orphan};
 ghost use Rattle.hm_race_keys.specs.Sparse.{rising_from, mixed_items};
 ghost use Rattle.hm_race_keys.specs.FrameTables.{lockers_in, mixed_actor};
+ghost use Rattle.hm_race_keys.specs.PagePlaces.{places_of};
 ghost use Rattle.hm_race_keys.specs.Trail.{lockers_next};
 
+use crate::page_places::Places;
 use crate::sparse::{Kept, Sparse, mixed};
-use hm_base::frames::{pool_index, sys_frame};
+use hm_base::frames::{names, pool_index, sys_frame};
 use hm_base::{Actor, Frame, NoMemory, Place};
 use hm_history::Kind;
 use std::alloc::Global;
@@ -73,6 +75,28 @@ impl FrameLocks {
         match self.locker(frame) {
             Some(by) => { if actor == by { None } else { Some(by) } }
             None => None,
+        }
+    }
+
+    /// The frame that the entry leaves without a name, if nobody has it locked: its actor drops it next.
+    pub fn orphan(&self, places: &Places, kind: &Kind) -> Option<Frame>
+        ensures { result
+            ≡ orphan (record locks_start { frame = lockers_in self.now }) (places_of places.now) kind.now }
+    {
+        match kind {
+            Kind::Place { proc, page, place } => match names(&places.get(*proc, *page)) {
+                None => None,
+                Some(frame) => {
+                    if self.locker(&frame).is_none()
+                        && !places.is_named_after(*proc, *page, place, &frame)
+                    {
+                        Some(frame)
+                    } else {
+                        None
+                    }
+                }
+            },
+            _ => None,
         }
     }
 

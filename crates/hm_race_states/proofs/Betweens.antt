@@ -5,7 +5,7 @@ use Rattle.hm_history.specs.Sequences.{Sequences, Interval}
 use Rattle.hm_folds.specs.declared.intervals.KeptInterval.{KeptInterval}
 use Rattle.hm_folds.specs.Kept.{interval_of, interval_at}
 use Rattle.hm_folds.proofs.SeqSteps.{same_state}
-use Rattle.hm_folds.proofs.Writes.{shown, written_at}
+use Rattle.hm_folds.proofs.Writes.{written_at}
 use Rattle.hm_race_states.specs.declared.small.Between.{Between}
 use Rattle.hm_race_states.specs.Small.{between_seqs}
 

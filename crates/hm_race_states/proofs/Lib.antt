@@ -1,3 +1,4 @@
 pub mod Settled
 pub mod Betweens
 pub mod AreaLists
+pub mod Askings

@@ -4,3 +4,6 @@ pub mod Changes
 pub mod Spaces
 pub mod Blurs
 pub mod Tasks
+pub mod Mirrors
+pub mod Bytes
+pub mod States

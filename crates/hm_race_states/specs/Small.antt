@@ -1,5 +1,5 @@
 -- The small sequences that a state keeps, as contracts see them.
-use Rattle.std.specs.Prelude.{ℕ, false, None, slice_index_or}
+use Rattle.std.specs.Prelude.{false, None, slice_index_or}
 use Rattle.hm_history.specs.Sequences.{Sequences}
 use Rattle.hm_races.specs.Numbers.{small_sequences}
 use Rattle.hm_folds.specs.Kept.{interval_at}

@@ -1,5 +1,4 @@
 -- How far an actor is, as contracts see it.
-use Rattle.std.specs.Prelude.{ℕ}
 use Rattle.hm_history.specs.Going.{Going}
 use Rattle.hm_race_states.specs.declared.tasks.RaceTask.{RaceTask}
 

@@ -3,6 +3,10 @@
 #![tactic(auto)]
 
 mod blur;
+pub mod here;
+pub mod memory;
+pub mod mirrors;
 pub mod small;
 pub mod spaces;
+pub mod state;
 pub mod tasks;

@@ -1,4 +1,4 @@
-use Rattle.std.proofs.Common.{◌≡◌, ℕ, ◌<◌, length, slice_index_or}
+use Rattle.std.proofs.Common.{◌≡◌, ℕ, ◌<◌, length}
 use Rattle.hm_folds.specs.Kept.{interval_at}
 use Rattle.hm_race_states.proofs.small.copied.Given as goal
 

@@ -1,4 +1,4 @@
-use Rattle.std.proofs.Common.{◌≡◌, ℕ, None, ap, ◌∙◌, arith, length, slice_set, length-set, slice_index_or}
+use Rattle.std.proofs.Common.{◌≡◌, None, ap, ◌∙◌, arith, length-set, slice_index_or}
 use Rattle.std.specs.Prelude.{Option}
 use Rattle.std.proofs.lemmas.List.{get_or_default}
 use Rattle.hm_history.proofs.Updates.{with_case}

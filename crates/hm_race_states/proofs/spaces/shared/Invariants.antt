@@ -1,4 +1,4 @@
-use Rattle.std.proofs.Common.{◌≡◌, length, map, take}
+use Rattle.std.proofs.Common.{◌≡◌, map, take}
 use Rattle.std.specs.Rc.{rc_value}
 use Rattle.hm_race_states.proofs.spaces.shared.Given as goal
 

@@ -1,4 +1,4 @@
-use Rattle.std.proofs.Common.{◌≡◌, ap, ◌∙◌, arith}
+use Rattle.std.proofs.Common.{ap, ◌∙◌, arith}
 use Rattle.std.specs.Rc.{rc_value}
 use Rattle.hm_race_states.specs.Changes.{changed_to}
 use Rattle.hm_race_states.specs.Spaces.{spaces_in}

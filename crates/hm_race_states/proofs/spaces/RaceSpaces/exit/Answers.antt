@@ -1,4 +1,4 @@
-use Rattle.std.proofs.Common.{◌≡◌, Bool, false, [], refl, ap, ◌∙◌, arith}
+use Rattle.std.proofs.Common.{Bool, false, [], refl, ap, ◌∙◌, arith}
 use Rattle.std.specs.Rc.{rc_value}
 use Rattle.hm_history.specs.Words.{with_at}
 use Rattle.hm_folds.proofs.Writes.{written_at}

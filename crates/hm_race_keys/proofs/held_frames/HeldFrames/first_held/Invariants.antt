@@ -1,0 +1,10 @@
+use Rattle.std.proofs.Common.{◌≡◌, ◌-◌}
+use Rattle.hm_history.specs.Words.{least}
+use Rattle.hm_history.specs.Places.{frame_of}
+use Rattle.hm_race_keys.specs.FrameTables.{held_in}
+use Rattle.hm_race_keys.proofs.held_frames.HeldFrames.first_held.Given as goal
+
+abbrev pub invariant-loop-number : goal.invariant-loop-number
+invariant-loop-number l =
+    least (λ n. held_in l.self (frame_of l.pool n)) l.from (l.size - l.from)
+    ≡ least (λ n. held_in l.self (frame_of l.pool n)) l.number (l.size - l.number)
