@@ -11,4 +11,6 @@ mod tasks;
 mod under_way;
 
 pub use actors::Actors;
-pub use coming::Concerns;
+pub use coming::{Concerns, come_to};
+pub use records::Records;
+pub use tasks::op_at;

@@ -57,6 +57,21 @@ impl Records {
         })
     }
 
+    /// These records, and room for one more.
+    pub fn of(alloc: Global, records: &[Migrating]) -> Result<Records, NoMemory>
+        ensures { IfOk result (λ x. x ≡ record { items = records.now; spare = 1 }) }
+    {
+        let mut items = Vec::with_capacity(alloc, records.len())?;
+        items.extend_from_slice(records)?;
+        items.try_reserve(1)?;
+        Ok(Records {
+            items,
+            room: 1,
+            rising: false,
+        })
+    }
+
+    /// The records, in the order in which they came.
     pub fn as_slice(&self) -> &[Migrating]
         ensures { result.now ≡ self.now.items }
     {

@@ -100,6 +100,24 @@ impl Stack {
         }
     }
 
+    /// A stack of these phases.
+    pub fn of(items: Items) -> Stack
+        ensures { result ≡ phases_of items }
+    {
+        let (depth, top, second, third) = match items {
+            Items::Zero => (Depth::Zero, Phase::Begin, Phase::Begin, Phase::Begin),
+            Items::One(top) => (Depth::One, top, Phase::Begin, Phase::Begin),
+            Items::Two(top, second) => (Depth::Two, top, second, Phase::Begin),
+            Items::Three(top, second, third) => (Depth::Three, top, second, third),
+        };
+        Stack {
+            depth,
+            top,
+            second,
+            third,
+        }
+    }
+
     /// What the stack is after the actor's entry, given what the world showed just before it; empty if the entry
     /// ends the operation.
     pub fn moved(&mut self, op: &Op, kind: &Kind, seen: &Seen)

@@ -10,6 +10,7 @@ use hm_history::Kind;
 use hm_history::locks::MapLock;
 
 /// The mmap lock of each actor.
+#[derive(Drop)]
 pub struct MapLocks {
     pub locks: [Option<MapLock>; 16],
 }

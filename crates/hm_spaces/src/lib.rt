@@ -15,7 +15,7 @@ use std::alloc::Global;
 use std::marker::Model;
 use vm_areas::Areas;
 
-mod map_locks;
+pub mod map_locks;
 mod processes;
 mod spans;
 

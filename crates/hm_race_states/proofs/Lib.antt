@@ -1,0 +1,4 @@
+pub mod Settled
+pub mod Betweens
+pub mod AreaLists
+pub mod Askings

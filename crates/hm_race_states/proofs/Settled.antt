@@ -1,0 +1,30 @@
+-- Small sequences as lists.
+use Rattle.std.proofs.Common.{◌≡◌, ℕ, Bool, false, Option, None, List, [], ◌∷◌, length, replicate, find, is_some, nat_lt, true, ◌&&◌, if◌then◌else◌, refl, ap, arith}
+use Rattle.std.proofs.lemmas.Bool.Decides.{nat_tests}
+use Rattle.hm_base.specs.Pages.{Pages}
+use Rattle.std.proofs.Math.Path.{fun_ext}
+use Rattle.hm_history.specs.Sequences.{Sequences, is_above, seq_started, some_overlap, sequences_start}
+use Rattle.hm_folds.specs.declared.intervals.KeptInterval.{KeptInterval}
+use Rattle.hm_folds.specs.Kept.{interval_of}
+use Rattle.hm_folds.proofs.SeqSteps.{same_state, all_alike}
+use Rattle.hm_race_states.specs.SeqBy.{seq_by}
+use Rattle.hm_race_states.specs.Small.{kept_seqs}
+
+-- there is a first one to tell if there is one at all
+pub any_told : (xs : List ℕ) → is_some (find (is_above None) xs) ≡ nat_lt 0 (length xs)
+any_told [] = refl
+any_told (x ∷ xs) = grind (arith, nat_tests)
+
+-- an odd sequence stays
+pub odd_started : (s : Sequences) (p : ℕ) (r : Pages) (b : Bool) → s.seq p ≡ seq_by b → b ≡ true → 3 ≡ seq_started s p r
+odd_started s p r b e h = rw (seq_started, e, h) (by (some_overlap s p r))
+  where
+    by : (b : Bool) → ◌≡◌ {A = ℕ} 3 (if b && false then 4 else 3)
+    by true = refl
+    by false = refl
+
+-- before the first entry
+pub starts : kept_seqs (record { odd = replicate 32 false; active = replicate 32 0; intervals = replicate 32 None }) ≡ sequences_start
+starts =
+    let no_interval : Option KeptInterval = None in
+    same_state _ _ (fun_ext (λ p. ap seq_by (all_alike false 32 p))) (fun_ext (λ p. all_alike 0 32 p)) (fun_ext (λ m. ap interval_of (all_alike no_interval 32 m))) refl

@@ -1,0 +1,22 @@
+use Rattle.std.proofs.Common.{ap, sym, ◌∙◌}
+use Rattle.hm_base.specs.Pages.{Pages}
+use Rattle.hm_history.specs.Sequences.{sequences_next}
+use Rattle.hm_history.specs.declared.Kind.{Kind}
+use Rattle.hm_race_states.specs.Small.{kept_seqs, unguarded}
+use Rattle.hm_race_states.proofs.small.SmallSeqs.after.Goals as goal
+
+-- no page
+nothing : Pages
+nothing = record { first = 0; count = 0 }
+
+pub returns-in_ok-begin-in-Start : goal.returns-in_ok-begin-in-Start
+returns-in_ok-begin-in-Start c = λ a. c.in_ok-begin-in-Start.ensures a 0 ∙ sym (ap (λ (k : Kind). unguarded (sequences_next (kept_seqs c.args.self.now) a k)) c.in-Start.is)
+
+pub returns-in-Told : goal.returns-in-Told
+returns-in-Told c = λ a. c.tell.ensures a 0 nothing ∙ sym (ap (λ (k : Kind). unguarded (sequences_next (kept_seqs c.args.self.now) a k)) c.in-Told.is)
+
+pub returns-in-End : goal.returns-in-End
+returns-in-End c = λ a. c.end.ensures a 0 nothing ∙ sym (ap (λ (k : Kind). unguarded (sequences_next (kept_seqs c.args.self.now) a k)) c.in-End.is)
+
+pub returns-in-Attached : goal.returns-in-Attached
+returns-in-Attached c = λ a. c.attach.ensures a 0 0 ∙ sym (ap (λ (k : Kind). unguarded (sequences_next (kept_seqs c.args.self.now) a k)) c.in-Attached.is)

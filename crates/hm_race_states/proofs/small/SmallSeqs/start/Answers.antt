@@ -1,0 +1,5 @@
+use Rattle.hm_race_states.proofs.Settled.{starts}
+use Rattle.hm_race_states.proofs.small.SmallSeqs.start.Goals as goal
+
+pub returns : goal.returns
+returns c = starts

@@ -1,0 +1,11 @@
+use Rattle.std.proofs.Common.{inl, inr, false, sym, ap, ◌∙◌, arith}
+use Rattle.std.proofs.lemmas.Bool.{cases_lt}
+use Rattle.std.proofs.Math.ListN.{get_or-eq_default}
+use Rattle.hm_race_states.specs.SeqBy.{seq_by}
+use Rattle.hm_race_states.proofs.small.seqs_by.Goals as goal
+
+pub returns : goal.returns
+returns c = λ p. elim (cases_lt p 32) [
+  | inl l ↦ c.loop-number.invariant.so_far p (omega (arith, l))
+  | inr l ↦ get_or-eq_default c.loop-number.seqs 2 (omega (arith, l)) ∙ sym (ap seq_by (get_or-eq_default c.args.odd.now false (omega (arith, l))))
+]

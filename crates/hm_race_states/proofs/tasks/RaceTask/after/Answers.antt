@@ -1,0 +1,5 @@
+use Rattle.std.proofs.Common.{sym}
+use Rattle.hm_race_states.proofs.tasks.RaceTask.after.Goals as goal
+
+pub after_top-requires-clause-fits : goal.after_top-requires-clause-fits
+after_top-requires-clause-fits c = c.requires _ (sym c.in-Some.ensures.op)

@@ -1,0 +1,9 @@
+pub mod SeqBy
+pub mod Small
+pub mod Changes
+pub mod Spaces
+pub mod Blurs
+pub mod Tasks
+pub mod Mirrors
+pub mod Bytes
+pub mod States

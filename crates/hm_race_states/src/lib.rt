@@ -1,0 +1,12 @@
+// The states of a race as values that a search copies, changes by one entry, and compares: without positions and
+// absolute sequences. Copies share their parts.
+#![tactic(auto)]
+
+mod blur;
+pub mod here;
+pub mod memory;
+pub mod mirrors;
+pub mod small;
+pub mod spaces;
+pub mod state;
+pub mod tasks;
