@@ -6,7 +6,7 @@ use Rattle.std.proofs.lemmas.List.{get_or-set_same, get_or-set_other, length-set
 use Rattle.radix_tables.specs.Walks.{table_in, entry_in, IsWhole, IsTables, AreTables, HasTable, IsLonger, IsChild}
 
 -- what is read of entries after zeros were added
-zeros_added : (xs : List ℕ) (k i : ℕ) → get_or (xs ++ replicate k 0) i 0 ≡ get_or xs i 0
+pub zeros_added : (xs : List ℕ) (k i : ℕ) → get_or (xs ++ replicate k 0) i 0 ≡ get_or xs i 0
 zeros_added xs k i = by (cases_lt i (length xs))
   where
     zero_at : (n j : ℕ) → let zs : List ℕ = replicate n 0 in get_or zs j 0 ≡ 0
