@@ -1,15 +1,16 @@
 -- Tables that are made change no word.
 use Rattle.std.proofs.Common.{true, false, ◌≡◌, ◌≢◌, ℕ, ◌+◌, ◌*◌, ◌/◌, ◌%◌, ◌^◌, ◌<◌, ◌≤◌, List, [], ◌∷◌, ◌++◌, length, eqb, cond, get_or, set, refl, sym, ap, subst, ◌∙◌, arith, ◌⊎◌, inl, inr}
-use Rattle.std.proofs.lemmas.Bool.{cases_eq, cases_lt}
+use Rattle.std.proofs.lemmas.Bool.{cases_eq}
 use Rattle.std.proofs.lemmas.Bool.Decides.{nat_tests}
 use Rattle.std.proofs.Common.{Result, Ok, Err, MatchResult, OnOk, OnErr}
 use Rattle.radix_tables.specs.Maps.{is_marked}
-use Rattle.std.proofs.lemmas.List.{get_or-set_same, get_or-set_other, length-set, get_or_past}
+use Rattle.std.proofs.lemmas.List.{get_or-set_same, get_or-set_other, length-set}
 use Rattle.radix_tables.specs.Walks.{table_in, entry_in, IsWhole, AreTables, HasTable, IsLonger, IsFirst, IsChild}
 use Rattle.radix_tables.specs.Rows.{Words, IsRoomMade}
 use Rattle.radix_tables.specs.Levels.{IsLevels, IsSame, IsMade, AreBits, is_used, from_second, from_third, from_fourth, from_fifth, from_sixth, room_of, word_of}
 use Rattle.radix_tables.specs.declared.levels.Levels.{Levels}
 use Rattle.radix_tables.proofs.Tables.{Same, same_with, same_up, child_walk, child_whole, child_above, child_levels, first_above, first_same, deep_same, deep_tables, above_room, above_none, above_some, table_first, table_inside, one_number}
+use Rattle.radix_tables.proofs.RowWords.{within}
 use Rattle.radix_tables.proofs.TableBits.{bits_longer, bits_child}
 
 pub same_itself : (l : Levels) → IsLevels l → IsSame l l
@@ -17,14 +18,6 @@ same_itself l h = record { levels = h; words = λ v. refl; room = λ v. refl }
 
 pub same_over : (l m n : Levels) → IsSame l m → IsSame m n → IsSame l n
 same_over l m n p q = record { levels = q.levels; words = λ v. q.words v ∙ p.words v; room = λ v. q.room v ∙ p.room v }
-
--- only what is there is not 0
-within : (xs : List ℕ) (i : ℕ) → get_or xs i 0 ≢ 0 → i < length xs
-within xs i d = by (cases_lt i (length xs))
-  where
-    by : (i < length xs) ⊎ (length xs ≤ i) → i < length xs
-    by (inl l) = l
-    by (inr l) = absurd (d (get_or_past xs i 0 l))
 
 -- a page with room has a table
 pub room_has : (l : Levels) (page : ℕ) → IsLevels l → room_of l page ≢ 0 → HasTable l.words.items (from_second l) (page / 64)
@@ -111,21 +104,10 @@ child_made l m at a h e f j k p c n u v = record {
   room = λ n. ap (λ (zs : List (List ℕ)). entry_in m.words.room zs n) f ∙ (child_walk l.second.items m.second.items l.words.room m.words.room a at h.room c.1 n ∙ ap (λ (zs : List (List ℕ)). entry_in l.words.room zs n) (sym e));
 }
 
--- a table is there already
-pub table_there : (l : Levels) (block n t : ℕ) → IsLevels l → n * 64 ≡ length l.words.items → n ≢ 0 → t ≡ table_in (from_second l) block → t ≢ 0 → HasTable l.words.items (from_second l) block
-table_there l block n t h e d q z = (λ w. z (q ∙ w), h.words.first (omega (arith, e, positive n d)))
-  where
-    positive : (n : ℕ) → n ≢ 0 → 1 ≤ n
-    positive n d = omega arith
-
 -- after other tables that were made
 pub made_then : {T E : Type 0} (l m n : Levels) (page : ℕ) (r : Result T E) → IsSame l m → MatchResult r (λ _. IsMade m n page) (λ _. IsSame m n) → MatchResult r (λ _. IsMade l n page) (λ _. IsSame l n)
 made_then l m n page (Ok x) p q = record { levels = q.levels; words = λ v. q.words v ∙ p.words v; made = q.made; kept = λ b d. q.kept b (λ z. d (sym (p.room b) ∙ z)) }
 made_then l m n page (Err e) p q = same_over l m n p q
-
--- there was room already
-pub made_before : (l : Levels) (page : ℕ) → IsLevels l → room_of l page ≢ 0 → IsMade l l page
-made_before l page h d = record { levels = h; words = λ v. refl; made = d; kept = λ b e. e }
 
 room_whole : (xs ys : List ℕ) (at : ℕ) → IsWhole xs → IsRoomMade xs ys at → 64 ≤ at → IsWhole ys
 room_whole xs ys at w r a = record {

@@ -60,7 +60,8 @@ pub items_longer : (rows now words : List ℕ) → AreRows rows words → AreRow
 items_longer rows now words h n l m = longer_by (over (word_in rows words) rows) (over (word_in now words) now) (omega (arith, over_length (word_in rows words) rows, over_length (word_in now words) now, m))
     (λ k. item_at now words k n ∙ (ap (λ r. get_or words (r * 8 + k % 8) 0) (longer l (k / 8)) ∙ sym (item_at rows words k h)))
 
-within : (xs : List ℕ) (i : ℕ) → get_or xs i 0 ≢ 0 → i < length xs
+-- only what is there is not 0
+pub within : (xs : List ℕ) (i : ℕ) → get_or xs i 0 ≢ 0 → i < length xs
 within xs i d = by (cases_lt i (length xs))
   where
     by : (i < length xs) ⊎ (length xs ≤ i) → i < length xs

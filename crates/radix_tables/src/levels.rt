@@ -24,9 +24,9 @@ pub const PAGES: u64 = 1 << 36;
 /// The lowest four bits of a marked word are at least this.
 const LEAST_MARKED: u64 = 5;
 
-/// The tables of each level, one after the other. An entry is the number of a table of the level before, and one of the first
-/// level is a word; 0 is none. Table 0 of a level stays empty, and table 1 is that of the lowest pages, which no entry
-/// names. For each entry of the first level there is a bit that says whether it is a word, and one that says
+/// The tables of each level, one after the other. An entry is the number of a table of the level before, and one of the
+/// first level is a word; 0 is none. Table 0 of a level stays empty, and table 1 is that of the lowest pages, which no
+/// entry names. For each entry of the first level there is a bit that says whether it is a word, and one that says
 /// whether it is marked.
 #[derive(Drop)]
 pub struct Levels {
