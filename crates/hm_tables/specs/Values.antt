@@ -18,7 +18,7 @@ pub record Tables : Type 0 where
 
 -- a table of no page
 abbrev pub no_words : Map
-no_words = record { words = []; blocks = [] }
+no_words = record { words = []; room = [] }
 
 -- the table of a process; one of no page if the number is none
 abbrev pub table_of : Tables → ℕ → Map

@@ -1,4 +1,5 @@
 mod LastChange
+mod Ahead
 mod Sharing
 mod LoadsDue
 mod Values

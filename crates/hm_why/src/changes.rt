@@ -1,18 +1,11 @@
 // Which entry stands for each address of a process.
-ghost use Rattle.std.specs.Prelude.{◌≡◌, ◌==◌, ℕ, ◌<◌, ◌≤◌, if◌then◌else◌, None, Some, IfOk, OnOk};
-ghost use Rattle.hm_why.specs.Changes.{entry_for, change_at, IsSet, IsLast, IsFirst, IsCleared};
+ghost use Rattle.std.specs.Prelude.{◌≡◌, ◌==◌, ℕ, ◌+◌, ◌<◌, ◌≤◌, if◌then◌else◌, Option, None, Some, IfOk, OnOk};
+ghost use Rattle.hm_why.specs.Changes.{entry_for, change_at, last_change, pending, IsSet, IsLast, IsFirst, IsCleared, IsAhead};
 
 use hm_base::NoMemory;
 use std::alloc::Global;
 use std::collections::BTreeMap;
-
-/// Up to an address, these bytes have one source; and the source of the byte at that address.
-#[derive(Clone, Copy)]
-pub struct Run {
-    pub source: Option<u64>,
-    pub end: u64,
-    pub after: Option<u64>,
-}
+use std::collections::btree_map::Range;
 
 /// The positions of entries, by address. An address with a position says that the entry there stands from this address
 /// on, up to the next address with one.
@@ -51,35 +44,12 @@ impl Changes {
         }
     }
 
-    /// How far the entry that stands for the address does, up to an end at most, and which one comes after it.
-    pub fn run(&self, addr: u64, end: u64, source: Option<u64>) -> Run
-        requires some { addr < end }
-        requires source { entry_for self.now addr ≡ source }
-        ensures inside { result.end ≤ end }
-        ensures further { addr < result.end }
-        ensures stands { (b : ℕ) → addr ≤ b → b < result.end → entry_for self.now b ≡ result.source }
-        ensures after { result.end < end → entry_for self.now result.end ≡ result.after }
+    /// The changes from an address on and before an end, in their order.
+    pub fn ahead(&self, from: u64, end: u64) -> Range<'_, u64, Option<u64>>
+        requires { from ≤ end }
+        ensures { IsAhead (change_at self.now) result from end }
     {
-        let next = addr + 1;
-        if next == end {
-            return Run {
-                source,
-                end,
-                after: None,
-            };
-        }
-        match self.first(next) {
-            Some((found, at)) if found < end => Run {
-                source,
-                end: found,
-                after: at,
-            },
-            _ => Run {
-                source,
-                end,
-                after: None,
-            },
-        }
+        self.points.range(from..end)
     }
 
     /// The first change from the address on.
@@ -133,5 +103,36 @@ impl Changes {
         Ok(Changes {
             points: self.points.clone()?,
         })
+    }
+}
+
+/// Takes the next of the changes.
+pub fn next_change(points: &mut Range<'_, u64, Option<u64>>) -> Option<(u64, Option<u64>)>
+    ensures { points.old ≡ pending result points.new }
+{
+    match points.next() {
+        Some((found, at)) => Some((*found, *at)),
+        None => None,
+    }
+}
+
+/// The entry that stands for an address, if that for the one before it is known, and the changes from it on.
+pub fn entry_on(
+    points: &mut Range<'_, u64, Option<u64>>,
+    next: &mut Option<(u64, Option<u64>)>,
+    addr: u64,
+    before: Option<u64>,
+) -> Option<u64>
+    ensures entry { (f : ℕ → Option (Option ℕ)) (end : ℕ) → IsAhead f (pending next.old points.old) addr end → addr < end
+        → (f addr ≡ None → last_change f addr ≡ before) → last_change f addr ≡ result }
+    ensures ahead { (f : ℕ → Option (Option ℕ)) (end : ℕ) → IsAhead f (pending next.old points.old) addr end
+        → IsAhead f (pending next.new points.new) (addr + 1) end }
+{
+    match *next {
+        Some((at, entry)) if at == addr => {
+            *next = next_change(points);
+            entry
+        }
+        _ => before,
     }
 }

@@ -7,7 +7,7 @@ ghost use Rattle.hm_why.specs.Laws.{IsLegal};
 ghost use Rattle.hm_why.specs.Writers.{source_in, process_in, IsSized};
 ghost use Rattle.hm_why.specs.Loads.{is_load, IsLow, source_text, why_line, load_count, why_text};
 
-use crate::changes::Run;
+use crate::changes::{entry_on, next_change};
 use crate::laws::loads_lie_in_a_page;
 use crate::writers::Writers;
 use hm_base::{NoMemory, Proc, Text};
@@ -43,14 +43,13 @@ fn add_sources(
         ≡ text.old ++ spaced (map source_text (map (source_in writers.now proc) (numbers addr len)))) }
 {
     let end = addr + len;
-    let mut run = Run {
-        source: None,
-        end: addr,
-        after: writers.source(proc, addr),
-    };
+    let changes = writers.changes_of(proc);
+    let mut source = changes.get(addr);
+    let mut points = changes.ahead(addr, end);
+    let mut next = next_change(&mut points);
     for byte in addr..end {
-        run = writers.run_on(proc, byte, end, run);
-        add_source(text, out, run.source)?;
+        source = entry_on(&mut points, &mut next, byte, source);
+        add_source(text, out, source)?;
     }
     Ok(())
 }

@@ -1,9 +1,10 @@
 // The sources of all bytes of all processes, entry by entry.
 ghost use Rattle.std.specs.Prelude.{◌≡◌, ℕ, ◌<◌, ◌≤◌, true, false, Some, length, slice_get, IfOk, OnOk};
 ghost use Rattle.hm_why.specs.Sources.{process_of};
+ghost use Rattle.hm_why.specs.Changes.{entry_for};
 ghost use Rattle.hm_why.specs.Writers.{owner_in, source_in, process_in, IsSized, IsFresh, IsWritten, IsCopied, IsNoted, IsAlone, IsFree, IsPut, IsOwn};
 
-use crate::changes::{Changes, Run};
+use crate::changes::Changes;
 use hm_base::{MOST_MIRRORS, MOST_PROCESSES, NoMemory, PAGE_BYTES, Proc};
 use hm_history::{Kind, Who};
 use std::alloc::Global;
@@ -65,34 +66,12 @@ impl Writers {
         self.changes[self.slots[proc.number() as usize]].get(addr)
     }
 
-    /// How far the bytes of the process from one on have its source, up to an end at most, and the next source.
-    fn run(&self, proc: Proc, addr: u64, end: u64, source: Option<u64>) -> Run
-        requires sized { IsSized self.now }
-        requires some { addr < end }
-        requires source { source_in self.now proc addr ≡ source }
-        ensures further { addr < result.end }
-        ensures stands { (b : ℕ) → addr ≤ b → b < result.end → source_in self.now proc b ≡ result.source }
-        ensures after { result.end < end → source_in self.now proc result.end ≡ result.after }
+    /// The changes of a process.
+    pub fn changes_of(&self, proc: Proc) -> &Changes
+        requires { IsSized self.now }
+        ensures { (b : ℕ) → source_in self.now proc b ≡ entry_for result.now b }
     {
-        self.changes[self.slots[proc.number() as usize]].run(addr, end, source)
-    }
-
-    /// The run of a byte, once that of the bytes before it is known: most often it is the same.
-    pub fn run_on(&self, proc: Proc, addr: u64, end: u64, before: Run) -> Run
-        requires sized { IsSized self.now }
-        requires some { addr < end }
-        requires near { addr ≤ before.end }
-        requires stands { (b : ℕ) → addr ≤ b → b < before.end → source_in self.now proc b ≡ before.source }
-        requires after { before.end < end → source_in self.now proc before.end ≡ before.after }
-        ensures further { addr < result.end }
-        ensures stands { (b : ℕ) → addr ≤ b → b < result.end → source_in self.now proc b ≡ result.source }
-        ensures after { result.end < end → source_in self.now proc result.end ≡ result.after }
-    {
-        if addr < before.end {
-            before
-        } else {
-            self.run(proc, addr, end, before.after)
-        }
+        &self.changes[self.slots[proc.number() as usize]]
     }
 
     /// The entry wrote so many bytes of the process, if there is one.

@@ -1,4 +1,5 @@
 pub mod Tables
+pub mod RowWords
 pub mod TableBits
 pub mod Passed
 pub mod Lasts

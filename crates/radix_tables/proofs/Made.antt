@@ -3,62 +3,49 @@ use Rattle.std.proofs.Common.{true, false, ◌≡◌, ◌≢◌, ℕ, ◌+◌, �
 use Rattle.std.proofs.lemmas.Bool.{cases_eq}
 use Rattle.std.proofs.lemmas.Bool.Decides.{nat_tests}
 use Rattle.std.proofs.Common.{Result, Ok, Err, MatchResult, OnOk, OnErr}
-use Rattle.std.specs.Result.{IsErr}
 use Rattle.radix_tables.specs.Maps.{is_marked}
 use Rattle.std.proofs.lemmas.List.{get_or-set_same, get_or-set_other, length-set}
-use Rattle.radix_tables.specs.Walks.{table_in, entry_in, IsWhole, AreTables, HasTable, IsLonger, IsChild}
-use Rattle.radix_tables.specs.Levels.{IsLevels, IsSame, IsMade, AreBits, is_used, from_second, from_third, from_fourth, from_fifth, from_sixth, table_of, word_of}
+use Rattle.radix_tables.specs.Walks.{table_in, entry_in, IsWhole, AreTables, HasTable, IsLonger, IsFirst, IsChild}
+use Rattle.radix_tables.specs.Rows.{Words, IsRoomMade}
+use Rattle.radix_tables.specs.Levels.{IsLevels, IsSame, IsMade, AreBits, is_used, from_second, from_third, from_fourth, from_fifth, from_sixth, room_of, word_of}
 use Rattle.radix_tables.specs.declared.levels.Levels.{Levels}
-use Rattle.radix_tables.proofs.Tables.{Same, same_with, same_up, child_walk, child_keeps, child_whole, child_above, child_levels, child_has, first_above, first_same, deep_same, deep_tables, above_room, above_none, above_some, table_first, table_inside, one_number}
+use Rattle.radix_tables.proofs.Tables.{Same, same_with, same_up, child_walk, child_whole, child_above, child_levels, first_above, first_same, deep_same, deep_tables, above_room, above_none, above_some, table_first, table_inside, one_number}
+use Rattle.radix_tables.proofs.RowWords.{within}
 use Rattle.radix_tables.proofs.TableBits.{bits_longer, bits_child}
 
-equal : {xs ys : List ℕ} → ys ≡ xs → (i : ℕ) → get_or ys i 0 ≡ get_or xs i 0
-equal e i = ap (λ (zs : List ℕ). get_or zs i 0) e
-
 pub same_itself : (l : Levels) → IsLevels l → IsSame l l
-same_itself l h = record { levels = h; words = λ v. refl; tables = λ b. refl }
+same_itself l h = record { levels = h; words = λ v. refl; room = λ v. refl }
 
 pub same_over : (l m n : Levels) → IsSame l m → IsSame m n → IsSame l n
-same_over l m n p q = record { levels = q.levels; words = λ v. q.words v ∙ p.words v; tables = λ b. q.tables b ∙ p.tables b }
+same_over l m n p q = record { levels = q.levels; words = λ v. q.words v ∙ p.words v; room = λ v. q.room v ∙ p.room v }
 
--- the table of a block
-table_where : (l : Levels) (b : ℕ) → length l.words.items ≢ 0 → table_of l b ≡ table_in (from_second l) b
-table_where l b d = ap (λ t. cond t 0 (table_in (from_second l) b)) (other (length l.words.items) d)
-  where
-    other : (n : ℕ) → n ≢ 0 → eqb n 0 ≡ false
-    other n d = grind (arith, nat_tests)
-
-some_words : (l : Levels) (b : ℕ) → table_of l b ≢ 0 → length l.words.items ≢ 0
-some_words l b d e = d (ap (λ t. cond t 0 (table_in (from_second l) b)) (is (length l.words.items) e))
-  where
-    is : (n : ℕ) → n ≡ 0 → eqb n 0 ≡ true
-    is n e = grind (arith, nat_tests)
-
-pub table_has : (l : Levels) (b : ℕ) → IsLevels l → table_of l b ≢ 0 → HasTable l.words.items (from_second l) b
-table_has l b h d = let s = some_words l b d in (λ z. d (table_where l b s ∙ z), h.words.first (positive (length l.words.items) s))
-  where
-    positive : (n : ℕ) → n ≢ 0 → 0 < n
-    positive n d = omega arith
-
-pub table_some : (l : Levels) (b : ℕ) → HasTable l.words.items (from_second l) b → table_of l b ≢ 0
-table_some l b h z = h.0 (sym (table_where l b (λ e. absurd (omega (arith, e, h.1)))) ∙ z)
+-- a page with room has a table
+pub room_has : (l : Levels) (page : ℕ) → IsLevels l → room_of l page ≢ 0 → HasTable l.words.items (from_second l) (page / 64)
+room_has l page h d = (λ z. d (above_none l.words.room (from_second l) page h.room z), h.words.first (omega (arith, h.long, within l.words.room _ d)))
 
 -- levels with the same words below other tables
-built : (l m : Levels) → IsLevels l → m.words.items ≡ l.words.items → AreBits is_used l.words.items m.used.items → AreBits is_marked l.words.items m.marks.items →
+built : (l m : Levels) → IsLevels l → m.words ≡ l.words → AreBits is_used l.words.items m.used.items → AreBits is_marked l.words.items m.marks.items →
     AreTables (length l.words.items) (from_second m) → Same (from_second m) (from_second l) → IsSame l m
 built l m h w j k t s = record {
-  levels = record { words = subst IsWhole (sym w) h.words; tables = subst (λ (zs : List ℕ). AreTables (length zs) (from_second m)) (sym w) t; used = subst (λ (zs : List ℕ). AreBits is_used zs m.used.items) (sym w) j; marks = subst (λ (zs : List ℕ). AreBits is_marked zs m.marks.items) (sym w) k };
-  words = same_with l.words.items m.words.items (from_second l) (from_second m) (equal w) s;
-  tables = λ b. ap (λ (zs : List ℕ). cond (eqb (length zs) 0) 0 (table_in (from_second m) b)) w ∙ ap (λ k. cond (eqb (length l.words.items) 0) 0 k) (s b);
+  levels = record {
+    words = subst (λ (z : Words). IsWhole z.items) (sym w) h.words;
+    room = subst (λ (z : Words). IsWhole z.room) (sym w) h.room;
+    long = subst (λ (z : Words). length z.room ≡ length z.items) (sym w) h.long;
+    tables = subst (λ (z : Words). AreTables (length z.items) (from_second m)) (sym w) t;
+    used = subst (λ (z : Words). AreBits is_used z.items m.used.items) (sym w) j;
+    marks = subst (λ (z : Words). AreBits is_marked z.items m.marks.items) (sym w) k;
+  };
+  words = same_with l.words.items m.words.items (from_second l) (from_second m) (λ i. ap (λ (z : Words). get_or z.items i 0) w) s;
+  room = same_with l.words.room m.words.room (from_second l) (from_second m) (λ i. ap (λ (z : Words). get_or z.room i 0) w) s;
 }
 
 -- there is more room for bits
-pub bits_same : (l m : Levels) → IsLevels l → m.words.items ≡ l.words.items → from_second m ≡ from_second l → AreBits is_used l.words.items m.used.items → AreBits is_marked l.words.items m.marks.items → IsSame l m
+pub bits_same : (l m : Levels) → IsLevels l → m.words ≡ l.words → from_second m ≡ from_second l → AreBits is_used l.words.items m.used.items → AreBits is_marked l.words.items m.marks.items → IsSame l m
 bits_same l m h w e j k = built l m h w j k (subst (AreTables (length l.words.items)) (sym e) h.tables) (λ n. ap (λ (zs : List (List ℕ)). table_in zs n) e)
 
 -- a table comes in at a level
 pub child_same : (l m : Levels) (lower : List (List ℕ)) (xs ys below now : List ℕ) (a : List (List ℕ)) (at : ℕ) → IsLevels l → from_second l ≡ lower ++ (below ∷ xs ∷ a) → from_second m ≡ lower ++ (now ∷ ys ∷ a) →
-    m.words.items ≡ l.words.items → m.used.items ≡ l.used.items → m.marks.items ≡ l.marks.items → IsWhole below → (64 ≤ at) × (at < length xs) → IsChild xs ys below now at → IsSame l m
+    m.words ≡ l.words → m.used.items ≡ l.used.items → m.marks.items ≡ l.marks.items → IsWhole below → (64 ≤ at) × (at < length xs) → IsChild xs ys below now at → IsSame l m
 child_same l m lower xs ys below now a at h e f w j k b p c = built l m h w (rw j h.used) (rw k h.marks) tables same
   where
     tables : AreTables (length l.words.items) (from_second m)
@@ -70,7 +57,7 @@ child_same l m lower xs ys below now a at h e f w j k b p c = built l m h w (rw 
 
 -- the first table of a level comes in
 pub first_levels : (l m : Levels) (lower : List (List ℕ)) (xs ys : List ℕ) (a : List (List ℕ)) → IsLevels l → from_second l ≡ lower ++ (xs ∷ a) → from_second m ≡ lower ++ (ys ∷ a) →
-    m.words.items ≡ l.words.items → m.used.items ≡ l.used.items → m.marks.items ≡ l.marks.items → IsLonger xs ys → IsWhole ys → length xs ≤ length ys → IsSame l m
+    m.words ≡ l.words → m.used.items ≡ l.used.items → m.marks.items ≡ l.marks.items → IsLonger xs ys → IsWhole ys → length xs ≤ length ys → IsSame l m
 first_levels l m lower xs ys a h e f w j k g v r = built l m h w (rw j h.used) (rw k h.marks) tables same
   where
     tables : AreTables (length l.words.items) (from_second m)
@@ -83,71 +70,119 @@ pub first_has : (ys : List ℕ) (a : List (List ℕ)) (n : ℕ) → n ≡ 0 → 
 first_has ys a n e l = (λ z. absurd (omega (arith, table_first a n e, z)), l)
 
 -- the first table of words comes in
-pub first_made : (l m : Levels) (block : ℕ) → IsLevels l → from_second m ≡ from_second l → m.used.items ≡ l.used.items → m.marks.items ≡ l.marks.items → block ≡ 0 →
-    IsLonger l.words.items m.words.items → IsWhole m.words.items → length l.words.items ≤ length m.words.items → 128 ≤ length m.words.items → length m.words.items ≤ 64 * length l.used.items → length m.words.items ≤ 64 * length l.marks.items → IsMade l m block
-first_made l m block h e j k z g w r some u v = record {
-  levels = record { words = w; tables = subst (AreTables (length m.words.items)) (sym e) (above_room (from_second l) (length l.words.items) (length m.words.items) h.tables r); used = rw j (bits_longer is_used h.used g u); marks = rw k (bits_longer is_marked h.marks g v) };
-  words = λ n. ap (λ (zs : List (List ℕ)). entry_in m.words.items zs n) e ∙ first_same l.words.items m.words.items (from_second l) g n;
-  made = table_some m block (first_has m.words.items (from_second m) block z some);
-  kept = λ b d. table_some m b (λ y. (table_has l b h d).0 (ap (λ (zs : List (List ℕ)). table_in zs b) (sym e) ∙ y), some);
+first_made : (l m : Levels) → IsLevels l → from_second m ≡ from_second l → m.used.items ≡ l.used.items → m.marks.items ≡ l.marks.items →
+    IsFirst l.words.items m.words.items × IsFirst l.words.room m.words.room × (length m.words.room ≡ length m.words.items) →
+    length m.words.items ≤ 64 * length l.used.items → length m.words.items ≤ 64 * length l.marks.items → IsSame l m
+first_made l m h e j k g u v = record {
+  levels = record {
+    words = g.0.whole;
+    room = g.1.whole;
+    long = g.2;
+    tables = subst (AreTables (length m.words.items)) (sym e) (above_room (from_second l) (length l.words.items) (length m.words.items) h.tables g.0.more);
+    used = rw j (bits_longer is_used h.used g.0.longer u);
+    marks = rw k (bits_longer is_marked h.marks g.0.longer v);
+  };
+  words = λ n. ap (λ (zs : List (List ℕ)). entry_in m.words.items zs n) e ∙ first_same l.words.items m.words.items (from_second l) g.0.longer n;
+  room = λ n. ap (λ (zs : List (List ℕ)). entry_in m.words.room zs n) e ∙ first_same l.words.room m.words.room (from_second l) g.1.longer n;
 }
 
 -- a table of words comes in
-pub child_made : (l m : Levels) (at block : ℕ) (a : List (List ℕ)) → IsLevels l → from_second l ≡ l.second.items ∷ a → from_second m ≡ m.second.items ∷ a → m.used.items ≡ l.used.items → m.marks.items ≡ l.marks.items → block ≢ 0 →
-    at ≡ table_in a (block / 64) * 64 + block % 64 → (64 ≤ at) × (at < length l.second.items) → IsChild l.second.items m.second.items l.words.items m.words.items at →
-    length m.words.items ≤ 64 * length l.used.items → length m.words.items ≤ 64 * length l.marks.items → IsMade l m block
-child_made l m at block a h e f j k d q p c u v = record {
+pub child_made : (l m : Levels) (at : ℕ) (a : List (List ℕ)) → IsLevels l → from_second l ≡ l.second.items ∷ a → from_second m ≡ m.second.items ∷ a → m.used.items ≡ l.used.items → m.marks.items ≡ l.marks.items →
+    (64 ≤ at) × (at < length l.second.items) →
+    IsChild l.second.items m.second.items l.words.items m.words.items at × IsChild l.second.items m.second.items l.words.room m.words.room at → length m.words.room ≡ length m.words.items →
+    length m.words.items ≤ 64 * length l.used.items → length m.words.items ≤ 64 * length l.marks.items → IsSame l m
+child_made l m at a h e f j k p c n u v = record {
   levels = record {
-    words = child_whole l.second.items m.second.items l.words.items m.words.items at h.words c;
-    tables = subst (AreTables (length m.words.items)) (sym f) (child_above l.second.items m.second.items l.words.items m.words.items a at t p.0 p.1 c);
-    used = rw j (bits_child is_used l.second.items m.second.items at h.used c u);
-    marks = rw k (bits_child is_marked l.second.items m.second.items at h.marks c v);
+    words = child_whole l.second.items m.second.items l.words.items m.words.items at h.words c.0;
+    room = child_whole l.second.items m.second.items l.words.room m.words.room at h.room c.1;
+    long = n;
+    tables = subst (AreTables (length m.words.items)) (sym f) (child_above l.second.items m.second.items l.words.items m.words.items a at (subst (AreTables (length l.words.items)) e h.tables) p.0 p.1 c.0);
+    used = rw j (bits_child is_used l.second.items m.second.items at h.used c.0 u);
+    marks = rw k (bits_child is_marked l.second.items m.second.items at h.marks c.0 v);
   };
-  words = λ n. ap (λ (zs : List (List ℕ)). entry_in m.words.items zs n) f ∙ (child_walk l.second.items m.second.items l.words.items m.words.items a at h.words c n ∙ ap (λ (zs : List (List ℕ)). entry_in l.words.items zs n) (sym e));
-  made = table_some m block (subst (λ (zs : List (List ℕ)). HasTable m.words.items zs block) (sym f) has);
-  kept = λ b g. table_some m b (λ z. child_keeps l.second.items m.second.items l.words.items m.words.items a at c b (λ y. (table_has l b h g).0 (ap (λ (zs : List (List ℕ)). table_in zs b) e ∙ y)) (ap (λ (zs : List (List ℕ)). table_in zs b) (sym f) ∙ z), has.1);
+  words = λ n. ap (λ (zs : List (List ℕ)). entry_in m.words.items zs n) f ∙ (child_walk l.second.items m.second.items l.words.items m.words.items a at h.words c.0 n ∙ ap (λ (zs : List (List ℕ)). entry_in l.words.items zs n) (sym e));
+  room = λ n. ap (λ (zs : List (List ℕ)). entry_in m.words.room zs n) f ∙ (child_walk l.second.items m.second.items l.words.room m.words.room a at h.room c.1 n ∙ ap (λ (zs : List (List ℕ)). entry_in l.words.room zs n) (sym e));
+}
+
+-- after other tables that were made
+pub made_then : {T E : Type 0} (l m n : Levels) (page : ℕ) (r : Result T E) → IsSame l m → MatchResult r (λ _. IsMade m n page) (λ _. IsSame m n) → MatchResult r (λ _. IsMade l n page) (λ _. IsSame l n)
+made_then l m n page (Ok x) p q = record { levels = q.levels; words = λ v. q.words v ∙ p.words v; made = q.made; kept = λ b d. q.kept b (λ z. d (sym (p.room b) ∙ z)) }
+made_then l m n page (Err e) p q = same_over l m n p q
+
+room_whole : (xs ys : List ℕ) (at : ℕ) → IsWhole xs → IsRoomMade xs ys at → 64 ≤ at → IsWhole ys
+room_whole xs ys at w r a = record {
+  whole = ap (λ k. k % 64) r.long ∙ w.whole;
+  first = λ p. omega (arith, r.long, w.first (omega (arith, r.long, p)));
+  empty = λ i b. r.others i (apart i b) ∙ w.empty i b;
 }
   where
-    t : AreTables (length l.words.items) (l.second.items ∷ a)
-    t = subst (AreTables (length l.words.items)) e h.tables
+    apart : (i : ℕ) → i < 64 → i / 8 ≢ at / 8
+    apart i b e = absurd (omega arith)
 
-    has : HasTable m.words.items (m.second.items ∷ a) block
-    has = child_has l.second.items m.second.items l.words.items m.words.items a block at d t.0 h.words q c
+-- a row comes in
+pub row_made : {T E : Type 0} (l m : Levels) (page at : ℕ) (r : Result T E) → IsLevels l → HasTable l.words.items (from_second l) (page / 64) → at ≡ table_in (from_second l) (page / 64) * 64 + page % 64 →
+    from_second m ≡ from_second l → m.used.items ≡ l.used.items → m.marks.items ≡ l.marks.items → m.words.items ≡ l.words.items →
+    MatchResult r (λ _. IsRoomMade l.words.room m.words.room at) (λ _. m.words.room ≡ l.words.room) → MatchResult r (λ _. IsMade l m page) (λ _. IsSame l m)
+row_made {T} {E} l m page at r h t q e j k w s = by r s
+  where
+    past : (t r at : ℕ) → t ≢ 0 → at ≡ t * 64 + r → 64 ≤ at
+    past t r at d e = omega arith
 
-pub made_over : {T E : Type 0} (l m n : Levels) (block : ℕ) (r : Result T E) → IsSame l m → MatchResult r (λ _. IsMade m n block) (λ _. IsSame m n) → MatchResult r (λ _. IsMade l n block) (λ _. IsSame l n)
-made_over l m n block (Ok x) p q = record { levels = q.levels; words = λ v. q.words v ∙ p.words v; made = q.made; kept = λ b d. q.kept b (λ z. d (sym (p.tables b) ∙ z)) }
-made_over l m n block (Err e) p q = same_over l m n p q
+    levels : IsWhole m.words.room → length m.words.room ≡ length l.words.room → IsLevels m
+    levels whole long = record {
+      words = subst IsWhole (sym w) h.words;
+      room = whole;
+      long = long ∙ (h.long ∙ ap length (sym w));
+      tables = subst (λ (zs : List ℕ). AreTables (length zs) (from_second m)) (sym w) (subst (AreTables (length l.words.items)) (sym e) h.tables);
+      used = subst (λ (zs : List ℕ). AreBits is_used zs m.used.items) (sym w) (rw j h.used);
+      marks = subst (λ (zs : List ℕ). AreBits is_marked zs m.marks.items) (sym w) (rw k h.marks);
+    }
 
--- a table is there already
-pub made_before : (l : Levels) (block : ℕ) → IsLevels l → HasTable l.words.items (from_second l) block → IsMade l l block
-made_before l block h d = record { levels = h; words = λ v. refl; made = table_some l block d; kept = λ b e. e }
+    words : (v : ℕ) → word_of m v ≡ word_of l v
+    words v = ap (λ (zs : List ℕ). entry_in zs (from_second m) v) w ∙ ap (λ (zs : List (List ℕ)). entry_in l.words.items zs v) e
 
--- and after other tables that were made
-pub made_then : (l m n : Levels) (block : ℕ) → IsSame l m → IsMade m n block → IsMade l n block
-made_then l m n block p q = record { levels = q.levels; words = λ v. q.words v ∙ p.words v; made = q.made; kept = λ b d. q.kept b (λ z. d (sym (p.tables b) ∙ z)) }
+    there : (v : ℕ) → room_of m v ≡ entry_in m.words.room (from_second l) v
+    there v = ap (λ (zs : List (List ℕ)). entry_in m.words.room zs v) e
+
+    by : (r : Result T E) → MatchResult r (λ _. IsRoomMade l.words.room m.words.room at) (λ _. m.words.room ≡ l.words.room) → MatchResult r (λ _. IsMade l m page) (λ _. IsSame l m)
+    by (Ok x) s = record {
+      levels = levels (room_whole l.words.room m.words.room at h.room s (past _ _ at t.0 q)) s.long;
+      words = words;
+      made = λ z. s.some (ap (λ i. get_or m.words.room i 0) q ∙ (sym (there page) ∙ z));
+      kept = λ v d z. s.kept _ d (sym (there v) ∙ z);
+    }
+    by (Err x) s = record {
+      levels = levels (subst IsWhole (sym s) h.room) (ap length s);
+      words = words;
+      room = λ v. there v ∙ ap (λ (zs : List ℕ). entry_in zs (from_second l) v) s;
+    }
+
+pub row_there : (l m : Levels) (page at : ℕ) → IsLevels l → HasTable l.words.items (from_second l) (page / 64) → at ≡ table_in (from_second l) (page / 64) * 64 + page % 64 →
+    from_second m ≡ from_second l → m.used.items ≡ l.used.items → m.marks.items ≡ l.marks.items → m.words.items ≡ l.words.items → IsRoomMade l.words.room m.words.room at → IsMade l m page
+row_there l m page at h t q e j k w s = row_made {T = ℕ} {E = ℕ} l m page at (Ok 0) h t q e j k w s
 
 -- no table came in
-pub unchanged : (l m n : Levels) → IsSame l m → n.words.items ≡ m.words.items → from_second n ≡ from_second m → n.used.items ≡ m.used.items → n.marks.items ≡ m.marks.items → IsSame l n
+pub unchanged : (l m n : Levels) → IsSame l m → n.words ≡ m.words → from_second n ≡ from_second m → n.used.items ≡ m.used.items → n.marks.items ≡ m.marks.items → IsSame l n
 unchanged l m n p w e j k = same_over l m n p (bits_same m n p.levels w e (rw j p.levels.used) (rw k p.levels.marks))
 
 pub two_same : (lower : List (List ℕ)) {xs ys below now : List ℕ} (a : List (List ℕ)) → (ys ≡ xs) × (now ≡ below) → lower ++ (now ∷ ys ∷ a) ≡ lower ++ (below ∷ xs ∷ a)
 two_same lower {xs} {ys} {below} {now} a p = ap (λ (zs : List ℕ). lower ++ (zs ∷ ys ∷ a)) p.1 ∙ ap (λ (zs : List ℕ). lower ++ (below ∷ zs ∷ a)) p.0
 
 -- the first table of words came in, or none did
-pub first_result : {T E : Type 0} (l m : Levels) (block : ℕ) (r : Result T E) → IsLevels l → from_second m ≡ from_second l → m.used.items ≡ l.used.items → m.marks.items ≡ l.marks.items → block ≡ 0 →
-    IsLonger l.words.items m.words.items → IsWhole m.words.items → length l.words.items ≤ length m.words.items → OnOk r (128 ≤ length m.words.items) → OnErr r (m.words.items ≡ l.words.items) →
-    length m.words.items ≤ 64 * length l.used.items → length m.words.items ≤ 64 * length l.marks.items → MatchResult r (λ _. IsMade l m block) (λ _. IsSame l m)
-first_result l m block (Ok x) h e j k z g w r some same u v = first_made l m block h e j k z g w r some u v
-first_result l m block (Err x) h e j k z g w r some same u v = bits_same l m h same e (rw j h.used) (rw k h.marks)
+pub first_result : {T E : Type 0} (l m : Levels) (r : Result T E) → IsLevels l → from_second m ≡ from_second l → m.used.items ≡ l.used.items → m.marks.items ≡ l.marks.items →
+    OnOk r (IsFirst l.words.items m.words.items × IsFirst l.words.room m.words.room × (length m.words.room ≡ length m.words.items)) → OnErr r (m.words ≡ l.words) →
+    length m.words.items ≤ 64 * length l.used.items → length m.words.items ≤ 64 * length l.marks.items → IsSame l m
+first_result l m (Ok x) h e j k g same u v = first_made l m h e j k g u v
+first_result l m (Err x) h e j k g same u v = bits_same l m h same e (rw j h.used) (rw k h.marks)
 
--- nothing came in
-pub none_made : {T E : Type 0} (l m : Levels) (block : ℕ) (r : Result T E) → IsErr r → IsSame l m → MatchResult r (λ _. IsMade l m block) (λ _. IsSame l m)
-none_made l m block (Ok x) e h = cc
-none_made l m block (Err x) e h = h
+pub first_ok : {T E : Type 0} (xs ys : Words) (a : List (List ℕ)) (block : ℕ) (r : Result T E) → block ≡ 0 →
+    OnOk r (IsFirst xs.items ys.items × IsFirst xs.room ys.room × (length ys.room ≡ length ys.items)) → OnOk r (HasTable ys.items a block)
+first_ok xs ys a block (Ok x) e g = first_has ys.items a block e g.0.some
+first_ok xs ys a block (Err x) e g = tt
 
 -- a word is set
-pub word_place : (l : Levels) (page : ℕ) → IsLevels l → table_of l (page / 64) ≢ 0 → table_in (from_second l) (page / 64) * 64 + 64 ≤ length l.words.items
-word_place l page h d = table_inside l.words.items (from_second l) (page / 64) h.tables (table_has l (page / 64) h d)
+pub word_place : (l : Levels) (page : ℕ) → IsLevels l → room_of l page ≢ 0 → table_in (from_second l) (page / 64) * 64 + 64 ≤ length l.words.items
+word_place l page h d = table_inside l.words.items (from_second l) (page / 64) h.tables (room_has l page h d)
 
 whole_set : (xs : List ℕ) (at word : ℕ) → IsWhole xs → 64 ≤ at → IsWhole (set xs at word)
 whole_set xs at word w a = record {
@@ -159,10 +194,12 @@ whole_set xs at word w a = record {
     apart : (i : ℕ) → i < 64 → i ≢ at
     apart i b e = absurd (omega arith)
 
-pub word_set : (l m : Levels) (at page word : ℕ) → IsLevels l → table_of l (page / 64) ≢ 0 → at ≡ table_in (from_second l) (page / 64) * 64 + page % 64 →
-    from_second m ≡ from_second l → m.words.items ≡ set l.words.items at word → AreBits is_used m.words.items m.used.items → AreBits is_marked m.words.items m.marks.items → IsLevels m
-word_set l m at page word h some place e t j k = record {
-  words = subst IsWhole (sym t) (whole_set l.words.items at word h.words (past (table_in (from_second l) (page / 64)) (page % 64) at (table_has l (page / 64) h some).0 place));
+pub word_set : (l m : Levels) (at page word : ℕ) → IsLevels l → room_of l page ≢ 0 → at ≡ table_in (from_second l) (page / 64) * 64 + page % 64 →
+    from_second m ≡ from_second l → m.words.items ≡ set l.words.items at word → m.words.room ≡ l.words.room → AreBits is_used m.words.items m.used.items → AreBits is_marked m.words.items m.marks.items → IsLevels m
+word_set l m at page word h some place e t o j k = record {
+  room = subst IsWhole (sym o) h.room;
+  long = ap length o ∙ (h.long ∙ sym (ap length t ∙ length-set l.words.items at word));
+  words = subst IsWhole (sym t) (whole_set l.words.items at word h.words (past (table_in (from_second l) (page / 64)) (page % 64) at (room_has l page h some).0 place));
   tables = subst (λ n. AreTables n (from_second m)) (sym (ap length t ∙ length-set l.words.items at word)) (subst (AreTables (length l.words.items)) (sym e) h.tables);
   used = j;
   marks = k;
@@ -171,7 +208,7 @@ word_set l m at page word h some place e t j k = record {
     past : (t r at : ℕ) → t ≢ 0 → at ≡ t * 64 + r → 64 ≤ at
     past t r at d e = omega arith
 
-pub words_set : (l : Levels) (at page word : ℕ) → IsLevels l → table_of l (page / 64) ≢ 0 → at ≡ table_in (from_second l) (page / 64) * 64 + page % 64 →
+pub words_set : (l : Levels) (at page word : ℕ) → IsLevels l → room_of l page ≢ 0 → at ≡ table_in (from_second l) (page / 64) * 64 + page % 64 →
     (v : ℕ) → entry_in (set l.words.items at word) (from_second l) v ≡ cond (eqb v page) word (word_of l v)
 words_set l at page word h some place v = by (cases_eq v page)
   where
@@ -194,7 +231,7 @@ words_set l at page word h some place v = by (cases_eq v page)
         split a b p q e = (omega arith, omega arith)
 
         number : (table_in (from_second l) (v / 64) ≡ table_in (from_second l) (page / 64)) × (v % 64 ≡ page % 64) → v ≡ page
-        number s = let u = one_number (from_second l) (length l.words.items) (v / 64) (page / 64) h.tables s.0 (λ z. (table_has l (page / 64) h some).0 (sym s.0 ∙ z)) in joined v page u s.1
+        number s = let u = one_number (from_second l) (length l.words.items) (v / 64) (page / 64) h.tables s.0 (λ z. (room_has l page h some).0 (sym s.0 ∙ z)) in joined v page u s.1
           where
             joined : (v page : ℕ) → v / 64 ≡ page / 64 → v % 64 ≡ page % 64 → v ≡ page
             joined v page a b = omega arith

@@ -1,12 +1,12 @@
 -- The map of a function, over a range of numbers.
-use Rattle.std.proofs.Common.{◌≡◌, ◌≢◌, ℕ, zero, suc, ◌+◌, ◌/◌, ◌^◌, ◌<◌, ◌≤◌, Bool, true, false, not, ◌&&◌, eqb, ltb, leb, cond, Option, Some, None, List, [], ◌∷◌, ◌++◌, refl, sym, ap, ◌∙◌, arith, ◌⊎◌, inl, inr}
+use Rattle.std.proofs.Common.{◌≡◌, ◌≢◌, ℕ, zero, suc, ◌+◌, ◌^◌, ◌<◌, ◌≤◌, Bool, true, false, not, ◌&&◌, eqb, ltb, leb, cond, Option, Some, None, List, [], ◌∷◌, ◌++◌, refl, sym, ap, ◌∙◌, arith, ◌⊎◌, inl, inr}
 use Rattle.std.specs.Prelude.{find, unwrap_or}
 use Rattle.std.specs.List.{filter, list_any, range_with_len}
 use Rattle.std.specs.Ordering.{nat_cmp}
 use Rattle.std.specs.FinMap.Entries as sorted
 use Rattle.std.proofs.lemmas.Bool.{cases_eq, cases_lt}
 use Rattle.std.proofs.lemmas.Bool.Decides.{nat_tests}
-use Rattle.radix_tables.specs.Maps.{Map, pairs, pages, blocks, page_count, block_count, map_of, word_at, is_reserved, with_word, without_word, given_back, room_left, before, next_word, is_marked, marked, next_marked}
+use Rattle.radix_tables.specs.Maps.{Map, pairs, pages, page_count, map_of, word_at, is_reserved, with_word, without_word, given_back, room_left, before, next_word, is_marked, marked, next_marked}
 use Rattle.radix_tables.specs.Levels.{IsLeast}
 
 same_test : (a b : ℕ) → a ≡ b → eqb a b ≡ true
@@ -200,10 +200,6 @@ page_below : (p : ℕ) → p < 2 ^ 36 → p < page_count
 unfolding page_count
 page_below p l = l
 
-block_below : (b : ℕ) → b < 2 ^ 30 → b < block_count
-unfolding block_count
-block_below b l = l
-
 pub word_is : (f t : ℕ → ℕ) (p : ℕ) → p < 2 ^ 36 → f p ≡ word_at (map_of f t) p
 word_is f t p l = sym (ap (λ o. unwrap_or o 0) (find_in f p 0 page_count (omega arith) (omega (arith, page_below p l))) ∙ unfound (f p))
 
@@ -261,37 +257,37 @@ some_test x e z = absurd (no (sym e ∙ rw (same_test x 0 z) refl))
     no : true ≡ false → ⊥
     no e = cc
 
-pub reserved_is : (f t : ℕ → ℕ) (p : ℕ) → is_reserved (map_of f t) p ≡ true → t (p / 64) ≢ 0
-reserved_is f t p e = by (cases_lt (p / 64) block_count)
+pub reserved_is : (f t : ℕ → ℕ) (p : ℕ) → is_reserved (map_of f t) p ≡ true → t p ≢ 0
+reserved_is f t p e = by (cases_lt p page_count)
   where
-    by : (p / 64 < block_count) ⊎ (block_count ≤ p / 64) → t (p / 64) ≢ 0
-    by (inl l) = some_test (t (p / 64)) (sym (any_in (λ b. not (eqb (t b) 0)) (p / 64) 0 block_count (omega arith) (omega arith)) ∙ e)
-    by (inr l) = cc (any_past (λ b. not (eqb (t b) 0)) (p / 64) 0 block_count (omega arith), e)
+    by : (p < page_count) ⊎ (page_count ≤ p) → t p ≢ 0
+    by (inl l) = some_test (t p) (sym (any_in (λ b. not (eqb (t b) 0)) p 0 page_count (omega arith) (omega arith)) ∙ e)
+    by (inr l) = cc (any_past (λ b. not (eqb (t b) 0)) p 0 page_count (omega arith), e)
 
-is_reserved_where : (f t : ℕ → ℕ) (p : ℕ) → p / 64 < block_count → t (p / 64) ≢ 0 → is_reserved (map_of f t) p ≡ true
-is_reserved_where f t p l d = any_in (λ b. not (eqb (t b) 0)) (p / 64) 0 block_count (omega arith) (omega arith) ∙ rw (other_test (t (p / 64)) 0 d) refl
+is_reserved_where : (f t : ℕ → ℕ) (p : ℕ) → p < page_count → t p ≢ 0 → is_reserved (map_of f t) p ≡ true
+is_reserved_where f t p l d = any_in (λ b. not (eqb (t b) 0)) p 0 page_count (omega arith) (omega arith) ∙ rw (other_test (t p) 0 d) refl
 
-pub reserved_made : (f t : ℕ → ℕ) (p : ℕ) → p < 2 ^ 36 → t (p / 64) ≢ 0 → is_reserved (map_of f t) p ≡ true
-reserved_made f t p l d = is_reserved_where f t p (block_below (p / 64) (omega arith)) d
+pub reserved_made : (f t : ℕ → ℕ) (p : ℕ) → p < 2 ^ 36 → t p ≢ 0 → is_reserved (map_of f t) p ≡ true
+reserved_made f t p l d = is_reserved_where f t p (page_below p l) d
 
 pub reserved_kept : (f g t u : ℕ → ℕ) (p : ℕ) → ((b : ℕ) → t b ≢ 0 → u b ≢ 0) → is_reserved (map_of f t) p ≡ true → is_reserved (map_of g u) p ≡ true
-reserved_kept f g t u p h e = by (cases_lt (p / 64) block_count)
+reserved_kept f g t u p h e = by (cases_lt p page_count)
   where
-    by : (p / 64 < block_count) ⊎ (block_count ≤ p / 64) → is_reserved (map_of g u) p ≡ true
-    by (inl l) = is_reserved_where g u p l (h (p / 64) (reserved_is f t p e))
-    by (inr l) = cc (any_past (λ b. not (eqb (t b) 0)) (p / 64) 0 block_count (omega arith), e)
+    by : (p < page_count) ⊎ (page_count ≤ p) → is_reserved (map_of g u) p ≡ true
+    by (inl l) = is_reserved_where g u p l (h p (reserved_is f t p e))
+    by (inr l) = cc (any_past (λ b. not (eqb (t b) 0)) p 0 page_count (omega arith), e)
 
-pub blocks_same : (t u : ℕ → ℕ) → ((b : ℕ) → u b ≡ t b) → filter (λ b. not (eqb (u b) 0)) blocks ≡ filter (λ b. not (eqb (t b) 0)) blocks
-blocks_same t u h = filter_same (λ b. not (eqb (u b) 0)) (λ b. not (eqb (t b) 0)) blocks (λ b. ap (λ k. not (eqb k 0)) (h b))
+pub room_same : (t u : ℕ → ℕ) → ((b : ℕ) → u b ≡ t b) → filter (λ b. not (eqb (u b) 0)) pages ≡ filter (λ b. not (eqb (t b) 0)) pages
+room_same t u h = filter_same (λ b. not (eqb (u b) 0)) (λ b. not (eqb (t b) 0)) pages (λ b. ap (λ k. not (eqb k 0)) (h b))
 
 pub map_same : (f g t u : ℕ → ℕ) → ((q : ℕ) → g q ≡ f q) → ((b : ℕ) → u b ≡ t b) → map_of g u ≡ map_of f t
-map_same f g t u p q = rw (words_same f g p, blocks_same t u q) refl
+map_same f g t u p q = rw (words_same f g p, room_same t u q) refl
 
 pub map_set : (f g t u : ℕ → ℕ) (p w : ℕ) → p < 2 ^ 36 → w ≢ 0 → ((q : ℕ) → g q ≡ cond (eqb q p) w (f q)) → ((b : ℕ) → u b ≡ t b) → map_of g u ≡ with_word (map_of f t) p w
-map_set f g t u p w l d h q = rw (word_set f g p w l d h, blocks_same t u q) refl
+map_set f g t u p w l d h q = rw (word_set f g p w l d h, room_same t u q) refl
 
 pub map_cleared : (f g t u : ℕ → ℕ) (p : ℕ) → ((q : ℕ) → g q ≡ cond (eqb q p) 0 (f q)) → ((b : ℕ) → u b ≡ t b) → map_of g u ≡ without_word (map_of f t) p
-map_cleared f g t u p h q = rw (word_cleared f g p h, blocks_same t u q) refl
+map_cleared f g t u p h q = rw (word_cleared f g p h, room_same t u q) refl
 
 none_of : (f : ℕ → ℕ) (ns : List ℕ) → ((q : ℕ) → f q ≡ 0) → pairs f ns ≡ []
 none_of f [] h = refl
@@ -301,15 +297,15 @@ none_passes : (test : ℕ → Bool) (ns : List ℕ) → ((b : ℕ) → test b �
 none_passes test [] h = refl
 none_passes test (a ∷ ns) h = rw (h a, none_passes test ns h) refl
 
-pub no_words : (f t : ℕ → ℕ) → ((q : ℕ) → f q ≡ 0) → ((b : ℕ) → t b ≡ 0) → map_of f t ≡ record { words = []; blocks = [] }
-no_words f t h g = rw (none_of f pages h, none_passes (λ b. not (eqb (t b) 0)) blocks (λ b. rw (same_test (t b) 0 (g b)) refl)) refl
+pub no_words : (f t : ℕ → ℕ) → ((q : ℕ) → f q ≡ 0) → ((b : ℕ) → t b ≡ 0) → map_of f t ≡ record { words = []; room = [] }
+no_words f t h g = rw (none_of f pages h, none_passes (λ b. not (eqb (t b) 0)) pages (λ b. rw (same_test (t b) 0 (g b)) refl)) refl
 
 -- a map without words gives its room back
 pub map_empty : (f t g u : ℕ → ℕ) (map : Map) → map_of f t ≡ map → ((q : ℕ) → f q ≡ 0) → ((q : ℕ) → g q ≡ 0) → ((b : ℕ) → u b ≡ 0) → map_of g u ≡ given_back map
 map_empty f t g u map e h k l = no_words g u k l ∙ (sym (rw (none_of f pages h) refl) ∙ ap given_back e)
 
 pub map_some : (m : Map) (p end : ℕ) (e : ℕ × ℕ) → Some e ≡ next_word m p end → m ≡ given_back m
-map_some m p end e s = ap (λ (bs : List ℕ). record m { blocks = bs }) (stays m.words m.blocks s)
+map_some m p end e s = ap (λ (bs : List ℕ). record m { room = bs }) (stays m.words m.room s)
   where
     stays : (ws : List (ℕ × ℕ)) (bs : List ℕ) → Some e ≡ before end (find (λ e. leb p e.0) ws) → bs ≡ room_left ws bs
     stays [] bs s = cc

@@ -9,7 +9,7 @@ use Rattle.radix_tables.specs.declared.level_tables.Step.TheVariants.{Table}
 use Rattle.radix_tables.proofs.Tables.{table_first, table_entry}
 
 -- how far a table reaches
-table_small : (a : List (List ℕ)) (n m : ℕ) → AreTables m a → m < 2 ^ 63 → table_in a n < 2 ^ 57
+pub table_small : (a : List (List ℕ)) (n m : ℕ) → AreTables m a → m < 2 ^ 63 → table_in a n < 2 ^ 57
 table_small a n m h l = by a h (cases_eq n 0)
   where
     first : (a : List (List ℕ)) → n ≡ 0 → table_in a n < 2 ^ 57

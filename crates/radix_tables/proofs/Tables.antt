@@ -6,7 +6,7 @@ use Rattle.std.proofs.lemmas.List.{get_or-set_same, get_or-set_other, length-set
 use Rattle.radix_tables.specs.Walks.{table_in, entry_in, IsWhole, IsTables, AreTables, HasTable, IsLonger, IsChild}
 
 -- what is read of entries after zeros were added
-zeros_added : (xs : List ℕ) (k i : ℕ) → get_or (xs ++ replicate k 0) i 0 ≡ get_or xs i 0
+pub zeros_added : (xs : List ℕ) (k i : ℕ) → get_or (xs ++ replicate k 0) i 0 ≡ get_or xs i 0
 zeros_added xs k i = by (cases_lt i (length xs))
   where
     zero_at : (n j : ℕ) → let zs : List ℕ = replicate n 0 in get_or zs j 0 ≡ 0
@@ -210,28 +210,6 @@ child_walk xs ys below now a at w c q = by c.step
         start : (q / 64 ≡ 0) ⊎ (q / 64 ≢ 0) → get_or below (table_in (ys ∷ a) (q / 64) * 64 + q % 64) 0 ≡ entry_in below (xs ∷ a) q
         start (inl z) = ap (λ k. get_or below (k * 64 + q % 64) 0) (table_first (ys ∷ a) (q / 64) z ∙ sym (table_first (xs ∷ a) (q / 64) z))
         start (inr d) = here d (cases_eq place at)
-
--- what is there stays there
-pub child_keeps : (xs ys below now : List ℕ) (a : List (List ℕ)) (at : ℕ) → IsChild xs ys below now at → (q : ℕ) → table_in (xs ∷ a) q ≢ 0 → table_in (ys ∷ a) q ≢ 0
-child_keeps xs ys below now a at c q d z = by (cases_eq q 0) c.step
-  where
-    t : ℕ
-    t = get_or ys at 0
-
-    place : ℕ
-    place = table_in a (q / 64) * 64 + q % 64
-
-    by : (q ≡ 0) ⊎ (q ≢ 0) → ((get_or xs at 0 ≢ 0) × (ys ≡ xs) × (now ≡ below)) ⊎ ((get_or xs at 0 ≡ 0) × (ys ≡ set xs at t) × (2 ≤ t) × (length below ≤ t * 64) × (length now ≡ t * 64 + 64) × IsLonger below now) → ⊥
-    by (inl e) s = let f = table_first (ys ∷ a) q e in cc (f, z)
-    by (inr e) (inl s) = d (ap (λ (zs : List ℕ). table_in (zs ∷ a) q) (sym s.1) ∙ z)
-    by (inr e) (inr s) = here (cases_eq place at)
-      where
-        none : get_or ys place 0 ≡ 0
-        none = sym (table_entry ys a q e) ∙ z
-
-        here : (place ≡ at) ⊎ (place ≢ at) → ⊥
-        here (inl p) = c.some (ap (λ i. get_or ys i 0) (sym p) ∙ none)
-        here (inr p) = d (table_entry xs a q e ∙ (sym (get_or-set_other xs at place t 0 p) ∙ (ap (λ (zs : List ℕ). get_or zs place 0) (sym s.1) ∙ none)))
 
 child_tables : (xs ys below now : List ℕ) (at : ℕ) → IsTables xs (length below) → 64 ≤ at → at < length xs → IsChild xs ys below now at → IsTables ys (length now)
 child_tables xs ys below now at h a l c = by c.step

@@ -1,5 +1,5 @@
 -- The six levels of a radix table.
-use Rattle.std.specs.Prelude.{◌≡◌, ◌≢◌, ℕ, ◌*◌, ◌/◌, ◌<◌, ◌≤◌, Bool, not, ◌==◌, if◌then◌else◌, Option, List, [], ◌∷◌, length, slice_index}
+use Rattle.std.specs.Prelude.{◌≡◌, ◌≢◌, ℕ, ◌*◌, ◌/◌, ◌<◌, ◌≤◌, Bool, not, ◌==◌, Option, List, [], ◌∷◌, length, slice_index}
 use Rattle.std.specs.Option.{MatchOption}
 use Rattle.frame_pool.specs.Bits.{bit}
 use Rattle.radix_tables.specs.Maps.{is_marked, marked}
@@ -41,34 +41,36 @@ from_second l = l.second.items ∷ from_third l
 -- and which are marked
 pub record IsLevels (l : Levels) : Type 0 where
   pub words : IsWhole l.words.items
+  pub room : IsWhole l.words.room
+  pub long : length l.words.room ≡ length l.words.items
   pub tables : AreTables (length l.words.items) (from_second l)
   pub used : AreBits is_used l.words.items l.used.items
   pub marks : AreBits is_marked l.words.items l.marks.items
-
--- the table of the first level for a block of 64 pages, 0 where there is none
-abbrev pub table_of : Levels → ℕ → ℕ
-table_of l block = if length l.words.items == 0 then 0 else table_in (from_second l) block
 
 -- the word of a page, 0 where there is none
 abbrev pub word_of : Levels → ℕ → ℕ
 word_of l page = entry_in l.words.items (from_second l) page
 
--- the same where the word is marked
+-- whether there is memory for the word of a page: 0 if there is none
+abbrev pub room_of : Levels → ℕ → ℕ
+room_of l page = entry_in l.words.room (from_second l) page
+
+-- the word of a page where it is marked
 abbrev pub marked_of : Levels → ℕ → ℕ
 marked_of l page = marked (word_of l page)
 
--- no table of the first level and no word is another
+-- no page has another word, or room for one that it had not
 pub record IsSame (l m : Levels) : Type 0 where
   pub levels : IsLevels m
   pub words : (v : ℕ) → word_of m v ≡ word_of l v
-  pub tables : (b : ℕ) → table_of m b ≡ table_of l b
+  pub room : (v : ℕ) → room_of m v ≡ room_of l v
 
--- the table of the block was made, no word is another, and each table that was there is there
-pub record IsMade (l m : Levels) (block : ℕ) : Type 0 where
+-- there is room for the word of the page, no word is another, and all that had room have it
+pub record IsMade (l m : Levels) (page : ℕ) : Type 0 where
   pub levels : IsLevels m
   pub words : (v : ℕ) → word_of m v ≡ word_of l v
-  pub made : table_of m block ≢ 0
-  pub kept : (b : ℕ) → table_of l b ≢ 0 → table_of m b ≢ 0
+  pub made : room_of m page ≢ 0
+  pub kept : (v : ℕ) → room_of l v ≢ 0 → room_of m v ≢ 0
 
 -- the table of a number that these levels name, or a number before which they name none from this one on
 abbrev pub IsStepIn : List (List ℕ) → ℕ → Step → Type 0

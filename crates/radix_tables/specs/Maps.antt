@@ -1,13 +1,13 @@
 -- The map that a radix table is: its words with their pages, in rising order of the pages.
-use Rattle.std.specs.Prelude.{ℕ, ◌/◌, ◌%◌, ◌^◌, Bool, not, ◌&&◌, ◌==◌, nat_le, nat_lt, Option, Some, None, List, [], ◌∷◌, unwrap_or, find, if◌then◌else◌}
+use Rattle.std.specs.Prelude.{ℕ, ◌%◌, ◌^◌, Bool, not, ◌&&◌, ◌==◌, nat_le, nat_lt, Option, Some, None, List, [], ◌∷◌, unwrap_or, find, if◌then◌else◌}
 use Rattle.std.specs.List.{filter, flat_map, list_any, range_with_len}
 use Rattle.std.specs.Ordering.{nat_cmp}
 use Rattle.std.specs.FinMap.Entries as sorted
 
--- the words that are not 0, by page, and the blocks of 64 pages for whose words there is room
+-- the words that are not 0, by page, and the pages for whose words there is room
 pub record Map : Type 0 where
   pub words : List (ℕ × ℕ)
-  pub blocks : List ℕ
+  pub room : List ℕ
 
 -- the word of a page, 0 where there is none
 abbrev pub word_at : Map → ℕ → ℕ
@@ -15,7 +15,7 @@ word_at m page = unwrap_or (sorted.find nat_cmp page m.words) 0
 
 -- there is room for the word of the page, so that setting it asks for no memory
 abbrev pub is_reserved : Map → ℕ → Bool
-is_reserved m page = list_any (λ b. b == page / 64) m.blocks
+is_reserved m page = list_any (λ v. v == page) m.room
 
 -- the map once the page has the word
 abbrev pub with_word : Map → ℕ → ℕ → Map
@@ -27,12 +27,12 @@ without_word m page = record m { words = sorted.where_key nat_cmp (λ v. not (v 
 
 -- the map without its room, where it has no word
 abbrev pub room_left : List (ℕ × ℕ) → List ℕ → List ℕ
-room_left [] blocks = []
-room_left (_ ∷ _) blocks = blocks
+room_left [] room = []
+room_left (_ ∷ _) room = room
 
 -- the map once it has given its room back, which it does if it has no word
 abbrev pub given_back : Map → Map
-given_back m = record m { blocks = room_left m.words m.blocks }
+given_back m = record m { room = room_left m.words m.room }
 
 -- a page with its word, if it lies before an end
 abbrev pub before : ℕ → Option (ℕ × ℕ) → Option (ℕ × ℕ)
@@ -59,21 +59,14 @@ marked w = if is_marked w then w else 0
 abbrev pub pairs : (ℕ → ℕ) → List ℕ → List (ℕ × ℕ)
 pairs f ns = flat_map (λ n. if f n == 0 then [] else ((n, f n) ∷ [])) ns
 
--- how many pages there are, and blocks
+-- how many pages there are
 unfoldable pub page_count : ℕ
 page_count = 2 ^ 36
-
-unfoldable pub block_count : ℕ
-block_count = 2 ^ 30
 
 -- the numbers of all pages
 abbrev pub pages : List ℕ
 pages = range_with_len 0 page_count
 
--- the numbers of all blocks
-abbrev pub blocks : List ℕ
-blocks = range_with_len 0 block_count
-
--- the map of functions that give for each page its word, and for each block its table, 0 if there is none
+-- the map of functions that give for each page its word, and whether there is room for it, 0 if there is none
 abbrev pub map_of : (ℕ → ℕ) → (ℕ → ℕ) → Map
-map_of word table = record { words = pairs word pages; blocks = filter (λ b. not (table b == 0)) blocks }
+map_of word room = record { words = pairs word pages; room = filter (λ v. not (room v == 0)) pages }

@@ -34,6 +34,20 @@ pub record IsLonger (entries now : List ℕ) : Type 0 where
   pub by : ℕ
   pub added : now ≡ entries ++ replicate by 0
 
+-- the first table is there, and zeros were added for it if it was not
+pub record IsFirst (entries now : List ℕ) : Type 0 where
+  pub longer : IsLonger entries now
+  pub whole : IsWhole now
+  pub some : 128 ≤ length now
+  pub more : length entries ≤ length now
+
+-- a table of zeros was added, of this number
+pub record IsAdded (entries now : List ℕ) (table : ℕ) : Type 0 where
+  pub longer : IsLonger entries now
+  pub past : 2 ≤ table
+  pub after : length entries ≤ table * 64
+  pub last : length now ≡ table * 64 + 64
+
 -- the entry names a table of the level below, which was added if there was none
 pub record IsChild (entries now below below_now : List ℕ) (at : ℕ) : Type 0 where
   pub some : slice_index now at ≢ 0

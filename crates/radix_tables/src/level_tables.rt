@@ -1,8 +1,9 @@
 // The tables of one level, 64 entries each, in a row.
 ghost use Rattle.std.specs.Prelude.{◌≡◌, ◌≢◌, ℕ, ◌+◌, ◌*◌, ◌/◌, ◌%◌, ◌^◌, ◌<◌, ◌≤◌, List, length, slice_index, MatchResult, OnOk, OnErr, IfOk, ◌∷◌};
-ghost use Rattle.radix_tables.specs.Walks.{IsWhole, IsLonger, IsChild};
+ghost use Rattle.radix_tables.specs.Walks.{IsWhole, IsLonger, IsFirst, IsAdded, IsChild};
 ghost use Rattle.radix_tables.specs.Levels.{IsStepIn};
 
+use crate::word_rows::WordRows;
 use hm_base::NoMemory;
 
 /// Entries of a table.
@@ -116,6 +117,50 @@ pub fn child(entries: &mut Vec<u64>, at: usize, below: &mut Vec<u64>) -> Result<
 {
     if entries[at] == 0 {
         entries[at] = add_table(below)?;
+    }
+    Ok(entries[at])
+}
+
+/// As `first_table`, of words.
+pub fn first_words(words: &mut WordRows) -> Result<(), NoMemory>
+    requires whole { IsWhole words.old.items }
+    requires room { IsWhole words.old.room }
+    requires long { length words.old.room ≡ length words.old.items }
+    ensures ok { OnOk result (IsFirst words.old.items words.new.items × IsFirst words.old.room words.new.room
+        × (length words.new.room ≡ length words.new.items)) }
+    ensures err { OnErr result (words.new ≡ words.old) }
+    ensures grown { length words.new.items ≤ length words.old.items + 128 }
+{
+    if words.tables() == 0 {
+        words.grow(2)?;
+    }
+    Ok(())
+}
+
+/// As `add_table`, of words.
+fn add_words(words: &mut WordRows) -> Result<u64, NoMemory>
+    ensures added { MatchResult result (λ table. IsAdded words.old.items words.new.items table
+        × IsAdded words.old.room words.new.room table) (λ _. words.new ≡ words.old) }
+    ensures grown { length words.new.items ≤ length words.old.items + 192 }
+{
+    let tables = words.tables().max(2);
+    words.grow(tables + 1)?;
+    Ok(tables as u64)
+}
+
+/// As `child`, where the level below has words.
+pub fn child_words(entries: &mut Vec<u64>, at: usize, below: &mut WordRows) -> Result<u64, NoMemory>
+    requires at { at < length entries.old.items }
+    requires long { length below.old.room ≡ length below.old.items }
+    ensures child { MatchResult result
+        (λ _. IsChild entries.old.items entries.new.items below.old.items below.new.items at
+        × IsChild entries.old.items entries.new.items below.old.room below.new.room at)
+        (λ _. (entries.new.items ≡ entries.old.items) × (below.new ≡ below.old)) }
+    ensures grown { length below.new.items ≤ length below.old.items + 192 }
+    ensures long { length below.new.room ≡ length below.new.items }
+{
+    if entries[at] == 0 {
+        entries[at] = add_words(below)?;
     }
     Ok(entries[at])
 }

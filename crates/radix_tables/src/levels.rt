@@ -1,13 +1,16 @@
 // Six levels of tables of 64 entries. The kernel has five, of 512 entries each, a page of memory a table, since a
 // processor reads them. Here a table is small, because a process of a history uses few pages, and because one word of
 // bits can say which entries of a table are used.
-ghost use Rattle.std.specs.Prelude.{◌≡◌, ◌≢◌, ℕ, ◌+◌, ◌*◌, ◌/◌, ◌%◌, ◌^◌, ◌<◌, ◌≤◌, ◌==◌, if◌then◌else◌, length, slice_index, MatchOption, Some, MatchResult, OnOk, true, false};
+ghost use Rattle.std.specs.Prelude.{◌≡◌, ◌≢◌, ℕ, ◌+◌, ◌*◌, ◌/◌, ◌%◌, ◌^◌, ◌<◌, ◌≤◌, ◌==◌, if◌then◌else◌, length, not, slice_index, MatchOption, Some, MatchResult, OnOk, true, false};
 ghost use Rattle.frame_pool.specs.Bits.{bit};
 ghost use Rattle.radix_tables.specs.Maps.{before, is_marked};
 ghost use Rattle.radix_tables.specs.Walks.{HasTable, table_in};
-ghost use Rattle.radix_tables.specs.Levels.{IsLevels, IsStep, IsStepIn, IsLeast, IsSame, IsMade, is_used, table_of, word_of, marked_of, from_second, from_third, from_fourth, from_fifth, from_sixth};
+ghost use Rattle.radix_tables.specs.Levels.{IsLevels, IsStep, IsStepIn, IsLeast, IsSame, IsMade, is_used, room_of, word_of, marked_of, from_second, from_third, from_fourth, from_fifth, from_sixth};
 
-use crate::level_tables::{FIRST, Step, child, entry, first_table, place, step_down};
+use crate::level_tables::{
+    FIRST, Step, child, child_words, entry, first_table, first_words, place, step_down,
+};
+use crate::word_rows::WordRows;
 use frame_pool::bits;
 use hm_base::NoMemory;
 use std::alloc::Global;
@@ -21,13 +24,13 @@ pub const PAGES: u64 = 1 << 36;
 /// The lowest four bits of a marked word are at least this.
 const LEAST_MARKED: u64 = 5;
 
-/// The tables of each level in a row. An entry is the number of a table of the level before, and one of the first
-/// level is a word; 0 is none. Table 0 of a level stays empty, and table 1 is that of the lowest pages, which no entry
-/// names. For each entry of the first level there is a bit that says whether it is a word, and one that says
+/// The tables of each level, one after the other. An entry is the number of a table of the level before, and one of the
+/// first level is a word; 0 is none. Table 0 of a level stays empty, and table 1 is that of the lowest pages, which no
+/// entry names. For each entry of the first level there is a bit that says whether it is a word, and one that says
 /// whether it is marked.
 #[derive(Drop)]
 pub struct Levels {
-    words: Vec<u64>,
+    words: WordRows,
     second: Vec<u64>,
     third: Vec<u64>,
     fourth: Vec<u64>,
@@ -40,11 +43,11 @@ pub struct Levels {
 impl Levels {
     pub fn new(alloc: Global) -> Levels
         ensures levels { IsLevels result }
-        ensures tables { (b : ℕ) → table_of result b ≡ 0 }
+        ensures room { (v : ℕ) → room_of result v ≡ 0 }
         ensures words { (v : ℕ) → word_of result v ≡ 0 }
     {
         Levels {
-            words: Vec::new(alloc),
+            words: WordRows::new(alloc),
             second: Vec::new(alloc),
             third: Vec::new(alloc),
             fourth: Vec::new(alloc),
@@ -58,10 +61,10 @@ impl Levels {
     /// Gives all tables back.
     pub fn give_back(&mut self)
         ensures levels { IsLevels self.new }
-        ensures tables { (b : ℕ) → table_of self.new b ≡ 0 }
+        ensures room { (v : ℕ) → room_of self.new v ≡ 0 }
         ensures words { (v : ℕ) → word_of self.new v ≡ 0 }
     {
-        *self = Levels::new(*self.words.allocator());
+        *self = Levels::new(self.words.allocator());
     }
 
     /// The table of the first level for a block of 64 pages. Those of a small process are found in a load or two.
@@ -136,27 +139,85 @@ impl Levels {
         entry(&self.sixth, FIRST, number)
     }
 
+    /// Where the word of a page stands among all words.
+    #[inline(always)]
+    fn place_of(&self, page: u64) -> usize
+        requires levels { IsLevels self.now }
+        requires page { page < 2 ^ 36 }
+        ensures { result ≡ table_in (from_second self.now) (page / 64) * 64 + page % 64 }
+    {
+        self.words.facts();
+        place(self.table(page / ENTRIES), page)
+    }
+
     #[inline(always)]
     pub fn word(&self, page: u64) -> u64
         requires levels { IsLevels self.now }
         requires page { page < 2 ^ 36 }
         ensures { result ≡ word_of self.now page }
     {
-        entry(&self.words, self.table(page / ENTRIES), page)
+        self.words.get(self.place_of(page))
     }
 
-    /// Makes the tables down to the page.
-    pub fn make_tables(&mut self, page: u64) -> Result<(), NoMemory>
+    /// A page with a word has room for it.
+    pub fn facts(&self)
+        requires { IsLevels self.now }
+        ensures { (v : ℕ) → word_of self.now v ≢ 0 → room_of self.now v ≢ 0 }
+    {
+        self.words.facts();
+    }
+
+    /// Whether there is room for the word of a page.
+    #[inline(always)]
+    fn has_room(&self, page: u64) -> bool
+        requires levels { IsLevels self.now }
+        requires page { page < 2 ^ 36 }
+        ensures { result ≡ not (room_of self.now page == 0) }
+    {
+        self.words.row(self.place_of(page)) != 0
+    }
+
+    /// Makes the tables down to the page, and room for its word.
+    pub fn make_room(&mut self, page: u64) -> Result<(), NoMemory>
         requires levels { IsLevels self.old }
         requires page { page < 2 ^ 36 }
-        ensures { MatchResult result (λ _. IsMade self.old self.new (page / 64)) (λ _. IsSame self.old self.new) }
+        ensures { MatchResult result (λ _. IsMade self.old self.new page) (λ _. IsSame self.old self.new) }
     {
-        let block = page / ENTRIES;
-        if !self.words.is_empty() && self.table(block) != 0 {
+        if self.has_room(page) {
             return Ok(());
         }
-        grow_bits(&mut self.used, self.words.len())?;
-        grow_bits(&mut self.marks, self.words.len())?;
+        self.make_tables(page / ENTRIES)?;
+        self.make_row(page)
+    }
+
+    /// Makes room for the word of a page whose tables are there.
+    fn make_row(&mut self, page: u64) -> Result<(), NoMemory>
+        requires levels { IsLevels self.old }
+        requires page { page < 2 ^ 36 }
+        requires table { HasTable self.old.words.items (from_second self.old) (page / 64) }
+        ensures { MatchResult result (λ _. IsMade self.old self.new page) (λ _. IsSame self.old self.new) }
+    {
+        let at = self.place_of(page);
+        if self.words.row(at) != 0 {
+            return Ok(());
+        }
+        self.words.reserve(at)?;
+        Ok(())
+    }
+
+    /// Makes the tables down to a block.
+    fn make_tables(&mut self, block: u64) -> Result<(), NoMemory>
+        requires levels { IsLevels self.old }
+        requires block { block < 2 ^ 30 }
+        ensures same { IsSame self.old self.new }
+        ensures ok { OnOk result (HasTable self.new.words.items (from_second self.new) block) }
+    {
+        let tables = self.words.tables();
+        if tables != 0 && self.table(block) != 0 {
+            return Ok(());
+        }
+        grow_bits(&mut self.used, tables)?;
+        grow_bits(&mut self.marks, tables)?;
         self.make_first(block)
     }
 
@@ -166,14 +227,15 @@ impl Levels {
         requires block { block < 2 ^ 30 }
         requires used { length self.old.words.items + 192 ≤ 64 * length self.old.used.items }
         requires marks { length self.old.words.items + 192 ≤ 64 * length self.old.marks.items }
-        ensures { MatchResult result (λ _. IsMade self.old self.new block) (λ _. IsSame self.old self.new) }
+        ensures same { IsSame self.old self.new }
+        ensures ok { OnOk result (HasTable self.new.words.items (from_second self.new) block) }
     {
         if block == 0 {
-            return first_table(&mut self.words);
+            return first_words(&mut self.words);
         }
         self.make_second(block / ENTRIES)?;
         let table = self.second_table(block / ENTRIES);
-        child(&mut self.second, place(table, block), &mut self.words)?;
+        child_words(&mut self.second, place(table, block), &mut self.words)?;
         Ok(())
     }
 
@@ -182,7 +244,7 @@ impl Levels {
         requires number { number < 2 ^ 24 }
         ensures same { IsSame self.old self.new }
         ensures ok { OnOk result (HasTable self.new.second.items (from_third self.new) number) }
-        ensures others { (length self.new.words.items ≡ length self.old.words.items)
+        ensures others { (self.new.words ≡ self.old.words)
             × (length self.new.used.items ≡ length self.old.used.items)
             × (length self.new.marks.items ≡ length self.old.marks.items) }
     {
@@ -200,7 +262,7 @@ impl Levels {
         requires number { number < 2 ^ 18 }
         ensures same { IsSame self.old self.new }
         ensures ok { OnOk result (HasTable self.new.third.items (from_fourth self.new) number) }
-        ensures others { (length self.new.words.items ≡ length self.old.words.items)
+        ensures others { (self.new.words ≡ self.old.words)
             × (length self.new.used.items ≡ length self.old.used.items)
             × (length self.new.marks.items ≡ length self.old.marks.items) }
     {
@@ -218,7 +280,7 @@ impl Levels {
         requires number { number < 2 ^ 12 }
         ensures same { IsSame self.old self.new }
         ensures ok { OnOk result (HasTable self.new.fourth.items (from_fifth self.new) number) }
-        ensures others { (length self.new.words.items ≡ length self.old.words.items)
+        ensures others { (self.new.words ≡ self.old.words)
             × (length self.new.used.items ≡ length self.old.used.items)
             × (length self.new.marks.items ≡ length self.old.marks.items) }
     {
@@ -236,7 +298,7 @@ impl Levels {
         requires number { number < 2 ^ 6 }
         ensures same { IsSame self.old self.new }
         ensures ok { OnOk result (HasTable self.new.fifth.items (from_sixth self.new) number) }
-        ensures others { (length self.new.words.items ≡ length self.old.words.items)
+        ensures others { (self.new.words ≡ self.old.words)
             × (length self.new.used.items ≡ length self.old.used.items)
             × (length self.new.marks.items ≡ length self.old.marks.items) }
     {
@@ -252,24 +314,24 @@ impl Levels {
         requires levels { IsLevels self.old }
         ensures same { IsSame self.old self.new }
         ensures ok { OnOk result (128 ≤ length self.new.sixth.items) }
-        ensures others { (length self.new.words.items ≡ length self.old.words.items)
+        ensures others { (self.new.words ≡ self.old.words)
             × (length self.new.used.items ≡ length self.old.used.items)
             × (length self.new.marks.items ≡ length self.old.marks.items) }
     {
         first_table(&mut self.sixth)
     }
 
-    /// Sets the word of a page whose tables are there.
+    /// Sets the word of a page for which there is room.
     pub fn set(&mut self, page: u64, word: u64)
         requires levels { IsLevels self.old }
         requires page { page < 2 ^ 36 }
-        requires table { table_of self.old (page / 64) ≢ 0 }
+        requires room { room_of self.old page ≢ 0 }
         ensures levels { IsLevels self.new }
         ensures words { (v : ℕ) → word_of self.new v ≡ (if v == page then word else word_of self.old v) }
-        ensures tables { (b : ℕ) → table_of self.new b ≡ table_of self.old b }
+        ensures room { (v : ℕ) → room_of self.new v ≡ room_of self.old v }
     {
-        let at = place(self.table(page / ENTRIES), page);
-        self.words[at] = word;
+        let at = self.place_of(page);
+        self.words.set(at, word);
         put_bit(&mut self.used, at, is_used(word));
         put_bit(&mut self.marks, at, is_marked(word));
     }
@@ -419,7 +481,8 @@ impl Levels {
             × ((v : ℕ) → page ≤ v → v < e.0 → word_of self.now v ≡ 0)) }
     {
         let found = next_entry(&self.used, table, page)?;
-        Some((found, entry(&self.words, table, found)))
+        self.words.facts();
+        Some((found, self.words.get(place(table, found))))
     }
 
     /// The least page of the table from `page` on whose word is marked, and that word.
@@ -432,7 +495,8 @@ impl Levels {
             × ((v : ℕ) → page ≤ v → v < e.0 → marked_of self.now v ≡ 0)) }
     {
         let found = next_entry(&self.marks, table, page)?;
-        Some((found, entry(&self.words, table, found)))
+        self.words.facts();
+        Some((found, self.words.get(place(table, found))))
     }
 }
 
@@ -484,16 +548,15 @@ fn bits_of(bits: &[u64], table: u64) -> u64
     }
 }
 
-/// Makes room for the bits of so many entries and of three more tables.
-fn grow_bits(bits: &mut Vec<u64>, entries: usize) -> Result<(), NoMemory>
-    requires { entries < 2 ^ 63 }
+/// Makes room for the bits of these tables and of three more.
+fn grow_bits(bits: &mut Vec<u64>, tables: usize) -> Result<(), NoMemory>
+    requires { tables ≤ 2 ^ 32 }
     ensures same { (k : ℕ) → bit bits.new.items k ≡ bit bits.old.items k }
     ensures more { length bits.old.items ≤ length bits.new.items }
-    ensures ok { OnOk result (entries + 192 ≤ 64 * length bits.new.items) }
+    ensures ok { OnOk result (tables * 64 + 192 ≤ 64 * length bits.new.items) }
 {
-    let words = entries / 64 + 4;
-    if bits.len() < words {
-        bits.resize(words, 0)?;
+    if bits.len() < tables + 3 {
+        bits.resize(tables + 3, 0)?;
     }
     Ok(())
 }

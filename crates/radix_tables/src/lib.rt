@@ -4,5 +4,6 @@
 mod level_tables;
 mod levels;
 mod radix;
+mod word_rows;
 
 pub use radix::Radix;

@@ -29,7 +29,7 @@ impl Model for Radix {
 impl Radix {
     /// A map without words.
     pub fn new(alloc: Global) -> Radix
-        ensures { result ≡ record { words = []; blocks = [] } }
+        ensures { result ≡ record { words = []; room = [] } }
     {
         Radix {
             levels: Levels::new(alloc),
@@ -50,7 +50,7 @@ impl Radix {
         ensures kept { (v : ℕ) → is_reserved self.old v ≡ true → is_reserved self.new v ≡ true }
         ensures err { OnErr result (self.new ≡ self.old) }
     {
-        self.levels.make_tables(page.number())
+        self.levels.make_room(page.number())
     }
 
     /// Sets the word of a page for which there is room.
@@ -68,6 +68,7 @@ impl Radix {
     {
         let number = page.number();
         if self.levels.word(number) != 0 {
+            self.levels.facts();
             self.levels.set(number, 0);
         }
     }

@@ -1,7 +1,8 @@
-use Rattle.std.proofs.Common.{◌*◌, ◌+◌, ◌%◌, ℕ, List, ap, sym, subst, ◌∙◌}
+use Rattle.std.proofs.Common.{◌/◌, ℕ, length, ap, sym, subst, ◌∙◌, arith}
 use Rattle.std.specs.Prelude.{slice_index}
 use Rattle.radix_tables.specs.Maps.{is_marked, marked}
-use Rattle.radix_tables.specs.Levels.{AreBits}
+use Rattle.radix_tables.specs.Levels.{from_second, AreBits}
+use Rattle.radix_tables.proofs.Steps.{table_small}
 use Rattle.radix_tables.proofs.TableBits.{none_word, some_word, found_none, unmarked, with_mark}
 use Rattle.radix_tables.proofs.levels.Levels.next_mark.Goals as goal
 
@@ -14,4 +15,9 @@ pub returns : goal.returns
 returns c =
     some_word is_marked marked c.args.self.now c.deref.result.now c.args.table c.args.page c.in_ok-found.found _
     (subst (AreBits is_marked c.args.self.now.words.items) (sym c.deref.ensures.value) c.requires.levels.marks) c.requires.table.0 c.requires.page c.in_ok-found.ensures
-    (c.entry.ensures ∙ ap (λ (xs : List ℕ). slice_index xs (c.args.table * 64 + c.in_ok-found.found % 64)) c.deref-2.ensures.value) unmarked with_mark
+    (c.get.ensures ∙ ap (λ (i : ℕ). slice_index c.args.self.now.words.items i) c.place.ensures) unmarked with_mark
+
+pub place-requires : goal.place-requires
+place-requires c =
+    let l = c.args.self.now in
+    omega (arith, c.requires.table.0, table_small (from_second l) (c.args.page / 64) (length l.words.items) c.requires.levels.tables (omega (arith, c.facts.ensures.few)))

@@ -1,5 +1,5 @@
 use Rattle.std.proofs.Common.{sym, ap, ◌∙◌, None, Some}
-use Rattle.radix_tables.specs.Levels.{table_of, word_of}
+use Rattle.radix_tables.specs.Levels.{room_of, word_of}
 use Rattle.radix_tables.specs.Maps.{map_of, next_marked}
 use Rattle.radix_tables.proofs.Made.{word_below}
 use Rattle.radix_tables.proofs.TableBits.{marked_some}
@@ -9,15 +9,15 @@ use Rattle.radix_tables.proofs.radix.Radix.next_marked.Goals as goal
 pub returns-in_err-found : goal.returns-in_err-found
 returns-in_err-found c =
     let l = c.self.inside.levels in
-    c.from_residual.ensures ∙ (least_marked (word_of l) (table_of l) c.number.result c.args.end None c.in_err-found.ensures (λ v d. word_below l c.self.invariant v (marked_some (word_of l v) d))
-    ∙ (ap (λ v. next_marked (map_of (word_of l) (table_of l)) v c.args.end) c.number.ensures.same ∙ ap (λ m. next_marked m c.args.page c.args.end) c.self.view_is))
+    c.from_residual.ensures ∙ (least_marked (word_of l) (room_of l) c.number.result c.args.end None c.in_err-found.ensures (λ v d. word_below l c.self.invariant v (marked_some (word_of l v) d))
+    ∙ (ap (λ v. next_marked (map_of (word_of l) (room_of l)) v c.args.end) c.number.ensures.same ∙ ap (λ m. next_marked m c.args.page c.args.end) c.self.view_is))
 
 pub returns : goal.returns
 returns c =
     let l = c.self.inside.levels in
     ap (λ k. Some (k, c.in_ok-found.word)) c.new.ensures
-    ∙ (least_marked (word_of l) (table_of l) c.number.result c.args.end (Some (c.in_ok-found.found, c.in_ok-found.word)) c.in_ok-found.ensures (λ v d. word_below l c.self.invariant v (marked_some (word_of l v) d))
-    ∙ (ap (λ v. next_marked (map_of (word_of l) (table_of l)) v c.args.end) c.number.ensures.same ∙ ap (λ m. next_marked m c.args.page c.args.end) c.self.view_is))
+    ∙ (least_marked (word_of l) (room_of l) c.number.result c.args.end (Some (c.in_ok-found.found, c.in_ok-found.word)) c.in_ok-found.ensures (λ v d. word_below l c.self.invariant v (marked_some (word_of l v) d))
+    ∙ (ap (λ v. next_marked (map_of (word_of l) (room_of l)) v c.args.end) c.number.ensures.same ∙ ap (λ m. next_marked m c.args.page c.args.end) c.self.view_is))
 
 pub new-requires : goal.new-requires
 new-requires c =

@@ -1,20 +1,20 @@
 use Rattle.std.proofs.Common.{◌≡◌, ℕ, true, OnOk, subst}
-use Rattle.radix_tables.specs.Levels.{table_of, word_of}
+use Rattle.radix_tables.specs.Levels.{room_of, word_of}
 use Rattle.radix_tables.specs.Maps.{map_of, is_reserved}
 use Rattle.radix_tables.proofs.Reserved.{made_words, made_ok, made_kept, made_err}
 use Rattle.radix_tables.proofs.radix.Radix.reserve.Goals as goal
 
 pub returns-clause-words : goal.returns-clause-words
-returns-clause-words c = made_words c.self.inside.levels c.make_tables.new.self _ _ _ c.self.view_is c.make_tables.ensures
+returns-clause-words c = made_words c.self.inside.levels c.make_room.new.self _ _ _ c.self.view_is c.make_room.ensures
 
 pub returns-clause-ok : goal.returns-clause-ok
 returns-clause-ok c =
-    let n = c.make_tables.new.self in
-    let P : ℕ → Type 0 = λ v. OnOk c.make_tables.result (is_reserved (map_of (word_of n) (table_of n)) v ≡ true) in
-    subst P c.number.ensures.same (made_ok c.self.inside.levels n c.number.result c.make_tables.result c.number.ensures.below c.make_tables.ensures)
+    let n = c.make_room.new.self in
+    let P : ℕ → Type 0 = λ v. OnOk c.make_room.result (is_reserved (map_of (word_of n) (room_of n)) v ≡ true) in
+    subst P c.number.ensures.same (made_ok c.self.inside.levels n c.number.result c.make_room.result c.number.ensures.below c.make_room.ensures)
 
 pub returns-clause-kept : goal.returns-clause-kept
-returns-clause-kept c = made_kept c.self.inside.levels c.make_tables.new.self _ _ _ c.self.view_is c.make_tables.ensures
+returns-clause-kept c = made_kept c.self.inside.levels c.make_room.new.self _ _ _ c.self.view_is c.make_room.ensures
 
 pub returns-clause-err : goal.returns-clause-err
-returns-clause-err c = made_err c.self.inside.levels c.make_tables.new.self _ _ _ c.self.view_is c.make_tables.ensures
+returns-clause-err c = made_err c.self.inside.levels c.make_room.new.self _ _ _ c.self.view_is c.make_room.ensures

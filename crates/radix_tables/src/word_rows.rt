@@ -1,0 +1,171 @@
+// The words of the tables of the first level. A table is for 64 words, of which eight have memory at a time, so that a
+// page that is alone in its table takes that of eight words.
+ghost use Rattle.std.specs.Prelude.{◌≡◌, ◌≢◌, ℕ, ◌*◌, ◌/◌, ◌+◌, ◌%◌, ◌^◌, ◌<◌, ◌≤◌, [], length, slice_index, slice_set, MatchResult, OnErr, IfOk};
+ghost use Rattle.radix_tables.specs.Walks.{IsLonger};
+ghost use Rattle.radix_tables.specs.Rows.{AreRows, IsRoomMade, IsRowAdded};
+
+use hm_base::NoMemory;
+use std::alloc::Global;
+use std::marker::Model;
+
+/// Words of a row.
+const ROW: usize = 8;
+
+/// Rows that a table may have.
+const ROWS: usize = 8;
+
+/// One more than the most tables. More have no number for each of their rows.
+const MOST: usize = 1 << 32;
+
+/// Tables of 64 words. For each eight words there is the number of their row, 0 if they have none and are all 0. Row 0
+/// stays empty.
+#[derive(Drop)]
+pub struct WordRows {
+    rows: Vec<u32>,
+    words: Vec<u64>,
+}
+
+impl Model for WordRows {
+    ghost use Rattle.radix_tables.specs.Rows.{Words};
+
+    ghost Value = { Words };
+
+    ghost use Rattle.radix_tables.specs.RowsShown.{words_of, AreSound};
+
+    ghost view = { words_of };
+
+    ghost invariant = { AreSound };
+}
+
+impl WordRows {
+    pub fn new(alloc: Global) -> WordRows
+        ensures { result ≡ record { items = []; room = [] } }
+    {
+        WordRows {
+            rows: Vec::new(alloc),
+            words: Vec::new(alloc),
+        }
+    }
+
+    pub fn allocator(&self) -> Global {
+        *self.words.allocator()
+    }
+
+    /// How many tables there are.
+    pub fn tables(&self) -> usize
+        ensures count { result * 64 ≡ length self.now.items }
+        ensures room { length self.now.room ≡ length self.now.items }
+        ensures few { result ≤ 2 ^ 32 }
+    {
+        self.rows.len() / ROWS
+    }
+
+    /// There are not too many words for their places, and each that is not 0 has a row.
+    pub fn facts(&self)
+        ensures few { length self.now.items ≤ 2 ^ 38 }
+        ensures room { (k : ℕ) → slice_index self.now.items k ≢ 0 → slice_index self.now.room k ≢ 0 }
+    {
+        let _ = &self.rows;
+    }
+
+    /// The number of the row that a word has, 0 if it has none.
+    #[inline(always)]
+    pub fn row(&self, at: usize) -> u32
+        ensures { result ≡ slice_index self.now.room at }
+    {
+        row_in(&self.rows, at / ROW)
+    }
+
+    #[inline(always)]
+    pub fn get(&self, at: usize) -> u64
+        ensures { result ≡ slice_index self.now.items at }
+    {
+        let row = row_in(&self.rows, at / ROW);
+        word_in(&self.words, row as usize * ROW + at % ROW)
+    }
+
+    /// Adds tables with no row until there are as many as this.
+    pub fn grow(&mut self, tables: usize) -> Result<(), NoMemory>
+        requires { length self.old.items ≤ tables * 64 }
+        ensures { MatchResult result
+            (λ _. IsLonger self.old.items self.new.items × IsLonger self.old.room self.new.room
+            × (length self.new.items ≡ tables * 64) × (length self.new.room ≡ tables * 64))
+            (λ _. self.new ≡ self.old) }
+    {
+        if tables > MOST {
+            return Err(NoMemory);
+        }
+        add_numbers(&mut self.rows, tables * ROWS)?;
+        Ok(())
+    }
+
+    /// Gives a word memory, and those beside it in its row.
+    pub fn reserve(&mut self, at: usize) -> Result<(), NoMemory>
+        requires at { at < length self.old.items }
+        requires none { slice_index self.old.room at ≡ 0 }
+        ensures items { self.new.items ≡ self.old.items }
+        ensures room { MatchResult result (λ _. IsRoomMade self.old.room self.new.room at)
+            (λ _. self.new.room ≡ self.old.room) }
+    {
+        let row = add_row(&mut self.words)?;
+        self.rows[at / ROW] = row;
+        Ok(())
+    }
+
+    /// Sets a word that has a row.
+    #[inline(always)]
+    pub fn set(&mut self, at: usize, word: u64)
+        requires { slice_index self.old.room at ≢ 0 }
+        ensures items { self.new.items ≡ slice_set self.old.items at word }
+        ensures room { self.new.room ≡ self.old.room }
+    {
+        let row = row_in(&self.rows, at / ROW);
+        self.words[row as usize * ROW + at % ROW] = word;
+    }
+}
+
+/// The number of a row, 0 if there is none.
+#[inline(always)]
+fn row_in(rows: &[u32], eight: usize) -> u32
+    ensures { result ≡ slice_index rows.now eight }
+{
+    match rows.get(eight) {
+        Some(row) => *row,
+        None => 0,
+    }
+}
+
+/// The word there, 0 if there is none.
+#[inline(always)]
+fn word_in(words: &[u64], at: usize) -> u64
+    ensures { result ≡ slice_index words.now at }
+{
+    match words.get(at) {
+        Some(word) => *word,
+        None => 0,
+    }
+}
+
+/// Adds zeros, until there are so many numbers.
+fn add_numbers(rows: &mut Vec<u32>, count: usize) -> Result<(), NoMemory>
+    requires { length rows.old.items ≤ count }
+    ensures { MatchResult result (λ _. IsLonger rows.old.items rows.new.items × (length rows.new.items ≡ count))
+        (λ _. rows.new.items ≡ rows.old.items) }
+{
+    rows.resize(count, 0)?;
+    Ok(())
+}
+
+/// Adds an empty row, and gives its number.
+fn add_row(words: &mut Vec<u64>) -> Result<u32, NoMemory>
+    requires { length words.old.items % 8 ≡ 0 }
+    ensures { MatchResult result (λ row. IsRowAdded words.old.items words.new.items row)
+        (λ _. words.new.items ≡ words.old.items) }
+{
+    let row = (words.len() / ROW).max(1);
+    let Ok(number) = u32::try_from(row) else {
+        return Err(NoMemory);
+    };
+    words.resize((row + 1) * ROW, 0)?;
+    Ok(number)
+}
