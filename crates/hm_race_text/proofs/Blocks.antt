@@ -5,11 +5,11 @@ use Rattle.std.specs.Str.{bytes_eq}
 use Rattle.std.proofs.lemmas.Bool.Decides.{not_from_Decides}
 use Rattle.std.proofs.lemmas.List.{map-append}
 use Rattle.std.proofs.lemmas.Slice.Eq.{bytes_eq-Decides}
-use Rattle.hm_races.specs.Closed.{IsListed}
-use Rattle.hm_races.proofs.Searching.{listed_left, listed_right, listed_cases}
+use Rattle.hm_races.specs.Closed.{IsListed, AreDistinct}
+use Rattle.hm_races.proofs.Searching.{listed_left, listed_right, listed_cases, distinct_more}
 use Rattle.hm_race_text.specs.Answers.{answer_lines}
 use Rattle.hm_race_text.specs.Text.{Way, block_of, has_lines, with_block}
-use Rattle.hm_race_text.specs.Laws.{IsFound, BlocksAreFound, lines_of, WaysAreShown, AreDistinct, NoneTwice}
+use Rattle.hm_race_text.specs.Laws.{IsFound, BlocksAreFound, lines_of, WaysAreShown, NoneTwice}
 use Rattle.hm_race_text.specs.declared.block.Block.{Block}
 
 has_listed : (xs : List ℕ) (bs : List Block) → has_lines xs bs ≡ true → IsListed (lines_of bs) xs
@@ -59,15 +59,6 @@ from_where bs b y l = by (has_lines b.lines bs) l
     by : (t : Bool) → IsListed (if t then bs else bs ++ b ∷ []) y → IsListed bs y ⊎ (b ≡ y)
     by true m = inl m
     by false m = last (listed_cases bs (b ∷ []) y m)
-
-distinct_more : {X : Type 0} (xs : List X) (x : X) → AreDistinct xs → (IsListed xs x → ⊥) → AreDistinct (xs ++ x ∷ [])
-distinct_more [] x d new = (λ l. l, tt)
-distinct_more (y ∷ xs) x d new = (λ l. by (listed_cases xs (x ∷ []) y l), distinct_more xs x d.1 (λ l. new (inr l)))
-  where
-    by : IsListed xs y ⊎ IsListed (x ∷ []) y → ⊥
-    by (inl m) = d.0 m
-    by (inr (inl e)) = new (inl (sym e))
-    by (inr (inr m)) = m
 
 still_distinct : (bs : List Block) (b : Block) → AreDistinct (lines_of bs) → AreDistinct (lines_of (with_block bs b))
 still_distinct bs b d = by (has_lines b.lines bs) refl

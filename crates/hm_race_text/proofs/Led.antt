@@ -11,6 +11,7 @@ use Rattle.hm_history.specs.declared.Entry.{Entry}
 use Rattle.hm_history.specs.declared.Progress.{Progress}
 use Rattle.hm_history.proofs.RunLemmas.{due_own, DueFrom-append}
 use Rattle.hm_races.specs.Outcomes.{Point, point_next, point_from, point_turned, point_turn, answers_of, answers_next, no_answers, raced}
+use Rattle.hm_races.proofs.Turned.{lengths}
 use Rattle.hm_race_text.specs.Laws.{PointsAreLed}
 
 -- a point's history has so many entries
@@ -32,10 +33,6 @@ all_grow c x (a ∷ turns) =
     let one = grows c x (due_in c x.state a) in
     let more = all_grow c (point_turn c x a) turns in
     omega (arith, one, more)
-
-counted : (c : Program) (u : State) (h : List Entry) → (fold (state_next c) u h).after.length ≡ u.after.length + length h
-counted c u [] = omega arith
-counted c u (e ∷ h) = let rest = counted c (state_next c u e) h in omega (arith, rest)
 
 room_below : (h : List Entry) → length h < 2000000 → has_room h ≡ true
 room_below h below = grind (arith, nat_tests)
@@ -64,7 +61,7 @@ led_from c h es x (a ∷ turns) at room = by (λ fs y. led_from c h fs y turns) 
     now = ap (λ (u : State). due_in c u a) at.state
 
     few : length (h ++ es) ≡ size x
-    few = let n = counted c (state_of c []) (h ++ es) in let s = ap (λ (u : State). u.after.length) at.state in omega (arith, n, s)
+    few = let n = lengths c (state_of c []) (h ++ es) in let s = ap (λ (u : State). u.after.length) at.state in omega (arith, n, s)
 
     by : ((fs : List Entry) (y : Point) → At c h fs y → size (fold (point_turn c) y turns) ≤ 2000000
         → (more : List Entry) × (raced c (h ++ fs) turns ≡ h ++ more) × At c h more (fold (point_turn c) y turns))

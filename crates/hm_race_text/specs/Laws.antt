@@ -1,5 +1,5 @@
 -- The laws, as statements.
-use Rattle.std.specs.Prelude.{◌≡◌, ◌≤◌, ℕ, ◌↔◌, true, false, length, nat_lt, List, [], ◌∷◌, ◌++◌, map, ⊤}
+use Rattle.std.specs.Prelude.{◌≡◌, ◌≤◌, ℕ, ◌↔◌, true, false, length, nat_lt, List, [], ◌∷◌, ◌++◌, map}
 use Rattle.std.specs.List.{list_all}
 use Rattle.hm_base.specs.Program.{Program, IsScript, run_lines}
 use Rattle.hm_history.specs.Due.{due}
@@ -9,7 +9,7 @@ use Rattle.hm_history.specs.Legal.{Legal}
 use Rattle.hm_history.specs.Run.{run}
 use Rattle.hm_history.specs.declared.Entry.{Entry}
 use Rattle.hm_races.specs.Outcomes.{Point, point_at, answers_of, raced}
-use Rattle.hm_races.specs.Closed.{IsListed}
+use Rattle.hm_races.specs.Closed.{IsListed, AreDistinct}
 use Rattle.hm_script.specs.Built.{has_drain}
 use Rattle.hm_race_text.specs.Answers.{answer_lines}
 use Rattle.hm_race_text.specs.Schedule.{with_turns}
@@ -74,11 +74,6 @@ lines_of bs = map (λ b. b.lines) bs
 -- each way that was found has its answers written
 abbrev pub WaysAreShown : Type 0
 WaysAreShown = (ws : List Way) (w : Way) → IsListed ws w → IsListed (lines_of (blocks_of ws)) (answer_lines w.answers)
-
--- no two are the same
-abbrev pub AreDistinct : {X : Type 0} → List X → Type 0
-AreDistinct [] = ⊤
-AreDistinct (x ∷ xs) = (IsListed xs x → ⊥) × AreDistinct xs
 
 -- no outcome is written twice
 abbrev pub NoneTwice : Type 0

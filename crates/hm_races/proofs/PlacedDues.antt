@@ -27,12 +27,10 @@ use Rattle.hm_history.specs.declared.phases.Body.{Body}
 use Rattle.hm_history.specs.declared.phases.Phase.{Phase}
 use Rattle.hm_history.specs.declared.phases.Next.TheVariants.{Do}
 use Rattle.hm_races.proofs.Gone.{by_test, by_option, same_test, both_option}
-use Rattle.hm_races.proofs.PlacedLists.{Distinct, lowest_same, count_same, still_distinct}
+use Rattle.hm_races.specs.Forms.{Distinct, relist, restate}
+use Rattle.hm_races.proofs.PlacedLists.{lowest_same, count_same, still_distinct}
 use Rattle.hm_history.proofs.Placed.{listed_more}
 use Rattle.hm_laws.proofs.Kept.Areas.{writable_stays}
-
-abbrev pub relist : After → List (ℕ × ℕ) → After
-relist s ys = record s { places = record s.places { placed = ys } }
 
 -- two lists that both have all pages with a place, each once
 pub record Agree (place : ℕ → ℕ → Place) (xs ys : List (ℕ × ℕ)) : Type 0 where
@@ -228,9 +226,6 @@ after_same s ys a (Kind.Place p v x) ok = ap (λ z. record (relist (after_entry 
 after_same s ys a k ok = refl
 
 -- whole states
-abbrev pub restate : State → List (ℕ × ℕ) → State
-restate u ys = record { after = relist u.after ys; going = u.going }
-
 pub due_relisted : (c : Program) (u : State) (ys : List (ℕ × ℕ)) (a : ℕ) → Agree u.after.places.place u.after.places.placed ys → due_in c u a ≡ due_in c (restate u ys) a
 due_relisted c u ys a ok = top_same u.after ys ok c a (op_at c a (u.going a).index) (u.going a).pages (u.going a).stack
 

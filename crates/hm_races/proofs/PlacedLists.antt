@@ -1,18 +1,14 @@
 -- The order in which pages came to the list of placed ones does not matter to what is found in it.
 use Rattle.std.proofs.Common.{◌≡◌, ℕ, ◌+◌, ◌≤◌, suc, Bool, true, false, ◌==◌, ◌&&◌, ◌||◌, nat_lt, nat_le, if◌then◌else◌, Option, Some, None, List, [], ◌∷◌, refl, sym, ap, ◌∙◌, subst, count_by, cond, fold, add_assoc, zero-add, arith}
-use Rattle.std.specs.Prelude.{⊤}
 use Rattle.std.specs.List.{list_any}
 use Rattle.std.proofs.lemmas.Bool.Decides.{nat_tests}
 use Rattle.hm_history.specs.Places.{is_page, with_page, lowest}
+use Rattle.hm_races.specs.Forms.{Distinct}
 use Rattle.hm_laws.proofs.State.Search.{lowest_none}
 use Rattle.hm_laws.proofs.Kept.PlaceLocks.{lowest_passes}
 use Rattle.hm_laws.proofs.State.NextPage.{lowest_least}
 use Rattle.hm_history.proofs.Tests.{true_false}
 use Rattle.hm_history.proofs.Placed.{is_page_true}
-
-abbrev pub Distinct : List (ℕ × ℕ) → Type 0
-Distinct [] = ⊤
-Distinct (x ∷ xs) = (list_any (is_page x.0 x.1) xs ≡ false) × Distinct xs
 
 -- all pages that pass are listed
 abbrev pub Has : (ℕ → ℕ → Bool) → List (ℕ × ℕ) → Type 0

@@ -15,8 +15,9 @@ use Rattle.hm_races.specs.Blur.{blurred, blurred_entry, blurred_progress, unlist
 use Rattle.hm_races.specs.Laws.{TidiedIsComplete, FormsAreComplete}
 use Rattle.hm_races.proofs.Points.{state_after}
 use Rattle.hm_races.proofs.Closed.{Match, Likeness, all_outcomes}
-use Rattle.hm_races.proofs.PlacedLists.{Distinct, still_distinct}
-use Rattle.hm_races.proofs.PlacedDues.{Agree, restate, due_relisted, next_relisted}
+use Rattle.hm_races.specs.Forms.{Distinct, restate}
+use Rattle.hm_races.proofs.PlacedLists.{still_distinct}
+use Rattle.hm_races.proofs.PlacedDues.{Agree, due_relisted, next_relisted}
 use Rattle.hm_races.proofs.Blurred.{Valid, valid_next, reached_valid, blurred_due, blurred_next, answers_like}
 
 -- pages are listed once
@@ -34,13 +35,13 @@ once_after : (c : Program) (u : State) (h : List Entry) → Once u → Once (fol
 once_after c u [] d = d
 once_after c u (e ∷ h) d = once_after c (state_next c u e) h (once_next c u e d)
 
-record Alike (c : Program) (x y : Point) : Type 0 where
-  left : Valid c x.state
-  right : Valid c y.state
-  left_once : Once x.state
-  right_once : Once y.state
-  states : tidied c x.state ≡ tidied c y.state
-  answers : x.answers ≡ y.answers
+pub record Alike (c : Program) (x y : Point) : Type 0 where
+  pub left : Valid c x.state
+  pub right : Valid c y.state
+  pub left_once : Once x.state
+  pub right_once : Once y.state
+  pub states : tidied c x.state ≡ tidied c y.state
+  pub answers : x.answers ≡ y.answers
 
 agree : (c : Program) (x y : Point) → Alike c x y → Agree x.state.after.places.place x.state.after.places.placed y.state.after.places.placed
 agree c x y h = record {
@@ -63,7 +64,7 @@ abbrev entry_of : Entry → Progress → Entry
 entry_of e (Progress.Did d) = d
 entry_of e _ = e
 
-goes_alike : (c : Program) (x y : Point) (e : Entry) → Small c → Alike c x y → due_in c x.state e.actor ≡ Progress.Did e → Match c (Alike c) x y e
+pub goes_alike : (c : Program) (x y : Point) (e : Entry) → Small c → Alike c x y → due_in c x.state e.actor ≡ Progress.Did e → Match c (Alike c) x y e
 goes_alike c x y e sm h d = by (due_in c y.state e.actor) refl (sym (dues c x y e.actor h) ∙ ap blurred_progress d)
   where
     by : (p : Progress) → due_in c y.state e.actor ≡ p → blurred_progress p ≡ Progress.Did (blurred_entry e) → Match c (Alike c) x y e
@@ -89,14 +90,14 @@ goes_alike c x y e sm h d = by (due_in c y.state e.actor) refl (sym (dues c x y 
     by (Progress.Waiting z) ez k = cc
     by Progress.Idle ez k = cc
 
-reached_once : (c : Program) (h : List Entry) (x : Point) → Reached c h x → Once x.state
+pub reached_once : (c : Program) (h : List Entry) (x : Point) → Reached c h x → Once x.state
 reached_once c h x r = subst Once (sym (state_after c h r.entries) ∙ ap (λ (z : Point). z.state) r.same) (once_after c (state_start c) (h ++ r.entries) tt)
 
 -- equal keys of reached points are states and answers that are equal but for all this
 abbrev Tells : {K : Type 0} → Program → List Entry → (Point → K) → Type 0
 Tells c h key = (x y : Point) → Reached c h x → Reached c h y → key x ≡ key y → (tidied c x.state ≡ tidied c y.state) × (x.answers ≡ y.answers)
 
-likeness : {K : Type 0} (c : Program) (h : List Entry) (key : Point → K) → Small c → DueFrom c [] h → Tells c h key → Likeness c h key (Alike c)
+pub likeness : {K : Type 0} (c : Program) (h : List Entry) (key : Point → K) → Small c → DueFrom c [] h → Tells c h key → Likeness c h key (Alike c)
 likeness c h key sm d tells = record {
   by_key = λ x y rx ry e. record {
     left = reached_valid c h x sm d rx;
@@ -115,8 +116,8 @@ likeness c h key sm d tells = record {
 pub tidied_is_complete : TidiedIsComplete
 tidied_is_complete c sc h d key ks xs tells s es k en = all_outcomes c h key (Alike c) ks xs (likeness c h key (small c sc) d tells) s es k en
 
+pub forms_tell : (c : Program) (h : List Entry) → Tells c h (form_of c)
+forms_tell c h x y rx ry e = (ap (λ (z : Point). z.state) e, ap (λ (z : Point). z.answers) e)
+
 pub forms_are_complete : FormsAreComplete
-forms_are_complete c sc h d ks xs s es k en = all_outcomes c h (form_of c) (Alike c) ks xs (likeness c h (form_of c) (small c sc) d tells) s es k en
-  where
-    tells : Tells c h (form_of c)
-    tells x y rx ry e = (ap (λ (z : Point). z.state) e, ap (λ (z : Point). z.answers) e)
+forms_are_complete c sc h d ks xs s es k en = all_outcomes c h (form_of c) (Alike c) ks xs (likeness c h (form_of c) (small c sc) d (forms_tell c h)) s es k en

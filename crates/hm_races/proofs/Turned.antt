@@ -1,9 +1,9 @@
 -- The points of turns are reached.
-use Rattle.std.proofs.Common.{◌≡◌, ℕ, List, [], ◌∷◌, refl, ap, ◌∙◌, sym, fold}
+use Rattle.std.proofs.Common.{◌≡◌, ℕ, ◌+◌, List, [], ◌∷◌, length, refl, ap, ◌∙◌, sym, fold, arith}
 use Rattle.hm_base.specs.Program.{Program}
 use Rattle.hm_base.specs.declared.ops.Op.{Op}
 use Rattle.std.proofs.Common.{Option, Some, None}
-use Rattle.hm_history.specs.Going.{State, op_at}
+use Rattle.hm_history.specs.Going.{State, op_at, state_next}
 use Rattle.hm_history.specs.Due.{due_in, due_top, due_phase, progress}
 use Rattle.hm_history.specs.declared.Entry.{Entry}
 use Rattle.hm_history.specs.declared.Progress.{Progress}
@@ -45,3 +45,8 @@ all_reached c h x (a ∷ turns) r = all_reached c h (point_turn c x a) turns (tu
 
 pub at_reached : (c : Program) (h : List Entry) (turns : List ℕ) → Reached c h (point_at c h turns)
 at_reached c h turns = all_reached c h (point_from c h) turns (from_reached c h)
+
+-- each entry adds one to the length
+pub lengths : (c : Program) (u : State) (h : List Entry) → (fold (state_next c) u h).after.length ≡ u.after.length + length h
+lengths c u [] = omega arith
+lengths c u (e ∷ h) = omega (arith, lengths c (state_next c u e) h)

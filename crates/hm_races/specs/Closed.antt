@@ -1,5 +1,5 @@
 -- Sets of keys that a search has found, and when they are whole. A key may be of any type.
-use Rattle.std.specs.Prelude.{◌≡◌, ◌⊎◌, true, List, [], ◌∷◌, ◌++◌}
+use Rattle.std.specs.Prelude.{◌≡◌, ◌⊎◌, true, List, [], ◌∷◌, ◌++◌, ⊤}
 use Rattle.hm_base.specs.Program.{Program}
 use Rattle.hm_history.specs.Due.{due_in}
 use Rattle.hm_history.specs.declared.Kind.{Kind}
@@ -11,6 +11,11 @@ use Rattle.hm_races.specs.Outcomes.{Point, Reached, point_next, point_from, outc
 abbrev pub IsListed : {X : Type 0} → List X → X → Type 0
 IsListed [] x = ⊥
 IsListed (y ∷ ys) x = (y ≡ x) ⊎ IsListed ys x
+
+-- no two are the same
+abbrev pub AreDistinct : {X : Type 0} → List X → Type 0
+AreDistinct [] = ⊤
+AreDistinct (x ∷ xs) = (IsListed xs x → ⊥) × AreDistinct xs
 
 -- a point of the race that stands for a key
 pub record Stands {K : Type 0} (c : Program) (h : List Entry) (key : Point → K) (k : K) : Type 0 where

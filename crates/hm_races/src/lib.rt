@@ -2,7 +2,7 @@
 // what is due has every outcome. Each law is the contract of a function with an empty body.
 #![tactic(auto)]
 
-ghost use Rattle.hm_races.specs.Laws.{BlurredIsComplete, ClosedIsComplete, FormsAreComplete, RacedIsDue, TidiedIsComplete};
+ghost use Rattle.hm_races.specs.Laws.{BlurredIsComplete, ClosedIsComplete, FormsAreAll, FormsAreComplete, FormsEndAlike, FormsGoAlike, FormsGoOn, RacedIsDue, TidiedIsComplete};
 
 /// A set of states that is closed under what is due has every outcome.
 pub fn closed_is_complete()
@@ -27,4 +27,25 @@ pub fn tidied_is_complete()
 /// So has one whose keys are read as such states, if equal keys mean equal states; a code of them may be any.
 pub fn forms_are_complete()
     ensures { FormsAreComplete }
+{}
+
+/// What is due at a state, and the form that comes next, is read from its form alone: from any state that has the
+/// form's parts, and lists the pages that have a place in any order.
+pub fn forms_go_on()
+    ensures { FormsGoOn }
+{}
+
+/// Two states of one form have next states of one form.
+pub fn forms_go_alike()
+    ensures { FormsGoAlike }
+{}
+
+/// Whether all operations have ended is read from the form.
+pub fn forms_end_alike()
+    ensures { FormsEndAlike }
+{}
+
+/// A search by forms that has nothing left to look at knows the form of each state to which the race comes.
+pub fn forms_are_all()
+    ensures { FormsAreAll }
 {}
