@@ -1,5 +1,1 @@
 pub mod Exploring
-mod Chains
-mod Table
-pub mod Unrolled
-mod Steps
