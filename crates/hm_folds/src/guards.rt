@@ -2,9 +2,10 @@
 ghost use Rattle.std.specs.Prelude.{◌≡◌, ◌++◌, ◌∷◌, [], ◌==◌, ◌&&◌, ◌||◌, ◌≤◌, ℕ, nat_lt, nat_le, true, length, count_by, is_none};
 ghost use Rattle.std.specs.List.{list_all, list_any};
 ghost use Rattle.hm_history.specs.Sequences.{guard_passes, with_told, same_span, all_told, Guarded as AnyGuard};
+ghost use Rattle.hm_base.specs.Pages.{covers};
 ghost use Rattle.hm_folds.specs.Kept.{mirrors_of, guard_of, guards_proc};
 
-use hm_base::{MirrorId, Proc, Span};
+use hm_base::{MirrorId, Page, Proc, Span};
 
 /// The guard of an actor: its process and span, the mirrors whose interval overlapped at its start, and those told.
 #[derive(Clone, Copy)]
@@ -130,6 +131,26 @@ pub fn is_done(guard: &Option<KeptGuard>, proc: Proc, span: Span) -> bool
             guard.proc == proc && same_span(guard.span, span) && all_told(&guard.met, &guard.told)
         }
     }
+}
+
+/// Whether the guard is of that process and has the page, and all mirrors that it met were told.
+pub fn covers_told(guard: &Option<KeptGuard>, proc: Proc, page: Page) -> bool
+    ensures { result
+        ≡ guard_passes (λ (g : AnyGuard). (g.proc == proc) && (covers g.span page && all_told g)) (guard_of guard.now) }
+{
+    match guard {
+        None => false,
+        Some(guard) => {
+            guard.proc == proc && has_page(guard.span, page) && all_told(&guard.met, &guard.told)
+        }
+    }
+}
+
+fn has_page(span: Span, page: Page) -> bool
+    ensures { result ≡ covers span page }
+{
+    let first = span.first().number();
+    first <= page.number() && page.number() < first + span.count()
 }
 
 /// Whether the spans have the same pages.

@@ -1,17 +1,19 @@
 // Invalidations, intervals and their sequences, of all processes (mm/mmu_notifier.c).
 ghost use Rattle.std.specs.Prelude.{◌≡◌, ◌≤◌, ◌==◌, ◌+◌, ◌%◌, ℕ, IfOk, OnErr, is_ok, Ok, Err, true, if◌then◌else◌};
 ghost use Rattle.hm_history.specs.Sequences.{sequences_start, sequences_next, sequences_accept, interval_seq, interval_proc, insert_deferred, in_tree, next_told, is_odd, is_next_told, is_last_end, interval_inserted, seq_inserted};
+ghost use Rattle.hm_history.specs.Lookups.{is_guarded};
 ghost use Rattle.hm_history.specs.declared.Kind.{Kind as AnyKind};
 ghost use Rattle.hm_folds.specs.Kept.{sequences_of, interval_of, guarded, stage_of, standing};
 
 use crate::guards::{
-    KeptGuard, active, all_below, has_some, is_done, is_free, lower_told, same_span, with_told,
+    KeptGuard, active, all_below, covers_told, has_some, is_done, is_free, lower_told, same_span,
+    with_told,
 };
 use crate::intervals::{
     KeptInterval, KeptStage, apply_all, first_stage, is_deferred, is_in_tree, is_removed, is_there,
     next_told, overlapping, overlaps, proc_of, seq_of, with_seq, with_stage,
 };
-use hm_base::{Actor, MirrorId, NoMemory, Proc, Script, Span};
+use hm_base::{Actor, MirrorId, NoMemory, Page, Proc, Script, Span};
 use hm_history::{Entry, FoldError, Kind};
 use std::alloc::Global;
 
@@ -89,6 +91,13 @@ impl SeqState {
         ensures { result ≡ in_tree (sequences_of self.now) mirror }
     {
         is_in_tree(&self.intervals[mirror.number() as usize])
+    }
+
+    /// Whether the actor has a guard of the process with the page, in which each interval that it met was told.
+    pub fn is_guarded(&self, actor: Actor, proc: Proc, page: Page) -> bool
+        ensures { result ≡ is_guarded (sequences_of self.now) actor proc page }
+    {
+        covers_told(&self.guards[actor.number() as usize], proc, page)
     }
 
     /// The least mirror above `after` that an invalidation of the span is to tell.

@@ -1,0 +1,4 @@
+pub mod Short
+pub mod Followed
+pub mod Reasons
+pub mod Parts

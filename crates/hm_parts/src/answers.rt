@@ -1,0 +1,49 @@
+// Answers by plain bytes.
+ghost use Rattle.std.specs.Prelude.{◌≡◌, IfOk, not};
+ghost use Rattle.hm_history.specs.Plain.{plain_accepts};
+ghost use Rattle.hm_history.specs.After.{after};
+ghost use Rattle.hm_folds.specs.Applied.{is_not_legal};
+ghost use Rattle.hm_folds.specs.Plain.{plain_of};
+
+use hm_base::{NoMemory, Script};
+use hm_folds::PlainState;
+use hm_history::{Entry, FoldError};
+use std::alloc::Global;
+
+/// Whether a fold found that the entry may follow.
+pub fn may_follow(answer: Result<(), FoldError>) -> Result<bool, NoMemory>
+    ensures { IfOk result (λ b. b ≡ not (is_not_legal answer)) }
+{
+    match answer {
+        Ok(()) => Ok(true),
+        Err(FoldError::NotLegal) => Ok(false),
+        Err(FoldError::NoMemory) => Err(NoMemory),
+    }
+}
+
+/// The plain state after the entries, of which each has to be legal after those before it.
+fn plain_after(alloc: Global, script: &Script, entries: &[Entry]) -> Result<PlainState, NoMemory>
+    ensures { IfOk result (λ x. plain_of x ≡ (after entries.now).plain) }
+{
+    let mut state = PlainState::start(alloc, script)?;
+    for entry in entries {
+        match state.apply(entry) {
+            Ok(()) => (),
+            Err(_) => return Err(NoMemory),
+        }
+    }
+    Ok(state)
+}
+
+/// Whether there is a next plain state for the entry after a legal history.
+pub fn meets_plain(
+    alloc: Global,
+    script: &Script,
+    entries: &[Entry],
+    entry: &Entry,
+) -> Result<bool, NoMemory>
+    ensures { IfOk result (λ b. b ≡ plain_accepts (after entries.now).plain entry.now.kind) }
+{
+    let mut state = plain_after(alloc, script, entries)?;
+    may_follow(state.apply(entry))
+}

@@ -1,0 +1,133 @@
+// Places, frames, mirror tables and sequences.
+ghost use Rattle.std.specs.Prelude.{◌≡◌, ◌||◌, not, IfOk, OnOk};
+ghost use Rattle.hm_history.specs.Plain.{mirror_owner};
+ghost use Rattle.hm_history.specs.Places.{places_accept};
+ghost use Rattle.hm_history.specs.Legal.{fails_rightly};
+ghost use Rattle.hm_history.specs.Lookups.{is_guarded, loses, narrows_guarded};
+ghost use Rattle.hm_history.specs.Sequences.{sequences_accept};
+ghost use Rattle.hm_history.specs.After.{after};
+ghost use Rattle.hm_folds.specs.Kept.{sequences_of};
+ghost use Rattle.hm_folds.specs.Places.{ForShown};
+ghost use Rattle.hm_parts.specs.Followed.{PlacesFollow, GoesOn};
+
+use crate::answers::may_follow;
+use crate::frames::{is_full, needs_full, short_next};
+use crate::guarded::loses;
+use hm_base::{Actor, NoMemory, Page, Place, Proc, Script};
+use hm_folds::{PlaceState, SeqState};
+use hm_history::{Entry, Kind};
+use std::alloc::Global;
+
+/// The places and sequences after a history, and whether an actor was short of a frame in it.
+#[derive(Drop)]
+struct PlacesSoFar {
+    state: PlaceState,
+    sequences: SeqState,
+    short: bool,
+}
+
+/// Whether an entry meets the parts that speak of places, frames, sequences and guards.
+#[derive(Clone, Copy, PartialEq, Eq, Debug)]
+pub struct PlaceParts {
+    /// There is a next state of places.
+    pub places: bool,
+    /// What fails for want of a frame does so if none was free.
+    pub frames: bool,
+    /// There is a next state of sequences.
+    pub sequences: bool,
+    /// What takes something from a page comes under a guard in which all were told.
+    pub guarded: bool,
+}
+
+/// One entry more, which has to be legal there.
+fn go_on(so_far: &mut PlacesSoFar, actor: Actor, entry: &Entry) -> Result<(), NoMemory>
+    ensures { OnOk result (GoesOn actor so_far.old entry.now so_far.new) }
+{
+    so_far.short = short_next(&so_far.state, actor, so_far.short, entry);
+    match (so_far.state.apply(entry), so_far.sequences.apply(entry)) {
+        (Ok(()), Ok(())) => Ok(()),
+        _ => Err(NoMemory),
+    }
+}
+
+/// The places and sequences after the entries, of which each has to be legal after those before it.
+fn places_after(
+    alloc: Global,
+    script: &Script,
+    entries: &[Entry],
+    actor: Actor,
+) -> Result<PlacesSoFar, NoMemory>
+    ensures { IfOk result (PlacesFollow script.now entries.now actor) }
+{
+    let mut so_far = PlacesSoFar {
+        state: PlaceState::start(alloc, script)?,
+        sequences: SeqState::start(alloc, script)?,
+        short: false,
+    };
+    for entry in entries {
+        go_on(&mut so_far, actor, entry)?;
+    }
+    Ok(so_far)
+}
+
+/// Whether a page keeps all that it had, or loses something under a guard of the actor in which all were told.
+fn is_page_guarded(
+    sequences: &SeqState,
+    actor: Actor,
+    proc: Proc,
+    page: Page,
+    before: &Place,
+    place: &Place,
+) -> bool
+    ensures { result
+        ≡ (not (loses before.now place.now) || is_guarded (sequences_of sequences.now) actor proc page) }
+{
+    !loses(before, place) || sequences.is_guarded(actor, proc, page)
+}
+
+/// Whether the entry takes nothing from the page of its `place`, or does so under a guard of its actor in which all
+/// were told.
+fn is_guarded_by(so_far: &PlacesSoFar, entry: &Entry) -> bool
+    ensures { ForShown so_far.now.state
+        (λ c s. result ≡ narrows_guarded (sequences_of so_far.now.sequences) s.place entry.now.actor entry.now.kind) }
+{
+    match &entry.kind {
+        Kind::Place { proc, page, place } => {
+            let before = so_far.state.place(*proc, *page);
+            is_page_guarded(&so_far.sequences, entry.actor, *proc, *page, &before, place)
+        }
+        _ => true,
+    }
+}
+
+/// Whether the entry, after a legal history, meets these parts. It goes over the history once.
+pub fn meets_places(
+    alloc: Global,
+    script: &Script,
+    entries: &[Entry],
+    entry: &Entry,
+) -> Result<PlaceParts, NoMemory>
+    ensures places { IfOk result
+        (λ x. x.places
+        ≡ places_accept script.now (mirror_owner (after entries.now).plain) (after entries.now).places
+        entry.now.actor entry.now.kind) }
+    ensures frames { IfOk result (λ x. x.frames ≡ fails_rightly script.now entries.now entry.now) }
+    ensures sequences { IfOk result
+        (λ x. x.sequences ≡ sequences_accept (after entries.now).sequences entry.now.actor entry.now.kind) }
+    ensures guarded { IfOk result
+        (λ x. x.guarded
+        ≡ narrows_guarded (after entries.now).sequences (after entries.now).places.place entry.now.actor
+        entry.now.kind) }
+{
+    let mut so_far = places_after(alloc, script, entries, entry.actor)?;
+    let guarded = is_guarded_by(&so_far, entry);
+    let frames = !needs_full(&entry.kind) || is_full(&so_far.state) || so_far.short;
+    let sequences = may_follow(so_far.sequences.apply(entry))?;
+    let places = may_follow(so_far.state.apply(entry))?;
+    Ok(PlaceParts {
+        places,
+        frames,
+        sequences,
+        guarded,
+    })
+}
