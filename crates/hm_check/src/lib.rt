@@ -7,6 +7,7 @@ mod judging;
 mod tail;
 mod verdict;
 
+pub use entries::take_entries;
 pub use judging::check_source;
 pub use tail::put_tail;
 pub use verdict::{Report, Verdict, check};
