@@ -3,7 +3,8 @@ use Rattle.std.proofs.Common.{◌≡◌, ℕ, ◌<◌, inl, inr, Bool, true, fal
 use Rattle.hm_base.specs.Program.{Program}
 use Rattle.hm_history.specs.Run.{run}
 use Rattle.hm_race_search.specs.Known.{KnownValue, AreKnown}
-use Rattle.hm_race_text.specs.Laws.{lines_of, AreDistinct}
+use Rattle.hm_races.specs.Closed.{AreDistinct}
+use Rattle.hm_race_text.specs.Laws.{lines_of}
 use Rattle.hm_race_text.specs.Text.{blocks_of, outcomes_text}
 use Rattle.hm_io.specs.Streams.{SinkState}
 use Rattle.hm_script.specs.Built.{has_drain}

@@ -4,7 +4,8 @@ use Rattle.hm_base.specs.Program.{Program}
 use Rattle.hm_history.specs.Run.{run}
 use Rattle.hm_history.specs.declared.StepError.{StepError}
 use Rattle.hm_race_search.specs.Known.{KnownValue, AreKnown, MayFail}
-use Rattle.hm_race_text.specs.Laws.{lines_of, AreDistinct}
+use Rattle.hm_races.specs.Closed.{AreDistinct}
+use Rattle.hm_race_text.specs.Laws.{lines_of}
 use Rattle.hm_race_text.specs.Text.{outcomes_text}
 use Rattle.hm_io.specs.Streams.{SinkState}
 use Rattle.hm_edge.specs.Reading.{IsGiven, HasNotRead, IsTextOf, ReadAs, ReadFaulted}
