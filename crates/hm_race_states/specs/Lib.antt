@@ -7,3 +7,4 @@ pub mod Tasks
 pub mod Mirrors
 pub mod Bytes
 pub mod States
+pub mod Keyed

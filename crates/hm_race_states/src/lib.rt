@@ -4,6 +4,7 @@
 
 mod blur;
 pub mod here;
+pub mod key;
 pub mod memory;
 pub mod mirrors;
 pub mod small;
