@@ -2,3 +2,8 @@ pub mod Settled
 pub mod Betweens
 pub mod AreaLists
 pub mod Askings
+pub mod Goings
+pub mod Lists
+pub mod Seens
+pub mod Nexts
+pub mod Ranges

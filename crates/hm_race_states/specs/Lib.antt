@@ -3,8 +3,10 @@ pub mod Small
 pub mod Changes
 pub mod Spaces
 pub mod Blurs
+pub mod Afters
 pub mod Tasks
 pub mod Mirrors
 pub mod Bytes
 pub mod States
+pub mod Goings
 pub mod Keyed

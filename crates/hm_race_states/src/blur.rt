@@ -1,5 +1,5 @@
 // Phases without positions and absolute sequences.
-ghost use Rattle.std.specs.Prelude.{◌≡◌, map};
+ghost use Rattle.std.specs.Prelude.{◌≡◌, ℕ, true, map};
 ghost use Rattle.hm_phases.specs.Items.{phases_of};
 ghost use Rattle.hm_race_states.specs.Blurs.{noted, blurred_touch, blurred_option, blurred_phase};
 
@@ -98,5 +98,44 @@ pub fn blurred_items(own: u64, small: u64, items: Items) -> Items
             blurred_phase(own, small, y),
             blurred_phase(own, small, z),
         ),
+    }
+}
+
+// Whether the phase has no position and no sequence of its own. It may say no of one that has none.
+fn notes_nothing(phase: &Phase) -> bool
+    ensures { result ≡ true → (own small : ℕ) → blurred_phase own small phase.now ≡ phase.now }
+{
+    !matches!(
+        phase,
+        Phase::Detaching { .. }
+            | Phase::Begun { .. }
+            | Phase::Noted { .. }
+            | Phase::Decide {
+                touch: Touch::Walk { .. }
+            }
+            | Phase::Taken {
+                touch: Touch::Walk { .. },
+                ..
+            }
+            | Phase::Armed {
+                touch: Touch::Walk { .. },
+                ..
+            }
+            | Phase::GiveUp {
+                touch: Some(Touch::Walk { .. })
+            }
+    )
+}
+
+/// Whether no phase has a position or a sequence of its own. It may say no of such as have none.
+pub fn all_note_nothing(items: &Items) -> bool
+    ensures { result ≡ true → (own small : ℕ)
+        → map (blurred_phase own small) (phases_of items.now) ≡ phases_of items.now }
+{
+    match items {
+        Items::Zero => true,
+        Items::One(x) => notes_nothing(x),
+        Items::Two(x, y) => notes_nothing(x) && notes_nothing(y),
+        Items::Three(x, y, z) => notes_nothing(x) && notes_nothing(y) && notes_nothing(z),
     }
 }

@@ -2,12 +2,16 @@
 // absolute sequences. Copies share their parts.
 #![tactic(auto)]
 
+pub mod after;
 mod blur;
 pub mod here;
 pub mod key;
 pub mod memory;
 pub mod mirrors;
+mod next;
+mod seen;
 pub mod small;
 pub mod spaces;
+mod start;
 pub mod state;
 pub mod tasks;

@@ -1,12 +1,12 @@
 // The bytes of the processes.
-ghost use Rattle.std.specs.Prelude.{◌≡◌, ◌==◌, ◌&&◌, ◌*◌, ◌+◌, ◌-◌, ℕ, true, [], nat_le, nat_lt, length, slice_index, if◌then◌else◌, IfOk, OnOk};
+ghost use Rattle.std.specs.Prelude.{◌≡◌, ◌==◌, ◌&&◌, ◌*◌, ◌+◌, ◌-◌, ℕ, true, [], nat_le, nat_lt, length, slice_index, is_some, if◌then◌else◌, IfOk, OnOk};
 ghost use Rattle.hm_history.specs.Words.{with_at};
 ghost use Rattle.hm_history.specs.Plain.{with_bytes, with_zeros};
-ghost use Rattle.hm_race_keys.specs.Sparse.{mixed_items};
+ghost use Rattle.hm_race_keys.specs.Sparse.{found, mixed_items};
 ghost use Rattle.hm_race_states.specs.Bytes.{bytes_in, mixed_byte};
 
 use hm_base::{NoMemory, Proc, Span};
-use hm_race_keys::sparse::{Kept, Sparse, mixed};
+use hm_race_keys::sparse::{Item, Kept, Sparse, mixed};
 use std::alloc::Global;
 use std::marker::Model;
 
@@ -92,6 +92,39 @@ impl RaceBytes {
             }
         }
         Ok(())
+    }
+
+    // All bytes of the process are 0.
+    fn clear_all(&mut self, proc: Proc)
+        ensures { (p a : ℕ) → bytes_in self.new p a ≡ (if p == proc then 0 else bytes_in self.old p a) }
+    {
+        self.items.remove_row(proc.number());
+    }
+
+    // Writes the bytes of one process, as they stand in these items, to another.
+    fn put_row(&mut self, items: &[Item<Written>], from: Proc, to: Proc) -> Result<(), NoMemory>
+        ensures { OnOk result ((p a : ℕ)
+            → bytes_in self.new p a
+            ≡ (if (p == to) && is_some (found items.now from a) then bytes_in items.now from a
+            else bytes_in self.old p a)) }
+    {
+        for done in 0..items.len() {
+            let item = &items[items.len() - 1 - done];
+            if item.row == from.number() {
+                self.put(to, item.number, item.value.byte)?;
+            }
+        }
+        Ok(())
+    }
+
+    /// The child's bytes are the parent's. It fails if memory runs out; then some may be.
+    pub fn fork(&mut self, alloc: Global, parent: Proc, child: Proc) -> Result<(), NoMemory>
+        ensures { OnOk result
+            (bytes_in self.new ≡ with_at (bytes_in self.old) child (bytes_in self.old parent)) }
+    {
+        let before = self.items.copy(alloc)?;
+        self.clear_all(child);
+        Ok(self.put_row(before.items(), parent, child)?)
     }
 
     /// The bytes of a span's pages are 0.

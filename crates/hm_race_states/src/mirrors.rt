@@ -2,7 +2,7 @@
 ghost use Rattle.std.specs.Prelude.{◌≡◌, ℕ, true, [], is_some, IfOk, OnOk, OnErr};
 ghost use Rattle.hm_base.specs.Pages.{Pages, lies_in};
 ghost use Rattle.hm_history.specs.Words.{with_at};
-ghost use Rattle.hm_history.specs.Plain.{Attachment, is_attached, in_window, mirror_proc, mirror_dev, with_attachment};
+ghost use Rattle.hm_history.specs.Plain.{Attachment, is_attached, in_window, mirror_proc, mirror_owner, mirror_dev, with_attachment};
 ghost use Rattle.hm_race_keys.specs.Sparse.{mixed_items};
 ghost use Rattle.hm_race_keys.specs.Trail.{mirrors_next};
 ghost use Rattle.hm_race_states.specs.Mirrors.{mirror_of, attachment_of, stage_number, mixed_mirror, mirrors_in, plain_by};
@@ -141,6 +141,16 @@ impl RaceMirrors {
         match self.mirror(mirror) {
             Some(mirror) => mirror.proc,
             None => Proc::new(0),
+        }
+    }
+
+    /// The process of a mirror, if it was ever attached.
+    pub fn owner(&self, mirror: MirrorId) -> Option<Proc>
+        ensures { result ≡ mirror_owner (plain_by (mirrors_in self.now)) mirror }
+    {
+        match self.mirror(mirror) {
+            Some(mirror) => Some(mirror.proc),
+            None => None,
         }
     }
 

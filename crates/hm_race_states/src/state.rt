@@ -1,4 +1,6 @@
 // A state of a race, without positions and absolute sequences.
+ghost use Rattle.std.specs.Prelude.{◌≤◌, length};
+
 use crate::memory::RaceBytes;
 use crate::mirrors::RaceMirrors;
 use crate::small::SmallSeqs;
@@ -26,4 +28,5 @@ pub struct RaceState {
     pub maps: Rc<MapLocks>,
     pub seqs: Rc<SmallSeqs>,
     pub tasks: Vec<Rc<RaceTask>>,
+    ghost few: { length tasks.items ≤ 16 },
 }

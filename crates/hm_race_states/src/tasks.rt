@@ -1,8 +1,9 @@
 // How far an actor is, and how it goes on.
 ghost use Rattle.std.specs.Prelude.{◌≡◌, ◌+◌, ◌<◌, ◌^◌, ℕ, [], true, map, slice_get, count_by, option_copied, is_none, IfOk, OnOk};
 ghost use Rattle.hm_history.specs.Going.{going_from, going_seen, op_at, first_stack};
-ghost use Rattle.hm_actors.specs.Actors.{task_next, task_top, ActorsFit, StackFits};
-ghost use Rattle.hm_phases.specs.Items.{phases_of};
+ghost use Rattle.hm_actors.specs.Actors.{task_next, task_top, StackFits};
+ghost use Rattle.hm_phases.specs.Items.{phases_of, below_takes_count};
+ghost use Rattle.hm_race_states.specs.Afters.{IsLow};
 ghost use Rattle.hm_race_states.specs.Blurs.{blurred_phase};
 ghost use Rattle.hm_reads.specs.Ranges.{top_in_range};
 
@@ -11,7 +12,7 @@ use hm_actors::{Records, op_at};
 use hm_base::{Actor, NoMemory, Op, Script};
 use hm_history::Kind;
 use hm_history::phases::{Body, Phase, Seen};
-use hm_phases::Stack;
+use hm_phases::{Items, Stack};
 use std::alloc::Global;
 
 /// How far an actor is: the number of its operation, its phases, and the records of its migration.
@@ -34,6 +35,17 @@ fn in_range(stack: &Stack) -> bool
                 ..
             },
         ) => *next < 1 << 36,
+        _ => true,
+    }
+}
+
+// Whether one more frame can be counted below the top phase.
+fn takes_count(stack: &Stack) -> bool
+    ensures { result ≡ below_takes_count stack.now }
+{
+    match stack.items() {
+        Items::Two(_, Phase::Frames { emptied, .. })
+        | Items::Three(_, Phase::Frames { emptied, .. }, _) => emptied < u64::MAX,
         _ => true,
     }
 }
@@ -128,7 +140,8 @@ impl RaceTask {
         RaceTask::made(self.index, stack, records)
     }
 
-    /// The actor after its entry, given what the state showed just before it.
+    /// The actor after its entry, given what the state showed just before it. It fails if memory runs out, and if an
+    /// eviction has emptied more frames than can be counted.
     pub fn after(
         &self,
         alloc: Global,
@@ -137,10 +150,13 @@ impl RaceTask {
         kind: &Kind,
         seen: &Seen,
     ) -> Result<RaceTask, NoMemory>
-        requires { ActorsFit script.now actor (going_in self.now) kind.now seen.now }
+        requires { IsLow script.now actor (going_in self.now) kind.now seen.now }
         ensures { IfOk result (λ t. going_in t
             ≡ (task_next script.now actor (record { going = going_in self.now; spare = 1 }) kind.now seen.now).going) }
     {
+        if !takes_count(&self.stack) {
+            return Err(NoMemory);
+        }
         match op_at(script, actor, self.index) {
             Some(op) => self.after_top(alloc, script, actor, op, kind, seen),
             None => RaceTask::made(

@@ -1,0 +1,166 @@
+// A state after an entry.
+ghost use Rattle.std.specs.Prelude.{◌≡◌, ◌<◌, ◌≤◌, ℕ, length, map, IfOk};
+ghost use Rattle.std.specs.Rc.{rc_value};
+ghost use Rattle.hm_history.specs.Words.{with_at};
+ghost use Rattle.hm_history.specs.Going.{going_next, op_at, state_next};
+ghost use Rattle.hm_races.specs.Blur.{tidied, unlisted};
+ghost use Rattle.hm_races.specs.Positions.{forget_going};
+ghost use Rattle.hm_races.specs.Numbers.{mirror_of, small_going};
+ghost use Rattle.hm_race_states.specs.Afters.{StaysLow};
+ghost use Rattle.hm_race_states.specs.Goings.{blurred_goings, goings_with};
+ghost use Rattle.hm_race_states.specs.Small.{between_seqs, kept_seqs, settled};
+ghost use Rattle.hm_race_states.specs.States.{goings_in, state_in};
+ghost use Rattle.hm_race_states.specs.Tasks.{going_in};
+
+use crate::after::{
+    bytes_after, held_after, locks_after, maps_after, marks_after, mirrors_after, places_after,
+    spaces_after, tables_after,
+};
+use crate::blur::all_note_nothing;
+use crate::here::Here;
+use crate::small::{Between, SmallSeqs};
+use crate::state::RaceState;
+use crate::tasks::RaceTask;
+use hm_base::{Actor, MirrorId, NoMemory, Script};
+use hm_history::Entry;
+use hm_reads::operations::op_mirror;
+use std::alloc::Global;
+use std::rc::Rc;
+
+// The mirror of the operation that an actor is at.
+fn mirror_of(script: &Script, actor: Actor, task: &RaceTask) -> MirrorId
+    ensures { result ≡ mirror_of (op_at script.now actor (going_in task.now).index) }
+{
+    match task.op(script, actor) {
+        Some(op) => op_mirror(op),
+        None => MirrorId::new(0),
+    }
+}
+
+// An actor without positions and absolute sequences.
+fn blurred(
+    alloc: Global,
+    script: &Script,
+    actor: Actor,
+    task: &Rc<RaceTask>,
+    between: &Between,
+    seqs: &SmallSeqs,
+) -> Result<Rc<RaceTask>, NoMemory>
+    requires { kept_seqs seqs.now ≡ settled (between_seqs between.now) }
+    ensures { IfOk result (λ t. going_in t.value
+        ≡ forget_going (small_going script.now (between_seqs between.now) actor (going_in task.now.value))) }
+{
+    if all_note_nothing(&task.stack.items()) {
+        return Ok(task.clone()?);
+    }
+    let mirror = mirror_of(script, actor, task);
+    let own = between.interval_seq(mirror);
+    let small = seqs.interval_seq(mirror);
+    Ok(Rc::new(alloc, task.blurred(alloc, own, small)?)?)
+}
+
+// The actor at a place, if this one has gone on.
+fn gone_on<'a>(
+    tasks: &'a [Rc<RaceTask>],
+    actor: Actor,
+    moved: &'a Rc<RaceTask>,
+    at: usize,
+) -> &'a Rc<RaceTask>
+    requires { at < length tasks.now }
+    ensures { going_in result.now.value ≡ goings_with (map rc_value tasks.now) actor (going_in moved.now.value) at }
+{
+    if at == actor.number() as usize {
+        moved
+    } else {
+        &tasks[at]
+    }
+}
+
+// All actors after this one has gone on.
+fn tasks_after(
+    alloc: Global,
+    script: &Script,
+    tasks: &[Rc<RaceTask>],
+    actor: Actor,
+    moved: &Rc<RaceTask>,
+    between: &Between,
+    seqs: &SmallSeqs,
+) -> Result<Vec<Rc<RaceTask>>, NoMemory>
+    requires seqs { kept_seqs seqs.now ≡ settled (between_seqs between.now) }
+    requires few { length tasks.now ≤ 16 }
+    requires there { actor < length tasks.now }
+    ensures few { IfOk result (λ ts. length ts.items ≤ 16) }
+    ensures goings { IfOk result (λ ts. (a : ℕ) → goings_in (map rc_value ts.items) a
+        ≡ blurred_goings script.now (between_seqs between.now)
+        (goings_with (map rc_value tasks.now) actor (going_in moved.now.value)) a) }
+{
+    let mut all = Vec::with_capacity(alloc, tasks.len())?;
+    for at in 0..tasks.len() {
+        let task = gone_on(tasks, actor, moved, at);
+        all.push(blurred(alloc, script, Actor::new(at as u32), task, between, seqs)?)?;
+    }
+    Ok(all)
+}
+
+impl RaceState {
+    // The actor after its entry.
+    fn moved(&self, alloc: Global, script: &Script, entry: &Entry) -> Result<Rc<RaceTask>, NoMemory>
+        requires low { StaysLow script.now (state_in self.now) entry.now }
+        requires there { entry.now.actor < length self.now.tasks.items }
+        ensures { IfOk result (λ t. going_in t.value
+            ≡ going_next script.now (state_in self.now).after entry.now.actor
+            ((state_in self.now).going entry.now.actor) entry.now.kind) }
+    {
+        let here = Here {
+            script,
+            state: self,
+        };
+        let seen = here.seen(entry.actor, &entry.kind);
+        let task = &self.tasks[entry.actor.number() as usize];
+        let moved = task.after(alloc, script, entry.actor, &entry.kind, &seen)?;
+        Ok(Rc::new(alloc, moved)?)
+    }
+
+    /// The state after an entry, again without positions and absolute sequences. It fails if memory runs out, if a
+    /// change of areas is refused, and if the state does not have the entry's actor.
+    pub fn after(
+        &self,
+        alloc: Global,
+        script: &Script,
+        entry: &Entry,
+    ) -> Result<RaceState, NoMemory>
+        requires { StaysLow script.now (state_in self.now) entry.now }
+        ensures { IfOk result (λ x. unlisted (state_in x)
+            ≡ tidied script.now (state_next script.now (state_in self.now) entry.now)) }
+    {
+        if entry.actor.number() as usize >= self.tasks.len() {
+            return Err(NoMemory);
+        }
+        let kind = &entry.kind;
+        let moved = self.moved(alloc, script, entry)?;
+        let between = self.seqs.after(kind)?;
+        let seqs = between.settled();
+        let tasks = tasks_after(
+            alloc,
+            script,
+            &self.tasks,
+            entry.actor,
+            &moved,
+            &between,
+            &seqs,
+        )?;
+        Ok(RaceState {
+            spaces: spaces_after(alloc, &self.spaces, kind)?,
+            bytes: bytes_after(alloc, &self.bytes, &self.mirrors, kind)?,
+            mirrors: mirrors_after(alloc, &self.mirrors, kind)?,
+            places: places_after(alloc, &self.places, kind)?,
+            held: held_after(alloc, &self.held, kind)?,
+            marks: marks_after(alloc, &self.marks, kind)?,
+            tables: tables_after(alloc, &self.tables, kind)?,
+            locks: locks_after(alloc, &self.locks, &self.places, entry.actor, kind)?,
+            maps: maps_after(alloc, &self.maps, entry.actor, kind)?,
+            seqs: Rc::new(alloc, seqs)?,
+            tasks,
+        })
+    }
+}
