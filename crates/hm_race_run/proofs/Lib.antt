@@ -1,3 +1,4 @@
 pub mod Ending
 pub mod SetUps
-pub mod Turns
+pub mod Lows
+pub mod Turning

@@ -1,5 +1,5 @@
 -- A set-up that could not be made.
-use Rattle.std.proofs.Common.{◌≡◌, ℕ, Bool, List, [], ap, ◌∙◌, subst}
+use Rattle.std.proofs.Common.{◌≡◌, ℕ, Bool, None, List, [], ap, ◌∙◌, subst}
 use Rattle.std.specs.Prelude.{Err, fold}
 use Rattle.hm_base.specs.Program.{Program}
 use Rattle.hm_history.specs.Run.{run, line_run, is_entry}
@@ -8,8 +8,11 @@ use Rattle.hm_history.specs.declared.StepError.{StepError}
 use Rattle.hm_machine.specs.Turning.{CameTo}
 use Rattle.hm_world.specs.WorldValue.{WorldValue, opening, now, MayHalt, HaltsRightly}
 use Rattle.hm_world.proofs.Shown.{now_length}
-use Rattle.hm_race_search.specs.Known.{MayFail}
-use Rattle.hm_race_run.proofs.Turns.{set_up_made}
+use Rattle.hm_race_explore.specs.Known.{MayFail}
+
+-- a world after its set-up
+abbrev set_up_made : Program → List Entry → WorldValue
+set_up_made c h = record { script = c; history = h; halted = None }
 
 full_there : (c : Program) (h : List Entry) (n : ℕ) → MayHalt c h (StepError.Full n) → MayFail c h (StepError.Full n)
 unfolding now

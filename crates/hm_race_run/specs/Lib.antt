@@ -1,3 +1,2 @@
-pub mod Opens
 pub mod Races
-pub mod Replays
+pub mod Turns

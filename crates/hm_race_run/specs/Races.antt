@@ -1,4 +1,4 @@
--- The race of a script, and its opened states, as contracts see them.
+-- The race of a script, as contracts see it.
 use Rattle.std.specs.Prelude.{◌≤◌, List, [], length}
 use Rattle.hm_base.specs.Program.{Program, IsScript}
 use Rattle.hm_history.specs.Laws.{DueFrom}

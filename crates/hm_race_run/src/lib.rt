@@ -1,38 +1,45 @@
 // All outcomes of a script's race: its schedule is the set-up, from there every actor may take its turn at any time.
 #![tactic(auto)]
 
-ghost use Rattle.std.specs.Prelude.{◌≡◌, ◌<◌, true, false, length, IfOk, IfErr};
+ghost use Rattle.std.specs.Prelude.{◌≡◌, ◌≤◌, true, false, length, IfOk, IfErr};
 ghost use Rattle.hm_history.specs.Run.{run};
-ghost use Rattle.hm_race_search.specs.Values.{all_known};
-ghost use Rattle.hm_race_search.specs.Known.{IsComplete, AreReal, AreKnown, MayFail};
-ghost use Rattle.hm_race_forms.specs.Form.{form_in};
+ghost use Rattle.hm_races.specs.Closed.{AreDistinct};
+ghost use Rattle.hm_race_explore.specs.Values.{all_known};
+ghost use Rattle.hm_race_explore.specs.Known.{forms, AreFewest, AreKnown, AreReal, AreRising, HaveForms, IsComplete, IsCut, MayFail};
+ghost use Rattle.hm_race_states.specs.Keyed.{form_in};
 
 mod copies;
 mod race;
-mod replay;
+mod turn;
 
 use hm_base::Script;
 use hm_history::StepError;
-use hm_race_forms::key::Key;
-use hm_race_search::{Explored, explore};
+use hm_race_explore::{Explored, explore};
+use hm_race_states::key::StateKey;
 use race::ScriptRace;
 use skip_rules::SkipRule;
 use std::alloc::Global;
 
-/// All outcomes of a script's race: its schedule is the set-up, and from there every actor may take its turn at any
-/// time. The search goes on from at most `most` states, in the order in which it found them; if it ends before
-/// that, it knows all. It fails if memory runs out, and if a history has all its entries and one more is due.
+/// All states of a script's race, each once: its schedule is the set-up, and from there every actor may take its turn
+/// at any time. The search comes first to the states that the fewest turns lead to, and stops if it knows more than
+/// `most`. It fails if memory runs out, and if a history has all its entries and one more is due.
 pub fn search<R: SkipRule>(
     alloc: Global,
     script: Script,
     rule: R,
     most: u64,
-) -> Result<Explored<Key>, StepError>
+) -> Result<Explored<StateKey>, StepError>
     ensures complete { IfOk result (λ x. x.whole ≡ true
         → IsComplete script (run script) (all_known form_in x.known.items)) }
-    ensures cut { IfOk result (λ x. x.whole ≡ false → most < length x.known.items) }
+    ensures all { IfOk result (λ x. x.whole ≡ true
+        → HaveForms script (run script) (all_known form_in x.known.items)) }
+    ensures few { IfOk result (λ x. x.whole ≡ true → length x.known.items ≤ most) }
+    ensures cut { IfOk result (λ x. x.whole ≡ false → IsCut script most (length x.known.items)) }
     ensures real { IfOk result (λ x. AreReal script (run script) (all_known form_in x.known.items)) }
     ensures known { IfOk result (λ x. AreKnown script (run script) (all_known form_in x.known.items)) }
+    ensures distinct { IfOk result (λ x. AreDistinct (forms (all_known form_in x.known.items))) }
+    ensures rising { IfOk result (λ x. AreRising (all_known form_in x.known.items)) }
+    ensures fewest { IfOk result (λ x. AreFewest script (run script) (all_known form_in x.known.items)) }
     ensures fails { IfErr result (λ e. MayFail script (run script) e) }
 {
     let race = ScriptRace::new(alloc, script, rule)?;

@@ -1,25 +1,31 @@
 // The race of a script, for the search.
-ghost use Rattle.std.specs.Prelude.{◌≡◌, ◌≤◌, None, [], length, IfOk, IfErr};
+ghost use Rattle.std.specs.Prelude.{◌≡◌, ◌≤◌, length, IfOk, IfErr};
 ghost use Rattle.hm_base.specs.declared.limits.TheConstants.{MOST_ACTORS, MOST_ENTRIES};
-ghost use Rattle.hm_history.specs.Laws.{DueFrom};
-ghost use Rattle.hm_history.specs.Run.{run, is_entry};
-ghost use Rattle.hm_history.specs.Due.{due_in};
-ghost use Rattle.hm_races.specs.Outcomes.{point_at, ended_in};
-ghost use Rattle.hm_race_search.specs.Known.{MayFail};
-ghost use Rattle.hm_world.specs.WorldValue.{opening, now};
+ghost use Rattle.hm_history.specs.Run.{run};
+ghost use Rattle.hm_races.specs.Blur.{form_of};
+ghost use Rattle.hm_races.specs.Closed.{Stands};
+ghost use Rattle.hm_races.specs.Outcomes.{Point, Reached, point_from};
+ghost use Rattle.hm_race_explore.specs.Known.{IsNext, MayFail};
+ghost use Rattle.hm_race_states.specs.Keyed.{form_in};
+ghost use Rattle.hm_race_run.specs.Turns.{Shows};
+ghost use Rattle.hm_world.specs.WorldValue.{opening};
 
 use crate::copies::copy_script;
-use crate::replay::take_turn;
+use crate::turn::{Turned, turn};
 use hm_base::{Actor, NoMemory, Script};
-use hm_history::{History, Progress, StepError};
+use hm_history::{History, StepError};
 use hm_machine::Machine;
-use hm_race_forms::key::Key;
-use hm_race_search::Race;
+use hm_race_explore::Race;
+use hm_race_keys::shared_answers::SharedAnswers;
+use hm_race_states::after::answers_after;
+use hm_race_states::here::Here;
+use hm_race_states::key::StateKey;
+use hm_race_states::state::RaceState;
 use hm_reads::Reads;
-use hm_world::World;
 use skip_rules::SkipRule;
 use std::alloc::Global;
 use std::marker::Model;
+use std::rc::Rc;
 
 // A rule that another value keeps.
 #[derive(Drop)]
@@ -50,13 +56,6 @@ impl<R> Model for ScriptRace<R> {
     ghost view = { λ r. record { script = r.script; set_up = r.set_up.entries } };
 
     ghost invariant = { λ r. IsRace (record { script = r.script; set_up = r.set_up.entries }) };
-}
-
-/// A state of a race: a world that was brought there, and how many entries the set-up has.
-#[derive(Drop)]
-pub struct Opened {
-    world: World,
-    from: u64,
 }
 
 fn machine_of<'a, R: SkipRule>(
@@ -110,13 +109,6 @@ impl<R: SkipRule> ScriptRace<R> {
         })
     }
 
-    // A world before the first entry.
-    fn world(&self) -> Result<World, NoMemory>
-        ensures { IfOk result (λ w. w ≡ opening self.now.script) }
-    {
-        World::new(self.alloc, copy_script(self.alloc, &self.script)?)
-    }
-
     fn count(&self) -> u32
         ensures same { result ≡ length self.now.script.actors }
         ensures few { result ≤ MOST_ACTORS }
@@ -132,39 +124,55 @@ impl<R: SkipRule> ScriptRace<R> {
         let _ = &self.script;
     }
 
-    // A world after the set-up.
-    fn after_set_up(&self) -> Result<World, StepError>
-        ensures world { IfOk result (λ w.
-            w ≡ record { script = self.now.script; history = self.now.set_up; halted = None }) }
-        ensures fails { IfErr result (λ e. e ≡ StepError.NoMemory) }
+    // The state after the set-up.
+    fn after_set_up(&self) -> Result<RaceState, NoMemory>
+        ensures { IfOk result (λ x. Shows self.now.script self.now.set_up x) }
     {
         self.stands();
-        match self.world() {
-            Err(_) => Err(StepError::NoMemory),
-            Ok(mut world) => {
-                for entry in self.set_up.as_slice() {
-                    take_turn(self.alloc, &self.rule, &mut world, entry.actor)?;
-                }
-                Ok(world)
+        let mut state = RaceState::start(self.alloc, &self.script)?;
+        for entry in self.set_up.as_slice() {
+            let turned = turn(self.alloc, &self.script, &self.rule, &state, entry.actor)?;
+            match turned {
+                Some(turned) => state = turned.state,
+                None => return Err(NoMemory),
+            }
+        }
+        Ok(state)
+    }
+
+    // The key after the set-up.
+    fn first_key(&self) -> Result<StateKey, NoMemory>
+        ensures { IfOk result (λ k. form_in k ≡ form_of self.now.script (point_from self.now.script self.now.set_up)) }
+    {
+        Ok(StateKey {
+            state: self.after_set_up()?,
+            answers: Rc::new(self.alloc, SharedAnswers::new(self.alloc)?)?,
+        })
+    }
+
+    // The key after a turn of the actor.
+    fn next_key(&self, key: &StateKey, actor: Actor) -> Result<Option<StateKey>, NoMemory>
+        requires { Stands self.now.script self.now.set_up (form_of self.now.script) (form_in key.now) }
+        ensures { IfOk result (λ o. (x : Point) → Reached self.now.script self.now.set_up x
+            → form_of self.now.script x ≡ form_in key.now → IsNext form_in self.now.script x actor o) }
+    {
+        self.stands();
+        match turn(self.alloc, &self.script, &self.rule, &key.state, actor)? {
+            None => Ok(None),
+            Some(Turned { entry, state }) => {
+                let answers = answers_after(self.alloc, &key.answers, &entry)?;
+                Ok(Some(StateKey { state, answers }))
             }
         }
     }
 }
 
 impl<R: SkipRule> Race for ScriptRace<R> {
-    ghost use Rattle.hm_race_run.specs.Opens.{point_here, IsOf};
-
-    type Key = Key;
-
-    type Open = Opened;
+    type Key = StateKey;
 
     ghost script = { λ r. r.script };
 
     ghost set_up = { λ r. r.set_up };
-
-    ghost opened = { point_here };
-
-    ghost Belongs = { IsOf };
 
     fn facts(&self) {
         self.stands();
@@ -174,36 +182,32 @@ impl<R: SkipRule> Race for ScriptRace<R> {
         self.count()
     }
 
-    fn open(&self, turns: &[Actor]) -> Result<Opened, StepError> {
-        let mut world = self.after_set_up()?;
-        for actor in turns {
-            take_turn(self.alloc, &self.rule, &mut world, *actor)?;
-        }
-        world.facts();
-        Ok(Opened {
-            world,
-            from: self.set_up.len(),
-        })
+    fn entries(&self) -> u64 {
+        self.stands();
+        self.set_up.len()
     }
 
-    fn adds(&self, here: &Opened, actor: Actor) -> Result<bool, StepError> {
-        match hm_steps::due(&here.world, &self.rule, self.alloc, actor) {
-            Ok(Progress::Did(_)) => Ok(true),
-            Ok(_) => Ok(false),
-            Err(_) => Err(StepError::NoMemory),
-        }
-    }
-
-    fn key(&self, here: &Opened) -> Result<Key, StepError> {
-        match Key::of(self.alloc, &here.world, here.from) {
+    fn first(&self) -> Result<StateKey, StepError> {
+        match self.first_key() {
             Ok(key) => Ok(key),
-            Err(_) => Err(StepError::NoMemory),
+            Err(NoMemory) => Err(StepError::NoMemory),
         }
     }
 
-    fn ended(&self, here: &Opened) -> bool {
+    fn next(&self, key: &StateKey, actor: Actor) -> Result<Option<StateKey>, StepError> {
+        match self.next_key(key, actor) {
+            Ok(next) => Ok(next),
+            Err(NoMemory) => Err(StepError::NoMemory),
+        }
+    }
+
+    fn ended(&self, key: &StateKey) -> bool {
+        let here = Here {
+            script: &self.script,
+            state: &key.state,
+        };
         for number in 0..self.count() {
-            if here.world.op(Actor::new(number)).is_some() {
+            if here.op(Actor::new(number)).is_some() {
                 return false;
             }
         }

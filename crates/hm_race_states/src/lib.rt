@@ -6,6 +6,7 @@ pub mod after;
 mod blur;
 pub mod here;
 pub mod key;
+mod listed;
 pub mod memory;
 pub mod mirrors;
 mod next;

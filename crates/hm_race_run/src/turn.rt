@@ -1,0 +1,101 @@
+// A turn of an actor at a state of a race.
+ghost use Rattle.std.specs.Prelude.{◌≡◌, List, IfOk};
+ghost use Rattle.hm_history.specs.declared.Entry.{Entry as AnyEntry};
+ghost use Rattle.hm_races.specs.Blur.{blurred_entry};
+ghost use Rattle.hm_races.specs.Positions.{forget_kind};
+ghost use Rattle.hm_races.specs.Numbers.{small_kind};
+
+use hm_base::{Actor, NoMemory, Script};
+use hm_history::{Entry, Kind, Progress};
+use hm_race_states::here::Here;
+use hm_race_states::state::RaceState;
+use skip_rules::SkipRule;
+use std::alloc::Global;
+
+/// An entry, without positions and sequences, and the state after it.
+#[derive(Drop)]
+pub struct Turned {
+    pub entry: Entry,
+    pub state: RaceState,
+}
+
+fn blurred_kind(kind: Kind) -> Kind
+    ensures { result ≡ forget_kind (small_kind kind) }
+{
+    match kind {
+        Kind::Set {
+            mirror,
+            page,
+            target,
+            right,
+            since: _,
+        } => Kind::Set {
+            mirror,
+            page,
+            target,
+            right,
+            since: 0,
+        },
+        Kind::Attached {
+            mirror,
+            dev,
+            proc,
+            span,
+            seq: _,
+        } => Kind::Attached {
+            mirror,
+            dev,
+            proc,
+            span,
+            seq: 0,
+        },
+        Kind::Detaching { mirror, seq: _ } => Kind::Detaching { mirror, seq: 0 },
+        Kind::Start { proc, span, seq: _ } => Kind::Start { proc, span, seq: 0 },
+        Kind::Told {
+            mirror,
+            span,
+            seq: _,
+        } => Kind::Told {
+            mirror,
+            span,
+            seq: 0,
+        },
+        Kind::End { proc, span, seq: _ } => Kind::End { proc, span, seq: 0 },
+        Kind::Begin { mirror, seq: _ } => Kind::Begin { mirror, seq: 1 },
+        other => other,
+    }
+}
+
+fn blurred_entry(entry: Entry) -> Entry
+    ensures { result ≡ blurred_entry entry }
+{
+    Entry {
+        actor: entry.actor,
+        kind: blurred_kind(entry.kind),
+    }
+}
+
+ghost use Rattle.hm_race_run.specs.Turns.{IsShown, IsTurned, Shows};
+
+/// A turn of the actor: the entry that is due and the state after it, or `None` if none is due.
+pub fn turn<R: SkipRule>(
+    alloc: Global,
+    script: &Script,
+    rule: &R,
+    state: &RaceState,
+    actor: Actor,
+) -> Result<Option<Turned>, NoMemory>
+    requires { IsShown script.now state.now }
+    ensures { IfOk result (λ o. (h : List AnyEntry) → Shows script.now h state.now → IsTurned script.now h actor o) }
+{
+    script.facts();
+    state.facts();
+    match hm_steps::due(&Here { script, state }, rule, alloc, actor)? {
+        Progress::Did(entry) => {
+            let entry = blurred_entry(entry);
+            let state = state.after(alloc, script, &entry)?;
+            Ok(Some(Turned { entry, state }))
+        }
+        _ => Ok(None),
+    }
+}
