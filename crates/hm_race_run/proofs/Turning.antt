@@ -1,5 +1,5 @@
 -- A turn at a state that a race has come to.
-use Rattle.std.proofs.Common.{◌≡◌, ℕ, ◌<◌, true, false, Bool, Option, Some, None, List, [], ◌∷◌, ◌++◌, length, get_or, take, refl, sym, ap, ◌∙◌, subst, arith}
+use Rattle.std.proofs.Common.{◌≡◌, ℕ, zero, suc, ◌+◌, append-nil, append_assoc, ◌<◌, true, false, Bool, Option, Some, None, List, [], ◌∷◌, ◌++◌, length, get_or, take, refl, sym, ap, ◌∙◌, subst, arith}
 use Rattle.std.proofs.lemmas.List.{take_more}
 use Rattle.hm_base.specs.Program.{Program, IsScript}
 use Rattle.hm_history.proofs.RunLemmas.{DueFrom-append}
@@ -15,7 +15,14 @@ use Rattle.hm_history.specs.declared.Entry.{Entry}
 use Rattle.hm_history.specs.declared.Progress.{Progress}
 use Rattle.hm_laws.specs.Stands as laws
 use Rattle.hm_laws.proofs.Histories.Stands.{history_stands}
-use Rattle.hm_races.specs.Outcomes.{Point, Reached, point_after, point_next, answers_of, answers_next, no_answers}
+use Rattle.hm_races.specs.Outcomes.{Point, Reached, point_after, point_next, answer_of, with_answer, answers_of, answers_next, no_answers}
+use Rattle.hm_history.specs.Words.{with_at}
+use Rattle.hm_races.specs.Positions.{forget_kind}
+use Rattle.hm_races.specs.Numbers.{small_kind}
+use Rattle.hm_race_keys.specs.Trail.{answers_in}
+use Rattle.hm_race_explore.specs.Known.{IsNext}
+use Rattle.hm_race_states.specs.Keyed.{form_in}
+use Rattle.hm_race_states.specs.declared.key.StateKey.{StateKey}
 use Rattle.hm_races.specs.Forms.{ListsPlaces, Adds, AddsAlike, TurnsAlike, opened_form}
 use Rattle.hm_races.specs.Blur.{blurred_entry, tidied, unlisted, form_of}
 use Rattle.hm_races.specs.Laws.{FormsGoOn}
@@ -35,6 +42,9 @@ along c x (e ∷ es) = along c (point_next c x e) es
 pub state_there : (c : Program) (h es : List Entry) → (point_after c h es).state ≡ state_of c (h ++ es)
 state_there c h es = along c (record { state = state_of c h; answers = no_answers }) es ∙ sym (fold-append (state_next c) (state_start c) h es)
 
+point_made : (u v : State) (f g : ℕ → List Kind) → u ≡ v → f ≡ g → ◌≡◌ {A = Point} (record { state = u; answers = f }) (record { state = v; answers = g })
+point_made u v f g e i = ap {B = Point} (λ (s : State). record { state = s; answers = f }) e ∙ ap {B = Point} (λ (k : ℕ → List Kind). record { state = v; answers = k }) i
+
 -- the point after a history, which is all of the race
 here : (c : Program) (h : List Entry) → DueFrom c [] h → Reached c [] (point_after c [] h)
 here c h d = record { entries = h; due = d; same = refl }
@@ -49,13 +59,13 @@ module _ (law : FormsGoOn) (c : Program) (sc : IsScript c) (h : List Entry) (x :
   abbrev form : Point
   form = record { state = unlisted u; answers = at.answers }
 
-  there : at.state ≡ state_of c h
+  pub there : at.state ≡ state_of c h
   there = state_there c [] h
 
-  formed : form_of c at ≡ form
+  pub formed : form_of c at ≡ form
   formed = ap {B = Point} (λ (v : State). record { state = tidied c v; answers = at.answers }) there ∙ ap {B = Point} (λ (v : State). record { state = v; answers = at.answers }) (sym shows.same)
 
-  turns : TurnsAlike c at (opened_form form u.after.places.placed) a
+  pub turns : TurnsAlike c at (opened_form form u.after.places.placed) a
   turns = law c sc [] tt at (here c h shows.due) form formed u.after.places.placed lists a
 
   -- nothing is due
@@ -63,7 +73,7 @@ module _ (law : FormsGoOn) (c : Program) (sc : IsScript c) (h : List Entry) (x :
   idle e = ap (λ (v : State). is_entry (due_in c v a)) (sym there) ∙ (sym turns.is_due ∙ e)
 
   module _ (d : Entry) (did : due_in c u a ≡ Progress.Did d) where
-    adds : Adds c at a (λ e. AddsAlike c at (opened_form form u.after.places.placed) a e d)
+    pub adds : Adds c at a (λ e. AddsAlike c at (opened_form form u.after.places.placed) a e d)
     adds = turns.did d did
 
     abbrev e : Entry
@@ -109,3 +119,77 @@ module _ (law : FormsGoOn) (c : Program) (sc : IsScript c) (h : List Entry) (x :
 
   pub not_turned : (p : Progress) → due_in c u a ≡ p → is_entry p ≡ false → IsTurned c h a None
   not_turned p is e = idle (ap is_entry is ∙ e)
+
+-- what is due is one entry
+did_of : Entry → Progress → Entry
+did_of e (Progress.Did d) = d
+did_of e p = e
+
+same_did : (e d : Entry) → Progress.Did e ≡ Progress.Did d → e ≡ d
+unfolding did_of
+same_did e d k = ap (did_of e) k
+
+-- the entry at a position was due after those before it
+due_at : (c : Program) (g h : List Entry) (i : ℕ) (d : Entry) → i < length h → DueFrom c g h → due c (g ++ take i h) (get_or h i d).actor ≡ Progress.Did (get_or h i d)
+due_at c g [] i d below l = absurd (omega (arith, below))
+due_at c g (e ∷ h) zero d below l = subst (λ (y : List Entry). due c y e.actor ≡ Progress.Did e) (sym (append-nil g)) l.0
+due_at c g (e ∷ h) (suc i) d below l =
+    subst (λ (y : List Entry). due c y (get_or h i d).actor ≡ Progress.Did (get_or h i d)) (append_assoc g (e ∷ []) (take i h))
+    (due_at c (g ++ e ∷ []) h i d (omega (arith, below)) l.1)
+
+-- a set-up made again, entry by entry
+pub set_up_on : (c : Program) (h : List Entry) (i : ℕ) (d : Entry) (t : Turned) → DueFrom c [] h → i < length h → d ≡ get_or h i d → IsTurned c (take i h) d.actor (Some t) → Shows c (take (i + 1) h) t.state
+set_up_on c h i d t dues below is turned = subst (λ es. Shows c es t.state) more turned.3
+  where
+    was : due c (take i h) d.actor ≡ Progress.Did d
+    was = subst (λ (y : Entry). due c (take i h) y.actor ≡ Progress.Did y) (sym is) (due_at c [] h i d below dues)
+
+    this : turned.0 ≡ get_or h i d
+    this = same_did turned.0 d (sym turned.1 ∙ was) ∙ is
+
+    more : take i h ++ turned.0 ∷ [] ≡ take (i + 1) h
+    more = ap (λ e. take i h ++ e ∷ []) this ∙ sym (take_more h i d below)
+
+joined : (c : Program) (g h es : List Entry) → DueFrom c g h → DueFrom c (g ++ h) es → DueFrom c g (h ++ es)
+joined c g [] es d after = subst (λ l. DueFrom c l es) (append-nil g) after
+joined c g (x ∷ h) es d after = (d.0, joined c (g ++ x ∷ []) h es d.1 (subst (λ l. DueFrom c l es) (sym (append_assoc g (x ∷ []) h)) after))
+
+-- answers have neither positions nor sequences
+answer_blurred : (k : Kind) → answer_of (forget_kind (small_kind k)) ≡ answer_of k
+answer_blurred (Kind.Set m v f w from) = refl
+answer_blurred (Kind.Attached m d p r q) = refl
+answer_blurred (Kind.Detaching m q) = refl
+answer_blurred (Kind.Start p r q) = refl
+answer_blurred (Kind.Told m r q) = refl
+answer_blurred (Kind.End p r q) = refl
+answer_blurred (Kind.Begin m q) = refl
+answer_blurred _ = refl
+
+answers_blurred : (f : ℕ → List Kind) (e : Entry) → answers_next f (blurred_entry e) ≡ answers_next f e
+answers_blurred f e = ap (λ o. with_at f e.actor (with_answer o (f e.actor))) (answer_blurred e.kind)
+
+-- a key of a point to which a race has come
+module _ (c : Program) (h : List Entry) (dues : DueFrom c [] h) (x : Point) (r : Reached c h x) (k : StateKey) (has : form_of c x ≡ form_in k) where
+  pub far : x.state ≡ state_of c (h ++ r.entries)
+  far = ap (λ (y : Point). y.state) (sym r.same) ∙ state_there c h r.entries
+
+  pub shown : Shows c (h ++ r.entries) k.state
+  shown = record {
+    due = joined c [] h r.entries dues r.due;
+    same = sym (ap (λ (y : Point). y.state) has) ∙ ap (tidied c) far;
+  }
+
+  pub next_none : (a : ℕ) → IsTurned c (h ++ r.entries) a None → is_entry (due_in c x.state a) ≡ false
+  next_none a e = ap (λ (v : State). is_entry (due_in c v a)) far ∙ e
+
+  pub next_some : (a : ℕ) (t : Turned) (l : StateKey) → IsTurned c (h ++ r.entries) a (Some t) → l.state ≡ t.state → answers_in l.answers.value.lists.items ≡ answers_next (answers_in k.answers.value.lists.items) t.entry → IsNext form_in c x a (Some l)
+  next_some a t l turned same an = (e, ap (λ (v : State). due_in c v a) far ∙ turned.1, point_made _ _ _ _ states answers)
+    where
+      e : Entry
+      e = turned.0
+
+      states : unlisted (state_in l.state) ≡ tidied c (state_next c x.state turned.0)
+      states = ap (λ y. unlisted (state_in y)) same ∙ (turned.3.same ∙ ap (tidied c) (state_of-snoc c (h ++ r.entries) turned.0 ∙ ap (λ (v : State). state_next c v turned.0) (sym far)))
+
+      answers : answers_in l.answers.value.lists.items ≡ answers_next x.answers turned.0
+      answers = an ∙ (ap (λ (f : ℕ → List Kind). answers_next f t.entry) (sym (ap (λ (y : Point). y.answers) has)) ∙ (ap (answers_next x.answers) turned.2 ∙ answers_blurred x.answers turned.0))

@@ -9,6 +9,7 @@ ghost use Rattle.hm_race_explore.specs.Known.{forms, AreFewest, AreKnown, AreRea
 ghost use Rattle.hm_race_states.specs.Keyed.{form_in};
 
 mod copies;
+mod keys;
 mod race;
 mod turn;
 

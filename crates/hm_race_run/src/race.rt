@@ -7,25 +7,20 @@ ghost use Rattle.hm_races.specs.Closed.{Stands};
 ghost use Rattle.hm_races.specs.Outcomes.{Point, Reached, point_from};
 ghost use Rattle.hm_race_explore.specs.Known.{IsNext, MayFail};
 ghost use Rattle.hm_race_states.specs.Keyed.{form_in};
-ghost use Rattle.hm_race_run.specs.Turns.{Shows};
 ghost use Rattle.hm_world.specs.WorldValue.{opening};
 
 use crate::copies::copy_script;
-use crate::turn::{Turned, turn};
+use crate::keys::{first_key, next_key};
 use hm_base::{Actor, NoMemory, Script};
 use hm_history::{History, StepError};
 use hm_machine::Machine;
 use hm_race_explore::Race;
-use hm_race_keys::shared_answers::SharedAnswers;
-use hm_race_states::after::answers_after;
 use hm_race_states::here::Here;
 use hm_race_states::key::StateKey;
-use hm_race_states::state::RaceState;
 use hm_reads::Reads;
 use skip_rules::SkipRule;
 use std::alloc::Global;
 use std::marker::Model;
-use std::rc::Rc;
 
 // A rule that another value keeps.
 #[derive(Drop)]
@@ -124,30 +119,12 @@ impl<R: SkipRule> ScriptRace<R> {
         let _ = &self.script;
     }
 
-    // The state after the set-up.
-    fn after_set_up(&self) -> Result<RaceState, NoMemory>
-        ensures { IfOk result (λ x. Shows self.now.script self.now.set_up x) }
-    {
-        self.stands();
-        let mut state = RaceState::start(self.alloc, &self.script)?;
-        for entry in self.set_up.as_slice() {
-            let turned = turn(self.alloc, &self.script, &self.rule, &state, entry.actor)?;
-            match turned {
-                Some(turned) => state = turned.state,
-                None => return Err(NoMemory),
-            }
-        }
-        Ok(state)
-    }
-
     // The key after the set-up.
     fn first_key(&self) -> Result<StateKey, NoMemory>
         ensures { IfOk result (λ k. form_in k ≡ form_of self.now.script (point_from self.now.script self.now.set_up)) }
     {
-        Ok(StateKey {
-            state: self.after_set_up()?,
-            answers: Rc::new(self.alloc, SharedAnswers::new(self.alloc)?)?,
-        })
+        self.stands();
+        first_key(self.alloc, &self.script, &self.rule, self.set_up.as_slice())
     }
 
     // The key after a turn of the actor.
@@ -157,13 +134,7 @@ impl<R: SkipRule> ScriptRace<R> {
             → form_of self.now.script x ≡ form_in key.now → IsNext form_in self.now.script x actor o) }
     {
         self.stands();
-        match turn(self.alloc, &self.script, &self.rule, &key.state, actor)? {
-            None => Ok(None),
-            Some(Turned { entry, state }) => {
-                let answers = answers_after(self.alloc, &key.answers, &entry)?;
-                Ok(Some(StateKey { state, answers }))
-            }
-        }
+        Ok(next_key(self.alloc, &self.script, &self.rule, key, actor)?)
     }
 }
 

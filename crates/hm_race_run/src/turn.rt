@@ -4,6 +4,7 @@ ghost use Rattle.hm_history.specs.declared.Entry.{Entry as AnyEntry};
 ghost use Rattle.hm_races.specs.Blur.{blurred_entry};
 ghost use Rattle.hm_races.specs.Positions.{forget_kind};
 ghost use Rattle.hm_races.specs.Numbers.{small_kind};
+ghost use Rattle.hm_race_run.specs.Turns.{IsShown, IsTurned, Shows};
 
 use hm_base::{Actor, NoMemory, Script};
 use hm_history::{Entry, Kind, Progress};
@@ -75,8 +76,6 @@ fn blurred_entry(entry: Entry) -> Entry
     }
 }
 
-ghost use Rattle.hm_race_run.specs.Turns.{IsShown, IsTurned, Shows};
-
 /// A turn of the actor: the entry that is due and the state after it, or `None` if none is due.
 pub fn turn<R: SkipRule>(
     alloc: Global,
@@ -90,12 +89,14 @@ pub fn turn<R: SkipRule>(
 {
     script.facts();
     state.facts();
+    hm_races::forms_go_on();
     match hm_steps::due(&Here { script, state }, rule, alloc, actor)? {
         Progress::Did(entry) => {
             let entry = blurred_entry(entry);
             let state = state.after(alloc, script, &entry)?;
             Ok(Some(Turned { entry, state }))
         }
-        _ => Ok(None),
+        Progress::Waiting(_) => Ok(None),
+        Progress::Idle => Ok(None),
     }
 }
