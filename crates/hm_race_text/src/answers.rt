@@ -7,7 +7,7 @@ ghost use Rattle.hm_race_text.specs.Answers.{answer_words, answer_line, actor_li
 
 use hm_base::{NoMemory, Text};
 use hm_history::Kind;
-use hm_race_keys::answers::AnswerLists;
+use hm_race_keys::shared_answers::{Answer, SharedAnswers};
 use hm_report::{Buffer, add_tail, put_decimal, put_head, put_interval};
 use std::alloc::Global;
 
@@ -58,25 +58,30 @@ fn add_line(text: &mut Text, out: &mut Buffer, actor: u64, kind: &Kind) -> Resul
 }
 
 /// Adds the lines of all of an actor's answers.
-fn add_lines(text: &mut Text, out: &mut Buffer, actor: u64, kinds: &[Kind]) -> Result<(), NoMemory>
-    ensures { OnOk result (text.new ≡ text.old ++ actor_lines actor kinds.now) }
+fn add_lines(
+    text: &mut Text,
+    out: &mut Buffer,
+    actor: u64,
+    answers: &[Answer],
+) -> Result<(), NoMemory>
+    ensures { OnOk result (text.new ≡ text.old ++ actor_lines actor answers.now) }
 {
-    for kind in kinds {
-        add_line(text, out, actor, kind)?;
+    for answer in answers {
+        add_line(text, out, actor, answer.kind())?;
     }
     Ok(())
 }
 
 /// The lines of the answers of the first `actors` actors.
-pub fn answer_lines(alloc: Global, answers: &AnswerLists, actors: u64) -> Result<Text, NoMemory>
+pub fn answer_lines(alloc: Global, answers: &SharedAnswers, actors: u64) -> Result<Text, NoMemory>
     requires { actors ≤ 16 }
     ensures { IfOk result (λ t. t ≡ answer_lines (map (answers_in answers.now.lists.items) (numbers 0 actors))) }
 {
     let mut text = Text::new(alloc);
     let mut out = Buffer::new(alloc)?;
     for actor in 0..actors {
-        let kinds = &answers.lists[actor as usize];
-        add_lines(&mut text, &mut out, actor, kinds.as_slice())?;
+        let list = &answers.lists[actor as usize];
+        add_lines(&mut text, &mut out, actor, list.as_slice())?;
     }
     Ok(text)
 }

@@ -1,8 +1,8 @@
 -- What a call has found, by how it ends.
-use Rattle.std.proofs.Common.{◌≡◌, ℕ, ◌<◌, inl, inr, Bool, true, false, List, length, refl, sym, ap, ◌∙◌, subst}
+use Rattle.std.proofs.Common.{◌≡◌, ℕ, ◌≤◌, inl, inr, Bool, true, false, List, length, refl, sym, ap, ◌∙◌, subst}
 use Rattle.hm_base.specs.Program.{Program}
 use Rattle.hm_history.specs.Run.{run}
-use Rattle.hm_race_search.specs.Known.{KnownValue, AreKnown}
+use Rattle.hm_race_explore.specs.Known.{KnownValue, forms, AreFewest, AreKnown, AreRising, HaveForms, IsCut}
 use Rattle.hm_races.specs.Closed.{AreDistinct}
 use Rattle.hm_race_text.specs.Laws.{lines_of}
 use Rattle.hm_race_text.specs.Text.{blocks_of, outcomes_text}
@@ -19,7 +19,12 @@ pub record Holds (most : ℕ) (c : Program) (known : List KnownValue) (whole : B
   pub real : AreTrue c (blocks_known c known)
   pub distinct : AreDistinct (lines_of (blocks_known c known))
   pub complete : whole ≡ true → HaveAll c (blocks_known c known)
-  pub cut : whole ≡ false → most < length known
+  pub all : whole ≡ true → HaveForms c (run c) known
+  pub few : whole ≡ true → length known ≤ most
+  pub once : AreDistinct (forms known)
+  pub cut : whole ≡ false → IsCut c most (length known)
+  pub rising : AreRising known
+  pub fewest : AreFewest c (run c) known
 
 module _ (most : ℕ) (c : Program) (known : List KnownValue) (whole : Bool) (holds : Holds most c known whole) (before after : SinkState) where
   found : (status : Status) → HasWritten (told c known whole) (λ t. t ≡ told c known whole) before after status → Found most c before after status
@@ -31,7 +36,12 @@ module _ (most : ℕ) (c : Program) (known : List KnownValue) (whole : Bool) (ho
     real = holds.real;
     distinct = holds.distinct;
     complete = holds.complete;
+    all = holds.all;
+    few = holds.few;
+    once = holds.once;
     cut = holds.cut;
+    rising = holds.rising;
+    fewest = holds.fewest;
   }
 
   has_found : (status : Status) → HasWrittenWays (told c known whole) before after status → HasFound most c before after status

@@ -1,17 +1,13 @@
 -- The ways that are told, and the outcomes that a search knows.
-use Rattle.std.proofs.Common.{◌≡◌, ℕ, ◌+◌, ◌<◌, Bool, true, false, inl, inr, List, [], ◌∷◌, ◌++◌, map, length, get_or, take, refl, sym, ap, ◌∙◌, subst, fold}
+use Rattle.std.proofs.Common.{◌≡◌, ℕ, zero, suc, ◌≤◌, arith, ◌+◌, ◌<◌, Bool, true, false, inl, inr, List, [], ◌∷◌, ◌++◌, map, length, get_or, take, refl, sym, ap, ◌∙◌, subst, fold}
 use Rattle.std.specs.Prelude.{◌⊎◌, if◌then◌else◌}
-use Rattle.std.proofs.lemmas.List.{take_more, map-append}
+use Rattle.std.proofs.lemmas.List.{take_more}
 use Rattle.std.proofs.lemmas.List.Sums.{fold-append}
 use Rattle.hm_base.specs.Program.{Program}
 use Rattle.hm_history.specs.declared.Kind.{Kind}
 use Rattle.hm_races.specs.Closed.{IsListed}
 use Rattle.hm_races.specs.Outcomes.{outcome, answers_of}
-use Rattle.hm_race_forms.specs.Form.{form_in}
-use Rattle.hm_race_forms.specs.declared.key.Key.{Key}
-use Rattle.hm_race_search.specs.Known.{KnownValue, outcomes_of}
-use Rattle.hm_race_search.specs.Values.{all_known, known_of}
-use Rattle.hm_race_search.specs.declared.known.Known.{Known}
+use Rattle.hm_race_explore.specs.Known.{KnownValue, outcomes_of}
 use Rattle.hm_race_text.specs.Answers.{answer_lines}
 use Rattle.hm_race_text.specs.Laws.{lines_of, WaysAreShown}
 use Rattle.hm_race_text.specs.Text.{Way, block_of, with_block, blocks_of}
@@ -78,25 +74,30 @@ ways_more actors drains (m ∷ ns) n = by (ways_more actors drains ns n) m.ended
     by rest true = ap (λ (ws : List Way). way_by actors drains m ∷ ws) rest
     by rest false = rest
 
-module _ (actors : ℕ) (drains : Bool) (known : List (Known Key)) (i : ℕ) (k : Known Key) (lt : i < length known) (is : k ≡ get_or known i k) where
-  grown : ways_by actors drains (all_known form_in (take (i + 1) known)) ≡ ways_by actors drains (all_known form_in (take i known)) ++ ways_by actors drains (known_of form_in k ∷ [])
-  grown = ap (λ (ks : List (Known Key)). ways_by actors drains (all_known form_in ks)) (take_more known i k lt ∙ ap (λ (x : Known Key). take i known ++ x ∷ []) (sym is))
-      ∙ ap (ways_by actors drains) (map-append (known_of form_in) (take i known) (k ∷ []))
-      ∙ ways_more actors drains (all_known form_in (take i known)) (known_of form_in k)
+module _ (actors : ℕ) (drains : Bool) (ns : List KnownValue) (i : ℕ) (n : KnownValue) (lt : i < length ns) (is : get_or ns i n ≡ n) where
+  grown : ways_by actors drains (take (i + 1) ns) ≡ ways_by actors drains (take i ns) ++ ways_by actors drains (n ∷ [])
+  grown = ap (ways_by actors drains) (take_more ns i n lt ∙ ap (λ (x : KnownValue). take i ns ++ x ∷ []) is) ∙ ways_more actors drains (take i ns) n
 
-  pub one_ended : (bs new : List Block) → k.ended ≡ true → bs ≡ blocks_of (ways_by actors drains (all_known form_in (take i known))) → new ≡ with_block bs (block_of (way_by actors drains (known_of form_in k)))
-      → new ≡ blocks_of (ways_by actors drains (all_known form_in (take (i + 1) known)))
+  pub one_ended : (bs new : List Block) → n.ended ≡ true → bs ≡ blocks_of (ways_by actors drains (take i ns)) → new ≡ with_block bs (block_of (way_by actors drains n))
+      → new ≡ blocks_of (ways_by actors drains (take (i + 1) ns))
   one_ended bs new e so next =
-      let one : ways_by actors drains (known_of form_in k ∷ []) ≡ way_by actors drains (known_of form_in k) ∷ [] =
-      ap (λ (t : Bool). if t then way_by actors drains (known_of form_in k) ∷ [] else []) e in
-      next ∙ ap (λ (cs : List Block). with_block cs (block_of (way_by actors drains (known_of form_in k)))) so
-      ∙ sym (ap blocks_of (grown ∙ ap (λ (ws : List Way). ways_by actors drains (all_known form_in (take i known)) ++ ws) one)
-      ∙ fold-append (λ (cs : List Block) (w : Way). with_block cs (block_of w)) [] (ways_by actors drains (all_known form_in (take i known))) (way_by actors drains (known_of form_in k) ∷ []))
+      let one : ways_by actors drains (n ∷ []) ≡ way_by actors drains n ∷ [] =
+      ap (λ (t : Bool). if t then way_by actors drains n ∷ [] else []) e in
+      next ∙ ap (λ (cs : List Block). with_block cs (block_of (way_by actors drains n))) so
+      ∙ sym (ap blocks_of (grown ∙ ap (λ (ws : List Way). ways_by actors drains (take i ns) ++ ws) one)
+      ∙ fold-append (λ (cs : List Block) (w : Way). with_block cs (block_of w)) [] (ways_by actors drains (take i ns)) (way_by actors drains n ∷ []))
 
-  pub one_open : (bs : List Block) → k.ended ≡ false → bs ≡ blocks_of (ways_by actors drains (all_known form_in (take i known)))
-      → bs ≡ blocks_of (ways_by actors drains (all_known form_in (take (i + 1) known)))
+  pub one_open : (bs : List Block) → n.ended ≡ false → bs ≡ blocks_of (ways_by actors drains (take i ns))
+      → bs ≡ blocks_of (ways_by actors drains (take (i + 1) ns))
   one_open bs e so =
-      let none : ways_by actors drains (known_of form_in k ∷ []) ≡ [] =
-      ap (λ (t : Bool). if t then way_by actors drains (known_of form_in k) ∷ [] else []) e in
-      so ∙ sym (ap blocks_of (grown ∙ ap (λ (ws : List Way). ways_by actors drains (all_known form_in (take i known)) ++ ws) none)
-      ∙ fold-append (λ (cs : List Block) (w : Way). with_block cs (block_of w)) [] (ways_by actors drains (all_known form_in (take i known))) [])
+      let none : ways_by actors drains (n ∷ []) ≡ [] =
+      ap (λ (t : Bool). if t then way_by actors drains n ∷ [] else []) e in
+      so ∙ sym (ap blocks_of (grown ∙ ap (λ (ws : List Way). ways_by actors drains (take i ns) ++ ws) none)
+      ∙ fold-append (λ (cs : List Block) (w : Way). with_block cs (block_of w)) [] (ways_by actors drains (take i ns)) [])
+
+-- all of them were taken
+pub took_all : (ns : List KnownValue) (i : ℕ) → length ns ≤ i → take i ns ≡ ns
+took_all [] zero l = refl
+took_all [] (suc i) l = refl
+took_all (n ∷ ns) zero l = absurd (omega (arith, l))
+took_all (n ∷ ns) (suc i) l = ap (λ z. n ∷ z) (took_all ns i (omega (arith, l)))

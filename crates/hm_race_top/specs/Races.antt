@@ -1,9 +1,9 @@
 -- What a call comes to: what was read, and what was written of its race.
-use Rattle.std.specs.Prelude.{◌≡◌, ◌⊎◌, ◌<◌, ℕ, Bool, true, false, List, length, Option, Some, None, IfSome}
+use Rattle.std.specs.Prelude.{◌≡◌, ◌⊎◌, ◌≤◌, ℕ, Bool, true, false, List, length, Option, Some, None, IfSome}
 use Rattle.hm_base.specs.Program.{Program}
 use Rattle.hm_history.specs.Run.{run}
 use Rattle.hm_history.specs.declared.StepError.{StepError}
-use Rattle.hm_race_search.specs.Known.{KnownValue, AreKnown, MayFail}
+use Rattle.hm_race_explore.specs.Known.{KnownValue, forms, AreFewest, AreKnown, AreRising, HaveForms, IsCut, MayFail}
 use Rattle.hm_races.specs.Closed.{AreDistinct}
 use Rattle.hm_race_text.specs.Laws.{lines_of}
 use Rattle.hm_race_text.specs.Text.{outcomes_text}
@@ -32,8 +32,17 @@ pub record Found (most : ℕ) (c : Program) (before after : SinkState) (status :
   pub distinct : AreDistinct (lines_of (blocks_known c known))
   -- If `whole` is written, every outcome that the race can come to is there.
   pub complete : whole ≡ true → HaveAll c (blocks_known c known)
-  -- `cut` is written only if there are more states than were asked for.
-  pub cut : whole ≡ false → most < length known
+  -- Then every state to which the race can come is counted, and they are at most as many as were asked for.
+  pub all : whole ≡ true → HaveForms c (run c) known
+  pub few : whole ≡ true → length known ≤ most
+  -- No state is counted twice.
+  pub once : AreDistinct (forms known)
+  -- `cut` is written only if there are more states than were asked for, and then at most as many more are counted as
+  -- there are actors.
+  pub cut : whole ≡ false → IsCut c most (length known)
+  -- The states stand in the order of how many turns lead to them, and no fewer turns lead to one than are told.
+  pub rising : AreRising known
+  pub fewest : AreFewest c (run c) known
 
 -- how a text was written: all of it, a front of it, or nothing
 abbrev pub HasWrittenWays : List ℕ → SinkState → SinkState → Status → Type 0

@@ -7,8 +7,8 @@ use Rattle.hm_history.specs.Run.{run}
 use Rattle.hm_history.specs.Words.{numbers}
 use Rattle.hm_history.specs.declared.Entry.{Entry}
 use Rattle.hm_races.specs.Closed.{IsListed}
-use Rattle.hm_races.specs.Outcomes.{outcome, answers_of, ended}
-use Rattle.hm_race_search.specs.Known.{KnownValue}
+use Rattle.hm_races.specs.Outcomes.{Point, outcome, answers_of, ended}
+use Rattle.hm_race_explore.specs.Known.{KnownValue, turns_at}
 use Rattle.hm_race_text.specs.Answers.{answer_lines}
 use Rattle.hm_race_text.specs.Laws.{lines_of}
 use Rattle.hm_race_text.specs.Schedule.{with_turns}
@@ -19,6 +19,11 @@ use Rattle.hm_script.specs.Built.{has_drain}
 -- the turns that are written: none after a `drain`, which leaves nothing to do
 abbrev pub told_turns : Bool → List ℕ → List ℕ
 told_turns drains turns = if drains then [] else turns
+
+-- the way to the state with this number, whose form this is, with the answers of `actors` actors
+abbrev pub way_to : ℕ → Bool → List KnownValue → ℕ → Point → Way
+way_to actors drains ns at f =
+    record { answers = map f.answers (numbers 0 actors); turns = told_turns drains (turns_at ns at) }
 
 -- the way to a state, with the answers of `actors` actors
 abbrev pub way_by : ℕ → Bool → KnownValue → Way

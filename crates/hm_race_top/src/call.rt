@@ -1,8 +1,8 @@
 // The top call: reads a script, searches its race, and writes the outcomes.
 ghost use Rattle.std.specs.Prelude.{◌≡◌, ◌≤◌, false, length, map, string_bytes};
 ghost use Rattle.hm_base.specs.Program.{IsScript};
-ghost use Rattle.hm_race_forms.specs.Form.{form_in};
-ghost use Rattle.hm_race_search.specs.Values.{all_known};
+ghost use Rattle.hm_race_states.specs.Keyed.{form_in};
+ghost use Rattle.hm_race_explore.specs.Values.{all_known};
 ghost use Rattle.hm_race_text.specs.Text.{blocks_of, outcomes_text};
 ghost use Rattle.hm_race_top.specs.Asked.{most_of};
 ghost use Rattle.hm_race_top.specs.Races.{HasFound, HasWrittenWays, Races, Searches};
@@ -18,9 +18,9 @@ use hm_base::{NoMemory, Script};
 use hm_edge::{Status, read_script};
 use hm_history::StepError;
 use hm_io::{Sink, Source};
-use hm_race_forms::key::Key;
+use hm_race_states::key::StateKey;
 use hm_race_run::search;
-use hm_race_search::Explored;
+use hm_race_explore::Explored;
 use hm_race_text::write_outcomes;
 use hm_report::Written;
 use skip_rules::SkipRule;
@@ -31,7 +31,7 @@ fn write_ways<K: Sink>(
     alloc: Global,
     actors: u64,
     drains: bool,
-    found: &Explored<Key>,
+    found: &Explored<StateKey>,
     sink: &mut K,
 ) -> Status
     requires { actors ≤ 16 }

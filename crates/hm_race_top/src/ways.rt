@@ -1,14 +1,15 @@
 // The ways to the outcomes that a search knows.
 ghost use Rattle.std.specs.Prelude.{◌≡◌, ◌≤◌, IfOk};
 ghost use Rattle.hm_script.specs.Built.{has_drain};
-ghost use Rattle.hm_race_search.specs.Values.{all_known, known_of};
-ghost use Rattle.hm_race_forms.specs.Form.{form_in};
+ghost use Rattle.hm_race_explore.specs.Known.{turns_at};
+ghost use Rattle.hm_race_explore.specs.Values.{all_known};
+ghost use Rattle.hm_race_states.specs.Keyed.{form_in};
 ghost use Rattle.hm_race_text.specs.Text.{block_of, blocks_of};
-ghost use Rattle.hm_race_top.specs.Ways.{told_turns, way_by, ways_by};
+ghost use Rattle.hm_race_top.specs.Ways.{told_turns, way_to, ways_by};
 
 use hm_base::{Actor, ListOf, NoMemory, ScheduleLine};
-use hm_race_forms::key::Key;
-use hm_race_search::Known;
+use hm_race_states::key::StateKey;
+use hm_race_explore::{Known, turns_to};
 use hm_race_text::{Block, add_block, answer_lines};
 use std::alloc::Global;
 
@@ -25,28 +26,40 @@ pub fn has_drain(lines: &[ScheduleLine]) -> bool
     false
 }
 
-/// The turns that are told: none after a `drain`.
-fn told_turns(alloc: Global, drains: bool, turns: &[Actor]) -> Result<ListOf<Actor>, NoMemory>
-    ensures { IfOk result (λ xs. xs ≡ told_turns drains turns.now) }
+/// The turns that are told of the state with this number: none after a `drain`.
+fn told_turns(
+    alloc: Global,
+    drains: bool,
+    known: &[Known<StateKey>],
+    at: usize,
+) -> Result<ListOf<Actor>, NoMemory>
+    ensures { IfOk result (λ xs. xs ≡ told_turns drains (turns_at (all_known form_in known.now) at)) }
 {
     let mut told = ListOf::new(alloc);
     if drains {
         return Ok(told);
     }
-    for actor in turns {
+    for actor in turns_to(alloc, known, at)?.as_slice() {
         told.push(*actor)?;
     }
     Ok(told)
 }
 
-/// The block of the way to a state of a race of `actors` actors.
-fn block_of(alloc: Global, actors: u64, drains: bool, known: &Known<Key>) -> Result<Block, NoMemory>
+/// The block of the way to the state with this number and this key, of a race of `actors` actors.
+fn block_of(
+    alloc: Global,
+    actors: u64,
+    drains: bool,
+    known: &[Known<StateKey>],
+    at: usize,
+    key: &StateKey,
+) -> Result<Block, NoMemory>
     requires { actors ≤ 16 }
-    ensures { IfOk result (λ b. b ≡ block_of (way_by actors drains (known_of form_in known.now))) }
+    ensures { IfOk result (λ b. b ≡ block_of (way_to actors drains (all_known form_in known.now) at (form_in key.now))) }
 {
     Ok(Block {
-        lines: answer_lines(alloc, &known.key.answers, actors)?,
-        turns: told_turns(alloc, drains, known.turns.as_slice())?,
+        lines: answer_lines(alloc, &key.answers, actors)?,
+        turns: told_turns(alloc, drains, known, at)?,
     })
 }
 
@@ -55,15 +68,15 @@ pub fn blocks_of(
     alloc: Global,
     actors: u64,
     drains: bool,
-    known: &[Known<Key>],
+    known: &[Known<StateKey>],
 ) -> Result<ListOf<Block>, NoMemory>
     requires { actors ≤ 16 }
     ensures { IfOk result (λ bs. bs ≡ blocks_of (ways_by actors drains (all_known form_in known.now))) }
 {
     let mut blocks = ListOf::new(alloc);
-    for state in known {
-        if state.ended {
-            let block = block_of(alloc, actors, drains, state)?;
+    for at in 0..known.len() {
+        if known[at].ended {
+            let block = block_of(alloc, actors, drains, known, at, &known[at].key)?;
             add_block(&mut blocks, block)?;
         }
     }

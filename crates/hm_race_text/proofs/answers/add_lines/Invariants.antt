@@ -3,5 +3,5 @@ use Rattle.hm_race_text.specs.Answers.{actor_lines}
 use Rattle.hm_race_text.proofs.answers.add_lines.Given as goal
 
 -- the lines so far were added
-abbrev pub invariant-loop-kind : goal.invariant-loop-kind
-invariant-loop-kind l = l.text ≡ l.fn.text ++ actor_lines l.actor (take l.kind-index l.kinds)
+abbrev pub invariant-loop-answer : goal.invariant-loop-answer
+invariant-loop-answer l = l.text ≡ l.fn.text ++ actor_lines l.actor (take l.answer-index l.answers)

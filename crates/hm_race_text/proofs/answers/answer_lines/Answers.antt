@@ -9,4 +9,4 @@ loop-actor-preserved c =
     let lists = c.args.answers.now.lists.items in
     let within : c.loop-actor.actor < length lists = omega (arith, c.loop-actor-test.true, c.loop-actor.auto.actor-end, c.requires) in
     one_actor (answers_in lists) c.loop-actor.actor c.as_slice.result.now c.loop-actor.text c.add_lines.new.text
-    c.loop-actor.invariant (c.as_slice.ensures ∙ c.index-kinds.ensures ∙ get_or_default lists c.loop-actor.actor _ [] within) c.in_ok-add_lines.ensures
+    c.loop-actor.invariant (c.as_slice.ensures ∙ c.index-list.ensures ∙ get_or_default lists c.loop-actor.actor _ [] within) c.in_ok-add_lines.ensures
