@@ -2,3 +2,5 @@ pub mod Settled
 pub mod Betweens
 pub mod AreaLists
 pub mod Askings
+pub mod MirrorsRead
+pub mod Alike
