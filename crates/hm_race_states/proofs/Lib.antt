@@ -3,4 +3,5 @@ pub mod Betweens
 pub mod AreaLists
 pub mod Askings
 pub mod MirrorsRead
+pub mod Goings
 pub mod Alike

@@ -8,3 +8,4 @@ pub mod Mirrors
 pub mod Bytes
 pub mod States
 pub mod Keyed
+pub mod Buckets

@@ -3,6 +3,7 @@
 #![tactic(auto)]
 
 mod blur;
+mod buckets;
 pub mod here;
 pub mod key;
 pub mod memory;
