@@ -1,5 +1,5 @@
 // What actors have been answered since the set-up of a race.
-ghost use Rattle.std.specs.Prelude.{◌≡◌, [], ℕ, true, length, drop, IfOk, OnOk};
+ghost use Rattle.std.specs.Prelude.{◌≡◌, [], ℕ, true, Some, length, drop, IfOk, OnOk};
 ghost use Rattle.hm_races.specs.Outcomes.{answer_of, answers_next, answers_of};
 ghost use Rattle.hm_race_keys.specs.Trail.{answers_in};
 
@@ -104,149 +104,172 @@ pub(crate) fn answer_of(alloc: Global, kind: &Kind) -> Result<Option<Kind>, NoMe
 
 // Whether the two answers are the same.
 pub(crate) fn same_kind(one: &Kind, other: &Kind) -> bool
-    ensures { result ≡ true → one.now ≡ other.now }
+    ensures yes { result ≡ true → one.now ≡ other.now }
+    ensures no { answer_of one.now ≡ Some one.now → one.now ≡ other.now → result ≡ true }
 {
-    match (one, other) {
-        (
-            Kind::Loaded {
-                who: who1,
-                addr: addr1,
-                bytes: bytes1,
-            },
+    match one {
+        Kind::Loaded {
+            who: who1,
+            addr: addr1,
+            bytes: bytes1,
+        } => match other {
             Kind::Loaded {
                 who: who2,
                 addr: addr2,
                 bytes: bytes2,
-            },
-        ) => who1 == who2 && addr1 == addr2 && bytes1.as_slice() == bytes2.as_slice(),
-        (
-            Kind::Stored {
-                who: who1,
-                addr: addr1,
-                bytes: bytes1,
-            },
+            } => who1 == who2 && addr1 == addr2 && bytes1.as_slice() == bytes2.as_slice(),
+            _ => false,
+        },
+        Kind::Stored {
+            who: who1,
+            addr: addr1,
+            bytes: bytes1,
+        } => match other {
             Kind::Stored {
                 who: who2,
                 addr: addr2,
                 bytes: bytes2,
-            },
-        ) => who1 == who2 && addr1 == addr2 && bytes1.as_slice() == bytes2.as_slice(),
-        (
-            Kind::Failed {
-                who: who1,
-                addr: addr1,
-                len: len1,
-                cause: cause1,
-            },
+            } => who1 == who2 && addr1 == addr2 && bytes1.as_slice() == bytes2.as_slice(),
+            _ => false,
+        },
+        Kind::Failed {
+            who: who1,
+            addr: addr1,
+            len: len1,
+            cause: cause1,
+        } => match other {
             Kind::Failed {
                 who: who2,
                 addr: addr2,
                 len: len2,
                 cause: cause2,
-            },
-        ) => who1 == who2 && addr1 == addr2 && len1 == len2 && cause1 == cause2,
-        (
-            Kind::Mapped {
-                proc: proc1,
-                span: span1,
-                rights: rights1,
-            },
+            } => who1 == who2 && addr1 == addr2 && len1 == len2 && cause1 == cause2,
+            _ => false,
+        },
+        Kind::Mapped {
+            proc: proc1,
+            span: span1,
+            rights: rights1,
+        } => match other {
             Kind::Mapped {
                 proc: proc2,
                 span: span2,
                 rights: rights2,
-            },
-        ) => proc1 == proc2 && span1 == span2 && rights1 == rights2,
-        (
-            Kind::Unmapped {
-                proc: proc1,
-                span: span1,
-            },
+            } => proc1 == proc2 && span1 == span2 && rights1 == rights2,
+            _ => false,
+        },
+        Kind::Unmapped {
+            proc: proc1,
+            span: span1,
+        } => match other {
             Kind::Unmapped {
                 proc: proc2,
                 span: span2,
-            },
-        ) => proc1 == proc2 && span1 == span2,
-        (
-            Kind::Protected {
-                proc: proc1,
-                span: span1,
-                rights: rights1,
-            },
+            } => proc1 == proc2 && span1 == span2,
+            _ => false,
+        },
+        Kind::Protected {
+            proc: proc1,
+            span: span1,
+            rights: rights1,
+        } => match other {
             Kind::Protected {
                 proc: proc2,
                 span: span2,
                 rights: rights2,
-            },
-        ) => proc1 == proc2 && span1 == span2 && rights1 == rights2,
-        (
-            Kind::Forked {
-                parent: parent1,
-                child: child1,
-            },
+            } => proc1 == proc2 && span1 == span2 && rights1 == rights2,
+            _ => false,
+        },
+        Kind::Forked {
+            parent: parent1,
+            child: child1,
+        } => match other {
             Kind::Forked {
                 parent: parent2,
                 child: child2,
-            },
-        ) => parent1 == parent2 && child1 == child2,
-        (Kind::Exited(x), Kind::Exited(y)) => x == y,
-        (
-            Kind::Attached {
-                mirror: mirror1,
-                dev: dev1,
-                proc: proc1,
-                span: span1,
-                seq: seq1,
-            },
+            } => parent1 == parent2 && child1 == child2,
+            _ => false,
+        },
+        Kind::Exited(x) => match other {
+            Kind::Exited(y) => x == y,
+            _ => false,
+        },
+        Kind::Attached {
+            mirror: mirror1,
+            dev: dev1,
+            proc: proc1,
+            span: span1,
+            seq: seq1,
+        } => match other {
             Kind::Attached {
                 mirror: mirror2,
                 dev: dev2,
                 proc: proc2,
                 span: span2,
                 seq: seq2,
-            },
-        ) => mirror1 == mirror2 && dev1 == dev2 && proc1 == proc2 && span1 == span2 && seq1 == seq2,
-        (Kind::Detached(x), Kind::Detached(y)) => x == y,
-        (Kind::Refused(x), Kind::Refused(y)) => x == y,
-        (Kind::Migrated(x), Kind::Migrated(y)) => x == y,
-        (
-            Kind::Seen {
-                mirror: mirror1,
-                page: page1,
-                code: code1,
-            },
+            } => mirror1 == mirror2
+                && dev1 == dev2
+                && proc1 == proc2
+                && span1 == span2
+                && seq1 == seq2,
+            _ => false,
+        },
+        Kind::Detached(x) => match other {
+            Kind::Detached(y) => x == y,
+            _ => false,
+        },
+        Kind::Refused(x) => match other {
+            Kind::Refused(y) => x == y,
+            _ => false,
+        },
+        Kind::Migrated(x) => match other {
+            Kind::Migrated(y) => x == y,
+            _ => false,
+        },
+        Kind::Seen {
+            mirror: mirror1,
+            page: page1,
+            code: code1,
+        } => match other {
             Kind::Seen {
                 mirror: mirror2,
                 page: page2,
                 code: code2,
-            },
-        ) => mirror1 == mirror2 && page1 == page2 && code1 == code2,
-        (Kind::Evicted(x), Kind::Evicted(y)) => x == y,
-        (Kind::Removed(x), Kind::Removed(y)) => x == y,
-        (
-            Kind::Excluded {
-                mirror: mirror1,
-                page: page1,
-            },
+            } => mirror1 == mirror2 && page1 == page2 && code1 == code2,
+            _ => false,
+        },
+        Kind::Evicted(x) => match other {
+            Kind::Evicted(y) => x == y,
+            _ => false,
+        },
+        Kind::Removed(x) => match other {
+            Kind::Removed(y) => x == y,
+            _ => false,
+        },
+        Kind::Excluded {
+            mirror: mirror1,
+            page: page1,
+        } => match other {
             Kind::Excluded {
                 mirror: mirror2,
                 page: page2,
-            },
-        ) => mirror1 == mirror2 && page1 == page2,
-        (
-            Kind::Added {
-                mirror: mirror1,
-                addr: addr1,
-                read: read1,
-                written: written1,
-            },
+            } => mirror1 == mirror2 && page1 == page2,
+            _ => false,
+        },
+        Kind::Added {
+            mirror: mirror1,
+            addr: addr1,
+            read: read1,
+            written: written1,
+        } => match other {
             Kind::Added {
                 mirror: mirror2,
                 addr: addr2,
                 read: read2,
                 written: written2,
-            },
-        ) => mirror1 == mirror2 && addr1 == addr2 && read1 == read2 && written1 == written2,
+            } => mirror1 == mirror2 && addr1 == addr2 && read1 == read2 && written1 == written2,
+            _ => false,
+        },
         _ => false,
     }
 }

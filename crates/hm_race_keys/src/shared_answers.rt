@@ -60,7 +60,8 @@ impl Answer {
 
     /// Whether the two are the same.
     pub fn is_same(&self, other: &Answer) -> bool
-        ensures { result ≡ true → self.now ≡ other.now }
+        ensures yes { result ≡ true → self.now ≡ other.now }
+        ensures no { self.now ≡ other.now → result ≡ true }
     {
         same_kind(self.kind(), other.kind())
     }
@@ -94,7 +95,8 @@ fn with_answer(alloc: Global, list: &[Answer], answer: Answer) -> Result<ListOf<
 }
 
 fn same_answers(one: &[Answer], other: &[Answer]) -> bool
-    ensures { result ≡ true → one.now ≡ other.now }
+    ensures yes { result ≡ true → one.now ≡ other.now }
+    ensures no { one.now ≡ other.now → result ≡ true }
 {
     if one.len() != other.len() {
         return false;
@@ -229,7 +231,10 @@ impl SharedAnswers {
 
     /// Whether both have the same answers.
     pub fn same(&self, other: &SharedAnswers) -> bool
-        ensures { result ≡ true → (a : ℕ) → answers_in self.now.lists.items a ≡ answers_in other.now.lists.items a }
+        ensures yes { result ≡ true
+            → (a : ℕ) → answers_in self.now.lists.items a ≡ answers_in other.now.lists.items a }
+        ensures no { ((a : ℕ) → answers_in self.now.lists.items a ≡ answers_in other.now.lists.items a)
+            → result ≡ true }
     {
         for actor in 0..16usize {
             let (x, y) = (&self.lists[actor], &other.lists[actor]);

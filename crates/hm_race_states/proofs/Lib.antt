@@ -2,8 +2,11 @@ pub mod Settled
 pub mod Betweens
 pub mod AreaLists
 pub mod Askings
-pub mod Goings
+pub mod Blurring
 pub mod Lists
 pub mod Seens
 pub mod Nexts
 pub mod Ranges
+pub mod MirrorsRead
+pub mod Goings
+pub mod Alike

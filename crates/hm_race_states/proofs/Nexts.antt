@@ -36,7 +36,7 @@ use Rattle.hm_race_states.specs.Small.{kept_seqs, settled, unguarded}
 use Rattle.hm_race_states.specs.Spaces.{bare, spaces_in}
 use Rattle.hm_race_states.specs.States.{goings_in, state_in}
 use Rattle.hm_race_states.specs.declared.state.RaceState.{RaceState}
-use Rattle.hm_race_states.proofs.Goings.{unguarded_going}
+use Rattle.hm_race_states.proofs.Blurring.{unguarded_going}
 use Rattle.hm_race_states.proofs.Seens.{orphans}
 
 -- a state that has these parts

@@ -10,3 +10,4 @@ pub mod Bytes
 pub mod States
 pub mod Goings
 pub mod Keyed
+pub mod Buckets

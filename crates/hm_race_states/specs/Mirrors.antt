@@ -1,5 +1,5 @@
 -- The mirrors of a state, as contracts see them.
-use Rattle.std.specs.Prelude.{ℕ, Option, Some, None, List}
+use Rattle.std.specs.Prelude.{◌≡◌, ℕ, suc, Option, Some, None, List}
 use Rattle.hm_history.specs.Plain.{Plain, MirrorState, Attachment, plain_start}
 use Rattle.hm_history.specs.Plain as stage
 use Rattle.hm_race_keys.specs.Sparse.{found, mixed}
@@ -28,6 +28,10 @@ mirror_of (Some x) = Some (record { dev = x.dev; proc = x.proc; window = x.windo
 -- the mirrors of the definitions, by the items of row 0
 abbrev pub mirrors_in : List (Item RaceMirror) → ℕ → Option MirrorState
 mirrors_in xs m = mirror_of (found xs 0 m)
+
+-- all items stand in row 0
+abbrev pub AreMirrors : List (Item RaceMirror) → Type 0
+AreMirrors xs = (r k : ℕ) → found xs (suc r) k ≡ None
 
 -- a plain state with these mirrors, for definitions that read no more of one
 abbrev pub plain_by : (ℕ → Option MirrorState) → Plain

@@ -4,6 +4,7 @@
 
 pub mod after;
 mod blur;
+mod buckets;
 pub mod here;
 pub mod key;
 mod listed;
@@ -11,6 +12,10 @@ pub mod memory;
 pub mod mirrors;
 mod next;
 mod seen;
+mod same_phases;
+mod same_seqs;
+mod same_spaces;
+mod same_tasks;
 pub mod small;
 pub mod spaces;
 mod start;

@@ -77,11 +77,14 @@ pub struct RaceMirrors {
 impl Model for RaceMirrors {
     ghost use Rattle.std.specs.Prelude.{List};
     ghost use Rattle.hm_race_keys.specs.declared.sparse.Item.{Item as AnyItem};
+    ghost use Rattle.hm_race_states.specs.Mirrors.{AreMirrors};
     ghost use Rattle.hm_race_states.specs.declared.mirrors.RaceMirror.{RaceMirror as AnyMirror};
 
     ghost Value = { List (AnyItem AnyMirror) };
 
     ghost view = { λ s. s.items };
+
+    ghost invariant = { λ s. AreMirrors s.items };
 }
 
 impl RaceMirrors {
@@ -221,7 +224,7 @@ impl RaceMirrors {
     /// Whether the mirrors are the same.
     pub fn same(&self, other: &RaceMirrors) -> bool
         ensures yes { result ≡ true → self.now ≡ other.now }
-        ensures no { self.now ≡ other.now → result ≡ true }
+        ensures no { ((m : ℕ) → mirrors_in self.now m ≡ mirrors_in other.now m) → result ≡ true }
     {
         self.items.same(&other.items)
     }

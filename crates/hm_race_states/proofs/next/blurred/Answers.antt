@@ -7,7 +7,7 @@ use Rattle.hm_race_states.specs.Blurs.{blurred_phase}
 use Rattle.hm_race_states.specs.Small.{between_seqs}
 use Rattle.hm_race_states.specs.Tasks.{going_in}
 use Rattle.hm_race_states.specs.declared.tasks.RaceTask.{RaceTask}
-use Rattle.hm_race_states.proofs.Goings.{going_same, stays_blurred}
+use Rattle.hm_race_states.proofs.Blurring.{going_same, stays_blurred}
 use Rattle.hm_race_states.proofs.next.blurred.Goals as goal
 
 pub returns-then-all_note_nothing : goal.returns-then-all_note_nothing
