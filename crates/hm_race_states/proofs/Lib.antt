@@ -4,4 +4,5 @@ pub mod AreaLists
 pub mod Askings
 pub mod MirrorsRead
 pub mod Goings
+pub mod Compared
 pub mod Alike

@@ -9,3 +9,5 @@ pub mod Bytes
 pub mod States
 pub mod Keyed
 pub mod Buckets
+pub mod Alike
+pub mod Numbered

@@ -4,6 +4,7 @@
 
 mod blur;
 mod buckets;
+pub mod compare;
 pub mod here;
 pub mod key;
 pub mod memory;
