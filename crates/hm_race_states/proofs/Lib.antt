@@ -9,4 +9,5 @@ pub mod Nexts
 pub mod Ranges
 pub mod MirrorsRead
 pub mod Goings
+pub mod Compared
 pub mod Alike

@@ -11,3 +11,5 @@ pub mod States
 pub mod Goings
 pub mod Keyed
 pub mod Buckets
+pub mod Alike
+pub mod Numbered
