@@ -1,8 +1,8 @@
 // The parts of a state after an entry. What the entry does not change is shared.
-ghost use Rattle.std.specs.Prelude.{◌≡◌, IfOk};
+ghost use Rattle.std.specs.Prelude.{◌≡◌, is_some, IfOk};
 ghost use Rattle.hm_history.specs.Locks.{locks_start, map_next, orphan};
 ghost use Rattle.hm_history.specs.Plain.{owner, plain_next, written_for};
-ghost use Rattle.hm_races.specs.Outcomes.{answers_next};
+ghost use Rattle.hm_races.specs.Outcomes.{answer_of, answers_next};
 ghost use Rattle.hm_race_keys.specs.Arrays.{flag_in, lock_in};
 ghost use Rattle.hm_race_keys.specs.FrameTables.{held_in, lockers_in};
 ghost use Rattle.hm_race_keys.specs.PagePlaces.{places_in, places_of};
@@ -11,10 +11,12 @@ ghost use Rattle.hm_race_keys.specs.Trail.{answers_in, entry_old, held_next, loc
 ghost use Rattle.hm_race_states.specs.Afters.{bytes_next};
 ghost use Rattle.hm_race_states.specs.Bytes.{bytes_in};
 ghost use Rattle.hm_race_states.specs.Mirrors.{mirrors_in, plain_by};
+ghost use Rattle.hm_race_states.specs.Small.{kept_seqs};
 ghost use Rattle.hm_race_states.specs.Spaces.{bare, spaces_in};
 
 use crate::memory::RaceBytes;
 use crate::mirrors::RaceMirrors;
+use crate::small::SmallSeqs;
 use crate::spaces::RaceSpaces;
 use hm_base::{Actor, NoMemory, Place, Proc};
 use hm_history::{Entry, Kind, Who};
@@ -265,7 +267,50 @@ pub(crate) fn maps_after(
 {
     let mut new = maps.copy();
     new.step(actor, kind);
+    if new.same(maps) {
+        return Ok(maps.clone()?);
+    }
     Ok(Rc::new(alloc, new)?)
+}
+
+/// Small sequences, which are shared if they are as before.
+pub(crate) fn seqs_after(
+    alloc: Global,
+    before: &Rc<SmallSeqs>,
+    seqs: SmallSeqs,
+) -> Result<Rc<SmallSeqs>, NoMemory>
+    ensures { IfOk result (λ x. kept_seqs x.value ≡ kept_seqs seqs) }
+{
+    if seqs.same(before) {
+        return Ok(before.clone()?);
+    }
+    Ok(Rc::new(alloc, seqs)?)
+}
+
+// Whether the entry answers its operation or a piece of it.
+fn is_answer(kind: &Kind) -> bool
+    ensures { result ≡ is_some (answer_of kind.now) }
+{
+    matches!(
+        kind,
+        Kind::Loaded { .. }
+            | Kind::Stored { .. }
+            | Kind::Failed { .. }
+            | Kind::Mapped { .. }
+            | Kind::Unmapped { .. }
+            | Kind::Protected { .. }
+            | Kind::Forked { .. }
+            | Kind::Exited(..)
+            | Kind::Attached { .. }
+            | Kind::Detached(..)
+            | Kind::Refused(..)
+            | Kind::Migrated(..)
+            | Kind::Seen { .. }
+            | Kind::Evicted(..)
+            | Kind::Removed(..)
+            | Kind::Excluded { .. }
+            | Kind::Added { .. }
+    )
 }
 
 /// The answers after an entry.
@@ -277,6 +322,9 @@ pub fn answers_after(
     ensures { IfOk result (λ x. answers_in x.value.lists.items
         ≡ answers_next (answers_in answers.now.value.lists.items) entry.now) }
 {
+    if !is_answer(&entry.kind) {
+        return Ok(answers.clone()?);
+    }
     let mut new = answers.copy(alloc)?;
     new.step(alloc, entry)?;
     Ok(Rc::new(alloc, new)?)

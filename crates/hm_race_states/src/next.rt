@@ -14,7 +14,7 @@ ghost use Rattle.hm_race_states.specs.Tasks.{going_in};
 
 use crate::after::{
     bytes_after, held_after, locks_after, maps_after, marks_after, mirrors_after, places_after,
-    spaces_after, tables_after,
+    seqs_after, spaces_after, tables_after,
 };
 use crate::blur::all_note_nothing;
 use crate::here::Here;
@@ -159,7 +159,7 @@ impl RaceState {
             tables: tables_after(alloc, &self.tables, kind)?,
             locks: locks_after(alloc, &self.locks, &self.places, entry.actor, kind)?,
             maps: maps_after(alloc, &self.maps, entry.actor, kind)?,
-            seqs: Rc::new(alloc, seqs)?,
+            seqs: seqs_after(alloc, &self.seqs, seqs)?,
             tasks,
         })
     }

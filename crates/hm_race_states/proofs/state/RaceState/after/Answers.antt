@@ -30,7 +30,7 @@ returns c =
       tables = c.in_ok-tables_after.field-0;
       locks = c.in_ok-locks_after.field-0;
       maps = c.in_ok-maps_after.field-0;
-      seqs = c.in_ok-new.field-0;
+      seqs = c.in_ok-seqs_after.field-0;
       tasks = c.in_ok-tasks.tasks;
       few = c.in_ok-tasks.ensures.few;
     }) (record {
@@ -45,7 +45,7 @@ returns c =
       locks = c.in_ok-locks_after.ensures ∙ ap (λ p. lockers_next (lockers_in x.locks.value) e.actor e.kind (entry_old (places_in p) e.kind) (orphan (record locks_start { frame = lockers_in x.locks.value }) (places_of p) e.kind)) c.deref-4.ensures;
       maps = c.in_ok-maps_after.ensures;
       between = c.in_ok-between.ensures e.actor ∙ ap (λ q. unguarded (sequences_next (kept_seqs q) e.actor e.kind)) c.deref.ensures;
-      seqs = ap kept_seqs c.in_ok-new.ensures.ok ∙ c.settled-seqs.ensures;
+      seqs = c.in_ok-seqs_after.ensures ∙ c.settled-seqs.ensures;
       going = c.in_ok-moved.ensures;
       goings = λ a. c.in_ok-tasks.ensures.goings a ∙ ap (λ (ts : List (Rc RaceTask Global)). blurred_goings c.args.script.now (between_seqs c.in_ok-between.between) (goings_with (map rc_value ts) e.actor (going_in c.in_ok-moved.moved.value)) a) c.deref-2.ensures.value;
     })
