@@ -1,5 +1,5 @@
 -- What sequences and processes that are the same have alike.
-use Rattle.std.proofs.Common.{◌≡◌, ℕ, Bool, true, false, Option, None, List, [], map, slice_index_or, refl, ap}
+use Rattle.std.proofs.Common.{◌≡◌, ℕ, Bool, true, false, Option, List, [], map, slice_index_or, refl, ap}
 use Rattle.std.specs.Rc.{rc_value}
 use Rattle.hm_base.specs.declared.area.Area.{Area}
 use Rattle.hm_folds.specs.Kept.{interval_at}

@@ -1,11 +1,6 @@
 -- What keys of one form have alike.
-use Rattle.std.proofs.Common.{◌≡◌, ℕ, Bool, false, List, Option, None, [], map, refl, sym, ap, ◌∙◌}
-use Rattle.std.proofs.Math.Path.{fun_ext}
-use Rattle.std.specs.Rc.{rc_value}
-use Rattle.hm_base.specs.declared.area.Area.{Area}
-use Rattle.hm_base.specs.declared.Frame.{Frame}
+use Rattle.std.proofs.Common.{◌≡◌, ℕ, Bool, false, List, Option, ap}
 use Rattle.hm_base.specs.declared.Place.{Place}
-use Rattle.hm_history.specs.Contents.{zeros}
 use Rattle.hm_history.specs.Going.{Going}
 use Rattle.hm_history.specs.Places.{TableEntry}
 use Rattle.hm_history.specs.Plain.{Plain, MirrorState, plain_start}

@@ -1,5 +1,5 @@
 -- Keys of one form have one number.
-use Rattle.std.proofs.Common.{◌≡◌, ℕ, ◌<◌, Bool, List, Option, [], length, map, get_or, refl, sym, ap, ◌∙◌, arith}
+use Rattle.std.proofs.Common.{◌≡◌, ℕ, List, Option, [], map, sym, ap, ◌∙◌}
 use Rattle.std.proofs.lemmas.List.{ext_get_or}
 use Rattle.std.specs.Rc.{rc_value}
 use Rattle.hm_base.specs.declared.Place.{Place}

@@ -1,4 +1,4 @@
-use Rattle.std.proofs.Common.{◌≡◌, ℕ, map, ap, sym, ◌∙◌}
+use Rattle.std.proofs.Common.{ℕ, map, ap, sym, ◌∙◌}
 use Rattle.std.specs.Rc.{rc_value}
 use Rattle.hm_race_states.specs.Buckets.{mixed_going}
 use Rattle.hm_race_states.specs.States.{goings_in}

@@ -1,4 +1,4 @@
-use Rattle.std.proofs.Common.{◌≡◌, ℕ, ◌<◌, false, slice_index_or}
+use Rattle.std.proofs.Common.{◌≡◌, ℕ, ◌<◌, slice_index_or}
 use Rattle.hm_race_states.proofs.same_seqs.same_counts.Given as goal
 
 abbrev pub invariant-loop-at : goal.invariant-loop-at
