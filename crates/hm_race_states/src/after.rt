@@ -273,18 +273,17 @@ pub(crate) fn maps_after(
     Ok(Rc::new(alloc, new)?)
 }
 
-/// Small sequences, which are shared if they are as before.
-pub(crate) fn seqs_after(
-    alloc: Global,
+/// These sequences; if they are as before, those from before, so that the states share them.
+pub(crate) fn shared_seqs(
     before: &Rc<SmallSeqs>,
-    seqs: SmallSeqs,
+    seqs: Rc<SmallSeqs>,
 ) -> Result<Rc<SmallSeqs>, NoMemory>
-    ensures { IfOk result (λ x. kept_seqs x.value ≡ kept_seqs seqs) }
+    ensures { IfOk result (λ x. kept_seqs x.value ≡ kept_seqs seqs.value) }
 {
     if seqs.same(before) {
         return Ok(before.clone()?);
     }
-    Ok(Rc::new(alloc, seqs)?)
+    Ok(seqs)
 }
 
 // Whether the entry answers its operation or a piece of it.

@@ -14,7 +14,7 @@ ghost use Rattle.hm_race_states.specs.Tasks.{going_in};
 
 use crate::after::{
     bytes_after, held_after, locks_after, maps_after, marks_after, mirrors_after, places_after,
-    seqs_after, spaces_after, tables_after,
+    shared_seqs, spaces_after, tables_after,
 };
 use crate::blur::all_note_nothing;
 use crate::here::Here;
@@ -139,7 +139,7 @@ impl RaceState {
         let kind = &entry.kind;
         let moved = self.moved(alloc, script, entry)?;
         let between = self.seqs.after(kind)?;
-        let seqs = between.settled();
+        let seqs = Rc::new(alloc, between.settled())?;
         let tasks = tasks_after(
             alloc,
             script,
@@ -159,7 +159,7 @@ impl RaceState {
             tables: tables_after(alloc, &self.tables, kind)?,
             locks: locks_after(alloc, &self.locks, &self.places, entry.actor, kind)?,
             maps: maps_after(alloc, &self.maps, entry.actor, kind)?,
-            seqs: seqs_after(alloc, &self.seqs, seqs)?,
+            seqs: shared_seqs(&self.seqs, seqs)?,
             tasks,
         })
     }

@@ -1,4 +1,4 @@
-use Rattle.std.proofs.Common.{◌≡◌, ◌∙◌, ap, sym, Option, ℕ}
+use Rattle.std.proofs.Common.{◌∙◌, ap, sym, Option, ℕ}
 use Rattle.std.proofs.Math.Path.{fun_ext}
 use Rattle.hm_history.specs.Locks.{locks_start, map_next}
 use Rattle.hm_history.specs.declared.locks.MapLock.{MapLock}

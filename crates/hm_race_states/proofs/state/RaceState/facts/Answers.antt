@@ -1,4 +1,4 @@
-use Rattle.std.proofs.Common.{sym, subst}
+use Rattle.std.proofs.Common.{subst}
 use Rattle.hm_race_keys.proofs.Listing.{has_each, each_once}
 use Rattle.hm_races.specs.Forms.{ListsPlaces}
 use Rattle.hm_race_keys.specs.PagePlaces.{places_in, listed}
