@@ -1,5 +1,5 @@
 -- A turn at a state that a race has come to.
-use Rattle.std.proofs.Common.{◌≡◌, ℕ, zero, suc, ◌+◌, append-nil, append_assoc, ◌<◌, true, false, Bool, Option, Some, None, List, [], ◌∷◌, ◌++◌, length, get_or, take, refl, sym, ap, ◌∙◌, subst, arith}
+use Rattle.std.proofs.Common.{◌≡◌, ℕ, zero, suc, ◌+◌, append-nil, append_assoc, ◌<◌, false, Some, None, List, [], ◌∷◌, ◌++◌, length, get_or, take, refl, sym, ap, ◌∙◌, subst, arith}
 use Rattle.std.proofs.lemmas.List.{take_more}
 use Rattle.hm_base.specs.Program.{Program, IsScript}
 use Rattle.hm_history.proofs.RunLemmas.{DueFrom-append}
@@ -15,7 +15,7 @@ use Rattle.hm_history.specs.declared.Entry.{Entry}
 use Rattle.hm_history.specs.declared.Progress.{Progress}
 use Rattle.hm_laws.specs.Stands as laws
 use Rattle.hm_laws.proofs.Histories.Stands.{history_stands}
-use Rattle.hm_races.specs.Outcomes.{Point, Reached, point_after, point_next, answer_of, with_answer, answers_of, answers_next, no_answers}
+use Rattle.hm_races.specs.Outcomes.{Point, Reached, point_after, point_next, answer_of, with_answer, answers_next, no_answers}
 use Rattle.hm_history.specs.Words.{with_at}
 use Rattle.hm_races.specs.Positions.{forget_kind}
 use Rattle.hm_races.specs.Numbers.{small_kind}
@@ -30,9 +30,9 @@ use Rattle.hm_races.proofs.Turned.{own_actor}
 use Rattle.hm_race_states.specs.Afters.{StaysLow}
 use Rattle.hm_race_states.specs.States.{state_in}
 use Rattle.hm_race_states.specs.declared.state.RaceState.{RaceState}
-use Rattle.hm_race_run.specs.Turns.{Shows, IsShown, IsTurned}
+use Rattle.hm_race_run.specs.Turns.{Shows, IsTurned}
 use Rattle.hm_race_run.specs.declared.turn.Turned.{Turned}
-use Rattle.hm_race_run.proofs.Lows.{IsShort, known_short, tidied_short, stays_low}
+use Rattle.hm_race_run.proofs.Lows.{known_short, tidied_short, stays_low}
 
 along : (c : Program) (x : Point) (es : List Entry) → (fold (point_next c) x es).state ≡ fold (state_next c) x.state es
 along c x [] = refl

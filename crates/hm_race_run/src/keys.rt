@@ -1,11 +1,12 @@
 // The keys of a race's states.
-ghost use Rattle.std.specs.Prelude.{◌≡◌, [], List, IfOk};
+ghost use Rattle.std.specs.Prelude.{◌≡◌, ◌≤◌, [], List, length, IfOk};
 ghost use Rattle.hm_history.specs.Laws.{DueFrom};
 ghost use Rattle.hm_history.specs.declared.Entry.{Entry as AnyEntry};
 ghost use Rattle.hm_races.specs.Blur.{form_of};
-ghost use Rattle.hm_races.specs.Outcomes.{Point, Reached, point_from};
+ghost use Rattle.hm_races.specs.Outcomes.{Point, Reached, ended_in, point_from};
 ghost use Rattle.hm_race_explore.specs.Known.{IsNext};
 ghost use Rattle.hm_race_states.specs.Keyed.{form_in};
+ghost use Rattle.hm_race_states.specs.States.{state_in};
 ghost use Rattle.hm_race_run.specs.Turns.{IsShown, Shows};
 
 use crate::turn::{Turned, turn};
@@ -13,8 +14,10 @@ use hm_base::{Actor, NoMemory, Script};
 use hm_history::Entry;
 use hm_race_keys::shared_answers::SharedAnswers;
 use hm_race_states::after::answers_after;
+use hm_race_states::here::Here;
 use hm_race_states::key::StateKey;
 use hm_race_states::state::RaceState;
+use hm_reads::Reads;
 use skip_rules::SkipRule;
 use std::alloc::Global;
 use std::rc::Rc;
@@ -76,4 +79,26 @@ pub fn next_key<R: SkipRule>(
             }))
         }
     }
+}
+
+// How many actors the script has.
+fn count_of(script: &Script) -> u32
+    ensures same { result ≡ length script.now.actors }
+    ensures few { result ≤ 16 }
+{
+    script.facts();
+    script.actors.len() as u32
+}
+
+/// Whether all operations of all actors have ended.
+pub fn has_ended(script: &Script, state: &RaceState) -> bool
+    ensures { result ≡ ended_in script.now (state_in state.now) }
+{
+    let here = Here { script, state };
+    for number in 0..count_of(script) {
+        if here.op(Actor::new(number)).is_some() {
+            return false;
+        }
+    }
+    true
 }

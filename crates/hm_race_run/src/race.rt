@@ -10,14 +10,12 @@ ghost use Rattle.hm_race_states.specs.Keyed.{form_in};
 ghost use Rattle.hm_world.specs.WorldValue.{opening};
 
 use crate::copies::copy_script;
-use crate::keys::{first_key, next_key};
+use crate::keys::{first_key, has_ended, next_key};
 use hm_base::{Actor, NoMemory, Script};
 use hm_history::{History, StepError};
 use hm_machine::Machine;
 use hm_race_explore::Race;
-use hm_race_states::here::Here;
 use hm_race_states::key::StateKey;
-use hm_reads::Reads;
 use skip_rules::SkipRule;
 use std::alloc::Global;
 use std::marker::Model;
@@ -173,15 +171,6 @@ impl<R: SkipRule> Race for ScriptRace<R> {
     }
 
     fn ended(&self, key: &StateKey) -> bool {
-        let here = Here {
-            script: &self.script,
-            state: &key.state,
-        };
-        for number in 0..self.count() {
-            if here.op(Actor::new(number)).is_some() {
-                return false;
-            }
-        }
-        true
+        has_ended(&self.script, &key.state)
     }
 }

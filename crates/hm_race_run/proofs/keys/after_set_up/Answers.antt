@@ -1,4 +1,4 @@
-use Rattle.std.proofs.Common.{◌≡◌, ◌<◌, Some, take, length, arith, subst}
+use Rattle.std.proofs.Common.{take, subst}
 use Rattle.hm_race_run.specs.Turns.{IsTurned}
 use Rattle.hm_race_run.proofs.Turning.{set_up_on}
 use Rattle.hm_race_run.proofs.keys.after_set_up.Goals as goal

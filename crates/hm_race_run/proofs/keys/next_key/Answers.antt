@@ -1,4 +1,4 @@
-use Rattle.std.proofs.Common.{◌++◌, refl, ap, ◌∙◌, subst}
+use Rattle.std.proofs.Common.{◌++◌, refl, subst}
 use Rattle.hm_race_run.specs.Turns.{IsTurned}
 use Rattle.hm_race_run.proofs.Turning.{shown, next_none, next_some}
 use Rattle.hm_race_run.proofs.keys.next_key.Goals as goal

@@ -1,5 +1,4 @@
-use Rattle.std.proofs.Common.{◌≡◌, sym, ap, ◌∙◌, subst, refl, false}
-use Rattle.hm_history.specs.Due.{due_in}
+use Rattle.std.proofs.Common.{sym, ap, ◌∙◌, subst, refl}
 use Rattle.hm_history.specs.Going.{state_next}
 use Rattle.hm_history.specs.declared.Progress.{Progress}
 use Rattle.hm_races.specs.Blur.{tidied}

@@ -1,7 +1,7 @@
 use Rattle.std.proofs.Common.{◌≡◌, ℕ, ◌<◌, None}
 use Rattle.hm_history.specs.Going.{op_at}
 use Rattle.hm_race_states.specs.States.{state_in}
-use Rattle.hm_race_run.proofs.race.ScriptRaceRace.ended.Given as goal
+use Rattle.hm_race_run.proofs.keys.has_ended.Given as goal
 
 abbrev pub invariant-loop-number : goal.invariant-loop-number
-invariant-loop-number g l = (a : ℕ) → a < l.number → op_at l.self.script a ((state_in l.key.state).going a).index ≡ None
+invariant-loop-number l = (a : ℕ) → a < l.number → op_at l.script a ((state_in l.state).going a).index ≡ None

@@ -1,9 +1,0 @@
-use Rattle.hm_race_states.specs.States.{state_in}
-use Rattle.hm_race_run.proofs.Ending.{still_goes, all_ended}
-use Rattle.hm_race_run.proofs.race.ScriptRaceRace.ended.Goals as goal
-
-pub returns-then-is_some : goal.returns-then-is_some
-returns-then-is_some g c = still_goes c.args.self.now.script (state_in c.args.key.now.state) c.loop-number.number c.new.result c.count-number-end.result c.op.result c.is_some.result c.count-number-end.ensures.same c.loop-number-test.true c.new.ensures c.op.ensures c.is_some.ensures c.if-is_some.true
-
-pub returns : goal.returns
-returns g c = all_ended c.args.self.now.script (state_in c.args.key.now.state) c.loop-number.number c.count-number-end.result c.count-number-end.ensures.same c.loop-number-test.false c.loop-number.invariant
