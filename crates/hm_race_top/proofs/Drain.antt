@@ -1,6 +1,6 @@
 -- After a `drain` no turn adds an entry.
-use Rattle.std.proofs.Common.{◌≡◌, ℕ, zero, suc, ◌+◌, ◌<◌, ◌≤◌, ◌⊎◌, inl, inr, Bool, true, false, Option, None, Some, List, [], ◌∷◌, ◌++◌, length, refl, sym, ap, ◌∙◌, subst, fold, arith}
-use Rattle.std.specs.Prelude.{◌&&◌, is_some}
+use Rattle.std.proofs.Common.{◌≡◌, ℕ, zero, suc, ◌+◌, ◌<◌, ◌≤◌, ◌⊎◌, inl, inr, Bool, true, false, Option, None, Some, List, [], ◌∷◌, ◌++◌, length, refl, ap, ◌∙◌, subst, fold, arith}
+use Rattle.std.specs.Prelude.{is_some}
 use Rattle.std.specs.List.{list_all}
 use Rattle.std.proofs.lemmas.Bool.{and_parts, cases_eq}
 use Rattle.hm_base.specs.Program.{Program, IsScript, schedule_fits}
@@ -9,8 +9,8 @@ use Rattle.hm_base.specs.declared.ops.ScheduleLine.{ScheduleLine}
 use Rattle.hm_history.specs.After.{After}
 use Rattle.hm_history.specs.Due.{due, due_top}
 use Rattle.hm_history.specs.Going.{state_of}
-use Rattle.hm_history.specs.Laws.{DueFrom, RunsAreDue}
-use Rattle.hm_history.specs.Run.{enough, has_room, added, turn, is_idle, line_run, drained, run}
+use Rattle.hm_history.specs.Laws.{DueFrom}
+use Rattle.hm_history.specs.Run.{added, turn, is_idle, line_run, run}
 use Rattle.hm_history.specs.Words.{numbers}
 use Rattle.hm_history.specs.declared.Entry.{Entry}
 use Rattle.hm_history.specs.declared.Progress.{Progress}

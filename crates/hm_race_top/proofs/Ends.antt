@@ -2,21 +2,18 @@
 use Rattle.std.proofs.Common.{◌≡◌, ℕ, ◌≤◌, Bool, true, false, List, [], ◌∷◌, ◌++◌, length, refl, sym, ap, ◌∙◌, subst, append_assoc, append-nil}
 use Rattle.hm_base.specs.Program.{Program, IsScript, run_lines, schedule_fits}
 use Rattle.hm_base.specs.declared.ops.ScheduleLine.{ScheduleLine}
-use Rattle.hm_history.specs.Going.{State}
 use Rattle.hm_history.specs.Laws.{DueFrom, RunsAreDue}
-use Rattle.hm_history.specs.Legal.{Legal}
 use Rattle.hm_history.specs.Run.{run}
 use Rattle.hm_history.specs.declared.Entry.{Entry}
-use Rattle.hm_history.specs.declared.Kind.{Kind}
 use Rattle.hm_laws.specs.Laws.{HistoryIsLegal}
-use Rattle.hm_races.specs.Outcomes.{Point, point_at, outcome, answers_of, ended, ended_in, raced}
-use Rattle.hm_race_explore.specs.Known.{KnownValue, IsKnown, AreKnown}
+use Rattle.hm_races.specs.Outcomes.{Point, point_at, outcome, ended_in, raced}
+use Rattle.hm_race_explore.specs.Known.{KnownValue, IsKnown}
 use Rattle.hm_race_text.specs.Laws.{TurnsLead, TurnsStand, SameLegal, LeadsTo, PointsAreLed, BlocksAreFound}
 use Rattle.hm_race_text.specs.Schedule.{with_turns}
 use Rattle.hm_race_text.specs.Text.{Way}
 use Rattle.hm_script.specs.Built.{has_drain}
 use Rattle.hm_race_top.specs.Laws.{DrainIsLast, KnownIsTrue}
-use Rattle.hm_race_top.specs.Ways.{told_turns, way_by, ways_of, EndsSo, IsTrueOf}
+use Rattle.hm_race_top.specs.Ways.{told_turns, way_by, ways_of, EndsSo}
 use Rattle.hm_race_top.proofs.WaysKnown.{came_from}
 
 dues_join : (c : Program) (g h es : List Entry) → DueFrom c g h → DueFrom c (g ++ h) es → DueFrom c g (h ++ es)

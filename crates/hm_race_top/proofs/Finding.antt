@@ -1,5 +1,5 @@
 -- What a call has found, by how it ends.
-use Rattle.std.proofs.Common.{◌≡◌, ℕ, ◌≤◌, inl, inr, Bool, true, false, List, length, refl, sym, ap, ◌∙◌, subst}
+use Rattle.std.proofs.Common.{◌≡◌, ℕ, ◌≤◌, inl, inr, Bool, true, false, List, length, subst}
 use Rattle.hm_base.specs.Program.{Program}
 use Rattle.hm_history.specs.Run.{run}
 use Rattle.hm_race_explore.specs.Known.{KnownValue, forms, AreFewest, AreKnown, AreRising, HaveForms, IsCut}

@@ -8,8 +8,8 @@ ghost use Rattle.hm_race_text.specs.Text.{block_of, blocks_of};
 ghost use Rattle.hm_race_top.specs.Ways.{told_turns, way_to, ways_by};
 
 use hm_base::{Actor, ListOf, NoMemory, ScheduleLine};
-use hm_race_states::key::StateKey;
 use hm_race_explore::{Known, turns_to};
+use hm_race_states::key::StateKey;
 use hm_race_text::{Block, add_block, answer_lines};
 use std::alloc::Global;
 
@@ -26,6 +26,17 @@ pub fn has_drain(lines: &[ScheduleLine]) -> bool
     false
 }
 
+// The same turns, as a list.
+fn listed(alloc: Global, turns: &[Actor]) -> Result<ListOf<Actor>, NoMemory>
+    ensures { IfOk result (λ xs. xs ≡ turns.now) }
+{
+    let mut list = ListOf::new(alloc);
+    for actor in turns {
+        list.push(*actor)?;
+    }
+    Ok(list)
+}
+
 /// The turns that are told of the state with this number: none after a `drain`.
 fn told_turns(
     alloc: Global,
@@ -35,14 +46,11 @@ fn told_turns(
 ) -> Result<ListOf<Actor>, NoMemory>
     ensures { IfOk result (λ xs. xs ≡ told_turns drains (turns_at (all_known form_in known.now) at)) }
 {
-    let mut told = ListOf::new(alloc);
     if drains {
-        return Ok(told);
+        return Ok(ListOf::new(alloc));
     }
-    for actor in turns_to(alloc, known, at)?.as_slice() {
-        told.push(*actor)?;
-    }
-    Ok(told)
+    let turns = turns_to(alloc, known, at)?;
+    Ok(listed(alloc, turns.as_slice())?)
 }
 
 /// The block of the way to the state with this number and this key, of a race of `actors` actors.
@@ -75,8 +83,9 @@ pub fn blocks_of(
 {
     let mut blocks = ListOf::new(alloc);
     for at in 0..known.len() {
-        if known[at].ended {
-            let block = block_of(alloc, actors, drains, known, at, &known[at].key)?;
+        let state = &known[at];
+        if state.ended {
+            let block = block_of(alloc, actors, drains, known, at, &state.key)?;
             add_block(&mut blocks, block)?;
         }
     }
