@@ -1,11 +1,7 @@
 pub mod Counting
 pub mod FramesRead
 pub mod Listing
-pub mod Named
 pub mod Naming
 pub mod Ordered
 pub mod Placing
-pub mod Rising
-pub mod Stands
 pub mod TablesRead
-pub mod Words

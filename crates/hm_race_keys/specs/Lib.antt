@@ -3,8 +3,6 @@ pub mod Arrays
 pub mod FrameTables
 pub mod PagePlaces
 pub mod Questions
-pub mod Rows
 pub mod Sparse
 pub mod TableEntries
 pub mod Trail
-pub mod Words

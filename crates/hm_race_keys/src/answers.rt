@@ -1,18 +1,10 @@
-// What actors have been answered since the set-up of a race.
-ghost use Rattle.std.specs.Prelude.{◌≡◌, [], ℕ, true, Some, length, drop, IfOk, OnOk};
-ghost use Rattle.hm_races.specs.Outcomes.{answer_of, answers_next, answers_of};
-ghost use Rattle.hm_race_keys.specs.Trail.{answers_in};
+// Answers, copied and compared.
+ghost use Rattle.std.specs.Prelude.{◌≡◌, true, Some, IfOk};
+ghost use Rattle.hm_races.specs.Outcomes.{answer_of};
 
-use hm_base::{Bytes, ListOf, NoMemory};
-use hm_history::{Entry, Kind};
+use hm_base::{Bytes, NoMemory};
+use hm_history::Kind;
 use std::alloc::Global;
-
-/// The answers of each actor, in order.
-#[derive(Drop)]
-pub struct AnswerLists {
-    pub lists: Vec<ListOf<Kind>>,
-    ghost sized: { length lists.items ≡ 16 },
-}
 
 // What an entry answers, if it answers anything; of an `attached` its sequence is left out.
 pub(crate) fn answer_of(alloc: Global, kind: &Kind) -> Result<Option<Kind>, NoMemory>
@@ -271,81 +263,5 @@ pub(crate) fn same_kind(one: &Kind, other: &Kind) -> bool
             _ => false,
         },
         _ => false,
-    }
-}
-
-fn same_list(one: &[Kind], other: &[Kind]) -> bool
-    ensures { result ≡ true → one.now ≡ other.now }
-{
-    if one.len() != other.len() {
-        return false;
-    }
-    for at in 0..one.len() {
-        let (x, y) = (&one[at], &other[at]);
-        if !same_kind(x, y) {
-            return false;
-        }
-    }
-    true
-}
-
-impl AnswerLists {
-    /// Nobody has been answered anything.
-    pub fn new(alloc: Global) -> Result<AnswerLists, NoMemory>
-        ensures { IfOk result (λ x. (a : ℕ) → answers_in x.lists.items a ≡ []) }
-    {
-        let mut lists = Vec::with_capacity(alloc, 16)?;
-        for _ in 0..16u32 {
-            lists.push(ListOf::new(alloc))?;
-        }
-        Ok(AnswerLists { lists })
-    }
-
-    /// The answers after an entry.
-    pub fn step(&mut self, alloc: Global, entry: &Entry) -> Result<(), NoMemory>
-        ensures { OnOk result
-            (answers_in self.new.lists.items ≡ answers_next (answers_in self.old.lists.items) entry.now) }
-    {
-        match answer_of(alloc, &entry.kind)? {
-            None => Ok(()),
-            Some(answer) => {
-                let list = &mut self.lists[entry.actor.number() as usize];
-                list.push(answer)
-            }
-        }
-    }
-
-    // The answers of these entries.
-    fn of(alloc: Global, entries: &[Entry]) -> Result<AnswerLists, NoMemory>
-        ensures { IfOk result (λ x. answers_in x.lists.items ≡ answers_of entries.now) }
-    {
-        let mut answers = AnswerLists::new(alloc)?;
-        for entry in entries {
-            answers.step(alloc, entry)?;
-        }
-        Ok(answers)
-    }
-
-    /// The answers since a position of a history.
-    pub fn since(alloc: Global, history: &[Entry], from: u64) -> Result<AnswerLists, NoMemory>
-        ensures { IfOk result (λ x. answers_in x.lists.items ≡ answers_of (drop from history.now)) }
-    {
-        if from >= history.len() as u64 {
-            return AnswerLists::of(alloc, &[]);
-        }
-        AnswerLists::of(alloc, &history[from as usize..])
-    }
-
-    /// Whether both have the same answers.
-    pub fn same(&self, other: &AnswerLists) -> bool
-        ensures { result ≡ true → (a : ℕ) → answers_in self.now.lists.items a ≡ answers_in other.now.lists.items a }
-    {
-        for actor in 0..16usize {
-            let (x, y) = (&self.lists[actor], &other.lists[actor]);
-            if !same_list(x.as_slice(), y.as_slice()) {
-                return false;
-            }
-        }
-        true
     }
 }

@@ -20,7 +20,7 @@ use Rattle.hm_history.specs.Words.{with_at}
 use Rattle.hm_races.specs.Positions.{forget_kind}
 use Rattle.hm_races.specs.Numbers.{small_kind}
 use Rattle.hm_race_keys.specs.Trail.{answers_in}
-use Rattle.hm_race_explore.specs.Known.{IsNext}
+use Rattle.hm_race_search.specs.Known.{IsNext}
 use Rattle.hm_race_states.specs.Keyed.{form_in}
 use Rattle.hm_race_states.specs.declared.key.StateKey.{StateKey}
 use Rattle.hm_races.specs.Forms.{ListsPlaces, Adds, AddsAlike, TurnsAlike, opened_form}

@@ -4,8 +4,8 @@
 ghost use Rattle.std.specs.Prelude.{◌≡◌, ◌≤◌, true, false, length, IfOk, IfErr};
 ghost use Rattle.hm_history.specs.Run.{run};
 ghost use Rattle.hm_races.specs.Closed.{AreDistinct};
-ghost use Rattle.hm_race_explore.specs.Values.{all_known};
-ghost use Rattle.hm_race_explore.specs.Known.{forms, AreFewest, AreKnown, AreReal, AreRising, HaveForms, IsComplete, IsCut, MayFail};
+ghost use Rattle.hm_race_search.specs.Values.{all_known};
+ghost use Rattle.hm_race_search.specs.Known.{forms, AreFewest, AreKnown, AreReal, AreRising, HaveForms, IsComplete, IsCut, MayFail};
 ghost use Rattle.hm_race_states.specs.Keyed.{form_in};
 
 mod copies;
@@ -15,7 +15,7 @@ mod turn;
 
 use hm_base::Script;
 use hm_history::StepError;
-use hm_race_explore::{Explored, explore};
+use hm_race_search::{Explored, explore};
 use hm_race_states::key::StateKey;
 use race::ScriptRace;
 use skip_rules::SkipRule;

@@ -5,7 +5,7 @@ ghost use Rattle.hm_history.specs.Run.{run};
 ghost use Rattle.hm_races.specs.Blur.{form_of};
 ghost use Rattle.hm_races.specs.Closed.{Stands};
 ghost use Rattle.hm_races.specs.Outcomes.{Point, Reached, point_from};
-ghost use Rattle.hm_race_explore.specs.Known.{IsNext, MayFail};
+ghost use Rattle.hm_race_search.specs.Known.{IsNext, MayFail};
 ghost use Rattle.hm_race_states.specs.Keyed.{form_in};
 ghost use Rattle.hm_world.specs.WorldValue.{opening};
 
@@ -14,7 +14,7 @@ use crate::keys::{first_key, has_ended, next_key};
 use hm_base::{Actor, NoMemory, Script};
 use hm_history::{History, StepError};
 use hm_machine::Machine;
-use hm_race_explore::Race;
+use hm_race_search::Race;
 use hm_race_states::key::StateKey;
 use skip_rules::SkipRule;
 use std::alloc::Global;

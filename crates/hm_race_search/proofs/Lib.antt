@@ -1,1 +1,5 @@
 pub mod Exploring
+mod Chains
+mod Table
+pub mod Unrolled
+mod Steps

@@ -1,5 +1,5 @@
 -- What a search knows of a race: the states that it has come to, and which of them it has still to go on from.
-use Rattle.std.specs.Prelude.{◌≡◌, ℕ, ◌<◌, ◌≤◌, ◌⊎◌, Bool, true, false, if◌then◌else◌, List, [], ◌∷◌, ◌++◌, length, map, nat_lt, slice_index_or, ⊤}
+use Rattle.std.specs.Prelude.{◌≡◌, ℕ, ◌+◌, ◌<◌, ◌≤◌, ◌⊎◌, Bool, true, false, if◌then◌else◌, Option, Some, None, List, [], ◌∷◌, ◌++◌, length, map, nat_lt, get_or, ⊤}
 use Rattle.std.specs.List.{list_all}
 use Rattle.hm_base.specs.Program.{Program}
 use Rattle.hm_history.specs.Due.{due_in}
@@ -9,7 +9,7 @@ use Rattle.hm_history.specs.declared.Kind.{Kind}
 use Rattle.hm_history.specs.declared.Entry.{Entry}
 use Rattle.hm_history.specs.declared.Progress.{Progress}
 use Rattle.hm_history.specs.declared.StepError.{StepError}
-use Rattle.hm_races.specs.Outcomes.{Point, point_next, point_from, point_at, outcome, ended_in, ended, answers_of}
+use Rattle.hm_races.specs.Outcomes.{Point, Reached, point_next, point_from, point_at, outcome, ended_in, ended, answers_of}
 use Rattle.hm_races.specs.Closed.{IsListed, Outcome}
 use Rattle.hm_races.specs.Blur.{form_of}
 
@@ -23,12 +23,13 @@ pub record KnownValue : Type 0 where
 abbrev pub AreActors : Program → List ℕ → Type 0
 AreActors c turns = list_all (λ a. nat_lt a (length c.actors)) turns ≡ true
 
--- it is what its turns lead to, and the history had room for them
+-- it is what its turns lead to; each of them adds an entry, and the history had room for them
 pub record IsKnown (c : Program) (h : List Entry) (n : KnownValue) : Type 0 where
   pub form : n.form ≡ form_of c (point_at c h n.turns)
   pub ended : n.ended ≡ ended_in c (point_at c h n.turns).state
   pub actors : AreActors c n.turns
   pub room : (point_at c h n.turns).state.after.length ≤ 2000000
+  pub adds : (point_at c h n.turns).state.after.length ≡ length h + length n.turns
 
 -- the forms of what is known
 abbrev pub forms : List KnownValue → List Point
@@ -39,45 +40,55 @@ abbrev pub outcomes_of : Program → List KnownValue → List (List (List Kind))
 outcomes_of c [] = []
 outcomes_of c (n ∷ ns) = if n.ended then outcome c n.form.answers ∷ outcomes_of c ns else outcomes_of c ns
 
--- the state after what is due to an actor is known; so are those of all actors below a number, or of all
-abbrev pub GoesOn : Program → List Point → Point → ℕ → Type 0
-GoesOn c fs x a = (e : Entry) → due_in c x.state a ≡ Progress.Did e → IsListed fs (form_of c (point_next c x e))
+-- the turns that lead to the known state at a place; none if there is no such state
+abbrev pub turns_at : List KnownValue → ℕ → List ℕ
+turns_at ns at = get_or (map (λ n. n.turns) ns) at []
+
+-- a known state has this form, and at most so many turns lead to it
+pub record Within (ns : List KnownValue) (f : Point) (most : ℕ) : Type 0 where
+  pub state : KnownValue
+  pub listed : IsListed ns state
+  pub form : state.form ≡ f
+  pub few : length state.turns ≤ most
+
+-- the state after what is due to an actor is known, with at most so many turns; so are those of all actors below a
+-- number, or of all
+abbrev pub GoesOn : Program → List KnownValue → Point → ℕ → ℕ → Type 0
+GoesOn c ns x most a = (e : Entry) → due_in c x.state a ≡ Progress.Did e → Within ns (form_of c (point_next c x e)) most
 
 -- a search has gone on from a point by each actor below a number
-abbrev pub GoneOnBelow : Program → List Point → Point → ℕ → Type 0
-GoneOnBelow c fs x k = (a : ℕ) → a < k → GoesOn c fs x a
+abbrev pub GoneOnBelow : Program → List KnownValue → Point → ℕ → ℕ → Type 0
+GoneOnBelow c ns x most k = (a : ℕ) → a < k → GoesOn c ns x most a
 
 -- a search has gone on from a point by every actor
-abbrev pub GoneOn : Program → List Point → Point → Type 0
-GoneOn c fs x = (a : ℕ) → GoesOn c fs x a
+abbrev pub GoneOn : Program → List KnownValue → Point → ℕ → Type 0
+GoneOn c ns x most = (a : ℕ) → GoesOn c ns x most a
 
--- where an actor is left out nothing is due to it
-abbrev pub HaveLeft : Program → Point → List Bool → Type 0
-HaveLeft c x adds = (a : ℕ) → a < length c.actors → slice_index_or adds a true ≡ false
-    → is_entry (due_in c x.state a) ≡ false
+-- the states stand in the order of how many turns lead to them
+abbrev pub AreRising : List KnownValue → Type 0
+AreRising ns =
+    (i j : ℕ) → i ≤ j → j < length ns → length (turns_at ns i) ≤ length (turns_at ns j)
 
--- a search: the states that are known, and the turns to those from which it has not gone on yet
-pub record Explores (c : Program) (h : List Entry) (known : List KnownValue) (todo : List (List ℕ)) : Type 0 where
-  pub each : (n : KnownValue) → IsListed known n → IsKnown c h n
-  pub from : IsListed (forms known) (form_of c (point_from c h))
-  pub onward : (n : KnownValue) → IsListed known n
-      → IsListed todo n.turns ⊎ GoneOn c (forms known) (point_at c h n.turns)
+-- a search: the states that are known, and the place of the first from which it has not gone on yet
+pub record Explores (c : Program) (h : List Entry) (ns : List KnownValue) (at : ℕ) : Type 0 where
+  pub each : (n : KnownValue) → IsListed ns n → IsKnown c h n
+  pub from : Within ns (form_of c (point_from c h)) 0
+  pub onward : (i : ℕ) → i < at → i < length ns
+      → GoneOn c ns (point_at c h (turns_at ns i)) (length (turns_at ns i) + 1)
+  pub rising : AreRising ns
+  pub near : (i : ℕ) → i < length ns → at < length ns → length (turns_at ns i) ≤ length (turns_at ns at) + 1
 
--- a search that knows more: one form, and all that it knew before
-pub record Grown (c : Program) (h : List Entry) (known : List KnownValue) (todo : List (List ℕ))
-    (more : List KnownValue) (left : List (List ℕ)) (f : Point) : Type 0 where
-  pub listed : IsListed (forms more) f
-  pub before : (g : Point) → IsListed (forms known) g → IsListed (forms more) g
-  pub explores : (o : List ℕ) → Explores c h known (o ∷ todo) → Explores c h more (o ∷ left)
-  pub no_fewer : length known ≤ length more
+-- what a turn at a key comes to, by the form of a point: nothing is due, or the next key is that of what is due
+abbrev pub IsNext : {K : Type 0} → (K → Point) → Program → Point → ℕ → Option K → Type 0
+IsNext form c x a None = is_entry (due_in c x.state a) ≡ false
+IsNext form c x a (Some k) =
+    (e : Entry) × (due_in c x.state a ≡ Progress.Did e) × (form k ≡ form_of c (point_next c x e))
 
--- and the state after what is due to an actor, if something is
-pub record GoneOnBy (c : Program) (h : List Entry) (known : List KnownValue) (todo : List (List ℕ))
-    (more : List KnownValue) (left : List (List ℕ)) (x : Point) (a : ℕ) : Type 0 where
-  pub on : GoesOn c (forms more) x a
-  pub before : (g : Point) → IsListed (forms known) g → IsListed (forms more) g
-  pub explores : (o : List ℕ) → Explores c h known (o ∷ todo) → Explores c h more (o ∷ left)
-  pub no_fewer : length known ≤ length more
+-- one turn of an actor at a known state leads to a state with this form, and adds an entry, for which there is room
+pub record LeadsOn (c : Program) (h : List Entry) (turns : List ℕ) (a : ℕ) (f : Point) : Type 0 where
+  pub form : f ≡ form_of c (point_at c h (turns ++ a ∷ []))
+  pub adds : (point_at c h (turns ++ a ∷ [])).state.after.length ≡ length h + (length turns + 1)
+  pub room : length h + (length turns + 1) ≤ 2000000
 
 -- why a race fails: memory; or after some turns the history is full, and an entry is due
 abbrev pub MayFail : Program → List Entry → StepError → Type 0
@@ -99,3 +110,18 @@ AreReal c h known = (x : List (List Kind)) → IsListed (outcomes_of c known) x 
 -- each is what its turns lead to
 abbrev pub AreKnown : Program → List Entry → List KnownValue → Type 0
 AreKnown c h known = (n : KnownValue) → IsListed known n → IsKnown c h n
+
+-- the form of each state to which the race comes is known
+abbrev pub HaveForms : Program → List Entry → List KnownValue → Type 0
+HaveForms c h known = (x : Point) → Reached c h x → IsListed (forms known) (form_of c x)
+
+-- no turns lead to the form of a known state that are fewer than its own
+abbrev pub AreFewest : Program → List Entry → List KnownValue → Type 0
+AreFewest c h known =
+    (n : KnownValue) → IsListed known n → (turns : List ℕ) → form_of c (point_at c h turns) ≡ n.form
+    → length n.turns ≤ length turns
+
+-- a search that was cut knows at most as many states beyond those asked for as there are actors; or it knows the first
+-- alone
+abbrev pub IsCut : Program → ℕ → ℕ → Type 0
+IsCut c most known = (most < known) × ((known ≤ most + length c.actors) ⊎ (known ≡ 1))

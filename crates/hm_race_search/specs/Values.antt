@@ -1,24 +1,68 @@
 -- What a search keeps, as its definitions see it.
-use Rattle.std.specs.Prelude.{ℕ, List, map, drop}
+use Rattle.std.specs.Prelude.{◌≡◌, ℕ, ◌+◌, ◌<◌, ◌≤◌, ◌⊎◌, Option, Some, None, List, [], ◌∷◌, ◌++◌, map, fold, length, get_or, slice_get}
 use Rattle.hm_base.specs.Program.{Program}
 use Rattle.hm_history.specs.declared.Entry.{Entry}
-use Rattle.hm_races.specs.Outcomes.{Point, point_at}
-use Rattle.hm_races.specs.Closed.{IsListed}
-use Rattle.hm_race_search.specs.Known.{KnownValue, HaveLeft}
+use Rattle.hm_races.specs.Outcomes.{Point}
+use Rattle.hm_races.specs.Closed.{IsListed, AreDistinct}
+use Rattle.hm_race_search.specs.Buckets.{BucketsValue}
+use Rattle.hm_race_search.specs.Known.{KnownValue, turns_at, Explores}
+use Rattle.hm_race_search.specs.declared.known.Turn.{Turn}
 use Rattle.hm_race_search.specs.declared.known.Known.{Known}
 
--- what contracts see of a state that is known; `form` reads its key
-abbrev pub known_of : {K : Type 0} → (K → Point) → Known K → KnownValue
-known_of form n = record { form = form n.key; turns = n.turns.items; ended = n.ended }
+-- the turns that lead to a state after a turn at one of these
+abbrev pub turns_by : List KnownValue → Option Turn → List ℕ
+turns_by vs None = []
+turns_by vs (Some turn) = turns_at vs turn.state ++ turn.actor ∷ []
 
--- the same of all that are known
+-- the turn that led first to the state at a place
+abbrev pub from_of : {K : Type 0} → List (Known K) → ℕ → Option Turn
+from_of ns at = elim (slice_get ns at) as (λ z. Option Turn) [ None ↦ None | Some n ↦ n.from ]
+
+-- what contracts see of a state that is known, after these; `form` reads its key
+abbrev pub known_of : {K : Type 0} → (K → Point) → List KnownValue → Known K → KnownValue
+known_of form vs n = record { form = form n.key; turns = turns_by vs n.from; ended = n.ended }
+
+-- these and one more
+abbrev pub with_known : {K : Type 0} → (K → Point) → List KnownValue → Known K → List KnownValue
+with_known form vs n = vs ++ known_of form vs n ∷ []
+
+-- the same of all that are known, each with the turns to the one that it was come to from, and one more
 abbrev pub all_known : {K : Type 0} → (K → Point) → List (Known K) → List KnownValue
-all_known form ns = map (known_of form) ns
+all_known form ns = fold (with_known form) [] ns
 
--- the turns to those from this place on
-abbrev pub todo_from : {K : Type 0} → List (Known K) → ℕ → List (List ℕ)
-todo_from ns at = map (λ n. n.turns.items) (drop at ns)
+-- the forms of all that are known
+abbrev pub key_forms : {K : Type 0} → (K → Point) → List (Known K) → List Point
+key_forms form ns = map (λ n. form n.key) ns
 
--- of each it is noted to which actors nothing is due
-abbrev pub AreNoted : {K : Type 0} → Program → List Entry → List (Known K) → Type 0
-AreNoted {K} c h ns = (n : Known K) → IsListed ns n → HaveLeft c (point_at c h n.turns.items) n.adds
+-- the table of buckets is that of these states, and no two of them have one form
+pub record Fits {K : Type 0} (form : K → Point) (number : K → ℕ) (Valid : K → Type 0) (ns : List (Known K))
+    (b : BucketsValue) : Type 0 where
+  pub numbers : b.numbers ≡ map (λ n. number n.key) ns
+  pub valid : (n : Known K) → IsListed ns n → Valid n.key
+  pub distinct : AreDistinct (key_forms form ns)
+
+-- of each it is noted how many turns lead to it
+abbrev pub AreDeep : {K : Type 0} → (K → Point) → List (Known K) → Type 0
+AreDeep form ns =
+    (i : ℕ) → i < length ns → get_or (map (λ n. n.depth) ns) i 0 ≡ length (turns_at (all_known form ns) i)
+
+-- a search that is to go on from the state at this place, with what is kept of it
+pub record Searching {K : Type 0} (c : Program) (h : List Entry) (form : K → Point) (number : K → ℕ)
+    (Valid : K → Type 0) (ns : List (Known K)) (b : BucketsValue) (at : ℕ) : Type 0 where
+  pub explores : Explores c h (all_known form ns) at
+  pub deep : AreDeep form ns
+  pub fits : Fits form number Valid ns b
+
+-- these states, and at most so many more
+pub record HasGrown {K : Type 0} (old new : List (Known K)) (most : ℕ) : Type 0 where
+  pub more : List (Known K)
+  pub grown : new ≡ old ++ more
+  pub few : length more ≤ most
+
+-- a search at its end: it has gone on from all states, or knows more than were asked for
+pub record HasSearched {K : Type 0} (c : Program) (h : List Entry) (form : K → Point) (number : K → ℕ)
+    (Valid : K → Type 0) (ns : List (Known K)) (b : BucketsValue) (most : ℕ) : Type 0 where
+  pub at : ℕ
+  pub searching : Searching c h form number Valid ns b at
+  pub all : length ns ≤ most → length ns ≤ at
+  pub few : (length ns ≤ most + length c.actors) ⊎ (length ns ≡ 1)

@@ -1,87 +1,111 @@
 // The states that a search knows, in the order in which it came to them.
-ghost use Rattle.std.specs.Prelude.{◌≡◌, ◌∷◌, ◌++◌, [], true, OnOk};
+ghost use Rattle.std.specs.Prelude.{◌≡◌, ◌∷◌, ◌++◌, [], true, false, IfOk, OnOk};
 ghost use Rattle.hm_races.specs.Closed.{IsListed};
-ghost use Rattle.hm_race_search.specs.Values.{all_known};
-ghost use Rattle.hm_race_search.specs.Known.{forms};
+ghost use Rattle.hm_race_search.specs.Known.{turns_at};
+ghost use Rattle.hm_race_search.specs.Values.{all_known, from_of, key_forms, Fits};
 
+use crate::buckets::Buckets;
 use crate::race::RaceKey;
 use hm_base::{Actor, NoMemory};
 use std::alloc::Global;
-use std::collections::BTreeMap;
 
-/// A state that a search knows: its key, turns that lead to it from the set-up, whether all operations have ended, and
-/// by actor whether something is due.
+/// A turn of an actor, at the known state with this index.
+#[derive(Clone, Copy)]
+pub struct Turn {
+    pub state: usize,
+    pub actor: Actor,
+}
+
+/// A state that a search knows: its key, the turn that led to it first (none to the state after the set-up), how many
+/// turns lead to it from the set-up, and whether all operations have ended.
 #[derive(Drop)]
 pub struct Known<K> {
     pub key: K,
-    pub turns: Vec<Actor>,
+    pub from: Option<Turn>,
+    pub depth: u64,
     pub ended: bool,
-    pub adds: [bool; 16],
 }
 
 /// All states that a search knows.
 #[derive(Drop)]
 pub struct States<K> {
     pub known: Vec<Known<K>>,
-    // For each bucket, the indices in `known` of the states whose keys fall into it.
-    places: BTreeMap<u64, Vec<usize>>,
-}
-
-// Whether one of the states at these places has this key.
-fn any_same<K: RaceKey>(known: &[Known<K>], places: &[usize], key: &K) -> bool
-    ensures { result ≡ true → IsListed (forms (all_known K.form known.now)) (K.form key.now) }
-{
-    for at in places {
-        if *at < known.len() && known[*at].key.same(key) {
-            return true;
-        }
-    }
-    false
+    // The buckets of their keys.
+    buckets: Buckets,
 }
 
 impl<K: RaceKey + Drop> States<K> {
     /// No state.
-    pub fn new(alloc: Global) -> States<K>
-        ensures { result.known.items ≡ [] }
+    pub fn new(alloc: Global) -> Result<States<K>, NoMemory>
+        ensures empty { IfOk result (λ s. s.known.items ≡ []) }
+        ensures fits { IfOk result (λ s. Fits K.form K.number K.Valid s.known.items s.buckets) }
     {
-        States {
+        Ok(States {
             known: Vec::new(alloc),
-            places: BTreeMap::new(alloc),
-        }
+            buckets: Buckets::new(alloc)?,
+        })
     }
 
-    /// Whether a state with this key, whose bucket this is, is known. It may say no of one that is.
+    /// Whether a state with this key, whose bucket this is, is known.
     pub fn has(&self, bucket: u64, key: &K) -> bool
-        ensures { result ≡ true → IsListed (forms (all_known K.form self.now.known.items)) (K.form key.now) }
+        requires fits { Fits K.form K.number K.Valid self.now.known.items self.now.buckets }
+        requires bucket { bucket ≡ K.number key.now }
+        ensures some { result ≡ true → IsListed (key_forms K.form self.now.known.items) (K.form key.now) }
+        ensures none { result ≡ false → IsListed (key_forms K.form self.now.known.items) (K.form key.now) → ⊥ }
     {
-        match self.places.get(&bucket) {
-            Some(places) => any_same(&self.known, places, key),
-            None => false,
+        key.facts();
+        let mut next = self.buckets.last(bucket);
+        while let Some(at) = next {
+            if self.buckets.number(at) == bucket && self.known[at].key.same(key) {
+                return true;
+            }
+            next = self.buckets.before(at);
         }
+        false
     }
 
-    // Notes that the next state that is pushed has this bucket.
-    fn note(&mut self, alloc: Global, bucket: u64) -> Result<(), NoMemory>
-        ensures { self.new.known ≡ self.old.known }
-    {
-        let at = self.known.len();
-        if let Some(places) = self.places.get_mut(&bucket) {
-            return Ok(places.push(at)?);
-        }
-        let mut places = Vec::new(alloc);
-        places.push(at)?;
-        match self.places.insert(bucket, places) {
-            Ok(_) => Ok(()),
-            Err(_) => Err(NoMemory),
-        }
-    }
-
-    /// The state, whose key has this bucket, is known from now on, as the last.
+    /// The state, which was not known, and whose key has this bucket, is known from now on, as the last.
     pub fn push(&mut self, alloc: Global, bucket: u64, state: Known<K>) -> Result<(), NoMemory>
-        ensures { OnOk result (self.new.known.items ≡ self.old.known.items ++ state ∷ []) }
+        requires fits { Fits K.form K.number K.Valid self.old.known.items self.old.buckets }
+        requires bucket { bucket ≡ K.number state.key }
+        requires new { IsListed (key_forms K.form self.old.known.items) (K.form state.key) → ⊥ }
+        ensures pushed { OnOk result (self.new.known.items ≡ self.old.known.items ++ state ∷ []) }
+        ensures fits { OnOk result (Fits K.form K.number K.Valid self.new.known.items self.new.buckets) }
     {
-        self.note(alloc, bucket)?;
+        state.key.facts();
+        self.buckets.push(alloc, bucket)?;
         self.known.push(state)?;
         Ok(())
     }
+}
+
+// The turn that led first to the state at this place.
+fn turn_to<K>(known: &[Known<K>], at: usize) -> Option<Turn>
+    ensures { result ≡ from_of known.now at }
+{
+    match known.get(at) {
+        Some(state) => state.from,
+        None => None,
+    }
+}
+
+/// The turns that lead to the known state at this place from the set-up; none if there is no such state.
+pub fn turns_to<K: RaceKey>(
+    alloc: Global,
+    known: &[Known<K>],
+    at: usize,
+) -> Result<Vec<Actor>, NoMemory>
+    ensures { IfOk result (λ v. v.items ≡ turns_at (all_known K.form known.now) at) }
+{
+    let mut turns = Vec::new(alloc);
+    let mut place = at;
+    while let Some(turn) = turn_to(known, place) {
+        turns.push(turn.actor)?;
+        if turn.state >= place {
+            break;
+        }
+        place = turn.state;
+    }
+    turns.reverse();
+    Ok(turns)
 }

@@ -7,7 +7,7 @@ use Rattle.hm_history.specs.Run.{run}
 use Rattle.hm_history.specs.declared.Entry.{Entry}
 use Rattle.hm_laws.specs.Laws.{HistoryIsLegal}
 use Rattle.hm_races.specs.Outcomes.{Point, point_at, outcome, ended_in, raced}
-use Rattle.hm_race_explore.specs.Known.{KnownValue, IsKnown}
+use Rattle.hm_race_search.specs.Known.{KnownValue, IsKnown}
 use Rattle.hm_race_text.specs.Laws.{TurnsLead, TurnsStand, SameLegal, LeadsTo, PointsAreLed, BlocksAreFound}
 use Rattle.hm_race_text.specs.Schedule.{with_turns}
 use Rattle.hm_race_text.specs.Text.{Way}

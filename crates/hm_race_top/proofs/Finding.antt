@@ -2,7 +2,7 @@
 use Rattle.std.proofs.Common.{◌≡◌, ℕ, ◌≤◌, inl, inr, Bool, true, false, List, length, subst}
 use Rattle.hm_base.specs.Program.{Program}
 use Rattle.hm_history.specs.Run.{run}
-use Rattle.hm_race_explore.specs.Known.{KnownValue, forms, AreFewest, AreKnown, AreRising, HaveForms, IsCut}
+use Rattle.hm_race_search.specs.Known.{KnownValue, forms, AreFewest, AreKnown, AreRising, HaveForms, IsCut}
 use Rattle.hm_races.specs.Closed.{AreDistinct}
 use Rattle.hm_race_text.specs.Laws.{lines_of}
 use Rattle.hm_race_text.specs.Text.{blocks_of, outcomes_text}

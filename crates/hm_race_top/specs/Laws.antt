@@ -3,7 +3,7 @@ use Rattle.std.specs.Prelude.{◌≡◌, ℕ, true, List, map}
 use Rattle.hm_base.specs.Program.{Program, IsScript}
 use Rattle.hm_history.specs.Run.{run}
 use Rattle.hm_races.specs.Outcomes.{raced}
-use Rattle.hm_race_explore.specs.Known.{KnownValue, IsComplete, AreKnown, outcomes_of}
+use Rattle.hm_race_search.specs.Known.{KnownValue, IsComplete, AreKnown, outcomes_of}
 use Rattle.hm_race_text.specs.Text.{Way}
 use Rattle.hm_race_top.specs.Ways.{ways_of, blocks_known, AreTrue, HaveAll}
 use Rattle.hm_script.specs.Built.{has_drain}

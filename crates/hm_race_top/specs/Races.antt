@@ -3,7 +3,7 @@ use Rattle.std.specs.Prelude.{◌≡◌, ◌⊎◌, ◌≤◌, ℕ, Bool, true, 
 use Rattle.hm_base.specs.Program.{Program}
 use Rattle.hm_history.specs.Run.{run}
 use Rattle.hm_history.specs.declared.StepError.{StepError}
-use Rattle.hm_race_explore.specs.Known.{KnownValue, forms, AreFewest, AreKnown, AreRising, HaveForms, IsCut, MayFail}
+use Rattle.hm_race_search.specs.Known.{KnownValue, forms, AreFewest, AreKnown, AreRising, HaveForms, IsCut, MayFail}
 use Rattle.hm_races.specs.Closed.{AreDistinct}
 use Rattle.hm_race_text.specs.Laws.{lines_of}
 use Rattle.hm_race_text.specs.Text.{outcomes_text}

@@ -8,7 +8,7 @@ use Rattle.hm_history.specs.Words.{numbers}
 use Rattle.hm_history.specs.declared.Entry.{Entry}
 use Rattle.hm_races.specs.Closed.{IsListed}
 use Rattle.hm_races.specs.Outcomes.{Point, outcome, answers_of, ended}
-use Rattle.hm_race_explore.specs.Known.{KnownValue, turns_at}
+use Rattle.hm_race_search.specs.Known.{KnownValue, turns_at}
 use Rattle.hm_race_text.specs.Answers.{answer_lines}
 use Rattle.hm_race_text.specs.Laws.{lines_of}
 use Rattle.hm_race_text.specs.Schedule.{with_turns}

@@ -2,7 +2,7 @@
 ghost use Rattle.std.specs.Prelude.{◌≡◌, ◌≤◌, false, length, map, string_bytes};
 ghost use Rattle.hm_base.specs.Program.{IsScript};
 ghost use Rattle.hm_race_states.specs.Keyed.{form_in};
-ghost use Rattle.hm_race_explore.specs.Values.{all_known};
+ghost use Rattle.hm_race_search.specs.Values.{all_known};
 ghost use Rattle.hm_race_text.specs.Text.{blocks_of, outcomes_text};
 ghost use Rattle.hm_race_top.specs.Asked.{most_of};
 ghost use Rattle.hm_race_top.specs.Races.{HasFound, HasWrittenWays, Races, Searches};
@@ -18,7 +18,7 @@ use hm_base::{NoMemory, Script};
 use hm_edge::{Status, read_script};
 use hm_history::StepError;
 use hm_io::{Sink, Source};
-use hm_race_explore::Explored;
+use hm_race_search::Explored;
 use hm_race_run::search;
 use hm_race_states::key::StateKey;
 use hm_race_text::write_outcomes;

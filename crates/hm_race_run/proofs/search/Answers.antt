@@ -3,8 +3,8 @@ use Rattle.hm_base.specs.Program.{Program}
 use Rattle.hm_history.specs.Run.{run}
 use Rattle.hm_history.specs.declared.Entry.{Entry}
 use Rattle.hm_race_states.specs.Keyed.{form_in}
-use Rattle.hm_race_explore.specs.Known.{IsComplete}
-use Rattle.hm_race_explore.specs.Values.{all_known}
+use Rattle.hm_race_search.specs.Known.{IsComplete}
+use Rattle.hm_race_search.specs.Values.{all_known}
 use Rattle.hm_race_run.proofs.search.Goals as goal
 
 pub returns-clause-complete : goal.returns-clause-complete

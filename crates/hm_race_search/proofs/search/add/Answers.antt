@@ -1,17 +1,26 @@
-use Rattle.std.proofs.Common.{ap, ◌∙◌}
-use Rattle.hm_races.specs.Outcomes.{point_at}
-use Rattle.hm_race_search.proofs.Exploring.{grown_pushed, noted_more}
+use Rattle.std.proofs.Common.{Some, refl}
+use Rattle.hm_race_search.proofs.Steps.{led_stands, known_already, searching_new, within_new}
 use Rattle.hm_race_search.proofs.search.add.Goals as goal
 
-pub returns-in-Ok-clause-grown : goal.returns-in-Ok-clause-grown
-returns-in-Ok-clause-grown g c =
-    let script = g.R.Race.script c.args.race.now in
-    let set_up = g.R.Race.set_up c.args.race.now in
-    grown_pushed g.R.Key.RaceKey.form script set_up _ _ _ (g.R.Race.opened c.in_ok-open.open) c.in-Ok.ensures c.in_ok-key.ensures.form c.ended-ended.ensures
-    (c.in_ok-open.ensures.point ∙ ap (point_at script set_up) c.as_slice.ensures.value) c.requires c.in_ok-open.ensures.room
+pub ended-ended-requires : goal.ended-ended-requires
+ended-ended-requires g c = led_stands (g.R.Race.script c.args.race.now) (g.R.Race.set_up c.args.race.now) _ _ _ c.requires.leads
 
-pub returns-in-Ok-clause-noted : goal.returns-in-Ok-clause-noted
-returns-in-Ok-clause-noted g c =
-    let script = g.R.Race.script c.args.race.now in
-    let set_up = g.R.Race.set_up c.args.race.now in
-    noted_more script set_up _ _ _ (g.R.Race.opened c.in_ok-open.open) c.in-Ok.ensures (c.in_ok-open.ensures.point ∙ ap (point_at script set_up) c.as_slice.ensures.value) c.in_ok-adds.ensures.adds
+pub returns-then-has-clause-within : goal.returns-then-has-clause-within
+returns-then-has-clause-within g c =
+    let key = g.R.Key.RaceKey in
+    known_already (g.R.Race.script c.args.race.now) (g.R.Race.set_up c.args.race.now) key.form key.number key.Valid c.args.states.now.known.items c.args.states.now.buckets c.args.turn.state
+    c.requires.searching c.requires.state (key.form c.args.key) c.args.depth c.requires.depth (c.has.ensures.some c.if-has.true)
+
+pub returns-in-Ok-clause-searching : goal.returns-in-Ok-clause-searching
+returns-in-Ok-clause-searching g c =
+    let key = g.R.Key.RaceKey in
+    searching_new (g.R.Race.script c.args.race.now) (g.R.Race.set_up c.args.race.now) key.form key.number key.Valid c.args.states.now.known.items c.args.states.now.buckets c.args.turn.state
+    c.requires.searching c.requires.state (record { key = c.args.key; from = Some c.args.turn; depth = c.args.depth; ended = c.ended-ended.result }) c.args.turn.actor refl c.requires.depth c.ended-ended.ensures c.requires.actor c.requires.leads
+    c.push.new.self.known.items c.in-Ok.ensures.pushed c.push.new.self.buckets c.in-Ok.ensures.fits
+
+pub returns-in-Ok-clause-within : goal.returns-in-Ok-clause-within
+returns-in-Ok-clause-within g c =
+    let key = g.R.Key.RaceKey in
+    within_new (g.R.Race.script c.args.race.now) (g.R.Race.set_up c.args.race.now) key.form key.number key.Valid c.args.states.now.known.items c.args.states.now.buckets c.args.turn.state
+    c.requires.searching c.requires.state (record { key = c.args.key; from = Some c.args.turn; depth = c.args.depth; ended = c.ended-ended.result }) c.args.turn.actor refl c.requires.depth c.ended-ended.ensures c.requires.actor c.requires.leads
+    c.push.new.self.known.items c.in-Ok.ensures.pushed c.args.depth c.requires.depth

@@ -1,19 +1,28 @@
 use Rattle.std.proofs.Common.{arith}
 use Rattle.std.proofs.lemmas.Grind.{common_steps}
-use Rattle.hm_race_search.proofs.Exploring.{real, complete}
+use Rattle.hm_race_search.proofs.Steps.{ends_complete, ends_all, ends_cut, ends_known, ends_real, ends_distinct, ends_rising, ends_fewest}
 use Rattle.hm_race_search.proofs.search.explore.Goals as goal
 
-pub returns-then-found-at-clause-complete : goal.returns-then-found-at-clause-complete
-returns-then-found-at-clause-complete g c e = complete c.forms_are_complete.ensures _ c.facts.ensures.script _ c.facts.ensures.due g.R.Key.RaceKey.form _ c.loop-at.at (grind (arith, common_steps)) c.loop-at.invariant.explores
-
-pub returns-then-found-at-clause-real : goal.returns-then-found-at-clause-real
-returns-then-found-at-clause-real g c = real _ _ _ c.loop-at.invariant.explores.each
-
-pub returns-then-found-most-clause-real : goal.returns-then-found-most-clause-real
-returns-then-found-most-clause-real g c = real _ _ _ c.loop-at.invariant.explores.each
-
 pub returns-clause-complete : goal.returns-clause-complete
-returns-clause-complete g c e = complete c.forms_are_complete.ensures _ c.facts.ensures.script _ c.facts.ensures.due g.R.Key.RaceKey.form _ c.loop-at.at (grind (arith, common_steps, e)) c.loop-at.invariant.explores
+returns-clause-complete g c e = ends_complete (g.R.Race.script c.args.race.now) c.facts.ensures.script (g.R.Race.set_up c.args.race.now) c.facts.ensures.due g.R.Key.RaceKey.form g.R.Key.RaceKey.number g.R.Key.RaceKey.Valid _ _ c.args.most c.in_ok-states.ensures.searched c.forms_are_complete.ensures (grind (arith, common_steps, e))
+
+pub returns-clause-all : goal.returns-clause-all
+returns-clause-all g c e = ends_all (g.R.Race.script c.args.race.now) c.facts.ensures.script (g.R.Race.set_up c.args.race.now) c.facts.ensures.due g.R.Key.RaceKey.form g.R.Key.RaceKey.number g.R.Key.RaceKey.Valid _ _ c.args.most c.in_ok-states.ensures.searched c.forms_are_all.ensures (grind (arith, common_steps, e))
+
+pub returns-clause-cut : goal.returns-clause-cut
+returns-clause-cut g c e = ends_cut (g.R.Race.script c.args.race.now) c.facts.ensures.script (g.R.Race.set_up c.args.race.now) c.facts.ensures.due g.R.Key.RaceKey.form g.R.Key.RaceKey.number g.R.Key.RaceKey.Valid _ _ c.args.most c.in_ok-states.ensures.searched (grind (arith, common_steps, e))
 
 pub returns-clause-real : goal.returns-clause-real
-returns-clause-real g c = real _ _ _ c.loop-at.invariant.explores.each
+returns-clause-real g c = ends_real (g.R.Race.script c.args.race.now) c.facts.ensures.script (g.R.Race.set_up c.args.race.now) c.facts.ensures.due g.R.Key.RaceKey.form g.R.Key.RaceKey.number g.R.Key.RaceKey.Valid _ _ c.args.most c.in_ok-states.ensures.searched
+
+pub returns-clause-known : goal.returns-clause-known
+returns-clause-known g c = ends_known (g.R.Race.script c.args.race.now) c.facts.ensures.script (g.R.Race.set_up c.args.race.now) c.facts.ensures.due g.R.Key.RaceKey.form g.R.Key.RaceKey.number g.R.Key.RaceKey.Valid _ _ c.args.most c.in_ok-states.ensures.searched
+
+pub returns-clause-distinct : goal.returns-clause-distinct
+returns-clause-distinct g c = ends_distinct (g.R.Race.script c.args.race.now) c.facts.ensures.script (g.R.Race.set_up c.args.race.now) c.facts.ensures.due g.R.Key.RaceKey.form g.R.Key.RaceKey.number g.R.Key.RaceKey.Valid _ _ c.args.most c.in_ok-states.ensures.searched
+
+pub returns-clause-rising : goal.returns-clause-rising
+returns-clause-rising g c = ends_rising (g.R.Race.script c.args.race.now) c.facts.ensures.script (g.R.Race.set_up c.args.race.now) c.facts.ensures.due g.R.Key.RaceKey.form g.R.Key.RaceKey.number g.R.Key.RaceKey.Valid _ _ c.args.most c.in_ok-states.ensures.searched
+
+pub returns-clause-fewest : goal.returns-clause-fewest
+returns-clause-fewest g c = ends_fewest (g.R.Race.script c.args.race.now) c.facts.ensures.script (g.R.Race.set_up c.args.race.now) c.facts.ensures.due g.R.Key.RaceKey.form g.R.Key.RaceKey.number g.R.Key.RaceKey.Valid _ _ c.args.most c.in_ok-states.ensures.searched c.forms_go_alike.ensures

@@ -1,13 +1,62 @@
-use Rattle.std.proofs.Common.{refl}
+use Rattle.std.proofs.Common.{◌+◌, subst, ap, arith}
 use Rattle.hm_races.specs.Outcomes.{point_at}
-use Rattle.hm_race_search.proofs.Exploring.{gone_by, more_actors}
+use Rattle.hm_race_search.specs.Known.{turns_at, IsNext}
+use Rattle.hm_race_search.specs.Values.{all_known}
+use Rattle.hm_race_search.proofs.Steps.{stands, next_here, goes_none, leads_on, full, depth_read, goes_ok}
 use Rattle.hm_race_search.proofs.search.go.Goals as goal
 
-pub add-requires : goal.add-requires
-add-requires g c = more_actors (g.R.Race.script c.args.race.now) c.args.turns.now.items _ c.args.actor c.requires.turns c.requires.actor c.in-Ok.ensures
+pub next-requires : goal.next-requires
+next-requires g c =
+    let key = g.R.Key.RaceKey in
+    stands (g.R.Race.script c.args.race.now) (g.R.Race.set_up c.args.race.now) key.form key.number key.Valid c.args.states.now.known.items c.args.states.now.buckets c.args.turn.state
+    c.requires.searching c.requires.state c.index-2.result.now c.index-2.result.now.key (ap (λ n. n.key) c.index-2.ensures)
 
-pub returns-in-Ok-clause-gone : goal.returns-in-Ok-clause-gone
-returns-in-Ok-clause-gone g c =
+pub returns-in-None-clause-goes : goal.returns-in-None-clause-goes
+returns-in-None-clause-goes g c =
+    let key = g.R.Key.RaceKey in
     let script = g.R.Race.script c.args.race.now in
     let set_up = g.R.Race.set_up c.args.race.now in
-    gone_by c.add.result g.R.Key.RaceKey.form script set_up _ _ (point_at script set_up c.args.turns.now.items) c.args.turns.now.items _ c.args.actor refl c.in-Ok.ensures c.add.ensures.grown
+    let here = point_at script set_up (turns_at (all_known key.form c.args.states.now.known.items) c.args.turn.state) in
+    let next = next_here script set_up key.form key.number key.Valid c.args.states.now.known.items c.args.states.now.buckets c.args.turn.state
+    c.requires.searching c.requires.state c.index-2.result.now c.index-2.result.now.key c.in_ok-next.field-0 c.args.turn.actor (ap (λ n. n.key) c.index-2.ensures) c.in_ok-next.ensures.next in
+    goes_none script set_up key.form key.number key.Valid c.args.states.now.known.items c.args.states.now.buckets c.args.turn.state c.requires.searching c.requires.state c.args.turn.actor
+    (subst (λ o. IsNext key.form script here c.args.turn.actor o) c.in-None.is next)
+
+pub returns-then-depth-entries-clause-fails : goal.returns-then-depth-entries-clause-fails
+returns-then-depth-entries-clause-fails g c =
+    let key = g.R.Key.RaceKey in
+    let script = g.R.Race.script c.args.race.now in
+    let set_up = g.R.Race.set_up c.args.race.now in
+    let here = point_at script set_up (turns_at (all_known key.form c.args.states.now.known.items) c.args.turn.state) in
+    let next = next_here script set_up key.form key.number key.Valid c.args.states.now.known.items c.args.states.now.buckets c.args.turn.state
+    c.requires.searching c.requires.state c.index-2.result.now c.index-2.result.now.key c.in_ok-next.field-0 c.args.turn.actor (ap (λ n. n.key) c.index-2.ensures) c.in_ok-next.ensures.next in
+    full script set_up key.form key.number key.Valid c.args.states.now.known.items c.args.states.now.buckets c.args.turn.state c.requires.searching c.requires.state
+    c.args.turn.actor c.in-Some.key c.index.result.now.depth c.entries.result (subst (λ o. IsNext key.form script here c.args.turn.actor o) c.in-Some.is next)
+    (depth_read script set_up key.form key.number key.Valid c.args.states.now.known.items c.args.states.now.buckets c.args.turn.state c.requires.searching c.requires.state c.index.result.now c.index.ensures)
+    c.entries.ensures (omega (arith, c.if-depth-entries.true, c.entries.ensures, c.facts.ensures.few))
+
+pub add-requires-clause-leads : goal.add-requires-clause-leads
+add-requires-clause-leads g c =
+    let key = g.R.Key.RaceKey in
+    let script = g.R.Race.script c.args.race.now in
+    let set_up = g.R.Race.set_up c.args.race.now in
+    let here = point_at script set_up (turns_at (all_known key.form c.args.states.now.known.items) c.args.turn.state) in
+    let next = next_here script set_up key.form key.number key.Valid c.args.states.now.known.items c.args.states.now.buckets c.args.turn.state
+    c.requires.searching c.requires.state c.index-2.result.now c.index-2.result.now.key c.in_ok-next.field-0 c.args.turn.actor (ap (λ n. n.key) c.index-2.ensures) c.in_ok-next.ensures.next in
+    leads_on script set_up key.form key.number key.Valid c.args.states.now.known.items c.args.states.now.buckets c.args.turn.state c.requires.searching c.requires.state
+    c.args.turn.actor c.in-Some.key c.index.result.now.depth c.entries.result (subst (λ o. IsNext key.form script here c.args.turn.actor o) c.in-Some.is next)
+    (depth_read script set_up key.form key.number key.Valid c.args.states.now.known.items c.args.states.now.buckets c.args.turn.state c.requires.searching c.requires.state c.index.result.now c.index.ensures)
+    c.entries.ensures (omega (arith, c.if-depth-entries.false, c.entries.ensures, c.facts.ensures.few))
+
+pub returns-else-depth-entries-clause-goes : goal.returns-else-depth-entries-clause-goes
+returns-else-depth-entries-clause-goes g c =
+    let key = g.R.Key.RaceKey in
+    let script = g.R.Race.script c.args.race.now in
+    let set_up = g.R.Race.set_up c.args.race.now in
+    let here = point_at script set_up (turns_at (all_known key.form c.args.states.now.known.items) c.args.turn.state) in
+    let next = next_here script set_up key.form key.number key.Valid c.args.states.now.known.items c.args.states.now.buckets c.args.turn.state
+    c.requires.searching c.requires.state c.index-2.result.now c.index-2.result.now.key c.in_ok-next.field-0 c.args.turn.actor (ap (λ n. n.key) c.index-2.ensures) c.in_ok-next.ensures.next in
+    goes_ok script set_up key.form key.number key.Valid c.args.states.now.known.items c.args.states.now.buckets c.args.turn.state c.requires.searching c.requires.state
+    c.add.result c.args.turn.actor c.in-Some.key c.add.new.states.known.items (c.index.result.now.depth + 1) (subst (λ o. IsNext key.form script here c.args.turn.actor o) c.in-Some.is next)
+    (ap (λ n. n + 1) (depth_read script set_up key.form key.number key.Valid c.args.states.now.known.items c.args.states.now.buckets c.args.turn.state c.requires.searching c.requires.state c.index.result.now c.index.ensures))
+    c.add.ensures.within

@@ -1,20 +1,31 @@
-use Rattle.std.proofs.Common.{◌≡◌, sym, subst, ap, get_or, arith}
-use Rattle.std.proofs.lemmas.Grind.{common_steps}
-use Rattle.hm_race_search.specs.Known.{AreActors}
-use Rattle.hm_race_search.proofs.Exploring.{stepped, first_actors, first_noted}
+use Rattle.std.proofs.Common.{arith}
+use Rattle.hm_race_search.proofs.Steps.{grown_none, grown_on, grown_upto, grown_length, below_next, searching_on}
 use Rattle.hm_race_search.proofs.search.step.Goals as goal
 
-pub expand-requires-clause-turns : goal.expand-requires-clause-turns
-expand-requires-clause-turns g c =
-    let same : c.in-Ok.turns.items ≡ (get_or c.args.states.now.known.items c.args.at c.index.result.now).turns.items = grind (arith, common_steps) in
-    subst (AreActors (g.R.Race.script c.args.race.now)) (sym same) (first_actors g.R.Key.RaceKey.form (g.R.Race.script c.args.race.now) (g.R.Race.set_up c.args.race.now) c.args.states.now.known.items c.args.at c.index.result.now c.requires.at c.requires.explores.each)
+pub loop-number-init : goal.loop-number-init
+loop-number-init g c = record { searching = c.requires.searching; grown = grown_none c.args.states.now.known.items 0; below = λ a l. absurd (omega (arith, l)); bound = omega arith }
 
-pub returns-clause-explores : goal.returns-clause-explores
-returns-clause-explores g c =
-    let same : c.in-Ok.turns.items ≡ (get_or c.args.states.now.known.items c.args.at c.index.result.now).turns.items = grind (arith, common_steps) in
-    stepped c.expand.result g.R.Key.RaceKey.form (g.R.Race.script c.args.race.now) (g.R.Race.set_up c.args.race.now) c.args.states.now.known.items _ c.index.result.now c.args.at _ c.requires.at same c.requires.explores c.expand.ensures.explores
+pub go-requires-clause-state : goal.go-requires-clause-state
+go-requires-clause-state g c = omega (arith, c.requires.at, (grown_length c.args.states.now.known.items c.loop-number.states.known.items c.loop-number.number c.loop-number.invariant.grown).0)
 
-pub expand-requires-clause-adds : goal.expand-requires-clause-adds
-expand-requires-clause-adds g c =
-    let same : c.in-Ok.turns.items ≡ (get_or c.args.states.now.known.items c.args.at c.index-2.result.now).turns.items = grind (arith, common_steps) in
-    first_noted (g.R.Race.script c.args.race.now) (g.R.Race.set_up c.args.race.now) c.args.states.now.known.items c.args.at c.index-2.result.now c.in-Ok.turns.items c.index-2.result.now.adds c.requires.at same (ap (λ n. n.adds) c.index-2.ensures) c.requires.noted
+pub loop-number-preserved : goal.loop-number-preserved
+loop-number-preserved g c =
+    let before = c.args.states.now.known.items in
+    let now = c.loop-number.states.known.items in
+    let kept = c.loop-number.invariant in
+    record {
+      searching = c.in_ok-go.ensures.searching;
+      grown = grown_on before now c.go.new.states.known.items c.loop-number.number kept.grown c.in_ok-go.ensures.grown;
+      below = below_next g.R.Key.RaceKey.form (g.R.Race.script c.args.race.now) (g.R.Race.set_up c.args.race.now) before now c.go.new.states.known.items c.args.at c.loop-number.number c.loop-number.number c.new.result c.requires.at kept.grown c.in_ok-go.ensures.grown c.new.ensures kept.below c.in_ok-go.ensures.goes;
+      bound = omega (arith, c.loop-number-test.true, c.actors-number-end.ensures);
+    }
+
+pub returns-clause-searching : goal.returns-clause-searching
+returns-clause-searching g c =
+    let key = g.R.Key.RaceKey in
+    let kept = c.loop-number.invariant in
+    searching_on (g.R.Race.script c.args.race.now) (g.R.Race.set_up c.args.race.now) key.form key.number key.Valid c.args.states.now.known.items c.loop-number.states.known.items c.loop-number.states.buckets c.args.at c.loop-number.number c.loop-number.number
+    c.requires.at kept.grown (omega (arith, c.loop-number-test.false, c.actors-number-end.ensures)) kept.searching kept.below
+
+pub returns-clause-grown : goal.returns-clause-grown
+returns-clause-grown g c = grown_upto c.args.states.now.known.items c.loop-number.states.known.items c.loop-number.number _ c.loop-number.invariant.bound c.loop-number.invariant.grown

@@ -1,9 +1,9 @@
 use Rattle.std.proofs.Common.{◌≡◌, ◌≤◌, length, ◌∙◌, ap, sym, subst}
 use Rattle.hm_base.specs.Program.{Program}
 use Rattle.hm_race_states.specs.Keyed.{form_in}
-use Rattle.hm_race_explore.specs.Values.{all_known}
-use Rattle.hm_race_explore.specs.Known.{IsCut}
-use Rattle.hm_race_explore.proofs.Exploring.{known_length}
+use Rattle.hm_race_search.specs.Values.{all_known}
+use Rattle.hm_race_search.specs.Known.{IsCut}
+use Rattle.hm_race_search.proofs.Exploring.{known_length}
 use Rattle.hm_script.specs.Built.{has_drain}
 use Rattle.hm_race_top.specs.Ways.{ways_of}
 use Rattle.hm_race_top.proofs.Finding.{found_of}

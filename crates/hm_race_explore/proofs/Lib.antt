@@ -1,5 +1,0 @@
-pub mod Exploring
-mod Chains
-mod Table
-pub mod Unrolled
-mod Steps

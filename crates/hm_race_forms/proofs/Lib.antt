@@ -1,4 +1,0 @@
-pub mod Following
-pub mod Formed
-pub mod Histories
-pub mod Nobody
