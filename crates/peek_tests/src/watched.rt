@@ -7,7 +7,7 @@ use std::sync::atomic::{AtomicU64, Ordering};
 use std::thread;
 
 /// How often the gate looks before it lets the actor go on.
-const LOOKS: u64 = 50_000_000;
+const LOOKS: u64 = 1_000_000;
 
 /// A value that counts the looks at it.
 #[derive(Drop)]
