@@ -1,6 +1,7 @@
 // Workers that make the turns of all actors.
 #![tactic(auto)]
 
+mod burst;
 mod dealing;
 mod gate;
 mod meeting;
@@ -8,6 +9,7 @@ mod mixing;
 mod passes;
 mod peeked;
 mod peeks;
+mod places;
 mod run;
 mod staged;
 mod watching;

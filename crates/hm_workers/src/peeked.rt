@@ -14,7 +14,6 @@ use hm_base::{NoMemory, Proc};
 use hm_turns::{Looks, Pass, Stepped, Turns};
 use std::alloc::Global;
 use std::sync::Wait;
-use std::sync::atomic::Ordering;
 use std::thread::{Threads, join_mut};
 
 // Runs the actors once the watcher is there, and tells when all have ended.
@@ -35,7 +34,7 @@ fn run_and_tell<R: Threads + Wait + Sync, S: Stepped + Send, G: Gate + Sync>(
     };
     signs.meeting.attend(2);
     let done = run_actors(rt, alloc, turns, passes, gate);
-    signs.ended.store(true, Ordering::SeqCst);
+    signs.end();
     done
 }
 
@@ -66,7 +65,7 @@ pub fn run_peeked<R: Threads + Wait + Sync, S: Stepped + Looks + Send, G: Gate +
     let mut waiting = Some(passes);
     let (peeks, done) = join_mut(
         rt,
-        &mut || watch(alloc, turns, &asked, &signs, watcher),
+        &mut || watch(rt, alloc, turns, &asked, &signs, watcher),
         &mut ||
             requires { MatchOption waiting ⊥
                 (λ ps. AreOf turns.now ps × (length ps ≡ length turns.now.script.actors)) }

@@ -10,8 +10,10 @@ use hm_base::{Bytes, NoMemory, Proc};
 use hm_turns::{Looks, Pass, Stepped, Turns};
 use seq_copies::{Snapshot, Taken, still, take_copy};
 use std::alloc::Global;
-use std::sync::atomic::{AtomicBool, Ordering};
+use std::sync::Wait;
+use std::sync::atomic::{AtomicBool, AtomicU64, Ordering};
 use std::thread;
+use std::time::Duration;
 
 /// The most tries of a watcher, each of which takes a copy or checks one.
 const MOST_TRIES: u32 = 100_000;
@@ -24,6 +26,12 @@ const TRIES_A_LOOK: u32 = 8;
 
 /// After so many looks a pause lets other threads go first.
 const LOOKS_A_YIELD: u32 = 4096;
+
+/// After so many pauses with no new peek the watcher sleeps, since the actors may lack its processor.
+const PAUSES_A_SLEEP: u64 = 16;
+
+/// How many microseconds it sleeps. The system makes them about fifty more.
+const SLEEP: u64 = 1;
 
 /// Bytes of a process: the address of the first, and how many.
 #[derive(Clone, Copy)]
@@ -40,6 +48,12 @@ pub(crate) struct Signs {
     pub(crate) meeting: Meeting,
     /// All actors have ended.
     pub(crate) ended: AtomicBool,
+    // What the watcher sleeps on: 1 if all actors have ended.
+    bell: AtomicU64,
+    // How many peeks there were at the last pause.
+    seen: AtomicU64,
+    // How many pauses there were since there was a new one.
+    still: AtomicU64,
 }
 
 impl Signs {
@@ -49,7 +63,29 @@ impl Signs {
         Signs {
             meeting,
             ended: AtomicBool::new(false),
+            bell: AtomicU64::new(0),
+            seen: AtomicU64::new(0),
+            still: AtomicU64::new(0),
         }
+    }
+
+    /// Tells the watcher that all actors have ended.
+    pub(crate) fn end(&self) {
+        self.ended.store(true, Ordering::SeqCst);
+        self.bell.store(1, Ordering::SeqCst);
+        self.bell.wake_all();
+    }
+
+    // Counts a pause, after which there are so many peeks. Says whether the watcher is to sleep.
+    fn is_to_sleep(&self, peeks: u64) -> bool {
+        if self.seen.swap(peeks, Ordering::SeqCst) != peeks {
+            self.still.store(0, Ordering::SeqCst);
+        }
+        let still = self.still.fetch_add(1, Ordering::SeqCst);
+        if still >= PAUSES_A_SLEEP {
+            self.still.store(0, Ordering::SeqCst);
+        }
+        still >= PAUSES_A_SLEEP
     }
 }
 
@@ -194,9 +230,13 @@ fn try_once<S: Looks>(
 }
 
 // Lets the work go on for a while, the longer the more tries were made, so that the tries last.
-fn pause(tries: u32, ended: &AtomicBool) {
+fn pause<R: Wait>(rt: &R, tries: u32, signs: &Signs, peeks: &PeekList) {
+    if signs.is_to_sleep(peeks.len()) {
+        signs.bell.park_timeout(rt, 0, Duration::from_micros(SLEEP));
+        return;
+    }
     for look in 0..tries / TRIES_A_LOOK {
-        if ended.load(Ordering::SeqCst) {
+        if signs.ended.load(Ordering::SeqCst) {
             return;
         }
         if look % LOOKS_A_YIELD == LOOKS_A_YIELD - 1 {
@@ -207,7 +247,8 @@ fn pause(tries: u32, ended: &AtomicBool) {
 
 /// Takes copies and checks them until it is told that the work has ended, or the value is halted, or there are enough
 /// peeks, or enough tries were made. A copy is checked at once, and as long as it holds again.
-pub(crate) fn watch<S: Looks>(
+pub(crate) fn watch<R: Wait, S: Looks>(
+    rt: &R,
     alloc: Global,
     turns: &Turns<S>,
     asked: &Asked,
@@ -231,11 +272,11 @@ pub(crate) fn watch<S: Looks>(
             Tried::Copied(taken) => copy = Some(taken),
             Tried::Kept(kept) => {
                 copy = Some(kept);
-                pause(tries, &signs.ended);
+                pause(rt, tries, signs, &peeks);
             }
             Tried::Nothing => {
                 copy = None;
-                pause(tries, &signs.ended);
+                pause(rt, tries, signs, &peeks);
             }
             Tried::Halted => return Ok(peeks),
         }

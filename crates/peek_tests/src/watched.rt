@@ -7,7 +7,10 @@ use std::sync::atomic::{AtomicU64, Ordering};
 use std::thread;
 
 /// How often the gate looks before it lets the actor go on.
-const LOOKS: u64 = 50_000_000;
+const LOOKS: u64 = 1 << 27;
+
+/// After so many looks it lets other threads go first.
+const LOOKS_A_YIELD: u64 = 1 << 16;
 
 /// A value that counts the looks at it.
 #[derive(Drop)]
@@ -84,13 +87,15 @@ impl Gate for Held<'_> {
         if added < self.from || self.held_at.swap(added, Ordering::SeqCst) == added {
             return true;
         }
-        for _ in 0..LOOKS {
+        for look in 0..LOOKS {
             let looks = self.looks.load(Ordering::SeqCst);
             if looks > self.seen.load(Ordering::SeqCst) {
                 self.seen.store(looks, Ordering::SeqCst);
                 return true;
             }
-            thread::yield_now();
+            if look % LOOKS_A_YIELD == LOOKS_A_YIELD - 1 {
+                thread::yield_now();
+            }
         }
         self.missed.fetch_add(1, Ordering::SeqCst);
         true
