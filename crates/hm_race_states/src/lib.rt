@@ -5,6 +5,7 @@
 pub mod after;
 mod blur;
 mod buckets;
+mod came;
 pub mod compare;
 pub mod here;
 pub mod key;

@@ -8,7 +8,8 @@ ghost use Rattle.hm_races.specs.Positions.{forget_going};
 ghost use Rattle.hm_races.specs.Numbers.{mirror_of, small_going};
 ghost use Rattle.hm_race_states.specs.Afters.{StaysLow};
 ghost use Rattle.hm_race_states.specs.Goings.{blurred_goings, goings_with};
-ghost use Rattle.hm_race_states.specs.Small.{between_seqs, kept_seqs, settled};
+ghost use Rattle.hm_history.specs.Sequences.{sequences_next};
+ghost use Rattle.hm_race_states.specs.Small.{kept_seqs, settled};
 ghost use Rattle.hm_race_states.specs.States.{goings_in, state_in};
 ghost use Rattle.hm_race_states.specs.Tasks.{going_in};
 
@@ -16,9 +17,9 @@ use crate::after::{
     bytes_after, held_after, locks_after, maps_after, marks_after, mirrors_after, places_after,
     shared_seqs, spaces_after, tables_after,
 };
-use crate::blur::all_note_nothing;
+use crate::came::{Came, is_still};
 use crate::here::Here;
-use crate::small::{Between, SmallSeqs};
+use crate::small::SmallSeqs;
 use crate::state::RaceState;
 use crate::tasks::RaceTask;
 use hm_base::{Actor, MirrorId, NoMemory, Script};
@@ -38,23 +39,23 @@ fn mirror_of(script: &Script, actor: Actor, task: &RaceTask) -> MirrorId
 }
 
 // An actor without positions and absolute sequences.
-fn blurred(
+fn blurred<C: Came>(
     alloc: Global,
     script: &Script,
     actor: Actor,
     task: &Rc<RaceTask>,
-    between: &Between,
+    came: &C,
     seqs: &SmallSeqs,
 ) -> Result<Rc<RaceTask>, NoMemory>
-    requires { kept_seqs seqs.now ≡ settled (between_seqs between.now) }
+    requires { kept_seqs seqs.now ≡ settled (C.seqs came.now) }
     ensures { IfOk result (λ t. going_in t.value
-        ≡ forget_going (small_going script.now (between_seqs between.now) actor (going_in task.now.value))) }
+        ≡ forget_going (small_going script.now (C.seqs came.now) actor (going_in task.now.value))) }
 {
-    if all_note_nothing(&task.stack.items()) {
+    if task.quiet {
         return Ok(task.clone()?);
     }
     let mirror = mirror_of(script, actor, task);
-    let own = between.interval_seq(mirror);
+    let own = came.own_seq(mirror);
     let small = seqs.interval_seq(mirror);
     Ok(Rc::new(alloc, task.blurred(alloc, own, small)?)?)
 }
@@ -77,27 +78,27 @@ fn gone_on<'a>(
 }
 
 // All actors after this one has gone on.
-fn tasks_after(
+fn tasks_after<C: Came>(
     alloc: Global,
     script: &Script,
     tasks: &[Rc<RaceTask>],
     actor: Actor,
     moved: &Rc<RaceTask>,
-    between: &Between,
+    came: &C,
     seqs: &SmallSeqs,
 ) -> Result<Vec<Rc<RaceTask>>, NoMemory>
-    requires seqs { kept_seqs seqs.now ≡ settled (between_seqs between.now) }
+    requires seqs { kept_seqs seqs.now ≡ settled (C.seqs came.now) }
     requires few { length tasks.now ≤ 16 }
     requires there { actor < length tasks.now }
     ensures few { IfOk result (λ ts. length ts.items ≤ 16) }
     ensures goings { IfOk result (λ ts. (a : ℕ) → goings_in (map rc_value ts.items) a
-        ≡ blurred_goings script.now (between_seqs between.now)
+        ≡ blurred_goings script.now (C.seqs came.now)
         (goings_with (map rc_value tasks.now) actor (going_in moved.now.value)) a) }
 {
     let mut all = Vec::with_capacity(alloc, tasks.len())?;
     for at in 0..tasks.len() {
         let task = gone_on(tasks, actor, moved, at);
-        all.push(blurred(alloc, script, Actor::new(at as u32), task, between, seqs)?)?;
+        all.push(blurred(alloc, script, Actor::new(at as u32), task, came, seqs)?)?;
     }
     Ok(all)
 }
@@ -121,6 +122,102 @@ impl RaceState {
         Ok(Rc::new(alloc, moved)?)
     }
 
+    // The state after an entry, with these sequences and actors.
+    fn rest_after(
+        &self,
+        alloc: Global,
+        script: &Script,
+        entry: &Entry,
+        seqs: Rc<SmallSeqs>,
+        tasks: Vec<Rc<RaceTask>>,
+    ) -> Result<RaceState, NoMemory>
+        requires few { length tasks.items ≤ 16 }
+        requires seqs { kept_seqs seqs.value
+            ≡ settled (sequences_next (state_in self.now).after.sequences entry.now.actor entry.now.kind) }
+        requires goings { (a : ℕ) → goings_in (map rc_value tasks.items) a
+            ≡ blurred_goings script.now
+            (sequences_next (state_in self.now).after.sequences entry.now.actor entry.now.kind)
+            (state_next script.now (state_in self.now) entry.now).going a }
+        ensures { IfOk result (λ x. unlisted (state_in x)
+            ≡ tidied script.now (state_next script.now (state_in self.now) entry.now)) }
+    {
+        let kind = &entry.kind;
+        Ok(RaceState {
+            spaces: spaces_after(alloc, &self.spaces, kind)?,
+            bytes: bytes_after(alloc, &self.bytes, &self.mirrors, kind)?,
+            mirrors: mirrors_after(alloc, &self.mirrors, kind)?,
+            places: places_after(alloc, &self.places, kind)?,
+            held: held_after(alloc, &self.held, kind)?,
+            marks: marks_after(alloc, &self.marks, kind)?,
+            tables: tables_after(alloc, &self.tables, kind)?,
+            locks: locks_after(alloc, &self.locks, &self.places, entry.actor, kind)?,
+            maps: maps_after(alloc, &self.maps, entry.actor, kind)?,
+            seqs,
+            tasks,
+        })
+    }
+
+    // The state after an entry that may change sequences.
+    fn after_change(
+        &self,
+        alloc: Global,
+        script: &Script,
+        entry: &Entry,
+        moved: &Rc<RaceTask>,
+    ) -> Result<RaceState, NoMemory>
+        requires there { entry.now.actor < length self.now.tasks.items }
+        requires moved { going_in moved.now.value
+            ≡ going_next script.now (state_in self.now).after entry.now.actor
+            ((state_in self.now).going entry.now.actor) entry.now.kind }
+        ensures { IfOk result (λ x. unlisted (state_in x)
+            ≡ tidied script.now (state_next script.now (state_in self.now) entry.now)) }
+    {
+        let between = self.seqs.after(&entry.kind)?;
+        let seqs = Rc::new(alloc, between.settled())?;
+        let tasks = tasks_after(
+            alloc,
+            script,
+            &self.tasks,
+            entry.actor,
+            moved,
+            &between,
+            &seqs,
+        )?;
+        let seqs = shared_seqs(&self.seqs, seqs)?;
+        Ok(self.rest_after(alloc, script, entry, seqs, tasks)?)
+    }
+
+    // The state after an entry that leaves sequences as they are.
+    fn after_still(
+        &self,
+        alloc: Global,
+        script: &Script,
+        entry: &Entry,
+        moved: &Rc<RaceTask>,
+    ) -> Result<RaceState, NoMemory>
+        requires there { entry.now.actor < length self.now.tasks.items }
+        requires moved { going_in moved.now.value
+            ≡ going_next script.now (state_in self.now).after entry.now.actor
+            ((state_in self.now).going entry.now.actor) entry.now.kind }
+        requires steady { settled (kept_seqs self.now.seqs.value) ≡ kept_seqs self.now.seqs.value }
+        requires still { sequences_next (kept_seqs self.now.seqs.value) entry.now.actor entry.now.kind
+            ≡ kept_seqs self.now.seqs.value }
+        ensures { IfOk result (λ x. unlisted (state_in x)
+            ≡ tidied script.now (state_next script.now (state_in self.now) entry.now)) }
+    {
+        let seqs = self.seqs.clone()?;
+        let tasks = tasks_after::<SmallSeqs>(
+            alloc,
+            script,
+            &self.tasks,
+            entry.actor,
+            moved,
+            &seqs,
+            &seqs,
+        )?;
+        Ok(self.rest_after(alloc, script, entry, seqs, tasks)?)
+    }
+
     /// The state after an entry, again without positions and absolute sequences. It fails if memory runs out, if a
     /// change of areas is refused, and if the state does not have the entry's actor.
     pub fn after(
@@ -136,31 +233,10 @@ impl RaceState {
         if entry.actor.number() as usize >= self.tasks.len() {
             return Err(NoMemory);
         }
-        let kind = &entry.kind;
         let moved = self.moved(alloc, script, entry)?;
-        let between = self.seqs.after(kind)?;
-        let seqs = Rc::new(alloc, between.settled())?;
-        let tasks = tasks_after(
-            alloc,
-            script,
-            &self.tasks,
-            entry.actor,
-            &moved,
-            &between,
-            &seqs,
-        )?;
-        Ok(RaceState {
-            spaces: spaces_after(alloc, &self.spaces, kind)?,
-            bytes: bytes_after(alloc, &self.bytes, &self.mirrors, kind)?,
-            mirrors: mirrors_after(alloc, &self.mirrors, kind)?,
-            places: places_after(alloc, &self.places, kind)?,
-            held: held_after(alloc, &self.held, kind)?,
-            marks: marks_after(alloc, &self.marks, kind)?,
-            tables: tables_after(alloc, &self.tables, kind)?,
-            locks: locks_after(alloc, &self.locks, &self.places, entry.actor, kind)?,
-            maps: maps_after(alloc, &self.maps, entry.actor, kind)?,
-            seqs: shared_seqs(&self.seqs, seqs)?,
-            tasks,
-        })
+        if is_still(&entry.kind) && self.seqs.is_steady() {
+            return Ok(self.after_still(alloc, script, entry, &moved)?);
+        }
+        Ok(self.after_change(alloc, script, entry, &moved)?)
     }
 }

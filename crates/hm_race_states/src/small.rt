@@ -144,7 +144,7 @@ impl Between {
 }
 
 impl SmallSeqs {
-    ghost use Rattle.hm_race_states.specs.Small.{between_seqs, kept_seqs, unguarded};
+    ghost use Rattle.hm_race_states.specs.Small.{between_seqs, kept_seqs, settled, unguarded};
 
     /// Before the first entry.
     pub fn start() -> SmallSeqs
@@ -266,6 +266,31 @@ impl SmallSeqs {
         } else {
             2
         }
+    }
+
+    // Whether the interval has its process's sequence if its own says so.
+    fn is_steady_at(&self, interval: &Option<KeptInterval>) -> bool
+        ensures { result ≡ true
+            → small_interval (kept_seqs self.now).seq (interval_of interval.now) ≡ interval_of interval.now }
+    {
+        match interval {
+            None => true,
+            Some(interval) => {
+                interval.seq == small_of(interval.seq == self.process_seq(interval.proc))
+            }
+        }
+    }
+
+    /// Whether they stay as they are when they are made small again. It may say no of such as do.
+    pub fn is_steady(&self) -> bool
+        ensures { result ≡ true → settled (kept_seqs self.now) ≡ kept_seqs self.now }
+    {
+        for number in 0..32usize {
+            if !self.is_steady_at(&self.intervals[number]) {
+                return false;
+            }
+        }
+        true
     }
 
     // The same, before an entry changes them.

@@ -7,7 +7,7 @@ ghost use Rattle.hm_race_states.specs.Afters.{IsLow};
 ghost use Rattle.hm_race_states.specs.Blurs.{blurred_phase};
 ghost use Rattle.hm_reads.specs.Ranges.{top_in_range};
 
-use crate::blur::blurred_items;
+use crate::blur::{all_note_nothing, blurred_items};
 use hm_actors::{Records, op_at};
 use hm_base::{Actor, NoMemory, Op, Script};
 use hm_history::Kind;
@@ -15,13 +15,16 @@ use hm_history::phases::{Body, Phase, Seen};
 use hm_phases::{Items, Stack};
 use std::alloc::Global;
 
-/// How far an actor is: the number of its operation, its phases, and the records of its migration.
+/// How far an actor is: the number of its operation, its phases, and the records of its migration. If it is quiet, no
+/// phase has a position or a sequence of its own.
 #[derive(Drop)]
 pub struct RaceTask {
     pub index: u64,
     pub stack: Stack,
     pub records: Records,
+    pub quiet: bool,
     ghost ranged: { top_in_range (slice_get stack 0) ≡ true },
+    ghost notes: { quiet ≡ true → (own small : ℕ) → map (blurred_phase own small) stack ≡ stack },
 }
 
 // Whether a fork between the two halves of a page is at a page; all other phases always pass.
@@ -60,10 +63,12 @@ impl RaceTask {
         if !in_range(&stack) {
             return Err(NoMemory);
         }
+        let quiet = all_note_nothing(&stack.items());
         Ok(RaceTask {
             index,
             stack,
             records,
+            quiet,
         })
     }
 
