@@ -201,7 +201,7 @@ table_plain : (x : RaceState) → table_in x.tables.value ≡ (λ m v. placeless
 table_plain x = fun_ext (λ m. fun_ext (λ v. entry_plain (found x.tables.value m v)))
 
 -- what is kept after an entry, part by part, is the next state without positions and absolute sequences
-pub record PartsGo (c : Program) (x : RaceState) (e : Entry) (s : Sequences) (g : Going) (y : RaceState) : Type 0 where
+pub record PartsGo (c : Program) (x : RaceState) (e : Entry) (y : RaceState) : Type 0 where
   pub spaces : spaces_in y.spaces.value ≡ bare (plain_next (spaces_in x.spaces.value) e.kind)
   pub bytes : bytes_in y.bytes.value ≡ bytes_next (bytes_in x.bytes.value) (mirrors_in x.mirrors.value) e.kind
   pub mirrors : mirrors_in y.mirrors.value ≡ mirrors_next (mirrors_in x.mirrors.value) e.kind
@@ -214,27 +214,19 @@ pub record PartsGo (c : Program) (x : RaceState) (e : Entry) (s : Sequences) (g 
       ≡ lockers_next (lockers_in x.locks.value) e.actor e.kind (entry_old (places_in x.places.value) e.kind)
       (orphan (record locks_start { frame = lockers_in x.locks.value }) (places_of x.places.value) e.kind)
   pub maps : lock_in y.maps.value.locks ≡ map_next (record locks_start { map = lock_in x.maps.value.locks }) e.actor e.kind
-  pub between : s ≡ unguarded (sequences_next (kept_seqs x.seqs.value) e.actor e.kind)
-  pub seqs : kept_seqs y.seqs.value ≡ settled s
-  pub going : g ≡ going_next c (state_in x).after e.actor ((state_in x).going e.actor) e.kind
+  pub seqs : kept_seqs y.seqs.value ≡ settled (sequences_next (kept_seqs x.seqs.value) e.actor e.kind)
   pub goings : (a : ℕ) → goings_in (map rc_value y.tasks.items) a
-      ≡ blurred_goings c s (goings_with (map rc_value x.tasks.items) e.actor g) a
+      ≡ blurred_goings c (sequences_next (kept_seqs x.seqs.value) e.actor e.kind) (state_next c (state_in x) e).going a
 
-module _ (c : Program) (x : RaceState) (e : Entry) (s : Sequences) (g : Going) (y : RaceState) (p : PartsGo c x e s g y) where
+module _ (c : Program) (x : RaceState) (e : Entry) (y : RaceState) (p : PartsGo c x e y) where
   abbrev u : State
   u = state_in x
-
-  abbrev q : Sequences
-  q = sequences_next u.after.sequences e.actor e.kind
 
   lockers : lockers_in y.locks.value ≡ frame_next u.after.locks u.after.places e.actor e.kind
   lockers = p.locks ∙ (ap (λ o. lockers_next u.after.locks.frame e.actor e.kind (entry_old u.after.places.place e.kind) o) (orphans x e.kind) ∙ lockers_go u.after.locks u.after.places e.actor e.kind)
 
   tables : table_in y.tables.value ≡ (λ m v. placeless ((places_next u.after.places e.kind).table m v))
   tables = p.table ∙ (ap (λ f. table_next f e.kind) (table_plain x) ∙ table_goes u.after.places e.kind)
-
-  goings : goings_in (map rc_value y.tasks.items) ≡ (λ a. forget_going (small_going c q a ((state_next c u e).going a)))
-  goings = fun_ext (λ a. p.goings a ∙ (ap (λ (z : Sequences). blurred_goings c z (goings_with (map rc_value x.tasks.items) e.actor g) a) p.between ∙ (unguarded_going c q a (goings_with (map rc_value x.tasks.items) e.actor g a) ∙ ap (λ (z : Going). forget_going (small_going c q a (goings_with (map rc_value x.tasks.items) e.actor z a))) p.going)))
 
   pub parts_on : unlisted (state_in y) ≡ tidied c (state_next c (state_in x) e)
   parts_on = same_by
@@ -246,10 +238,18 @@ module _ (c : Program) (x : RaceState) (e : Entry) (s : Sequences) (g : Going) (
       (p.withdrawn ∙ withdrawn_goes u.after.places e.kind)
       (p.removed ∙ removed_goes u.after.places e.kind)
       tables
-      (p.seqs ∙ ap settled p.between)
+      p.seqs
       (p.maps ∙ map_goes u.after.locks e.actor e.kind)
       lockers
-      goings
+      (fun_ext p.goings)
+
+-- actors after one of them went on
+pub goings_on : (c : Program) (x : RaceState) (e : Entry) (s : Sequences) (g : Going) → s ≡ unguarded (sequences_next (kept_seqs x.seqs.value) e.actor e.kind) → g ≡ going_next c (state_in x).after e.actor ((state_in x).going e.actor) e.kind
+    → (a : ℕ) → blurred_goings c s (goings_with (map rc_value x.tasks.items) e.actor g) a ≡ blurred_goings c (sequences_next (kept_seqs x.seqs.value) e.actor e.kind) (state_next c (state_in x) e).going a
+goings_on c x e s g se ge a =
+    ap (λ (z : Sequences). blurred_goings c z (goings_with (map rc_value x.tasks.items) e.actor g) a) se
+    ∙ (unguarded_going c (sequences_next (kept_seqs x.seqs.value) e.actor e.kind) a (goings_with (map rc_value x.tasks.items) e.actor g a)
+    ∙ ap (λ (z : Going). forget_going (small_going c (sequences_next (kept_seqs x.seqs.value) e.actor e.kind) a (goings_with (map rc_value x.tasks.items) e.actor z a))) ge)
 
 -- the first phases have neither positions nor sequences
 first_same : (s : Sequences) (m : ℕ) (o : Option Op) → first_stack o ≡ forget_stack (small_stack s m (first_stack o))

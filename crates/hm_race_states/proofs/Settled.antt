@@ -8,7 +8,11 @@ use Rattle.hm_folds.specs.declared.intervals.KeptInterval.{KeptInterval}
 use Rattle.hm_folds.specs.Kept.{interval_of}
 use Rattle.hm_folds.proofs.SeqSteps.{same_state, all_alike}
 use Rattle.hm_race_states.specs.SeqBy.{seq_by}
-use Rattle.hm_race_states.specs.Small.{kept_seqs}
+use Rattle.hm_race_states.specs.Small.{kept_seqs, settled}
+use Rattle.hm_race_states.specs.declared.small.SmallSeqs.{SmallSeqs}
+use Rattle.hm_races.specs.Numbers.{small, small_interval}
+use Rattle.hm_folds.specs.Kept.{interval_at}
+use Rattle.std.specs.Prelude.{slice_index_or}
 
 -- there is a first one to tell if there is one at all
 pub any_told : (xs : List ℕ) → is_some (find (is_above None) xs) ≡ nat_lt 0 (length xs)
@@ -28,3 +32,12 @@ pub starts : kept_seqs (record { odd = replicate 32 false; active = replicate 32
 starts =
     let no_interval : Option KeptInterval = None in
     same_state _ _ (fun_ext (λ p. ap seq_by (all_alike false 32 p))) (fun_ext (λ p. all_alike 0 32 p)) (fun_ext (λ m. ap interval_of (all_alike no_interval 32 m))) refl
+
+-- a small sequence is small
+small_again : (b : Bool) → small (seq_by b) ≡ seq_by b
+small_again true = refl
+small_again false = refl
+
+-- sequences whose intervals stay are as they are when they are made small again
+pub steady_now : (x : SmallSeqs) → ((m : ℕ) → small_interval (kept_seqs x).seq (interval_at x.intervals m) ≡ interval_at x.intervals m) → settled (kept_seqs x) ≡ kept_seqs x
+steady_now x stay = same_state (settled (kept_seqs x)) (kept_seqs x) (fun_ext (λ p. small_again (slice_index_or x.odd p false))) refl (fun_ext stay) refl

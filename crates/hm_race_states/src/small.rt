@@ -1,6 +1,6 @@
 // Small sequences, and how they go on by an entry: of a process's sequence counts whether it is odd, of an interval's
 // whether it is its process's.
-ghost use Rattle.std.specs.Prelude.{◌≡◌, ◌==◌, ◌<◌, ◌≤◌, ◌+◌, ℕ, false, if◌then◌else◌, slice_index_or, IfOk, OnOk};
+ghost use Rattle.std.specs.Prelude.{◌≡◌, ◌==◌, ◌<◌, ◌≤◌, ◌+◌, ℕ, true, false, if◌then◌else◌, slice_index_or, IfOk, OnOk};
 ghost use Rattle.hm_base.specs.Pages.{Pages};
 ghost use Rattle.hm_history.specs.Sequences.{sequences_start, sequences_next, interval_seq, interval_proc, in_tree, insert_deferred, next_told, seq_started, seq_ended, interval_inserted, seq_inserted, is_last_end, some_overlap, is_odd};
 ghost use Rattle.hm_history.specs.declared.Kind.{Kind as AnyKind};
@@ -119,6 +119,35 @@ fn seqs_by(odd: &[bool; 32]) -> [u64; 32]
         seqs[number] = seq_by(odd[number]);
     }
     seqs
+}
+
+// Whether the interval stays as it is when sequences are made small again.
+fn is_steady_at(odd: &[bool; 32], interval: &Option<KeptInterval>) -> bool
+    ensures { result ≡ true
+        → small_interval (λ p. seq_by (slice_index_or odd.now p false)) (interval_of interval.now)
+        ≡ interval_of interval.now }
+{
+    match interval {
+        None => true,
+        Some(interval) => {
+            let of_process = seq_by(odd[interval.proc.number() as usize]);
+            interval.seq == small_of(interval.seq == of_process)
+        }
+    }
+}
+
+// Whether all do.
+fn all_steady(odd: &[bool; 32], intervals: &[Option<KeptInterval>; 32]) -> bool
+    ensures { result ≡ true → (m : ℕ)
+        → small_interval (λ p. seq_by (slice_index_or odd.now p false)) (interval_at intervals.now m)
+        ≡ interval_at intervals.now m }
+{
+    for number in 0..32usize {
+        if !is_steady_at(odd, &intervals[number]) {
+            return false;
+        }
+    }
+    true
 }
 
 impl Between {
@@ -268,29 +297,11 @@ impl SmallSeqs {
         }
     }
 
-    // Whether the interval has its process's sequence if its own says so.
-    fn is_steady_at(&self, interval: &Option<KeptInterval>) -> bool
-        ensures { result ≡ true
-            → small_interval (kept_seqs self.now).seq (interval_of interval.now) ≡ interval_of interval.now }
-    {
-        match interval {
-            None => true,
-            Some(interval) => {
-                interval.seq == small_of(interval.seq == self.process_seq(interval.proc))
-            }
-        }
-    }
-
     /// Whether they stay as they are when they are made small again. It may say no of such as do.
     pub fn is_steady(&self) -> bool
         ensures { result ≡ true → settled (kept_seqs self.now) ≡ kept_seqs self.now }
     {
-        for number in 0..32usize {
-            if !self.is_steady_at(&self.intervals[number]) {
-                return false;
-            }
-        }
-        true
+        all_steady(&self.odd, &self.intervals)
     }
 
     // The same, before an entry changes them.
