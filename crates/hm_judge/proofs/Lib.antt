@@ -1,5 +1,4 @@
 pub mod Places
-pub mod Faults
 pub mod Telling
 pub mod Judged
 pub mod StandingLines
