@@ -6,7 +6,7 @@
 #   ./hmmrun.sh --ready WORD .. [FILE]    the proved one if it is built, or else the unproved one; never proves
 #
 # Words are looked at before anything is built. What this script says itself goes to standard error. The program is
-# hmmrun; with `--program NAME` first it is that of the crate NAME, as hmmraces.sh and hmmview.sh call it.
+# hmmrun; with `--program NAME` first it is that of the crate NAME, as hmmraces.sh, hmmview.sh and hmmjudge.sh call it.
 set -u
 top=$(cd "$(dirname "$(realpath "${BASH_SOURCE[0]}")")" && pwd)
 logic=dac8208d650f15bf              # of the kits that prove this repository
@@ -58,12 +58,19 @@ words_hmmview() {
 END
 }
 
+words_hmmjudge() {
+    cat <<'END'
+  (no word)            reads a report: `legal N`, or its first bad line, what is wrong with it and what was due instead
+END
+}
+
 usage() {
     local takes='WORD ..'
     [ "$name" = hmmraces ] && takes='[MOST]'
     [ "$name" = hmmview ] && takes='[FROM TO]'
+    [ "$name" = hmmjudge ] && takes=
     cat <<END
-usage: ./$name.sh [--quick | --ready] $takes [FILE]
+usage: ./$name.sh [--quick | --ready] ${takes:+$takes }[FILE]
 
 $("words_$name")
 
@@ -79,6 +86,7 @@ With no such word it is the proved program. If it is not built yet it is proved 
 END
     case $name in
         hmmview) echo 'docs/VIEW.md explains a page; docs/REPORT.md each line of a report.' ;;
+        hmmjudge) echo 'docs/JUDGE.md explains what is said; docs/REPORT.md each line of a report.' ;;
         *) echo 'Scripts: docs/TUTORIAL.md; tools/hmm.py explains one that is refused. All tools: docs/TOOLS.md.' ;;
     esac
 }
@@ -163,7 +171,8 @@ read_words() {
             done
             [ "$name" = hmmraces ] && [ ${#words[@]} -gt 1 ] && refuse 'one number at most: MOST'
             [ "$name" = hmmview ] && [ ${#words[@]} -ne 0 ] && [ ${#words[@]} -ne 2 ] &&
-                refuse 'two numbers: FROM TO' ;;
+                refuse 'two numbers: FROM TO'
+            [ "$name" = hmmjudge ] && [ ${#words[@]} -ne 0 ] && refuse 'no word but FILE' ;;
     esac
     case ${1-} in
         -?*) refuse "there is no \`$1\` here$(nearest "$1" --quick --ready --help --version)" ;;
@@ -256,7 +265,7 @@ run() {
         "$top/tools/hmm.py" --explain "$text" | tail -n +2 >&2
     elif [ $status -eq 1 ] && [ "$(head -c 4 "$text")" = 'hmm ' ] && ! grep -q '^history$' "$text"; then
         say 'this is a script; what is read here is the report that `./hmmrun.sh replay` writes of it'
-    elif [ $status -eq 1 ] && [ "$(wc -c <"$text")" -lt 4000000 ]; then
+    elif [ $status -eq 1 ] && [ "$name" != hmmjudge ] && [ "$(wc -c <"$text")" -lt 4000000 ]; then
         "$top/tools/hmm.py" --due "$text" >&2
     fi
     exit $status

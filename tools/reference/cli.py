@@ -3,6 +3,7 @@
 
     tools/reference/cli.py replay [FILE]      reads a script: the report that hmmrun must write
     tools/reference/cli.py check [FILE]       reads a report: `legal N`, or `bad L` with the first line that is not legal
+    tools/reference/cli.py judge [FILE]       reads a report: what hmmjudge must write of it (docs/JUDGE.md)
 
 Reads FILE, or standard input. Messages and statuses are those of hmmrun.
 """
@@ -12,6 +13,7 @@ sys.path.append(os.path.dirname(os.path.dirname(os.path.abspath(__file__))))
 import words as given
 
 import report as reports
+from judge import judge as judged
 import script as scripts
 from run import Machine
 
@@ -38,11 +40,18 @@ def check(data):
         return 1, 'not legal', f'bad {bad.args[0]}\n'
 
 
+def judge(data):
+    if len(data) > REPORT_BYTES:
+        return 8, 'report too long', ''
+    legal, said = judged(data)
+    return 0 if legal else 1, '' if legal else 'not legal', ''.join(text + '\n' for text in said)
+
+
 def main():
     given.begin(__doc__)
-    words = {'replay': replay, 'check': check}
+    words = {'replay': replay, 'check': check, 'judge': judge}
     if not 2 <= len(sys.argv) <= 3 or sys.argv[1] not in words:
-        status, message, text = 2, 'usage: cli.py replay | check', ''
+        status, message, text = 2, 'usage: cli.py replay | check | judge', ''
     else:
         status, message, text = words[sys.argv[1]](given.data_of(sys.argv[2:]))
     sys.stdout.write(text)

@@ -1,0 +1,5 @@
+pub mod Places
+pub mod Telling
+pub mod Judged
+pub mod StandingLines
+pub mod Pieces

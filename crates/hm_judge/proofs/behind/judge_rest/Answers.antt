@@ -1,0 +1,18 @@
+use Rattle.std.proofs.Common.{List, ℕ, ◌∙◌, sym, subst}
+use Rattle.hm_report_lines.specs.Parts.{Differ}
+use Rattle.hm_script.specs.Automaton.{lines}
+use Rattle.hm_judge.proofs.behind.judge_rest.Goals as goal
+
+pub returns-in_ok-bad-in-Some : goal.returns-in_ok-bad-in-Some
+returns-in_ok-bad-in-Some c = record {
+  same = c.in-Some.same;
+  differ = subst (λ (z : List ℕ). Differ (lines z) (lines c.args.rest.now) c.in-Some.same) (c.as_slice-tail.ensures ∙ c.put_ending.ensures.text) c.in-Some.ensures.differ;
+  said = c.in_ok-bad-in-Some.ensures;
+}
+
+pub returns-in-None : goal.returns-in-None
+returns-in-None c = record {
+  script = c.into_parts-script.ensures.script;
+  history = c.into_parts-script.ensures.history;
+  ends = sym (c.as_slice-tail.ensures ∙ c.put_ending.ensures.text) ∙ c.in-None.ensures.differ;
+}

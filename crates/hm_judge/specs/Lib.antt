@@ -1,0 +1,5 @@
+pub mod Judgements
+pub mod Standing
+pub mod Texts
+pub mod Judging
+pub mod Runs

@@ -1,0 +1,119 @@
+// The judgement on the lines after `history`.
+ghost use Rattle.std.specs.Prelude.{◌≡◌, ◌+◌, ◌^◌, ◌≤◌, IfOk, length};
+ghost use Rattle.hm_check.specs.Parts.{BeginsNoEntry, TakenFrom, tail_of};
+ghost use Rattle.hm_script.specs.Automaton.{lines};
+ghost use Rattle.hm_judge.specs.Judgements.{IsBadThere, IsJudgementAt};
+ghost use Rattle.hm_judge.specs.Judging.{IsJudgementBehind};
+
+use crate::fault::fault_at;
+use crate::judgement::{BadReport, Judgement};
+use crate::lines::copy_line;
+use crate::standing::standings;
+use hm_base::{NoMemory, Script};
+use hm_check::{Report, put_tail, take_entries};
+use hm_reads::Reads;
+use hm_report::Buffer;
+use hm_report_lines::first_difference;
+use hm_world::World;
+use std::alloc::Global;
+
+/// The world after the entries that were due, and what follows them.
+#[derive(Drop)]
+struct Taken<'a> {
+    world: World,
+    rest: &'a [u8],
+}
+
+/// Goes on by the entries whose lines these are, as long as each is due.
+fn take_all(alloc: Global, script: Script, bytes: &[u8]) -> Result<Taken<'_>, NoMemory>
+    ensures taken { IfOk result (λ taken.
+        TakenFrom script bytes.now taken.world.script taken.world.history taken.rest.now) }
+    ensures ends { IfOk result (λ taken.
+        BeginsNoEntry taken.world.script taken.world.history (lines taken.rest.now)) }
+{
+    let mut world = World::new(alloc, script)?;
+    let mut out = Buffer::new(alloc)?;
+    let rest = take_entries(alloc, &mut world, &mut out, bytes)?;
+    world.facts();
+    Ok(Taken { world, rest })
+}
+
+/// Writes the lines that end the report of the world's history over the buffer.
+fn put_ending(out: &mut Buffer, world: &World)
+    ensures text { out.new ≡ tail_of world.now.script world.now.history }
+    ensures few { length out.new ≤ 5000 }
+{
+    world.facts();
+    put_tail(out, world.script(), world.history());
+}
+
+/// What is said where the lines after the entries are not those that end the report. As many of them as this are; the
+/// first line after `history` has this number.
+fn bad_report(
+    alloc: Global,
+    world: &World,
+    tail: &[u8],
+    first: u64,
+    rest: &[u8],
+    same: u64,
+) -> Result<BadReport, NoMemory>
+    requires first { first ≤ 2 ^ 63 + 2 }
+    requires same { same ≤ 5000 }
+    requires tail { tail.now ≡ tail_of world.now.script world.now.history }
+    requires ends { BeginsNoEntry world.now.script world.now.history (lines rest.now) }
+    ensures { IfOk result
+        (IsBadThere world.now.script world.now.history first (lines rest.now) same) }
+{
+    world.facts();
+    let at = world.history().len();
+    let fault = fault_at(alloc, world, rest, same)?;
+    let standing = standings(alloc, world)?;
+    let ending = copy_line(alloc, tail, same)?;
+    Ok(BadReport {
+        line: first + at + same,
+        at,
+        fault,
+        standing,
+        ending,
+    })
+}
+
+/// The judgement on the lines after the world's entries. The first line after `history` has this number.
+fn judge_rest(alloc: Global, world: World, first: u64, rest: &[u8]) -> Result<Judgement, NoMemory>
+    requires first { first ≤ 2 ^ 63 + 2 }
+    requires ends { BeginsNoEntry world.script world.history (lines rest.now) }
+    ensures { IfOk result (IsJudgementAt world.script world.history first rest.now) }
+{
+    let mut out = Buffer::new(alloc)?;
+    put_ending(&mut out, &world);
+    let tail = out.as_slice();
+    match first_difference(tail, rest) {
+        Some(same) => {
+            let bad = bad_report(alloc, &world, tail, first, rest, same)?;
+            Ok(Judgement::Bad(bad))
+        }
+        None => {
+            let (script, history) = world.into_parts();
+            Ok(Judgement::Legal(Report { script, history }))
+        }
+    }
+}
+
+/// The judgement on the lines after `history`, of which the first has this number.
+pub fn judge_behind(
+    alloc: Global,
+    script: Script,
+    first: u64,
+    bytes: &[u8],
+) -> Result<Judgement, NoMemory>
+    requires { first ≤ 2 ^ 63 + 2 }
+    ensures { IfOk result (IsJudgementBehind script first bytes.now) }
+{
+    hm_laws::every_history_is_legal();
+    hm_script::one_text();
+    let Taken { world, rest } = match take_all(alloc, script, bytes) {
+        Ok(taken) => taken,
+        Err(NoMemory) => return Err(NoMemory),
+    };
+    judge_rest(alloc, world, first, rest)
+}

@@ -1,0 +1,70 @@
+// The top call: reads a report, and writes the judgement on it.
+ghost use Rattle.std.specs.Prelude.{◌≡◌, map, string_bytes};
+ghost use Rattle.hm_edge.specs.Traffic.{traffic};
+ghost use Rattle.hm_edge.specs.Writing.{HasWritten, IsFlushed, WriteFaulted};
+ghost use Rattle.hm_judge.specs.Judging.{EndsAs, Judges, ending_of};
+ghost use Rattle.hm_judge.specs.Runs.{Runs};
+ghost use Rattle.hm_judge.specs.Texts.{judgement_text};
+
+use crate::judgement::Judgement;
+use crate::source::judge_source;
+use crate::text::judgement_text;
+use hm_edge::Status;
+use hm_io::{Sink, Source};
+use hm_report::{Written, write_text};
+use std::alloc::Global;
+
+/// How a call ends whose text was written so.
+fn ending(judgement: &Judgement, written: Written) -> Status
+    ensures { result ≡ ending_of judgement.now written }
+{
+    match written {
+        Written::Fault => Status::WriteFault,
+        Written::NoMemory => Status::NoMemory,
+        Written::Done => match judgement {
+            Judgement::Legal(_) => Status::Done,
+            Judgement::Bad(bad) => Status::NotLegal(bad.line),
+        },
+    }
+}
+
+/// Writes the text of a judgement.
+fn write_judgement<K: Sink>(alloc: Global, judgement: &Judgement, sink: &mut K) -> Status
+    ensures ends { EndsAs judgement.now result }
+    ensures written { HasWritten (judgement_text judgement.now) (λ t. t ≡ judgement_text judgement.now)
+        (K.state sink.old) (K.state sink.new) result }
+    ensures faults { WriteFaulted (K.state sink.old).faults (K.state sink.new).faults result }
+    ensures flushed { IsFlushed (K.state sink.new).pending result }
+{
+    let Ok(text) = judgement_text(alloc, judgement) else {
+        return Status::NoMemory;
+    };
+    let written = write_text(alloc, &text, sink);
+    ending(judgement, written)
+}
+
+/// Reads a report, and writes the judgement on it.
+fn judge_report<S: Source, K: Sink>(alloc: Global, source: &mut S, sink: &mut K) -> Status
+    ensures { Judges (traffic S.state K.state source.old source.new sink.old sink.new) result }
+{
+    match judge_source(alloc, source) {
+        Ok(judgement) => write_judgement(alloc, &judgement, sink),
+        Err(status) => status,
+    }
+}
+
+/// Reads a report from the source, and writes the judgement on it to the sink. It waits for nobody.
+pub fn judge<S: Source, K: Sink>(
+    alloc: Global,
+    words: &[String],
+    source: &mut S,
+    sink: &mut K,
+) -> Status
+    ensures { Runs (map string_bytes words.now)
+        (traffic S.state K.state source.old source.new sink.old sink.new) result }
+{
+    match words {
+        [] => judge_report(alloc, source, sink),
+        _ => Status::Usage,
+    }
+}

@@ -1,0 +1,63 @@
+// What is wrong with a bad line.
+ghost use Rattle.std.specs.Prelude.{IfOk, slice_get};
+ghost use Rattle.hm_check.specs.Parts.{BeginsNoEntry, IsNoEntry};
+ghost use Rattle.hm_parts.specs.Parts.{AreParts};
+ghost use Rattle.hm_script.specs.Automaton.{lines};
+ghost use Rattle.hm_judge.specs.Judgements.{IsFault, IsLineFault};
+
+use crate::judgement::Fault;
+use crate::lines::line_at;
+use hm_base::{MOST_ENTRIES, NoMemory};
+use hm_history::Entry;
+use hm_parts::{Parts, parts_of};
+use hm_reading::LineReader;
+use hm_world::World;
+use std::alloc::Global;
+
+/// Which parts of legality the entry meets after the world's history.
+fn parts_in(alloc: Global, world: &World, entry: &Entry) -> Result<Parts, NoMemory>
+    ensures { IfOk result (AreParts world.now.script world.now.history entry.now) }
+{
+    world.facts();
+    let records = world.records(entry.actor);
+    parts_of(alloc, world, world.history().as_slice(), records, entry)
+}
+
+/// What is wrong with a line that is that of no entry that is due.
+fn line_fault(alloc: Global, world: &World, line: &[u8]) -> Result<Fault, NoMemory>
+    requires { IsNoEntry world.now.script world.now.history line.now }
+    ensures { IfOk result (IsLineFault world.now.script world.now.history line.now) }
+{
+    world.facts();
+    let at = world.history().len();
+    if at == MOST_ENTRIES {
+        return Ok(Fault::Full);
+    }
+    let mut reader = LineReader::new(alloc)?;
+    match reader.entry(alloc, line, at)? {
+        Some(entry) => {
+            let parts = parts_in(alloc, world, &entry)?;
+            Ok(Fault::Entry(entry, parts))
+        }
+        None => Ok(Fault::NoEntry),
+    }
+}
+
+/// What is wrong with the lines after the entries, of which as many as this end the report. The first is that of no
+/// entry that is due.
+pub fn fault_at(alloc: Global, world: &World, rest: &[u8], same: u64) -> Result<Fault, NoMemory>
+    requires { BeginsNoEntry world.now.script world.now.history (lines rest.now) }
+    ensures { IfOk result
+        (IsFault world.now.script world.now.history same (slice_get (lines rest.now) same)) }
+{
+    match line_at(rest, same) {
+        None => Ok(Fault::Missing),
+        Some(line) => {
+            if same == 0 {
+                line_fault(alloc, world, line)
+            } else {
+                Ok(Fault::Behind)
+            }
+        }
+    }
+}

@@ -1,0 +1,45 @@
+// What a report comes to.
+use hm_base::Text;
+use hm_check::Report;
+use hm_history::{Entry, Progress};
+use hm_parts::Parts;
+
+/// The judgement on bytes.
+#[derive(Drop)]
+pub enum Judgement {
+    /// They are the report of this script and this history, which is legal for it.
+    Legal(Report),
+    /// They are no legal report.
+    Bad(BadReport),
+}
+
+/// What is said of bytes that are no legal report.
+#[derive(Drop)]
+pub struct BadReport {
+    /// The first bad line, from 1; one more than there are lines if a line is missing.
+    pub line: u64,
+    /// How many entries before it were due, each after those before it.
+    pub at: u64,
+    pub fault: Fault,
+    /// What was due to each actor of the script after those entries; empty if the script itself is bad.
+    pub standing: Vec<Progress>,
+    /// The line that goes on to end the report there; empty if none does, or if the script itself is bad.
+    pub ending: Text,
+}
+
+/// What is wrong with a first bad line.
+#[derive(Drop)]
+pub enum Fault {
+    /// It is no line of a script, and no line `history` after one.
+    Head,
+    /// It is the line of this entry, which is not due: which other parts of legality the entry meets.
+    Entry(Entry, Parts),
+    /// As many entries stand before it as a history has, and it does not end the report.
+    Full,
+    /// It is the line of no entry that has its place, and does not end the report.
+    NoEntry,
+    /// Some lines that end the report stand before it, and it is not the next of them.
+    Behind,
+    /// It is missing.
+    Missing,
+}

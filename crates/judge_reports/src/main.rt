@@ -1,0 +1,42 @@
+// Judges every report in the folder that it runs in, and writes after its name what is said of it.
+#![tactic(auto)]
+
+use hm_judge::{judge_bytes, judgement_text};
+use std::{fs, io, str};
+
+/// The names of the reports, in order.
+fn reports(rt: &HostRuntime) -> io::Result<Vec<String>> {
+    let mut names = Vec::new(rt.alloc());
+    for entry in fs::read_dir(rt, ".")? {
+        let entry = entry?;
+        if let Some(name) = entry.file_name().strip_suffix(".report") {
+            names.push(String::from_str(rt.alloc(), name)?)?;
+        }
+    }
+    names.sort()?;
+    Ok(names)
+}
+
+/// Writes what is said of one report.
+fn tell(rt: &HostRuntime, name: &str) -> io::Result<()> {
+    let path = format!(in rt.alloc(); "{name}.report")?;
+    let bytes = fs::read(rt, path.as_str())?;
+    println!(rt; "{name}")?;
+    let Ok(judgement) = judge_bytes(rt.alloc(), bytes.as_slice()) else {
+        return println!(rt; "out of memory");
+    };
+    match judgement_text(rt.alloc(), &judgement) {
+        Ok(text) => match str::from_utf8(text.as_slice()) {
+            Ok(said) => println!(rt; "{said}"),
+            Err(_) => println!(rt; "no text"),
+        },
+        Err(_) => println!(rt; "out of memory"),
+    }
+}
+
+fn main(rt: HostRuntime) -> io::Result<()> {
+    for name in reports(&rt)?.iter() {
+        tell(&rt, name.as_str())?;
+    }
+    Ok(())
+}

@@ -1,0 +1,83 @@
+#!/usr/bin/env python3
+"""Compares what hmmjudge writes with what tools/reference writes, on spoiled reports.
+
+    tools/judge_runs.py [--count N] [--seed N] PROGRAM REPORT ..
+
+Makes N reports (1,000 unless told) from those given: every other one as tools/spoil_reports.py does, and the others by
+the words of another entry in place of an entry's. The unspoiled ones come first.
+PROGRAM is hmmjudge, such as one that `tools/quick_build.sh hmmjudge FILE` has made. Both must write the same of each
+report: the line, what is wrong with it, which parts are broken, and how each actor stands. Prints what differs, keeps
+those reports, and how often each first word and each part came, and ends with 1 if something differs.
+"""
+import argparse, collections, os, random, subprocess, sys, tempfile
+
+import words as given
+from spoil_reports import change_number, spoiled
+
+TOP = os.path.dirname(os.path.dirname(os.path.abspath(__file__)))
+sys.path.append(os.path.join(TOP, 'tools', 'reference'))
+
+from judge import judge
+
+
+def other_entry(pick, data):
+    """The report with the words of another of its entries, or those with one number changed, in place of an entry's."""
+    lines = data.splitlines(True)
+    if b'history\n' not in lines:
+        return data
+    entries = [at for at in range(lines.index(b'history\n') + 1, len(lines)) if lines[at][:1].isdigit()]
+    if not entries:
+        return data
+    at, other = pick.choice(entries), pick.choice(entries)
+    words, others = lines[at].split(b' '), lines[other].split(b' ')
+    if pick.randrange(3) == 0:
+        others[1] = words[1]
+    if pick.randrange(2) == 0:
+        others = others[:2] + change_number(pick, b' '.join(others[2:])).split(b' ')
+    return b''.join(lines[:at]) + b' '.join(words[:1] + others[1:]) + b''.join(lines[at + 1:])
+
+
+def written(program, data):
+    """What the program writes of a report, and its status."""
+    done = subprocess.run([program], input=data, stdout=subprocess.PIPE, stderr=subprocess.DEVNULL)
+    return done.returncode, done.stdout.decode('latin1')
+
+
+def kind_of(said):
+    """What stands in the second line, or that the report is legal."""
+    return said[1].split(' ')[0] if len(said) > 1 else 'legal'
+
+
+def main():
+    given.begin(__doc__)
+    asked = argparse.ArgumentParser(usage=__doc__)
+    asked.add_argument('--count', type=int, default=1000)
+    asked.add_argument('--seed', type=int, default=1)
+    asked.add_argument('program')
+    asked.add_argument('reports', nargs='+')
+    asked = asked.parse_args()
+    given.need(asked.program)
+    pick = random.Random(asked.seed)
+    sources = [open(name, 'rb').read() for name in asked.reports]
+    room, differing, came = tempfile.mkdtemp(), 0, collections.Counter()
+    for number in range(len(sources) + asked.count):
+        way = pick.choice([spoiled, other_entry]) if number >= len(sources) else lambda pick, data: data
+        data = way(pick, pick.choice(sources) if number >= len(sources) else sources[number])
+        legal, said = judge(data)
+        came[kind_of(said)] += 1
+        came.update(text for text in said if text.startswith('breaks '))
+        wanted = 0 if legal else 1, ''.join(text + '\n' for text in said)
+        here = written(asked.program, data)
+        if here != wanted:
+            differing += 1
+            name = os.path.join(room, f'{number}.report')
+            with open(name, 'wb') as file:
+                file.write(data)
+            print(f'{name}: status {here[0]}, {here[1]!r}, but the reference says {wanted[1]!r}')
+    print(', '.join(f'{count} {word}' for word, count in sorted(came.items())))
+    print(f'{len(sources) + asked.count} reports, {differing} differences')
+    sys.exit(1 if differing else 0)
+
+
+if __name__ == '__main__':
+    main()
