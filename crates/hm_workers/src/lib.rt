@@ -4,6 +4,7 @@
 mod burst;
 mod dealing;
 mod gate;
+mod glances;
 mod meeting;
 mod mixing;
 mod passes;

@@ -6,6 +6,7 @@ ghost use Rattle.hm_workers.specs.Peeking.{ArePeeks, IsRight};
 ghost use Rattle.hm_workers.specs.Watching.{HasWatched};
 
 use crate::gate::Gate;
+use crate::glances::Watched;
 use crate::passes::Passes;
 use crate::peeks::PeekList;
 use crate::watching::{Asked, Signs, watch};
@@ -33,7 +34,7 @@ fn run_and_tell<R: Threads + Wait + Sync, S: Stepped + Send, G: Gate + Sync>(
         unreachable!();
     };
     signs.meeting.attend(2);
-    let done = run_actors(rt, alloc, turns, passes, gate);
+    let done = run_actors(rt, alloc, turns, passes, &Watched::new(gate, signs));
     signs.end();
     done
 }

@@ -48,6 +48,8 @@ pub(crate) struct Signs {
     pub(crate) meeting: Meeting,
     /// All actors have ended.
     pub(crate) ended: AtomicBool,
+    /// How many tries the watcher has made.
+    pub(crate) tries: AtomicU64,
     // What the watcher sleeps on: 1 if all actors have ended.
     bell: AtomicU64,
     // How many peeks there were at the last pause.
@@ -63,6 +65,7 @@ impl Signs {
         Signs {
             meeting,
             ended: AtomicBool::new(false),
+            tries: AtomicU64::new(0),
             bell: AtomicU64::new(0),
             seen: AtomicU64::new(0),
             still: AtomicU64::new(0),
@@ -268,6 +271,7 @@ pub(crate) fn watch<R: Wait, S: Looks>(
         if signs.ended.load(Ordering::SeqCst) || peeks.len() >= MOST_PEEKS {
             return Ok(peeks);
         }
+        signs.tries.fetch_add(1, Ordering::SeqCst);
         match try_once(alloc, turns, asked, copy, &mut peeks, pass)? {
             Tried::Copied(taken) => copy = Some(taken),
             Tried::Kept(kept) => {
