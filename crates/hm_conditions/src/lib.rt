@@ -1,0 +1,12 @@
+// Conditions on the outcomes of a race: whether some, none or every outcome has these answers.
+#![tactic(auto)]
+
+mod condition;
+mod judging;
+mod laws;
+mod lines;
+
+pub use condition::{Condition, Literal, Quantifier};
+pub use judging::{Verdict, judge, meets};
+pub use laws::{holds_by_witness, listed_is_right, real_is_right, whole_is_right};
+pub use lines::has_line;
