@@ -1,3 +1,7 @@
 mod Ended
 mod Witness
 mod Right
+mod Cuts
+mod Connectives
+mod Growing
+mod ReadTo

@@ -1,0 +1,11 @@
+use Rattle.std.proofs.Common.{ℕ, List, ◌++◌, sym, ap, ◌∙◌}
+use Rattle.hm_conditions.specs.Reading.{literal_of, open_text, ended_text, held_text}
+use Rattle.hm_conditions.specs.declared.words.Place.{Place}
+use Rattle.hm_conditions.proofs.Growing.{finished}
+use Rattle.hm_conditions.proofs.reading.Reading.finish.Goals as goal
+
+pub returns : goal.returns
+returns c =
+    let r = c.args.self in
+    finished r.body c.push.new.self r.literals c.in_ok-literals.literals (literal_of r) c.in_ok-literals.ensures c.in_ok-push.ensures.ok
+    ∙ ap (λ (o : List ℕ). ended_text r.body ++ (held_text r.literals ++ o)) (sym (ap (λ (p : Place). open_text p (literal_of r)) c.requires))
