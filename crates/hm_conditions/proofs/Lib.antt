@@ -4,4 +4,5 @@ mod Right
 mod Cuts
 mod Connectives
 mod Growing
+mod Plain
 mod ReadTo

@@ -1,8 +1,9 @@
 -- The one text of each condition, and of other bytes the first bad word.
-use Rattle.std.specs.Prelude.{◌≡◌, ℕ, ◌+◌, ◌==◌, Bool, false, if◌then◌else◌, nat_lt, Option, Some, None, Result, Ok, Err, List, [], ◌∷◌, ◌++◌, length, map, codes, ⊤}
-use Rattle.std.specs.List.{flat_map}
+use Rattle.std.specs.Prelude.{◌≡◌, ℕ, ◌+◌, ◌==◌, Bool, true, false, ◌&&◌, if◌then◌else◌, nat_lt, Option, Some, None, Result, Ok, Err, List, [], ◌∷◌, ◌++◌, length, map, codes, ⊤}
+use Rattle.std.specs.List.{flat_map, list_all}
 use Rattle.std.specs.Str.{bytes_eq}
 use Rattle.hm_script.specs.Numerals.{number}
+use Rattle.hm_script.specs.Splitting.{split}
 use Rattle.hm_script.specs.declared.reason.Reason.{Reason}
 use Rattle.hm_conditions.specs.declared.condition.Condition.{Condition}
 use Rattle.hm_conditions.specs.declared.condition.Literal.{Literal}
@@ -71,6 +72,43 @@ word_kind w =
     else (if bytes_eq w (codes "not") then WordKind.Not
     else (if is_actor w then WordKind.Actor
     else (if length w == 0 then WordKind.Empty else WordKind.Other))))
+
+-- a word of this kind may stand in an answer
+abbrev pub goes_on : WordKind → Bool
+goes_on WordKind.Actor = true
+goes_on WordKind.Other = true
+goes_on _ = false
+
+-- it is the name of an actor
+abbrev pub opens : WordKind → Bool
+opens WordKind.Actor = true
+opens _ = false
+
+-- the first word is the name of an actor
+abbrev pub begins : List (List ℕ) → Bool
+begins [] = false
+begins (w ∷ ws) = opens (word_kind w)
+
+-- there are two words or more
+abbrev pub has_more : List (List ℕ) → Bool
+has_more (w ∷ v ∷ ws) = true
+has_more _ = false
+
+-- words that an answer may begin with
+abbrev pub is_front : List (List ℕ) → Bool
+is_front ws = begins ws && list_all (λ w. goes_on (word_kind w)) ws
+
+-- words of an answer
+abbrev pub is_answer : List (List ℕ) → Bool
+is_answer ws = has_more ws && is_front ws
+
+-- each of the literals has the words of an answer
+abbrev pub are_plain : List Literal → Bool
+are_plain ls = list_all (λ l. is_answer (split l.line)) ls
+
+-- each literal of each alternative has
+abbrev pub is_plain : List (List Literal) → Bool
+is_plain body = list_all are_plain body
 
 -- where the body stands after a word of this kind, if one may come
 abbrev pub place_after : Place → WordKind → Option Place

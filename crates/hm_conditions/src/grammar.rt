@@ -1,8 +1,8 @@
 // A condition, read from its line.
-ghost use Rattle.std.specs.Prelude.{◌≡◌, [], None, IfOk, IfErr};
+ghost use Rattle.std.specs.Prelude.{◌≡◌, [], true, None, IfOk, IfErr};
 ghost use Rattle.hm_script.specs.Splitting.{split};
-ghost use Rattle.hm_conditions.specs.Grammar.{IsBad, bad_from, body_text, condition_text, first_bad};
-ghost use Rattle.hm_conditions.specs.Reading.{so_far};
+ghost use Rattle.hm_conditions.specs.Grammar.{IsBad, bad_from, body_text, condition_text, first_bad, is_plain};
+ghost use Rattle.hm_conditions.specs.Reading.{so_far, stands};
 ghost use Rattle.hm_conditions.specs.Tails.{tail_of, words_in};
 ghost use Rattle.hm_conditions.specs.declared.words.Place.{Place};
 
@@ -33,7 +33,9 @@ impl From<NoMemory> for BadCondition {
 
 /// The body at the end of its words, the next of which would have this number.
 fn end(reading: Reading, number: u64) -> Result<ListOf<ListOf<Literal>>, BadCondition>
+    requires { stands reading ≡ true }
     ensures text { IfOk result (λ body. body_text body ≡ so_far reading) }
+    ensures plain { IfOk result (λ body. is_plain body ≡ true) }
     ensures good { IfOk result (λ body. bad_from number reading.place [] ≡ None) }
     ensures bad { IfErr result (IsBad (bad_from number reading.place [])) }
 {
@@ -46,6 +48,7 @@ fn end(reading: Reading, number: u64) -> Result<ListOf<ListOf<Literal>>, BadCond
 /// Reads the body, whose first word is the second of the line.
 fn read_body(alloc: Global, words: Option<&[u8]>) -> Result<ListOf<ListOf<Literal>>, BadCondition>
     ensures text { IfOk result (λ body. body_text body ≡ tail_of words.entry) }
+    ensures plain { IfOk result (λ body. is_plain body ≡ true) }
     ensures good { IfOk result (λ body. bad_from 2 Place.Fresh (words_in words.entry) ≡ None) }
     ensures bad { IfErr result (IsBad (bad_from 2 Place.Fresh (words_in words.entry))) }
 {
@@ -67,6 +70,7 @@ fn read_body(alloc: Global, words: Option<&[u8]>) -> Result<ListOf<ListOf<Litera
 /// Reads a condition from its line, which has no line feed.
 pub fn parse(alloc: Global, bytes: &[u8]) -> Result<Condition, BadCondition>
     ensures text { IfOk result (λ k. bytes.now ≡ condition_text k) }
+    ensures plain { IfOk result (λ k. is_plain k.body ≡ true) }
     ensures good { IfOk result (λ k. first_bad (split bytes.now) ≡ None) }
     ensures bad { IfErr result (IsBad (first_bad (split bytes.now))) }
 {

@@ -1,7 +1,8 @@
 // The body of a condition, read word by word.
-ghost use Rattle.std.specs.Prelude.{◌≡◌, ◌∷◌, ◌++◌, [], IfOk, IfSome, MatchOption, None, Some};
-ghost use Rattle.hm_conditions.specs.Grammar.{body_text, literal_text, not_text, place_after, word_kind};
-ghost use Rattle.hm_conditions.specs.Reading.{literal_of, open_text, so_far};
+ghost use Rattle.std.specs.Prelude.{◌≡◌, ◌∷◌, ◌++◌, [], true, IfOk, IfSome, MatchOption, None, Some};
+ghost use Rattle.hm_script.specs.Splitting.{split};
+ghost use Rattle.hm_conditions.specs.Grammar.{body_text, goes_on, is_front, is_plain, literal_text, not_text, place_after, word_kind};
+ghost use Rattle.hm_conditions.specs.Reading.{literal_of, open_text, so_far, stands};
 ghost use Rattle.hm_conditions.specs.declared.words.Place.{Place};
 ghost use Rattle.hm_conditions.specs.declared.words.WordKind.{WordKind};
 
@@ -28,6 +29,7 @@ impl Reading {
     pub fn new(alloc: Global) -> Reading
         ensures place { result.place ≡ Place.Fresh }
         ensures text { so_far result ≡ [] }
+        ensures plain { stands result ≡ true }
     {
         Reading {
             place: Place::Fresh,
@@ -42,8 +44,10 @@ impl Reading {
     fn negated(self, word: &[u8]) -> Reading
         requires fresh { self.place ≡ Place.Fresh }
         requires word { word_kind word.now ≡ WordKind.Not }
+        requires plain { stands self ≡ true }
         ensures place { result.place ≡ Place.Negated }
         ensures text { so_far result ≡ so_far self ++ 32 ∷ word.now }
+        ensures plain { stands result ≡ true }
     {
         let _ = word;
         Reading {
@@ -57,9 +61,13 @@ impl Reading {
 
     /// With the first word of an answer, which is wanted or not.
     fn opened(self, alloc: Global, wanted: bool, word: &[u8]) -> Result<Reading, NoMemory>
-        requires { open_text self.place (literal_of self) ≡ not_text wanted }
+        requires open { open_text self.place (literal_of self) ≡ not_text wanted }
+        requires word { word_kind word.now ≡ WordKind.Actor }
+        requires alone { split word.now ≡ word.now ∷ [] }
+        requires plain { stands self ≡ true }
         ensures place { IfOk result (λ r. r.place ≡ Place.Opened) }
         ensures text { IfOk result (λ r. so_far r ≡ so_far self ++ 32 ∷ word.now) }
+        ensures plain { IfOk result (λ r. stands r ≡ true) }
     {
         let line = Text::from_slice(alloc, word)?;
         Ok(Reading {
@@ -73,9 +81,14 @@ impl Reading {
 
     /// With one more word of an answer.
     fn longer(self, word: &[u8]) -> Result<Reading, NoMemory>
-        requires { open_text self.place (literal_of self) ≡ literal_text (literal_of self) }
+        requires open { open_text self.place (literal_of self) ≡ literal_text (literal_of self) }
+        requires front { is_front (split self.line) ≡ true }
+        requires word { goes_on (word_kind word.now) ≡ true }
+        requires alone { split word.now ≡ word.now ∷ [] }
+        requires plain { stands self ≡ true }
         ensures place { IfOk result (λ r. r.place ≡ Place.Inside) }
         ensures text { IfOk result (λ r. so_far r ≡ so_far self ++ 32 ∷ word.now) }
+        ensures plain { IfOk result (λ r. stands r ≡ true) }
     {
         let mut line = self.line;
         line.push(b' ')?;
@@ -93,8 +106,10 @@ impl Reading {
     fn and(self, alloc: Global, word: &[u8]) -> Result<Reading, NoMemory>
         requires inside { self.place ≡ Place.Inside }
         requires word { word_kind word.now ≡ WordKind.And }
+        requires plain { stands self ≡ true }
         ensures place { IfOk result (λ r. r.place ≡ Place.Fresh) }
         ensures text { IfOk result (λ r. so_far r ≡ so_far self ++ 32 ∷ word.now) }
+        ensures plain { IfOk result (λ r. stands r ≡ true) }
     {
         let _ = word;
         Ok(Reading {
@@ -110,8 +125,10 @@ impl Reading {
     fn or(self, alloc: Global, word: &[u8]) -> Result<Reading, NoMemory>
         requires inside { self.place ≡ Place.Inside }
         requires word { word_kind word.now ≡ WordKind.Or }
+        requires plain { stands self ≡ true }
         ensures place { IfOk result (λ r. r.place ≡ Place.Fresh) }
         ensures text { IfOk result (λ r. so_far r ≡ so_far self ++ 32 ∷ word.now) }
+        ensures plain { IfOk result (λ r. stands r ≡ true) }
     {
         let _ = word;
         let mut body = self.body;
@@ -128,9 +145,12 @@ impl Reading {
 
     /// With one more word, if it may come.
     pub fn with_word(self, alloc: Global, word: &[u8]) -> Result<Option<Reading>, NoMemory>
+        requires alone { split word.now ≡ word.now ∷ [] }
+        requires plain { stands self ≡ true }
         ensures place { IfOk result (λ o. MatchOption o (place_after self.place (word_kind word.now) ≡ None)
             (λ r. place_after self.place (word_kind word.now) ≡ Some r.place)) }
         ensures text { IfOk result (λ o. IfSome o (λ r. so_far r ≡ so_far self ++ 32 ∷ word.now)) }
+        ensures plain { IfOk result (λ o. IfSome o (λ r. stands r ≡ true)) }
     {
         let kind = word_kind(word);
         match self.place {
@@ -158,8 +178,10 @@ impl Reading {
 
     /// The whole body, at its end.
     pub fn finish(self) -> Result<ListOf<ListOf<Literal>>, NoMemory>
-        requires { self.place ≡ Place.Inside }
-        ensures { IfOk result (λ body. body_text body ≡ so_far self) }
+        requires inside { self.place ≡ Place.Inside }
+        requires plain { stands self ≡ true }
+        ensures text { IfOk result (λ body. body_text body ≡ so_far self) }
+        ensures plain { IfOk result (λ body. is_plain body ≡ true) }
     {
         let mut body = self.body;
         let literals = with_literal(self.literals, self.wanted, self.line)?;

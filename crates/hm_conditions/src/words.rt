@@ -1,5 +1,5 @@
 // The words of a condition.
-ghost use Rattle.std.specs.Prelude.{◌≡◌, ◌==◌, ◌<◌, ◌≤◌, ◌∷◌, ◌++◌, length, position, IfSome};
+ghost use Rattle.std.specs.Prelude.{◌≡◌, ◌==◌, ◌<◌, ◌≤◌, ◌∷◌, ◌++◌, [], length, position, IfSome};
 ghost use Rattle.hm_script.specs.Splitting.{split};
 ghost use Rattle.hm_conditions.specs.Grammar.{is_actor, quantifier_of, word_kind};
 ghost use Rattle.hm_conditions.specs.Tails.{size_of, tail_of, words_in};
@@ -43,6 +43,7 @@ fn space_in(text: &[u8]) -> Option<usize>
 pub fn cut(text: &[u8]) -> (&[u8], Option<&[u8]>)
     ensures text { text.now ≡ result.0.now ++ tail_of result.1 }
     ensures words { split text.now ≡ result.0.now ∷ words_in result.1 }
+    ensures alone { split result.0.now ≡ result.0.now ∷ [] }
     ensures shorter { size_of result.1 ≤ length text.now }
 {
     match space_in(text) {

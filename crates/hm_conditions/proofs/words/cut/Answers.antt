@@ -3,6 +3,7 @@ use Rattle.std.proofs.lemmas.List.{take_rest}
 use Rattle.hm_script.specs.Splitting.{split}
 use Rattle.hm_script.proofs.Splits.{split-Some, split-None}
 use Rattle.hm_conditions.proofs.Cuts.{at_space}
+use Rattle.hm_conditions.proofs.Plain.{word_alone}
 use Rattle.hm_conditions.proofs.words.cut.Goals as goal
 
 pub returns-in-Some-clause-text : goal.returns-in-Some-clause-text
@@ -20,3 +21,9 @@ returns-in-Some-clause-words c =
 
 pub returns-in-None-clause-words : goal.returns-in-None-clause-words
 returns-in-None-clause-words c = split-None c.args.text.now (sym c.space_in.ensures.gives ∙ c.in-None.is)
+
+pub returns-in-Some-clause-alone : goal.returns-in-Some-clause-alone
+returns-in-Some-clause-alone c = word_alone c.args.text.now c.in-Some.end (sym c.space_in.ensures.gives ∙ c.in-Some.is)
+
+pub returns-in-None-clause-alone : goal.returns-in-None-clause-alone
+returns-in-None-clause-alone c = split-None c.args.text.now (sym c.space_in.ensures.gives ∙ c.in-None.is)
