@@ -1,10 +1,10 @@
 -- How the text of what has been read grows.
-use Rattle.std.proofs.Common.{◌≡◌, ℕ, Bool, List, [], ◌∷◌, ◌++◌, map, sym, ap, ◌∙◌, append_assoc, append-nil}
+use Rattle.std.proofs.Common.{◌≡◌, ℕ, List, [], ◌∷◌, ◌++◌, map, sym, ap, ◌∙◌, append_assoc, append-nil}
 use Rattle.std.specs.Prelude.{codes}
 use Rattle.std.specs.List.{flat_map}
 use Rattle.std.proofs.lemmas.Grind.{flat_map-append}
 use Rattle.hm_conditions.specs.declared.condition.Literal.{Literal}
-use Rattle.hm_conditions.specs.Grammar.{joined, not_text, literal_text, all_text, body_text}
+use Rattle.hm_conditions.specs.Grammar.{joined, literal_text, all_text, body_text}
 use Rattle.hm_conditions.specs.Reading.{ended_text, held_text}
 
 -- ---- texts in a row
@@ -30,10 +30,6 @@ tail_more e h o w = ap (λ (z : List ℕ). e ++ z) (sym (append_assoc h o w)) �
 
 pub more_open : (e h o was w new : List ℕ) → o ≡ was → new ≡ was ++ w → e ++ (h ++ new) ≡ (e ++ (h ++ o)) ++ w
 more_open e h o was w new is next = ap (λ (z : List ℕ). e ++ (h ++ z)) (next ∙ ap (λ (z : List ℕ). z ++ w) (sym is)) ∙ tail_more e h o w
-
-pub longer_line : (wanted : Bool) (line new word : List ℕ) → new ≡ (line ++ 32 ∷ []) ++ word → not_text wanted ++ 32 ∷ new ≡ (not_text wanted ++ 32 ∷ line) ++ 32 ∷ word
-longer_line wanted line new word is =
-    ap (λ (z : List ℕ). not_text wanted ++ 32 ∷ z) (is ∙ append_assoc line (32 ∷ []) word) ∙ sym (append_assoc (not_text wanted) (32 ∷ line) (32 ∷ word))
 
 pub and_more : (e w : List ℕ) (ls new : List Literal) (l : Literal) → new ≡ ls ++ l ∷ [] → w ≡ codes "and" → e ++ (held_text new ++ []) ≡ (e ++ (held_text ls ++ literal_text l)) ++ 32 ∷ w
 and_more e w ls new l is word =
