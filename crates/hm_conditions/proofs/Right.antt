@@ -7,7 +7,7 @@ use Rattle.hm_races.specs.Closed.{IsListed}
 use Rattle.hm_conditions.specs.declared.condition.Quantifier.{Quantifier}
 use Rattle.hm_conditions.specs.Meets.{meets}
 use Rattle.hm_conditions.specs.Judged.{holds_for, decides_for, witness}
-use Rattle.hm_conditions.specs.Laws.{AllListed, AllReal, OneSays, AllSay, Says, IsRight, ListedIsRight, RealIsRight, WholeIsRight}
+use Rattle.hm_conditions.specs.Laws.{AllListed, AllReal, OneSays, AllSay, Says, IsRight, ListedIsRight, RealIsRight, SameEnd, WholeIsRight}
 use Rattle.hm_conditions.proofs.Witness.{any_is, all_is}
 
 -- ---- lists
@@ -86,3 +86,6 @@ whole_is_right c k xs listed real = by (witness k xs) refl
     by : (o : Option ℕ) → witness k xs ≡ o → IsRight c k xs
     by None e = listed_is_right c k xs listed e
     by (Some at) e = real_is_right c k xs at real e
+
+pub same_end : SameEnd
+same_end c turns h = refl

@@ -7,6 +7,7 @@ use Rattle.hm_history.specs.declared.Entry.{Entry}
 use Rattle.hm_races.specs.Closed.{IsListed}
 use Rattle.hm_races.specs.Outcomes.{outcome, answers_of, ended}
 use Rattle.hm_race_text.specs.Answers.{answer_lines}
+use Rattle.hm_race_text.specs.Schedule.{with_turns}
 use Rattle.hm_conditions.specs.declared.condition.Condition.{Condition}
 use Rattle.hm_conditions.specs.declared.condition.Quantifier.{Quantifier}
 use Rattle.hm_conditions.specs.Meets.{meets}
@@ -83,3 +84,7 @@ abbrev pub WholeIsRight : Type 0
 WholeIsRight =
     (c : Program) (k : Condition) (outcomes : List (List ℕ)) → AllListed c outcomes → AllReal c outcomes
     → IsRight c k outcomes
+
+-- whether a race has ended does not depend on a schedule, so what turns lead to is real
+abbrev pub SameEnd : Type 0
+SameEnd = (c : Program) (turns : List ℕ) (h : List Entry) → ended (with_turns c turns) h ≡ ended c h

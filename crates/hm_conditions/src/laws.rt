@@ -1,5 +1,5 @@
 // Laws of conditions on the outcomes of a race: each is the contract of a function with an empty body.
-ghost use Rattle.hm_conditions.specs.Laws.{HoldsByWitness, ListedIsRight, RealIsRight, WholeIsRight};
+ghost use Rattle.hm_conditions.specs.Laws.{HoldsByWitness, ListedIsRight, RealIsRight, SameEnd, WholeIsRight};
 
 /// A condition of `some` holds by a witness, and one of `none` or `every` if there is no witness.
 pub fn holds_by_witness()
@@ -19,4 +19,9 @@ pub fn real_is_right()
 /// If the outcomes that are listed are all that there are, what is said is right.
 pub fn whole_is_right()
     ensures { WholeIsRight }
+{}
+
+/// Turns after a script's schedule change nothing of when its race has ended.
+pub fn same_end()
+    ensures { SameEnd }
 {}

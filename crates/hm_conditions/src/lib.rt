@@ -12,5 +12,5 @@ mod words;
 pub use condition::{Condition, Literal, Quantifier};
 pub use grammar::{BadCondition, parse};
 pub use judging::{Verdict, judge, meets};
-pub use laws::{holds_by_witness, listed_is_right, real_is_right, whole_is_right};
+pub use laws::{holds_by_witness, listed_is_right, real_is_right, same_end, whole_is_right};
 pub use lines::has_line;
