@@ -1,0 +1,8 @@
+mod Ended
+mod Witness
+mod Right
+mod Cuts
+mod Connectives
+mod Growing
+mod Plain
+mod ReadTo

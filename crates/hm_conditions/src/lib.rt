@@ -1,0 +1,16 @@
+// Conditions on the outcomes of a race: whether some, none or every outcome has these answers.
+#![tactic(auto)]
+
+mod condition;
+mod grammar;
+mod judging;
+mod laws;
+mod lines;
+mod reading;
+mod words;
+
+pub use condition::{Condition, Literal, Quantifier};
+pub use grammar::{BadCondition, parse};
+pub use judging::{Verdict, judge, meets};
+pub use laws::{holds_by_witness, listed_is_right, real_is_right, same_end, whole_is_right};
+pub use lines::has_line;
