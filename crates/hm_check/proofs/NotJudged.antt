@@ -2,11 +2,10 @@
 -- memory.
 use Rattle.std.proofs.Common.{◌≡◌, ℕ, ◌<◌, ◌≤◌, Bool, Some, None, Option, List, length, refl, ap, arith}
 use Rattle.hm_edge.specs.Input.{LeftOver}
-use Rattle.hm_edge.specs.Reading.{ReadFaulted}
+use Rattle.hm_edge.specs.Reading.{HasNotJudged, ReadFaulted}
 use Rattle.hm_edge.specs.Writing.{IsFlushed, WriteFaulted}
 use Rattle.hm_edge.specs.declared.status.Status.{Status}
 use Rattle.hm_io.specs.Streams.{Rose, SourceState}
-use Rattle.hm_check.specs.Judging.{HasNotJudged}
 
 pub none_failed : (b a : SourceState) (n n' : ℕ) (status : Status) → HasNotJudged b a status → n' ≡ n → WriteFaulted n n' status
 none_failed b a n n' Status.Done x same = absurd x
@@ -21,6 +20,7 @@ none_failed b a n n' Status.ScriptTooLong x same = absurd x
 none_failed b a n n' Status.ReportTooLong x same = same
 none_failed b a n n' Status.NoRows x same = absurd x
 none_failed b a n n' Status.TooManyRows x same = absurd x
+none_failed b a n n' (Status.Race end) x same = absurd x
 
 pub none_flushed : (b a : SourceState) (pending : Bool) (status : Status) → HasNotJudged b a status → IsFlushed pending status
 none_flushed b a pending Status.Done x = absurd x
@@ -35,6 +35,7 @@ none_flushed b a pending Status.ScriptTooLong x = absurd x
 none_flushed b a pending Status.ReportTooLong x = tt
 none_flushed b a pending Status.NoRows x = absurd x
 none_flushed b a pending Status.TooManyRows x = absurd x
+none_flushed b a pending (Status.Race end) x = absurd x
 
 left_over : (left : Option (List ℕ)) (bytes : List ℕ) → left ≡ Some bytes → LeftOver left 268435456 → length bytes ≤ 268435456 → ⊥
 left_over None bytes e l short = cc
@@ -53,3 +54,4 @@ short_of_memory b a Status.ScriptTooLong bytes j f none is short = absurd j
 short_of_memory b a Status.ReportTooLong bytes j f none is short = absurd (left_over b.left bytes is j short)
 short_of_memory b a Status.NoRows bytes j f none is short = absurd j
 short_of_memory b a Status.TooManyRows bytes j f none is short = absurd j
+short_of_memory b a (Status.Race end) bytes j f none is short = absurd j

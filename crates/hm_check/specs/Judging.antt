@@ -1,8 +1,7 @@
 -- The verdict on what a source had.
 use Rattle.std.specs.Prelude.{◌≡◌, ℕ, ◌≤◌, List, length}
 use Rattle.hm_base.specs.Program.{Program}
-use Rattle.hm_edge.specs.Input.{CameWhole, LeftOver}
-use Rattle.hm_edge.specs.declared.status.Status.{Status}
+use Rattle.hm_edge.specs.Input.{CameWhole}
 use Rattle.hm_history.specs.declared.Entry.{Entry}
 use Rattle.hm_io.specs.Streams.{SourceState}
 use Rattle.hm_report.specs.Report.{report}
@@ -28,10 +27,3 @@ pub record IsVerdictOn (before after : SourceState) (v : Verdict) : Type 0 where
 abbrev pub IsSound : Verdict → Type 0
 IsSound (Yes r) = IsLegalReport r.script r.history.entries
 IsSound (No n) = Unit {0}
-
--- how a call ends that comes to no verdict
-abbrev pub HasNotJudged : SourceState → SourceState → Status → Type 0
-HasNotJudged before after Status.ReportTooLong = LeftOver before.left 268435456
-HasNotJudged before after Status.ReadFault = Unit {0}
-HasNotJudged before after Status.NoMemory = Unit {0}
-HasNotJudged before after _ = ⊥

@@ -6,8 +6,10 @@ mod entries;
 mod judging;
 mod tail;
 mod verdict;
+mod waiting;
 
 pub use entries::take_entries;
 pub use judging::check_source;
 pub use tail::put_tail;
 pub use verdict::{Report, Verdict, check};
+pub use waiting::{put_frame, put_why};

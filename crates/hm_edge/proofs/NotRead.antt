@@ -18,6 +18,7 @@ none_failed b a n n' Status.ScriptTooLong x same = same
 none_failed b a n n' Status.ReportTooLong x same = absurd x
 none_failed b a n n' Status.NoRows x same = absurd x
 none_failed b a n n' Status.TooManyRows x same = absurd x
+none_failed b a n n' (Status.Race end) x same = absurd x
 
 pub none_flushed : (b a : SourceState) (pending : Bool) (status : Status) → HasNotRead b a status → IsFlushed pending status
 none_flushed b a pending Status.Done x = absurd x
@@ -32,6 +33,7 @@ none_flushed b a pending Status.ScriptTooLong x = tt
 none_flushed b a pending Status.ReportTooLong x = absurd x
 none_flushed b a pending Status.NoRows x = absurd x
 none_flushed b a pending Status.TooManyRows x = absurd x
+none_flushed b a pending (Status.Race end) x = absurd x
 
 pub none_written : (b a : SourceState) (text : List ℕ) (Goes : List ℕ → Type 0) (k k' : SinkState) (status : Status) → HasNotRead b a status → k' ≡ k → HasWritten text Goes k k' status
 none_written b a text Goes k k' Status.Done n same = absurd n
@@ -46,3 +48,4 @@ none_written b a text Goes k k' Status.ScriptTooLong n same = ap (λ x. x.held) 
 none_written b a text Goes k k' Status.ReportTooLong n same = absurd n
 none_written b a text Goes k k' Status.NoRows n same = absurd n
 none_written b a text Goes k k' Status.TooManyRows n same = absurd n
+none_written b a text Goes k k' (Status.Race end) n same = absurd n

@@ -44,6 +44,13 @@ HasNotRead before after Status.ReadFault = Unit {0}
 HasNotRead before after Status.NoMemory = Unit {0}
 HasNotRead before after _ = ⊥
 
+-- how reading ends that comes to no report, and so to no verdict on one
+abbrev pub HasNotJudged : SourceState → SourceState → Status → Type 0
+HasNotJudged before after Status.ReportTooLong = LeftOver before.left 268435456
+HasNotJudged before after Status.ReadFault = Unit {0}
+HasNotJudged before after Status.NoMemory = Unit {0}
+HasNotJudged before after _ = ⊥
+
 -- what was read, where this holds of the bytes if the call came to write something
 abbrev pub HasRead : (List ℕ → Type 0) → SourceState → SourceState → Status → Type 0
 HasRead Are before after Status.Done = ReadAs 4194304 Are before after

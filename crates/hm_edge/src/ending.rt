@@ -1,14 +1,13 @@
 // What a program says at its end, and its exit code.
-ghost use Rattle.std.specs.Prelude.{◌≡◌, ◌++◌, false, OnOk, IfErr};
-ghost use Rattle.hm_edge.specs.Messages.{Says, SaysRefused, Wrote, code_of, line_of};
+ghost use Rattle.std.specs.Prelude.{◌≡◌, ◌++◌, false, ℕ, List, IfOk, OnOk, IfErr};
+ghost use Rattle.hm_edge.specs.Messages.{Says, SaysNumbered, SaysRace, Wrote, code_of, line_of};
 ghost use Rattle.hm_report.specs.Sends.{Sends, Stops};
 
-use crate::messages::{fixed_text, refusal};
-use crate::status::Status;
-use hm_base::NoMemory;
+use crate::messages::{fixed_text, no_condition, race_text, refusal};
+use crate::status::{RaceEnd, Status};
+use hm_base::{NoMemory, Text};
 use hm_io::Sink;
 use hm_report::{Stop, send_on, write_all};
-use hm_script::Refused;
 use std::alloc::Global;
 
 /// Writes two pieces, one after the other.
@@ -41,13 +40,26 @@ fn say<K: Sink>(errors: &mut K, name: &str, message: &[u8])
     }
 }
 
-/// Says why a script was refused; or, if there is no memory for the number of the line, that.
-fn say_refusal<K: Sink>(alloc: Global, name: &str, refused: &Refused, errors: &mut K)
-    ensures { SaysRefused name.now refused.now (K.state errors.old) (K.state errors.new) }
+/// Says a message with a number; or, if there was no memory for the number, that.
+fn say_numbered<K: Sink>(name: &str, message: Result<Text, NoMemory>, errors: &mut K)
+    ensures { (m : List ℕ) → IfOk message (λ t. t ≡ m)
+        → SaysNumbered name.now m (K.state errors.old) (K.state errors.new) }
 {
-    match refusal(alloc, refused) {
+    match message {
         Ok(text) => say(errors, name, text.as_slice()),
         Err(NoMemory) => say(errors, name, b"out of memory"),
+    }
+}
+
+/// Says why a search of a race did not do all that was asked for.
+fn say_race<K: Sink>(alloc: Global, name: &str, end: &RaceEnd, errors: &mut K)
+    ensures { SaysRace name.now end.now (K.state errors.old) (K.state errors.new) }
+{
+    match end {
+        RaceEnd::NoCondition(condition, word) => {
+            say_numbered(name, no_condition(alloc, *condition, *word), errors);
+        }
+        _ => say(errors, name, race_text(end).as_bytes()),
     }
 }
 
@@ -57,7 +69,8 @@ fn say_why<K: Sink>(alloc: Global, name: &str, usage: &str, status: &Status, err
 {
     match status {
         Status::Done => (),
-        Status::Refused(refused) => say_refusal(alloc, name, refused, errors),
+        Status::Refused(refused) => say_numbered(name, refusal(alloc, refused), errors),
+        Status::Race(end) => say_race(alloc, name, end, errors),
         _ => say(errors, name, fixed_text(status, usage).as_bytes()),
     }
 }

@@ -1,11 +1,11 @@
 // Reading a source to its end, and the script that it has.
-ghost use Rattle.std.specs.Prelude.{◌≡◌, ◌<◌, ◌^◌, IfOk, IfErr, OnOk};
+ghost use Rattle.std.specs.Prelude.{◌≡◌, ◌<◌, ◌≤◌, ◌^◌, length, IfOk, IfErr, OnOk};
 ghost use Rattle.hm_base.specs.Program.{IsScript};
-ghost use Rattle.hm_edge.specs.Reading.{HasNotRead, IsTextOf, ReadAs, ReadFaulted};
-ghost use Rattle.hm_edge.specs.Input.{ReadsText, ReadFaults};
+ghost use Rattle.hm_edge.specs.Reading.{HasNotJudged, HasNotRead, IsTextOf, ReadAs, ReadFaulted};
+ghost use Rattle.hm_edge.specs.Input.{CameWhole, ReadsText, ReadFaults};
 
 use crate::status::Status;
-use hm_base::{MOST_SCRIPT_BYTES, Script, Text};
+use hm_base::{MOST_REPORT_BYTES, MOST_SCRIPT_BYTES, Script, Text};
 use hm_io::{Got, Source};
 use hm_script::{ScriptError, parse};
 use std::alloc::Global;
@@ -74,5 +74,21 @@ pub fn read_script<S: Source>(alloc: Global, source: &mut S) -> Result<Script, S
         }
         Err(ScriptError::Refused(refused)) => Err(Status::Refused(refused)),
         Err(ScriptError::NoMemory) => Err(Status::NoMemory),
+    }
+}
+
+/// The bytes that the source has, if they are no more than a report has; or how a call ends that comes to none.
+pub fn read_report<S: Source>(alloc: Global, source: &mut S) -> Result<Text, Status>
+    ensures short { IfOk result (λ t. length t ≤ 268435456) }
+    ensures whole { IfOk result (λ t. CameWhole (S.state source.old).left (S.state source.new).left t) }
+    ensures none { IfErr result (HasNotJudged (S.state source.old) (S.state source.new)) }
+    ensures faults { OnOk result ((S.state source.new).faults ≡ (S.state source.old).faults) }
+    ensures fault { IfErr result (ReadFaulted (S.state source.old).faults (S.state source.new).faults) }
+{
+    match read_all(alloc, source, MOST_REPORT_BYTES) {
+        Input::Whole(text) => Ok(text),
+        Input::Fault => Err(Status::ReadFault),
+        Input::TooLong => Err(Status::ReportTooLong),
+        Input::NoMemory => Err(Status::NoMemory),
     }
 }

@@ -5,11 +5,13 @@
 mod ending;
 mod input;
 mod messages;
+mod process;
 mod status;
 mod words;
 
 pub use ending::finish;
-pub use input::{Input, read_all, read_script};
+pub use input::{Input, read_all, read_report, read_script};
 pub use messages::message;
-pub use status::Status;
+pub use process::{Call, program};
+pub use status::{RaceEnd, Status};
 pub use words::words_after_name;

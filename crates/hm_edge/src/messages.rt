@@ -1,9 +1,9 @@
 // What a program says of a status.
 ghost use Rattle.std.specs.Prelude.{◌≡◌, IfOk};
-ghost use Rattle.hm_edge.specs.Messages.{fixed_text, message_text};
+ghost use Rattle.hm_edge.specs.Messages.{fixed_text, message_text, no_condition_text, race_text};
 ghost use Rattle.hm_script.specs.Reasons.{refused_text};
 
-use crate::status::Status;
+use crate::status::{RaceEnd, Status};
 use hm_base::{NoMemory, Text};
 use hm_script::Refused;
 use std::alloc::Global;
@@ -14,6 +14,29 @@ pub(crate) fn refusal(alloc: Global, refused: &Refused) -> Result<Text, NoMemory
 {
     let text = format!(in alloc; "{refused}")?;
     Text::from_slice(alloc, text.as_bytes())
+}
+
+/// The condition and its first word that may not come.
+pub(crate) fn no_condition(alloc: Global, condition: u64, word: u64) -> Result<Text, NoMemory>
+    ensures { IfOk result (λ t. t ≡ no_condition_text condition word) }
+{
+    let text = format!(in alloc; "condition {condition}: bad word {word}")?;
+    Text::from_slice(alloc, text.as_bytes())
+}
+
+/// The message of a search that did not do all that was asked for, if it has no number in it.
+pub(crate) fn race_text(end: &RaceEnd) -> &'static str
+    ensures { result.now ≡ race_text end.now }
+{
+    match end {
+        RaceEnd::NoCondition(_, _) => "",
+        RaceEnd::Fails => "a condition fails",
+        RaceEnd::Unsettled => "a condition is not settled: the search was cut; allow more states",
+        RaceEnd::NoOutcome => "no such outcome",
+        RaceEnd::Drained => {
+            "nothing is left to race after drain: end the schedule where the race is to begin"
+        }
+    }
 }
 
 /// The message of a status that has no number in it. A program has a line on its words, which is what `Usage` says.
@@ -32,6 +55,7 @@ pub(crate) fn fixed_text<'a>(status: &Status, usage: &'a str) -> &'a str
         Status::ReportTooLong => "report too long",
         Status::NoRows => "no such rows: FROM is after TO, or after the end of the report",
         Status::TooManyRows => "a page has at most 20000 rows; ask for fewer by FROM TO",
+        Status::Race(end) => race_text(end),
     }
 }
 
@@ -41,6 +65,9 @@ pub fn message(alloc: Global, usage: &str, status: &Status) -> Result<Text, NoMe
 {
     match status {
         Status::Refused(refused) => refusal(alloc, refused),
+        Status::Race(RaceEnd::NoCondition(condition, word)) => no_condition(
+            alloc, *condition, *word,
+        ),
         _ => Text::from_slice(alloc, fixed_text(status, usage).as_bytes()),
     }
 }

@@ -1,8 +1,38 @@
 // How a call ended.
 ghost use Rattle.std.specs.Prelude.{◌≡◌};
-ghost use Rattle.hm_edge.specs.Messages.{code_of};
+ghost use Rattle.hm_edge.specs.Messages.{code_of, race_code};
 
 use hm_script::Refused;
+
+/// How a search of a race ended that did not do all that was asked for.
+#[derive(Clone, Copy, Debug, PartialEq, Eq)]
+pub enum RaceEnd {
+    /// A condition is none: its number among those that are given, and that of its first word that may not come, both
+    /// from 1.
+    NoCondition(u64, u64),
+    /// A condition fails.
+    Fails,
+    /// No condition fails, and one is not settled: the search was cut before.
+    Unsettled,
+    /// The outcome that is asked for is not among those that were found.
+    NoOutcome,
+    /// The schedule of the script ends in `drain`, which leaves nothing to race.
+    Drained,
+}
+
+impl RaceEnd {
+    /// The program's exit code.
+    pub fn code(&self) -> u8
+        ensures { result ≡ race_code self.now }
+    {
+        match self {
+            RaceEnd::Fails => 1,
+            RaceEnd::NoCondition(_, _) => 2,
+            RaceEnd::NoOutcome | RaceEnd::Drained => 9,
+            RaceEnd::Unsettled => 10,
+        }
+    }
+}
 
 /// How a call of a program ended.
 #[derive(Clone, Copy, Debug, PartialEq, Eq)]
@@ -31,6 +61,8 @@ pub enum Status {
     NoRows,
     /// More rows are asked for than a page has.
     TooManyRows,
+    /// A search of a race did not do all that was asked for.
+    Race(RaceEnd),
 }
 
 impl Status {
@@ -49,6 +81,7 @@ impl Status {
             Status::HistoryFull => 7,
             Status::ScriptTooLong | Status::ReportTooLong => 8,
             Status::NoRows | Status::TooManyRows => 9,
+            Status::Race(end) => end.code(),
         }
     }
 }

@@ -22,6 +22,7 @@ not_read Are b a Status.ScriptTooLong n = n
 not_read Are b a Status.ReportTooLong n = absurd n
 not_read Are b a Status.NoRows n = absurd n
 not_read Are b a Status.TooManyRows n = absurd n
+not_read Are b a (Status.Race end) n = absurd n
 not_read Are b a Status.ReadFault n = n
 not_read Are b a Status.NoMemory n = n
 
@@ -36,6 +37,7 @@ none_run b a script h Status.ScriptTooLong n none = none
 none_run b a script h Status.ReportTooLong n none = absurd n
 none_run b a script h Status.NoRows n none = absurd n
 none_run b a script h Status.TooManyRows n none = absurd n
+none_run b a script h (Status.Race end) n none = absurd n
 none_run b a script h Status.ReadFault n none = none
 none_run b a script h Status.NoMemory n none = none
 
@@ -60,3 +62,4 @@ short_of_memory io status bytes s e n faults none given = by (io.source.left) st
     by (Some bs) Status.ReportTooLong e n faults = n
     by (Some bs) Status.NoRows e n faults = n
     by (Some bs) Status.TooManyRows e n faults = n
+    by (Some bs) (Status.Race end) e n faults = n

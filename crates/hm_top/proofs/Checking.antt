@@ -10,10 +10,10 @@ use Rattle.hm_check.specs.declared.verdict.Verdict.TheVariants.{Yes, No}
 use Rattle.hm_history.specs.declared.Entry.{Entry}
 use Rattle.hm_io.specs.Streams.{Adds, AddsFront, SinkState, SourceState}
 use Rattle.hm_top.specs.Checks.{SaysOfReport, Finds, HasJudged, HasReport, HasTold, IsAsAnswered, IsItsReport, IsJudged, Tells, TellsBad, WroteFrontFor, bad_line}
-use Rattle.hm_check.specs.Judging.{HasNotJudged, IsLegalReportOf, IsVerdictOn}
+use Rattle.hm_check.specs.Judging.{IsLegalReportOf, IsVerdictOn}
 use Rattle.hm_edge.specs.Traffic.{NoFault, Traffic}
 use Rattle.hm_top.specs.Ran.{HasNothing}
-use Rattle.hm_edge.specs.Reading.{ReadAs, ReadFaulted}
+use Rattle.hm_edge.specs.Reading.{HasNotJudged, ReadAs, ReadFaulted}
 use Rattle.hm_top.specs.Running.{Answered, AnsweredNone}
 use Rattle.hm_edge.specs.Input.{CameWhole}
 use Rattle.hm_top.specs.Verdicts.{EndsAt, HasReportOf, verdict_text}
@@ -36,6 +36,7 @@ not_judged script h b a Status.ReportTooLong n = n
 not_judged script h b a Status.ScriptTooLong n = n
 not_judged script h b a Status.NoRows n = n
 not_judged script h b a Status.TooManyRows n = n
+not_judged script h b a (Status.Race end) n = n
 not_judged script h b a Status.ReadFault n = n
 not_judged script h b a Status.NoMemory n = n
 
@@ -50,6 +51,7 @@ none_answered b a script h Status.ReportTooLong n none = none
 none_answered b a script h Status.ScriptTooLong n none = none
 none_answered b a script h Status.NoRows n none = none
 none_answered b a script h Status.TooManyRows n none = none
+none_answered b a script h (Status.Race end) n none = none
 none_answered b a script h Status.ReadFault n none = none
 none_answered b a script h Status.NoMemory n none = none
 
@@ -64,6 +66,7 @@ none_told say b a from script h k k' Status.ReportTooLong n same = ap (λ x. x.h
 none_told say b a from script h k k' Status.ScriptTooLong n same = absurd n
 none_told say b a from script h k k' Status.NoRows n same = absurd n
 none_told say b a from script h k k' Status.TooManyRows n same = absurd n
+none_told say b a from script h k k' (Status.Race end) n same = absurd n
 none_told say b a from script h k k' Status.ReadFault n same = ap (λ x. x.held) same
 none_told say b a from script h k k' Status.NoMemory n same = inl (ap (λ x. x.held) same)
 
@@ -121,6 +124,7 @@ module _ (b a : SourceState) (e : Ended) where
   read_judged v Status.ScriptTooLong ends x = ends
   read_judged v Status.NoRows ends x = ends
   read_judged v Status.TooManyRows ends x = ends
+  read_judged v (Status.Race end) ends x = ends
   read_judged v Status.ReadFault ends x = tt
 
   answer_judged : (v : Verdict) (status : Status) → EndsAt v e status → IsVerdictOn b a v → HasReport e.script e.history.entries status
@@ -138,6 +142,7 @@ module _ (b a : SourceState) (e : Ended) where
   answer_judged v Status.ScriptTooLong ends x = absurd ends
   answer_judged v Status.NoRows ends x = absurd ends
   answer_judged v Status.TooManyRows ends x = absurd ends
+  answer_judged v (Status.Race end) ends x = absurd ends
   answer_judged v Status.ReadFault ends x = absurd ends
 
   tells_bad : (n : ℕ) → IsVerdictOn b a (No n) → TellsBad b (bad_line n)
@@ -169,6 +174,7 @@ module _ (b a : SourceState) (e : Ended) where
   told say k k' v Status.ScriptTooLong ends x w = absurd ends
   told say k k' v Status.NoRows ends x w = absurd ends
   told say k k' v Status.TooManyRows ends x w = absurd ends
+  told say k k' v (Status.Race end) ends x w = absurd ends
   told say k k' v Status.ReadFault ends x w = absurd ends
 
   faults_judged : (n n' : ℕ) (v : Verdict) (status : Status) → EndsAt v e status → n' ≡ n → ReadFaulted n n' status
@@ -183,6 +189,7 @@ module _ (b a : SourceState) (e : Ended) where
   faults_judged n n' v Status.ScriptTooLong ends same = same
   faults_judged n n' v Status.NoRows ends same = same
   faults_judged n n' v Status.TooManyRows ends same = same
+  faults_judged n n' v (Status.Race end) ends same = same
   faults_judged n n' v Status.ReadFault ends same = absurd ends
 
   judged_whole : (io : Traffic) (v : Verdict) (status : Status) → EndsAt v e status → WriteFaulted io.sink.faults io.sink_after.faults status → NoFault io → IsJudged status
@@ -197,6 +204,7 @@ module _ (b a : SourceState) (e : Ended) where
   judged_whole io v Status.ScriptTooLong ends w none = ends
   judged_whole io v Status.NoRows ends w none = ends
   judged_whole io v Status.TooManyRows ends w none = ends
+  judged_whole io v (Status.Race end) ends w none = ends
   judged_whole io v Status.ReadFault ends w none = ends
 
   found : (io : Traffic) (c : Program) (h : List Entry) (v : Verdict) (status : Status) → EndsAt v e status → IsYes c h v → WriteFaulted io.sink.faults io.sink_after.faults status → NoFault io → Finds c h e status
@@ -213,6 +221,7 @@ module _ (b a : SourceState) (e : Ended) where
   found io c h v Status.ScriptTooLong ends mine w none = ends
   found io c h v Status.NoRows ends mine w none = ends
   found io c h v Status.TooManyRows ends mine w none = ends
+  found io c h v (Status.Race end) ends mine w none = ends
   found io c h v Status.ReadFault ends mine w none = ends
 
 -- it came to a verdict

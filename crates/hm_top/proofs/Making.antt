@@ -85,6 +85,7 @@ tried r t script h Status.ScriptTooLong is ran made = made
 tried r t script h Status.ReportTooLong is ran made = made
 tried r t script h Status.NoRows is ran made = made
 tried r t script h Status.TooManyRows is ran made = made
+tried r t script h (Status.Race end) is ran made = made
 
 -- the summary was written
 pub summaries : (n : ℕ) (io : Traffic) (e : Ended) (r : Ran) → r.script ≡ generated n → io.source_after ≡ io.source → (r.full ≡ false → RanWhole r.script r.history.entries) → (r.full ≡ true → RanFull r.script r.history.entries)

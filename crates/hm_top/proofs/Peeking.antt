@@ -39,6 +39,7 @@ none_seen p at n h xs b a Status.ScriptTooLong read none = none
 none_seen p at n h xs b a Status.ReportTooLong read none = none
 none_seen p at n h xs b a Status.NoRows read none = none
 none_seen p at n h xs b a Status.TooManyRows read none = none
+none_seen p at n h xs b a (Status.Race end) read none = none
 none_seen p at n h xs b a Status.ReadFault read none = none
 none_seen p at n h xs b a Status.NoMemory read none = none
 
@@ -129,6 +130,7 @@ seen_at p at n r saw e Status.ScriptTooLong shows same whole none = absurd shows
 seen_at p at n r saw e Status.ReportTooLong shows same whole none = absurd shows
 seen_at p at n r saw e Status.NoRows shows same whole none = absurd shows
 seen_at p at n r saw e Status.TooManyRows shows same whole none = absurd shows
+seen_at p at n r saw e (Status.Race end) shows same whole none = absurd shows
 seen_at p at n r saw e Status.ReadFault shows same whole none = absurd shows
 
 no_peeks : (p at n : ℕ) (h : List Entry) → ArePeeks p at n (IsPlain h) []

@@ -47,6 +47,7 @@ read_shown r e b a Status.ScriptTooLong shows read = absurd shows
 read_shown r e b a Status.ReportTooLong shows read = absurd shows
 read_shown r e b a Status.NoRows shows read = absurd shows
 read_shown r e b a Status.TooManyRows shows read = absurd shows
+read_shown r e b a (Status.Race end) shows read = absurd shows
 read_shown r e b a Status.ReadFault shows read = tt
 
 pub faults_shown : (r : Ran) (e : Ended) (n n' : ℕ) (status : Status) → ShowsAt r e status → n' ≡ n → ReadFaulted n n' status
@@ -62,6 +63,7 @@ faults_shown r e n n' Status.ScriptTooLong shows same = same
 faults_shown r e n n' Status.ReportTooLong shows same = same
 faults_shown r e n n' Status.NoRows shows same = same
 faults_shown r e n n' Status.TooManyRows shows same = same
+faults_shown r e n n' (Status.Race end) shows same = same
 
 pub answered : (Is : Program → List Entry → Type 0) (r : Ran) (e : Ended) → HasAll r e → Is r.script r.history.entries → Answered Is e.script e.history.entries
 answered Is r e all is = subst (λ x. Answered Is x e.history.entries) (sym all.script_is) (subst (Is r.script) (sym all.history_is) is)
@@ -83,6 +85,7 @@ run_shown r e Status.ScriptTooLong shows whole over = absurd shows
 run_shown r e Status.ReportTooLong shows whole over = absurd shows
 run_shown r e Status.NoRows shows whole over = absurd shows
 run_shown r e Status.TooManyRows shows whole over = absurd shows
+run_shown r e (Status.Race end) shows whole over = absurd shows
 run_shown r e Status.ReadFault shows whole over = absurd shows
 
 same_text : (tell : Program → List Entry → List ℕ) (r : Ran) (e : Ended) → HasAll r e → tell r.script r.history.entries ≡ told_of tell e.script e.history.entries
@@ -102,6 +105,7 @@ text_shown tell Own Goes r e k k' Status.ScriptTooLong shows goes w = absurd sho
 text_shown tell Own Goes r e k k' Status.ReportTooLong shows goes w = absurd shows
 text_shown tell Own Goes r e k k' Status.NoRows shows goes w = absurd shows
 text_shown tell Own Goes r e k k' Status.TooManyRows shows goes w = absurd shows
+text_shown tell Own Goes r e k k' (Status.Race end) shows goes w = absurd shows
 text_shown tell Own Goes r e k k' Status.ReadFault shows goes w = absurd shows
 
 abbrev pub OneText : Type 0
@@ -123,6 +127,7 @@ ends io r e Status.ScriptTooLong s shows w none same room over = shows
 ends io r e Status.ReportTooLong s shows w none same room over = shows
 ends io r e Status.NoRows s shows w none same room over = shows
 ends io r e Status.TooManyRows s shows w none same room over = shows
+ends io r e (Status.Race end) s shows w none same room over = shows
 ends io r e Status.ReadFault s shows w none same room over = shows
 
 receipt_shown : (r : Ran) (e : Ended) (status : Status) → ShowsAt r e status → r.receipt ≡ None → e.receipt ≡ None
@@ -137,6 +142,7 @@ receipt_shown r e Status.ScriptTooLong shows none = absurd shows
 receipt_shown r e Status.ReportTooLong shows none = absurd shows
 receipt_shown r e Status.NoRows shows none = absurd shows
 receipt_shown r e Status.TooManyRows shows none = absurd shows
+receipt_shown r e (Status.Race end) shows none = absurd shows
 receipt_shown r e Status.ReadFault shows none = absurd shows
 
 -- it has shown a run

@@ -31,6 +31,7 @@ none_run b a e Status.ScriptTooLong n none = none.none
 none_run b a e Status.ReportTooLong n none = none.none
 none_run b a e Status.NoRows n none = none.none
 none_run b a e Status.TooManyRows n none = none.none
+none_run b a e (Status.Race end) n none = none.none
 none_run b a e Status.ReadFault n none = none.none
 none_run b a e Status.NoMemory n none = none.none
 
@@ -45,6 +46,7 @@ none_received b a e Status.ScriptTooLong n none = none.receipt_is
 none_received b a e Status.ReportTooLong n none = none.receipt_is
 none_received b a e Status.NoRows n none = none.receipt_is
 none_received b a e Status.TooManyRows n none = none.receipt_is
+none_received b a e (Status.Race end) n none = none.receipt_is
 none_received b a e Status.ReadFault n none = none.receipt_is
 none_received b a e Status.NoMemory n none = none.receipt_is
 
@@ -60,6 +62,7 @@ or_full Status.ScriptTooLong e = e
 or_full Status.ReportTooLong e = e
 or_full Status.NoRows e = e
 or_full Status.TooManyRows e = e
+or_full (Status.Race end) e = e
 or_full Status.ReadFault e = e
 
 -- it had nothing to show
@@ -91,6 +94,7 @@ run_shown r e Status.ScriptTooLong shows whole over = absurd shows
 run_shown r e Status.ReportTooLong shows whole over = absurd shows
 run_shown r e Status.NoRows shows whole over = absurd shows
 run_shown r e Status.TooManyRows shows whole over = absurd shows
+run_shown r e (Status.Race end) shows whole over = absurd shows
 run_shown r e Status.ReadFault shows whole over = absurd shows
 
 receipt_of : (r : Ran) (e : Ended) → HasAll r e → r.receipt ≡ Some r.history.entries → e.receipt ≡ Some e.history.entries
@@ -108,6 +112,7 @@ receipt_shown r e Status.ScriptTooLong shows some = absurd shows
 receipt_shown r e Status.ReportTooLong shows some = absurd shows
 receipt_shown r e Status.NoRows shows some = absurd shows
 receipt_shown r e Status.TooManyRows shows some = absurd shows
+receipt_shown r e (Status.Race end) shows some = absurd shows
 receipt_shown r e Status.ReadFault shows some = absurd shows
 
 ends : (io : Traffic) (r : Ran) (e : Ended) (status : Status) → ShowsAt r e status → WriteFaulted io.sink.faults io.sink_after.faults status → NoFault io → IsCompleteOrFull status
@@ -122,6 +127,7 @@ ends io r e Status.ScriptTooLong shows w none = shows
 ends io r e Status.ReportTooLong shows w none = shows
 ends io r e Status.NoRows shows w none = shows
 ends io r e Status.TooManyRows shows w none = shows
+ends io r e (Status.Race end) shows w none = shows
 ends io r e Status.ReadFault shows w none = shows
 
 -- it has shown what its threads did

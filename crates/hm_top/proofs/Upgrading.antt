@@ -30,6 +30,7 @@ none_upgraded b a script Status.ScriptTooLong n e = e
 none_upgraded b a script Status.ReportTooLong n e = absurd n
 none_upgraded b a script Status.NoRows n e = absurd n
 none_upgraded b a script Status.TooManyRows n e = absurd n
+none_upgraded b a script (Status.Race end) n e = absurd n
 none_upgraded b a script Status.ReadFault n e = e
 none_upgraded b a script Status.NoMemory n e = e
 
@@ -68,6 +69,7 @@ module _ (b a : SourceState) (u : Program) (script : Option Program) (h : List E
   read_made Status.ReportTooLong made read = absurd made
   read_made Status.NoRows made read = absurd made
   read_made Status.TooManyRows made read = absurd made
+  read_made (Status.Race end) made read = absurd made
   read_made Status.ReadFault made read = tt
 
   faults_made : (n n' : ℕ) (status : Status) → HasMade (IsAlone u) script h status → n' ≡ n → ReadFaulted n n' status
@@ -83,6 +85,7 @@ module _ (b a : SourceState) (u : Program) (script : Option Program) (h : List E
   faults_made n n' Status.ReportTooLong made same = same
   faults_made n n' Status.NoRows made same = same
   faults_made n n' Status.TooManyRows made same = same
+  faults_made n n' (Status.Race end) made same = same
 
   script_made : (status : Status) → HasMade (IsAlone u) script h status → HasUpgraded script status
   script_made Status.Done made = (u, the_script u script h made)
@@ -96,6 +99,7 @@ module _ (b a : SourceState) (u : Program) (script : Option Program) (h : List E
   script_made Status.ReportTooLong made = absurd made
   script_made Status.NoRows made = absurd made
   script_made Status.TooManyRows made = absurd made
+  script_made (Status.Race end) made = absurd made
   script_made Status.ReadFault made = absurd made
 
   history_made : (status : Status) → HasMade (IsAlone u) script h status → h ≡ []
@@ -110,6 +114,7 @@ module _ (b a : SourceState) (u : Program) (script : Option Program) (h : List E
   history_made Status.ReportTooLong made = absurd made
   history_made Status.NoRows made = absurd made
   history_made Status.TooManyRows made = absurd made
+  history_made (Status.Race end) made = absurd made
   history_made Status.ReadFault made = absurd made
 
   its_text : Answered (IsAlone u) script h → text u ≡ text_for script
@@ -128,6 +133,7 @@ module _ (b a : SourceState) (u : Program) (script : Option Program) (h : List E
   text_made k k' Status.ReportTooLong made goes w = absurd made
   text_made k k' Status.NoRows made goes w = absurd made
   text_made k k' Status.TooManyRows made goes w = absurd made
+  text_made k k' (Status.Race end) made goes w = absurd made
   text_made k k' Status.ReadFault made goes w = absurd made
 
   ends_made : (io : Traffic) (status : Status) → HasMade (IsAlone u) script h status → WriteFaulted io.sink.faults io.sink_after.faults status → NoFault io → IsComplete status
@@ -142,6 +148,7 @@ module _ (b a : SourceState) (u : Program) (script : Option Program) (h : List E
   ends_made io Status.ReportTooLong made w none = made
   ends_made io Status.NoRows made w none = made
   ends_made io Status.TooManyRows made w none = made
+  ends_made io (Status.Race end) made w none = made
   ends_made io Status.ReadFault made w none = made
 
 upgrade_of : (left : Option (List ℕ)) (s u : Program) → u ≡ upgraded s → IfSome left (IsTextOf s) → IfSome left (IsUpgradeOf u)

@@ -3,11 +3,11 @@ use Rattle.std.specs.Prelude.{◌≡◌, ◌⊎◌, ℕ, ◌≤◌, List, ◌∷
 use Rattle.std.specs.Fmt.{decimal}
 use Rattle.hm_base.specs.Program.{Program}
 use Rattle.hm_check.specs.FirstBad.{IsFirstBad, IsLegalReport}
-use Rattle.hm_check.specs.Judging.{HasNotJudged, IsLegalReportOf}
+use Rattle.hm_check.specs.Judging.{IsLegalReportOf}
 use Rattle.hm_history.specs.declared.Entry.{Entry}
 use Rattle.hm_io.specs.Streams.{Adds, AddsFront, SinkState, SourceState}
 use Rattle.hm_edge.specs.Traffic.{NoFault, Traffic}
-use Rattle.hm_edge.specs.Reading.{ReadAs, ReadFaulted}
+use Rattle.hm_edge.specs.Reading.{HasNotJudged, ReadAs, ReadFaulted}
 use Rattle.hm_top.specs.Running.{Answered, AnsweredNone}
 use Rattle.hm_edge.specs.Writing.{WantedIn, IsFlushed, WriteFaulted}
 use Rattle.hm_top.specs.declared.ended.Ended.{Ended}

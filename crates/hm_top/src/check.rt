@@ -1,8 +1,8 @@
 // The word `check`.
 ghost use Rattle.std.specs.Prelude.{◌≡◌, [], None, IfOk};
 ghost use Rattle.hm_top.specs.Checks.{Checks, bad_line};
-ghost use Rattle.hm_check.specs.Judging.{HasNotJudged, IsSound, IsVerdictOn};
-ghost use Rattle.hm_edge.specs.Reading.{ReadFaulted};
+ghost use Rattle.hm_check.specs.Judging.{IsSound, IsVerdictOn};
+ghost use Rattle.hm_edge.specs.Reading.{HasNotJudged, ReadFaulted};
 ghost use Rattle.hm_edge.specs.Traffic.{traffic};
 ghost use Rattle.hm_top.specs.Verdicts.{AnswersTo, EndsAt, told_status, verdict_line, verdict_status};
 ghost use Rattle.hm_edge.specs.Writing.{HasWritten, IsFlushed, WriteFaulted};

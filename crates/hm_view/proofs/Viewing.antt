@@ -7,8 +7,8 @@ use Rattle.hm_check.specs.declared.verdict.Verdict.{Verdict}
 use Rattle.hm_check.specs.declared.verdict.Verdict.TheVariants.{Yes, No}
 use Rattle.hm_history.specs.declared.Entry.{Entry}
 use Rattle.hm_io.specs.Streams.{Rose, SourceState}
-use Rattle.hm_check.specs.Judging.{IsLegalReportOf, IsVerdictOn, HasNotJudged}
-use Rattle.hm_edge.specs.Reading.{ReadFaulted}
+use Rattle.hm_check.specs.Judging.{IsLegalReportOf, IsVerdictOn}
+use Rattle.hm_edge.specs.Reading.{HasNotJudged, ReadFaulted}
 use Rattle.hm_edge.specs.Traffic.{Traffic}
 use Rattle.hm_view.specs.Views.{HasDrawn, Drew, HasSeen, Finds, Draws}
 use Rattle.hm_edge.specs.Writing.{WriteFaulted}
@@ -32,6 +32,7 @@ drew_seen x io Status.ScriptTooLong d = absurd d.drawn
 drew_seen x io Status.ReportTooLong d = absurd d.drawn
 drew_seen x io Status.NoRows d = d
 drew_seen x io Status.TooManyRows d = d
+drew_seen x io (Status.Race end) d = absurd d.drawn
 
 drew_reads : (x : Asked) (io : Traffic) (status : Status) → Drew x io status → (a b : ℕ) → b ≡ a → ReadFaulted a b status
 drew_reads x io Status.Done d a b same = same
@@ -46,6 +47,7 @@ drew_reads x io Status.ScriptTooLong d a b same = same
 drew_reads x io Status.ReportTooLong d a b same = same
 drew_reads x io Status.NoRows d a b same = same
 drew_reads x io Status.TooManyRows d a b same = same
+drew_reads x io (Status.Race end) d a b same = same
 
 pub draws_report : (x : Asked) (io : Traffic) (status : Status) (r : Report) → IsVerdictOn io.source io.source_after (Yes r) → io.source_after.faults ≡ io.source.faults → HasDrawn x r.script r.history.entries io.sink io.sink_after status → WriteFaulted io.sink.faults io.sink_after.faults status → (status ≡ Status.Done → io.sink_after.pending ≡ false) → Draws x io status
 draws_report x io status r v same drawn faults flushed = record {
@@ -98,6 +100,7 @@ stopped_seen x io Status.ScriptTooLong n same = absurd n
 stopped_seen x io Status.ReportTooLong n same = (n, same)
 stopped_seen x io Status.NoRows n same = absurd n
 stopped_seen x io Status.TooManyRows n same = absurd n
+stopped_seen x io (Status.Race end) n same = absurd n
 
 never_done : (b a : SourceState) (status : Status) → HasNotJudged b a status → status ≡ Status.Done → ⊥
 never_done b a status j e = subst (HasNotJudged b a) e j

@@ -1,5 +1,6 @@
 -- The lines of the rows, and of the findings.
-use Rattle.std.specs.Prelude.{ℕ, zero, suc, Bool, true, false, nat_le, if◌then◌else◌, Option, Some, None, List, [], ◌++◌, length, take, slice_get}
+use Rattle.std.specs.Prelude.{ℕ, zero, suc, Bool, true, false, nat_le, if◌then◌else◌, Option, Some, None, List, []}
+use Rattle.std.specs.Prelude.{◌++◌, length, take, slice_get}
 use Rattle.hm_base.specs.Program.{Program}
 use Rattle.hm_history.specs.declared.Kind.{Kind}
 use Rattle.hm_history.specs.declared.Entry.{Entry}

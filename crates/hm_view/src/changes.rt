@@ -4,11 +4,12 @@ ghost use Rattle.std.specs.List.{flat_map};
 ghost use Rattle.hm_history.specs.Words.{names};
 ghost use Rattle.hm_history.specs.Locks.{releases};
 ghost use Rattle.hm_world.specs.WorldValue.{now};
-ghost use Rattle.hm_view.specs.Changes.{map_change, place_before, listed, frames_about, locker_text, frame_change, proc_change, mirror_change, seq_change};
+ghost use Rattle.hm_view.specs.Changes.{map_change, place_before, listed, frames_about, locker_text, frame_change};
+ghost use Rattle.hm_view.specs.Changes.{proc_change, mirror_change, seq_change};
 
-use crate::standing::put_frame;
 use hm_base::frames::names;
 use hm_base::{Actor, Frame, MirrorId, Place, Proc};
+use hm_check::put_frame;
 use hm_history::{Entry, Kind};
 use hm_reads::Reads;
 use hm_report::{Buffer, put_decimal};
