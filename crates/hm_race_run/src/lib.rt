@@ -1,11 +1,13 @@
 // All outcomes of a script's race: its schedule is the set-up, from there every actor may take its turn at any time.
 #![tactic(auto)]
 
-ghost use Rattle.std.specs.Prelude.{◌≡◌, ◌≤◌, true, false, length, IfOk, IfErr};
+ghost use Rattle.std.specs.Prelude.{◌≡◌, ◌≤◌, length, IfOk, IfErr};
 ghost use Rattle.hm_history.specs.Run.{run};
 ghost use Rattle.hm_races.specs.Closed.{AreDistinct};
+ghost use Rattle.hm_race_search.specs.Goals.{AreMissed, IsSoon, Reaches};
 ghost use Rattle.hm_race_search.specs.Values.{all_known};
-ghost use Rattle.hm_race_search.specs.Known.{forms, AreFewest, AreKnown, AreReal, AreRising, HaveForms, IsComplete, IsCut, MayFail};
+ghost use Rattle.hm_race_search.specs.Known.{forms, AreFewest, AreKnown, AreReal, AreRising, HaveForms, IsComplete};
+ghost use Rattle.hm_race_search.specs.Known.{IsCut, IsNear, MayFail};
 ghost use Rattle.hm_race_states.specs.Keyed.{form_in};
 
 mod copies;
@@ -13,29 +15,39 @@ mod keys;
 mod race;
 mod turn;
 
+pub use copies::copy_script;
 use hm_base::Script;
 use hm_history::StepError;
-use hm_race_search::{Explored, explore};
+use hm_race_search::{End, Explored, Goal, explore};
 use hm_race_states::key::StateKey;
 use race::ScriptRace;
 use skip_rules::SkipRule;
 use std::alloc::Global;
 
 /// All states of a script's race, each once: its schedule is the set-up, and from there every actor may take its turn
-/// at any time. The search comes first to the states that the fewest turns lead to, and stops if it knows more than
-/// `most`. It fails if memory runs out, and if a history has all its entries and one more is due.
-pub fn search<R: SkipRule>(
+/// at any time. The search comes first to the states that the fewest turns lead to. It stops if it knows more than
+/// `most`, and after the step in which it comes to a state that reaches the goal. It fails if memory runs out, and if a
+/// history has all its entries and one more is due.
+pub fn search<R: SkipRule, G: Goal<StateKey>>(
     alloc: Global,
     script: Script,
     rule: R,
+    goal: &G,
     most: u64,
 ) -> Result<Explored<StateKey>, StepError>
-    ensures complete { IfOk result (λ x. x.whole ≡ true
+    ensures complete { IfOk result (λ x. x.end ≡ End.Whole
         → IsComplete script (run script) (all_known form_in x.known.items)) }
-    ensures all { IfOk result (λ x. x.whole ≡ true
+    ensures all { IfOk result (λ x. x.end ≡ End.Whole
         → HaveForms script (run script) (all_known form_in x.known.items)) }
-    ensures few { IfOk result (λ x. x.whole ≡ true → length x.known.items ≤ most) }
-    ensures cut { IfOk result (λ x. x.whole ≡ false → IsCut script most (length x.known.items)) }
+    ensures few { IfOk result (λ x. x.end ≡ End.Whole → length x.known.items ≤ most) }
+    ensures cut { IfOk result (λ x. x.end ≡ End.Cut → IsCut script most (length x.known.items)) }
+    ensures reached { IfOk result (λ x. x.end ≡ End.Reached
+        → Reaches (G.reached goal.now) (all_known form_in x.known.items)) }
+    ensures soon { IfOk result (λ x. x.end ≡ End.Reached
+        → IsSoon script (G.reached goal.now) (all_known form_in x.known.items)) }
+    ensures near { IfOk result (λ x. x.end ≡ End.Reached → IsNear script most (length x.known.items)) }
+    ensures missed { IfOk result (λ x. ¬ (x.end ≡ End.Reached)
+        → AreMissed (G.reached goal.now) (all_known form_in x.known.items)) }
     ensures real { IfOk result (λ x. AreReal script (run script) (all_known form_in x.known.items)) }
     ensures known { IfOk result (λ x. AreKnown script (run script) (all_known form_in x.known.items)) }
     ensures distinct { IfOk result (λ x. AreDistinct (forms (all_known form_in x.known.items))) }
@@ -44,5 +56,5 @@ pub fn search<R: SkipRule>(
     ensures fails { IfErr result (λ e. MayFail script (run script) e) }
 {
     let race = ScriptRace::new(alloc, script, rule)?;
-    explore(&race, alloc, most)
+    explore(&race, alloc, goal, most)
 }

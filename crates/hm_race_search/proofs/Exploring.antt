@@ -4,8 +4,8 @@ use Rattle.std.proofs.lemmas.Bool.{lt-ltb, cases_lt}
 use Rattle.std.proofs.lemmas.List.Folds.{list_all-append}
 use Rattle.std.proofs.lemmas.List.Sums.{fold-append}
 use Rattle.std.proofs.lemmas.List.{length-append, length-map, map-append, get_or_append_left, get_or_at}
-use Rattle.std.specs.List.{list_all}
-use Rattle.std.specs.Prelude.{nat_lt, ◌&&◌}
+use Rattle.std.specs.List.{list_all, list_any}
+use Rattle.std.specs.Prelude.{nat_lt, ◌&&◌, ◌||◌}
 use Rattle.hm_base.specs.Program.{Program, IsScript}
 use Rattle.hm_history.specs.Due.{due_in}
 use Rattle.hm_history.specs.Laws.{DueFrom}
@@ -21,7 +21,7 @@ use Rattle.hm_races.proofs.Searching.{listed_left, listed_cases, is_actor}
 use Rattle.hm_races.proofs.Closed.{from_reached}
 use Rattle.hm_races.proofs.Turned.{at_reached, turned_reached}
 use Rattle.hm_race_search.specs.declared.known.Known.{Known}
-use Rattle.hm_race_search.specs.Values.{known_of, with_known, all_known, key_forms}
+use Rattle.hm_race_search.specs.Values.{known_of, with_known, all_known, at_goal, key_forms}
 use Rattle.hm_race_search.specs.Known.{KnownValue, AreActors, IsKnown, forms, outcomes_of, turns_at, Within, GoesOn, GoneOnBelow, GoneOn, AreRising, Explores, IsComplete, HaveForms, AreReal, AreKnown, AreFewest}
 
 -- ---- lists
@@ -69,19 +69,25 @@ one_item f (z ∷ xs) x y d (inr h) (inr k) e = one_item f xs x y d.1 h k e
 
 -- ---- what is known of more states
 
+-- all operations have ended there, and the goal holds of its form
+abbrev pub reaches : (Point → Bool) → KnownValue → Bool
+reaches goal n = n.ended && goal n.form
+
 record Rest {K : Type 0} (form : K → Point) (vs : List KnownValue) (ns : List (Known K)) : Type 0 where
   rest : List KnownValue
   same : fold (with_known form) vs ns ≡ vs ++ rest
   many : length rest ≡ length ns
   formed : forms rest ≡ key_forms form ns
+  asked : (goal : Point → Bool) → list_any (reaches goal) rest ≡ list_any (at_goal form goal) ns
 
 rest_of : {K : Type 0} (form : K → Point) (vs : List KnownValue) (ns : List (Known K)) → Rest form vs ns
-rest_of form vs [] = record { rest = []; same = sym (append-nil vs); many = refl; formed = refl }
+rest_of form vs [] = record { rest = []; same = sym (append-nil vs); many = refl; formed = refl; asked = λ goal. refl }
 rest_of form vs (n ∷ ns) = let r = rest_of form (with_known form vs n) ns in record {
   rest = known_of form vs n ∷ r.rest;
   same = r.same ∙ append_assoc vs (known_of form vs n ∷ []) r.rest;
   many = ap suc r.many;
   formed = ap (λ z. form n.key ∷ z) r.formed;
+  asked = λ goal. ap (λ b. at_goal form goal n || b) (r.asked goal);
 }
 
 pub known_length : {K : Type 0} (form : K → Point) (ns : List (Known K)) → length (all_known form ns) ≡ length ns
@@ -102,9 +108,11 @@ fold_begins form vs ns = let r = rest_of form vs ns in record { rest = r.rest; s
 pub record Begun {K : Type 0} (form : K → Point) (ns more : List (Known K)) : Type 0 where
   pub rest : List KnownValue
   pub same : all_known form (ns ++ more) ≡ all_known form ns ++ rest
+  pub many : length rest ≡ length more
+  pub asked : (goal : Point → Bool) → list_any (reaches goal) rest ≡ list_any (at_goal form goal) more
 
 pub known_more : {K : Type 0} (form : K → Point) (ns more : List (Known K)) → Begun form ns more
-known_more form ns more = let r = rest_of form (all_known form ns) more in record { rest = r.rest; same = fold-append (with_known form) [] ns more ∙ r.same }
+known_more form ns more = let r = rest_of form (all_known form ns) more in record { rest = r.rest; same = fold-append (with_known form) [] ns more ∙ r.same; many = r.many; asked = r.asked }
 
 pub known_push : {K : Type 0} (form : K → Point) (ns : List (Known K)) (n : Known K) → all_known form (ns ++ n ∷ []) ≡ all_known form ns ++ known_of form (all_known form ns) n ∷ []
 known_push form ns n = fold-append (with_known form) [] ns (n ∷ [])

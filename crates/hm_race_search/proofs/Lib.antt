@@ -1,4 +1,5 @@
 pub mod Exploring
+mod Coming
 mod Chains
 mod Table
 pub mod Unrolled

@@ -1,5 +1,5 @@
 -- What a search keeps, along its steps.
-use Rattle.std.proofs.Common.{◌≡◌, ℕ, ◌+◌, ◌<◌, ◌≤◌, ◌⊎◌, inl, inr, suc, zero, true, false, Option, Some, None, List, [], ◌∷◌, ◌++◌, refl, sym, ap, ◌∙◌, subst, length, map, get_or, append-nil, append_assoc, zero-add, arith}
+use Rattle.std.proofs.Common.{◌≡◌, ℕ, ◌+◌, ◌<◌, ◌≤◌, ◌⊎◌, inl, inr, suc, zero, Bool, true, false, Option, Some, None, List, [], ◌∷◌, ◌++◌, refl, sym, ap, ◌∙◌, subst, length, map, get_or, append-nil, append_assoc, zero-add, arith}
 use Rattle.std.specs.Prelude.{Result, Ok, Err, OnOk}
 use Rattle.std.proofs.lemmas.Bool.{cases_lt}
 use Rattle.std.proofs.lemmas.List.Sums.{fold-append}
@@ -276,18 +276,18 @@ first_searching {K} c h form number Valid n ns ms b none grown from deep same en
 
 -- ---- the end
 
-module _ {K : Type 0} (c : Program) (sc : IsScript c) (h : List Entry) (dh : DueFrom c [] h) (form : K → Point) (number : K → ℕ) (Valid : K → Type 0) (ns : List (Known K)) (b : BucketsValue) (most : ℕ) (s : HasSearched c h form number Valid ns b most) where
-  all_done : length ns ≤ most → length (all_known form ns) ≤ s.at
-  all_done l = omega (arith, s.all l, known_length form ns)
+module _ {K : Type 0} (c : Program) (sc : IsScript c) (h : List Entry) (dh : DueFrom c [] h) (form : K → Point) (number : K → ℕ) (Valid : K → Type 0) (ns : List (Known K)) (b : BucketsValue) (most : ℕ) (reached : Bool) (s : HasSearched c h form number Valid ns b most reached) where
+  all_done : reached ≡ false → length ns ≤ most → length (all_known form ns) ≤ s.at
+  all_done e l = omega (arith, s.all e l, known_length form ns)
 
-  pub ends_complete : FormsAreComplete → length ns ≤ most → IsComplete c h (all_known form ns)
-  ends_complete law l = complete law c sc h dh (all_known form ns) s.at (all_done l) s.searching.explores
+  pub ends_complete : FormsAreComplete → reached ≡ false → length ns ≤ most → IsComplete c h (all_known form ns)
+  ends_complete law e l = complete law c sc h dh (all_known form ns) s.at (all_done e l) s.searching.explores
 
-  pub ends_all : FormsAreAll → length ns ≤ most → HaveForms c h (all_known form ns)
-  ends_all law l = have_forms law c sc h dh (all_known form ns) s.at (all_done l) s.searching.explores
+  pub ends_all : FormsAreAll → reached ≡ false → length ns ≤ most → HaveForms c h (all_known form ns)
+  ends_all law e l = have_forms law c sc h dh (all_known form ns) s.at (all_done e l) s.searching.explores
 
   pub ends_cut : most < length ns → IsCut c most (length ns)
-  ends_cut l = (l, s.few)
+  ends_cut l = (l, s.near)
 
   pub ends_known : AreKnown c h (all_known form ns)
   ends_known = s.searching.explores.each

@@ -31,4 +31,5 @@ pub record AreChained (links : List Link) (lasts : List (Option ℕ)) : Type 0 w
   pub last : (slot : ℕ) → slot < length lasts
       → IsLast (buckets_of links lasts) (length links) slot (get_or lasts slot None)
   pub before : (at : ℕ) → at < length links
-      → IsLast (buckets_of links lasts) at (slot_at (buckets_of links lasts) at) (get_or (map (λ l. l.before) links) at None)
+      → IsLast (buckets_of links lasts) at (slot_at (buckets_of links lasts) at)
+      (get_or (map (λ l. l.before) links) at None)

@@ -1,5 +1,6 @@
 -- What a search knows of a race: the states that it has come to, and which of them it has still to go on from.
-use Rattle.std.specs.Prelude.{◌≡◌, ℕ, ◌+◌, ◌<◌, ◌≤◌, ◌⊎◌, Bool, true, false, if◌then◌else◌, Option, Some, None, List, [], ◌∷◌, ◌++◌, length, map, nat_lt, get_or, ⊤}
+use Rattle.std.specs.Prelude.{◌≡◌, ℕ, ◌+◌, ◌<◌, ◌≤◌, ◌⊎◌, Bool, true, false, if◌then◌else◌, Option, Some, None, ⊤}
+use Rattle.std.specs.Prelude.{List, [], ◌∷◌, ◌++◌, length, map, nat_lt, get_or}
 use Rattle.std.specs.List.{list_all}
 use Rattle.hm_base.specs.Program.{Program}
 use Rattle.hm_history.specs.Due.{due_in}
@@ -9,7 +10,8 @@ use Rattle.hm_history.specs.declared.Kind.{Kind}
 use Rattle.hm_history.specs.declared.Entry.{Entry}
 use Rattle.hm_history.specs.declared.Progress.{Progress}
 use Rattle.hm_history.specs.declared.StepError.{StepError}
-use Rattle.hm_races.specs.Outcomes.{Point, Reached, point_next, point_from, point_at, outcome, ended_in, ended, answers_of}
+use Rattle.hm_races.specs.Outcomes.{Point, Reached, point_next, point_from, point_at}
+use Rattle.hm_races.specs.Outcomes.{outcome, ended_in, ended, answers_of}
 use Rattle.hm_races.specs.Closed.{IsListed, Outcome}
 use Rattle.hm_races.specs.Blur.{form_of}
 
@@ -121,7 +123,11 @@ AreFewest c h known =
     (n : KnownValue) → IsListed known n → (turns : List ℕ) → form_of c (point_at c h turns) ≡ n.form
     → length n.turns ≤ length turns
 
--- a search that was cut knows at most as many states beyond those asked for as there are actors; or it knows the first
+-- a search that stopped knows at most as many states beyond those asked for as there are actors; or it knows the first
 -- alone
+abbrev pub IsNear : Program → ℕ → ℕ → Type 0
+IsNear c most known = (known ≤ most + length c.actors) ⊎ (known ≡ 1)
+
+-- a search that was cut knows more states than were asked for, but not many more
 abbrev pub IsCut : Program → ℕ → ℕ → Type 0
-IsCut c most known = (most < known) × ((known ≤ most + length c.actors) ⊎ (known ≡ 1))
+IsCut c most known = (most < known) × IsNear c most known

@@ -1,3 +1,4 @@
 pub mod Known
+pub mod Goals
 pub mod Buckets
 pub mod Values

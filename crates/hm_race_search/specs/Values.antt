@@ -1,11 +1,12 @@
 -- What a search keeps, as its definitions see it.
-use Rattle.std.specs.Prelude.{◌≡◌, ℕ, ◌+◌, ◌<◌, ◌≤◌, ◌⊎◌, Option, Some, None, List, [], ◌∷◌, ◌++◌, map, fold, length, get_or, slice_get}
+use Rattle.std.specs.Prelude.{◌≡◌, ℕ, ◌<◌, ◌≤◌, Bool, false, ◌&&◌, Option, Some, None, List, [], ◌∷◌, ◌++◌}
+use Rattle.std.specs.Prelude.{map, fold, length, get_or, slice_get}
 use Rattle.hm_base.specs.Program.{Program}
 use Rattle.hm_history.specs.declared.Entry.{Entry}
 use Rattle.hm_races.specs.Outcomes.{Point}
 use Rattle.hm_races.specs.Closed.{IsListed, AreDistinct}
 use Rattle.hm_race_search.specs.Buckets.{BucketsValue}
-use Rattle.hm_race_search.specs.Known.{KnownValue, turns_at, Explores}
+use Rattle.hm_race_search.specs.Known.{KnownValue, turns_at, Explores, IsNear}
 use Rattle.hm_race_search.specs.declared.known.Turn.{Turn}
 use Rattle.hm_race_search.specs.declared.known.Known.{Known}
 
@@ -34,6 +35,10 @@ all_known form ns = fold (with_known form) [] ns
 abbrev pub key_forms : {K : Type 0} → (K → Point) → List (Known K) → List Point
 key_forms form ns = map (λ n. form n.key) ns
 
+-- all operations have ended there, and the goal holds of its form
+abbrev pub at_goal : {K : Type 0} → (K → Point) → (Point → Bool) → Known K → Bool
+at_goal form goal n = n.ended && goal (form n.key)
+
 -- the table of buckets is that of these states, and no two of them have one form
 pub record Fits {K : Type 0} (form : K → Point) (number : K → ℕ) (Valid : K → Type 0) (ns : List (Known K))
     (b : BucketsValue) : Type 0 where
@@ -59,10 +64,10 @@ pub record HasGrown {K : Type 0} (old new : List (Known K)) (most : ℕ) : Type 
   pub grown : new ≡ old ++ more
   pub few : length more ≤ most
 
--- a search at its end: it has gone on from all states, or knows more than were asked for
+-- a search at its end: it has gone on from all states, or knows more than were asked for, or has come to the goal
 pub record HasSearched {K : Type 0} (c : Program) (h : List Entry) (form : K → Point) (number : K → ℕ)
-    (Valid : K → Type 0) (ns : List (Known K)) (b : BucketsValue) (most : ℕ) : Type 0 where
+    (Valid : K → Type 0) (ns : List (Known K)) (b : BucketsValue) (most : ℕ) (reached : Bool) : Type 0 where
   pub at : ℕ
   pub searching : Searching c h form number Valid ns b at
-  pub all : length ns ≤ most → length ns ≤ at
-  pub few : (length ns ≤ most + length c.actors) ⊎ (length ns ≡ 1)
+  pub all : reached ≡ false → length ns ≤ most → length ns ≤ at
+  pub near : IsNear c most (length ns)

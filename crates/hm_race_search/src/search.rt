@@ -1,22 +1,45 @@
 // The search: from each state that is known it goes on by a turn of each actor, until nothing new comes.
-ghost use Rattle.std.specs.Prelude.{◌≡◌, ◌∷◌, ◌++◌, ◌+◌, ◌<◌, ◌≤◌, [], true, false, ℕ, Some, length, IfOk, IfErr, OnOk};
+ghost use Rattle.std.specs.Prelude.{◌≡◌, ◌+◌, ◌<◌, ◌≤◌, true, false, drop, length, IfOk, IfErr, OnOk};
+ghost use Rattle.std.specs.List.{list_any};
 ghost use Rattle.hm_history.specs.declared.StepError.{StepError as AnyError};
 ghost use Rattle.hm_races.specs.Closed.{AreDistinct};
 ghost use Rattle.hm_races.specs.Outcomes.{point_at};
-ghost use Rattle.hm_race_search.specs.Values.{all_known, HasGrown, HasSearched, Searching};
-ghost use Rattle.hm_race_search.specs.Known.{forms, turns_at, Within, LeadsOn, GoesOn, IsComplete, HaveForms, AreReal, AreKnown, AreRising, AreFewest, IsCut, MayFail};
+ghost use Rattle.hm_race_search.specs.Goals.{AreMissed, IsSoon, Reaches};
+ghost use Rattle.hm_race_search.specs.Values.{all_known, at_goal, HasGrown, HasSearched, Searching};
+ghost use Rattle.hm_race_search.specs.Known.{forms, turns_at, Within, LeadsOn, GoesOn};
+ghost use Rattle.hm_race_search.specs.Known.{IsComplete, HaveForms, AreReal, AreKnown, AreRising, AreFewest};
+ghost use Rattle.hm_race_search.specs.Known.{IsCut, IsNear, MayFail};
 
+use crate::goal::{Goal, any_reached};
 use crate::known::{Known, States, Turn};
 use crate::race::{Race, RaceKey};
 use hm_base::{Actor, MOST_ENTRIES, NoMemory};
 use hm_history::StepError;
 use std::alloc::Global;
 
-/// What a search has found: the states that it knows, and whether these are all to which the race can come.
+/// How a search ended.
+#[derive(Clone, Copy)]
+pub enum End {
+    /// It knows all states to which the race can come.
+    Whole,
+    /// It knows more states than were asked for.
+    Cut,
+    /// A state that it knows reaches the goal.
+    Reached,
+}
+
+/// What a search has found: the states that it knows, and how it ended.
 #[derive(Drop)]
 pub struct Explored<K> {
     pub known: Vec<Known<K>>,
-    pub whole: bool,
+    pub end: End,
+}
+
+// A search at its end, and whether it has come to the goal.
+#[derive(Drop)]
+struct Stopped<K> {
+    states: States<K>,
+    reached: bool,
 }
 
 // The state with this key, to which a turn leads, is known from now on.
@@ -145,32 +168,108 @@ fn begin<R: Race>(race: &R, alloc: Global) -> Result<States<R::Key>, StepError>
     }
 }
 
-// The search to its end, or to more than `most` states.
-fn run_search<R: Race>(race: &R, alloc: Global, most: u64) -> Result<States<R::Key>, StepError>
+// Whether one of the states from this place on, at which all operations have ended, reaches the goal.
+fn has_come<K: RaceKey + Drop, G: Goal<K>>(
+    goal: &G,
+    states: &States<K>,
+    from: usize,
+) -> Result<bool, StepError>
+    requires { from ≤ length states.now.known.items }
+    ensures come { IfOk result (λ b. b ≡ list_any (at_goal K.form (G.reached goal.now))
+        (drop from states.now.known.items)) }
+    ensures fails { IfErr result (λ e. e ≡ AnyError.NoMemory) }
+{
+    match any_reached(goal, &states.known, from) {
+        Ok(come) => Ok(come),
+        Err(NoMemory) => Err(StepError::NoMemory),
+    }
+}
+
+// The search until it comes to the goal, to its end, or to more than `most` states.
+fn run_search<R: Race, G: Goal<R::Key>>(
+    race: &R,
+    alloc: Global,
+    goal: &G,
+    most: u64,
+) -> Result<Stopped<R::Key>, StepError>
     ensures searched { IfOk result (λ s. HasSearched (R.script race.now) (R.set_up race.now) R.Key.form R.Key.number
-        R.Key.Valid s.known.items s.buckets most) }
+        R.Key.Valid s.states.known.items s.states.buckets most s.reached) }
+    ensures reached { IfOk result (λ s. s.reached ≡ true
+        → Reaches (G.reached goal.now) (all_known R.Key.form s.states.known.items)) }
+    ensures soon { IfOk result (λ s. s.reached ≡ true
+        → IsSoon (R.script race.now) (G.reached goal.now) (all_known R.Key.form s.states.known.items)) }
+    ensures missed { IfOk result (λ s. s.reached ≡ false
+        → AreMissed (G.reached goal.now) (all_known R.Key.form s.states.known.items)) }
     ensures fails { IfErr result (λ e. MayFail (R.script race.now) (R.set_up race.now) e) }
 {
     let mut states = begin(race, alloc)?;
+    if has_come(goal, &states, 0)? {
+        return Ok(Stopped {
+            states,
+            reached: true,
+        });
+    }
     for at in 0..most {
         let found = states.known.len() as u64;
         if found <= at || found > most {
-            return Ok(states);
+            return Ok(Stopped {
+                states,
+                reached: false,
+            });
         }
         step(race, alloc, &mut states, at as usize)?;
+        if has_come(goal, &states, found as usize)? {
+            return Ok(Stopped {
+                states,
+                reached: true,
+            });
+        }
     }
-    Ok(states)
+    Ok(Stopped {
+        states,
+        reached: false,
+    })
+}
+
+// How a search ended, by whether it has come to the goal, and whether it knows no more states than were asked for.
+fn end_of(reached: bool, few: bool) -> End
+    ensures whole { result ≡ End.Whole → (reached ≡ false) × (few ≡ true) }
+    ensures cut { result ≡ End.Cut → few ≡ false }
+    ensures reached { result ≡ End.Reached → reached ≡ true }
+    ensures missed { ¬ (result ≡ End.Reached) → reached ≡ false }
+{
+    if reached {
+        End::Reached
+    } else if few {
+        End::Whole
+    } else {
+        End::Cut
+    }
 }
 
 /// All states to which the race can come, each once, if these are at most `most`; else more than `most` of them. It
-/// comes first to the states that the fewest turns lead to.
-pub fn explore<R: Race>(race: &R, alloc: Global, most: u64) -> Result<Explored<R::Key>, StepError>
-    ensures complete { IfOk result (λ x. x.whole ≡ true
+/// comes first to the states that the fewest turns lead to, and stops after the step in which it comes to a state that
+/// reaches the goal.
+pub fn explore<R: Race, G: Goal<R::Key>>(
+    race: &R,
+    alloc: Global,
+    goal: &G,
+    most: u64,
+) -> Result<Explored<R::Key>, StepError>
+    ensures complete { IfOk result (λ x. x.end ≡ End.Whole
         → IsComplete (R.script race.now) (R.set_up race.now) (all_known R.Key.form x.known.items)) }
-    ensures all { IfOk result (λ x. x.whole ≡ true
+    ensures all { IfOk result (λ x. x.end ≡ End.Whole
         → HaveForms (R.script race.now) (R.set_up race.now) (all_known R.Key.form x.known.items)) }
-    ensures few { IfOk result (λ x. x.whole ≡ true → length x.known.items ≤ most) }
-    ensures cut { IfOk result (λ x. x.whole ≡ false → IsCut (R.script race.now) most (length x.known.items)) }
+    ensures few { IfOk result (λ x. x.end ≡ End.Whole → length x.known.items ≤ most) }
+    ensures cut { IfOk result (λ x. x.end ≡ End.Cut → IsCut (R.script race.now) most (length x.known.items)) }
+    ensures reached { IfOk result (λ x. x.end ≡ End.Reached
+        → Reaches (G.reached goal.now) (all_known R.Key.form x.known.items)) }
+    ensures soon { IfOk result (λ x. x.end ≡ End.Reached
+        → IsSoon (R.script race.now) (G.reached goal.now) (all_known R.Key.form x.known.items)) }
+    ensures near { IfOk result (λ x. x.end ≡ End.Reached
+        → IsNear (R.script race.now) most (length x.known.items)) }
+    ensures missed { IfOk result (λ x. ¬ (x.end ≡ End.Reached)
+        → AreMissed (G.reached goal.now) (all_known R.Key.form x.known.items)) }
     ensures real { IfOk result (λ x.
         AreReal (R.script race.now) (R.set_up race.now) (all_known R.Key.form x.known.items)) }
     ensures known { IfOk result (λ x.
@@ -185,10 +284,11 @@ pub fn explore<R: Race>(race: &R, alloc: Global, most: u64) -> Result<Explored<R
     hm_races::forms_are_complete();
     hm_races::forms_are_all();
     hm_races::forms_go_alike();
-    let states = run_search(race, alloc, most)?;
-    let whole = states.known.len() as u64 <= most;
+    let stopped = run_search(race, alloc, goal, most)?;
+    let end = end_of(stopped.reached, stopped.states.known.len() as u64 <= most);
+    let states = stopped.states;
     Ok(Explored {
         known: states.known,
-        whole,
+        end,
     })
 }
