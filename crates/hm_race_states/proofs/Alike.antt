@@ -23,7 +23,7 @@ odd_alike x y e p = same_odd (slice_index_or x.odd p false) (slice_index_or y.od
 pub active_alike : (x y : SmallSeqs) → kept_seqs x ≡ kept_seqs y → (p : ℕ) → slice_index_or x.active p 0 ≡ slice_index_or y.active p 0
 active_alike x y e p = ap {B = ℕ} (λ (s : Sequences). s.active p) e
 
-pub intervals_alike : (x y : SmallSeqs) → kept_seqs x ≡ kept_seqs y → (m : ℕ) → interval_at x.intervals m ≡ interval_at y.intervals m
+pub intervals_alike : (x y : SmallSeqs) → kept_seqs x ≡ kept_seqs y → (m : ℕ) → interval_at x.intervals.items m ≡ interval_at y.intervals.items m
 intervals_alike x y e m = ap {B = Option Interval} (λ (s : Sequences). s.interval m) e
 
 pub there_alike : (x y : RaceSpaces) → spaces_in x ≡ spaces_in y → (p : ℕ) → slice_index_or x.there p false ≡ slice_index_or y.there p false

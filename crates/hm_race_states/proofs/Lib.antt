@@ -10,4 +10,5 @@ pub mod Ranges
 pub mod MirrorsRead
 pub mod Goings
 pub mod Compared
+pub mod Readings
 pub mod Alike

@@ -5,7 +5,6 @@ use Rattle.hm_base.specs.Pages.{Pages}
 use Rattle.std.proofs.Math.Path.{fun_ext}
 use Rattle.hm_history.specs.Sequences.{Sequences, is_above, seq_started, some_overlap, sequences_start}
 use Rattle.hm_folds.specs.declared.intervals.KeptInterval.{KeptInterval}
-use Rattle.hm_folds.specs.Kept.{interval_of}
 use Rattle.hm_folds.proofs.SeqSteps.{same_state, all_alike}
 use Rattle.hm_race_states.specs.SeqBy.{seq_by}
 use Rattle.hm_race_states.specs.Small.{kept_seqs, settled}
@@ -28,10 +27,18 @@ odd_started s p r b e h = rw (seq_started, e, h) (by (some_overlap s p r))
     by false = refl
 
 -- before the first entry
-pub starts : kept_seqs (record { odd = replicate 32 false; active = replicate 32 0; intervals = replicate 32 None }) ≡ sequences_start
-starts =
-    let no_interval : Option KeptInterval = None in
-    same_state _ _ (fun_ext (λ p. ap seq_by (all_alike false 32 p))) (fun_ext (λ p. all_alike 0 32 p)) (fun_ext (λ m. ap interval_of (all_alike no_interval 32 m))) refl
+pub starts : (xs : List (Option KeptInterval)) → xs ≡ []
+    → ◌≡◌ {A = Sequences} (record {
+      seq = λ p. seq_by (slice_index_or (replicate 32 false) p false);
+      active = λ p. slice_index_or (replicate 32 0) p 0;
+      interval = interval_at xs;
+      guard = λ a. None;
+    }) sequences_start
+starts xs e = same_state _ _
+    (fun_ext (λ p. ap seq_by (all_alike false 32 p)))
+    (fun_ext (λ p. all_alike 0 32 p))
+    (fun_ext (λ m. ap (λ (ys : List (Option KeptInterval)). interval_at ys m) e))
+    refl
 
 -- a small sequence is small
 small_again : (b : Bool) → small (seq_by b) ≡ seq_by b
@@ -39,5 +46,5 @@ small_again true = refl
 small_again false = refl
 
 -- sequences whose intervals stay are as they are when they are made small again
-pub steady_now : (x : SmallSeqs) → ((m : ℕ) → small_interval (kept_seqs x).seq (interval_at x.intervals m) ≡ interval_at x.intervals m) → settled (kept_seqs x) ≡ kept_seqs x
+pub steady_now : (x : SmallSeqs) → ((m : ℕ) → small_interval (kept_seqs x).seq (interval_at x.intervals.items m) ≡ interval_at x.intervals.items m) → settled (kept_seqs x) ≡ kept_seqs x
 steady_now x stay = same_state (settled (kept_seqs x)) (kept_seqs x) (fun_ext (λ p. small_again (slice_index_or x.odd p false))) refl (fun_ext stay) refl

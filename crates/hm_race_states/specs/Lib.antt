@@ -4,6 +4,8 @@ pub mod Changes
 pub mod Spaces
 pub mod Blurs
 pub mod Afters
+pub mod SharedPhases
+pub mod SharedRecords
 pub mod Tasks
 pub mod Mirrors
 pub mod Bytes

@@ -27,24 +27,39 @@ abbrev number_by : List (List Kind) → (ℕ → Going) → List (Item Place) �
 number_by said far places tables =
     mixed_items mixed_mapping (mixed_items mixed_place (mixed_goings (mixed_lists 1 said) 16 far) places) tables
 
-same_parts : (a b : List (List Kind)) (f g : ℕ → Going) (p q : List (Item Place)) (t u : List (Item Mapping)) → a ≡ b → f ≡ g → p ≡ q → t ≡ u → number_by a f p t ≡ number_by b g q u
+same_parts : (a b : List (List Kind)) (f g : ℕ → Going) (p q : List (Item Place)) (t u : List (Item Mapping))
+    → a ≡ b → f ≡ g → p ≡ q → t ≡ u → number_by a f p t ≡ number_by b g q u
 same_parts a b f g p q t u d e h k =
-    ap (λ z. number_by z f p t) d ∙ (ap (λ z. number_by b z p t) e ∙ (ap (λ z. number_by b g z t) h ∙ ap (λ z. number_by b g q z) k))
+    ap (λ z. number_by z f p t) d ∙ ap (λ z. number_by b z p t) e
+    ∙ ap (λ z. number_by b g z t) h ∙ ap (λ z. number_by b g q z) k
 
-same_answers : (x y : StateKey) → IsKey x → IsKey y → form_in x ≡ form_in y → x.answers.value.lists.items ≡ y.answers.value.lists.items
+same_answers : (x y : StateKey) → IsKey x → IsKey y → form_in x ≡ form_in y
+    → x.answers.value.lists.items ≡ y.answers.value.lists.items
 same_answers x y h k e =
     let none : List Kind = [] in
-    ext_get_or none x.answers.value.lists.items y.answers.value.lists.items (h.sized ∙ sym k.sized) (λ i l. ap {B = List Kind} (λ (z : Point). z.answers i) e)
+    ext_get_or none x.answers.value.lists.items y.answers.value.lists.items (h.sized ∙ sym k.sized)
+    (λ i l. ap {B = List Kind} (λ (z : Point). z.answers i) e)
 
-same_goings : (x y : StateKey) → form_in x ≡ form_in y → goings_in (map rc_value x.state.tasks.items) ≡ goings_in (map rc_value y.state.tasks.items)
+same_goings : (x y : StateKey) → form_in x ≡ form_in y
+    → goings_in (map rc_value x.state.tasks.items) ≡ goings_in (map rc_value y.state.tasks.items)
 same_goings x y e = ap {B = ℕ → Going} (λ (z : Point). z.state.going) e
 
-same_places : (x y : StateKey) → IsKey x → IsKey y → form_in x ≡ form_in y → x.state.places.value ≡ y.state.places.value
-same_places x y h k e = same_found 0 0 x.state.places.value y.state.places.value h.places k.places (places_found x.state.places.value y.state.places.value h.placed k.placed (λ p v. ap {B = Place} (λ (z : Point). z.state.after.places.place p v) e))
+same_places : (x y : StateKey) → IsKey x → IsKey y → form_in x ≡ form_in y
+    → x.state.places.value ≡ y.state.places.value
+same_places x y h k e =
+    let found = places_found x.state.places.value y.state.places.value h.placed k.placed
+    (λ p v. ap {B = Place} (λ (z : Point). z.state.after.places.place p v) e) in
+    same_found 0 0 x.state.places.value y.state.places.value h.places k.places found
 
-same_tables : (x y : StateKey) → IsKey x → IsKey y → form_in x ≡ form_in y → x.state.tables.value ≡ y.state.tables.value
-same_tables x y h k e = same_found 0 0 x.state.tables.value y.state.tables.value h.tables k.tables (table_found x.state.tables.value y.state.tables.value (λ m v. ap {B = Option TableEntry} (λ (z : Point). z.state.after.places.table m v) e))
+same_tables : (x y : StateKey) → IsKey x → IsKey y → form_in x ≡ form_in y
+    → x.state.tables.value ≡ y.state.tables.value
+same_tables x y h k e =
+    let found = table_found x.state.tables.value y.state.tables.value
+    (λ m v. ap {B = Option TableEntry} (λ (z : Point). z.state.after.places.table m v) e) in
+    same_found 0 0 x.state.tables.value y.state.tables.value h.tables k.tables found
 
 -- keys of one form have one number
 pub same_number : (x y : StateKey) → IsKey x → IsKey y → form_in x ≡ form_in y → key_number x ≡ key_number y
-same_number x y h k e = same_parts _ _ _ _ _ _ _ _ (same_answers x y h k e) (same_goings x y e) (same_places x y h k e) (same_tables x y h k e)
+same_number x y h k e =
+    same_parts _ _ _ _ _ _ _ _ (same_answers x y h k e) (same_goings x y e) (same_places x y h k e)
+    (same_tables x y h k e)

@@ -12,7 +12,7 @@ abbrev pub kept_seqs : SmallSeqs → Sequences
 kept_seqs x = record {
   seq = λ p. seq_by (slice_index_or x.odd p false);
   active = λ p. slice_index_or x.active p 0;
-  interval = interval_at x.intervals;
+  interval = interval_at x.intervals.items;
   guard = λ a. None;
 }
 

@@ -4,4 +4,4 @@ use Rattle.hm_race_states.specs.declared.tasks.RaceTask.{RaceTask}
 
 -- how far the actor is: its operation's number, its phases, and the pages of its migration
 abbrev pub going_in : RaceTask → Going
-going_in t = record { index = t.index; stack = t.stack; pages = t.records.items }
+going_in t = record { index = t.index; stack = t.stack; pages = t.records }

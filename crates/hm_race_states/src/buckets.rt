@@ -2,7 +2,8 @@
 ghost use Rattle.std.specs.Prelude.{◌≡◌, ℕ, map};
 ghost use Rattle.std.specs.Rc.{rc_value};
 ghost use Rattle.hm_phases.specs.Items.{phases_of};
-ghost use Rattle.hm_race_states.specs.Buckets.{cursor_of, told_word, frame_word, phase_code, phase_word, mixed_phase, mixed_phases, mixed_records, mixed_going, mixed_goings};
+ghost use Rattle.hm_race_states.specs.Buckets.{cursor_of, told_word, frame_word, phase_code, phase_word, mixed_phase};
+ghost use Rattle.hm_race_states.specs.Buckets.{mixed_phases, mixed_records, mixed_going, mixed_goings};
 ghost use Rattle.hm_race_states.specs.States.{goings_in};
 ghost use Rattle.hm_race_states.specs.Tasks.{going_in};
 

@@ -1,5 +1,6 @@
 // What steps ask of a state of a race: each call reads one part.
-ghost use Rattle.std.specs.Prelude.{◌≡◌, ◌==◌, ◌+◌, ◌<◌, ◌≤◌, ◌&&◌, ℕ, if◌then◌else◌, true, None, Some, length, map, slice_get, option_copied, IfOk};
+ghost use Rattle.std.specs.Prelude.{◌≡◌, ◌==◌, ◌+◌, ◌<◌, ◌≤◌, ◌&&◌, ℕ, if◌then◌else◌, true, None, Some, length, map};
+ghost use Rattle.std.specs.Prelude.{slice_get, option_copied, IfOk};
 ghost use Rattle.std.specs.Rc.{rc_value};
 ghost use Rattle.hm_history.specs.Places.{is_exclusive_by, may_read, may_write};
 ghost use Rattle.hm_history.specs.Words.{bytes_from};
@@ -11,7 +12,7 @@ ghost use Rattle.hm_race_states.specs.States.{state_in};
 use crate::memory::RaceBytes;
 use crate::state::RaceState;
 use crate::tasks::RaceTask;
-use hm_actors::{Concerns, come_to, op_at};
+use hm_actors::{Concerns, op_at};
 use hm_base::{
     Actor, Bytes, Cause, Dev, Frame, MirrorId, NoMemory, Op, Page, Place, PoolId, Proc, Rights,
     Script, Span,
@@ -170,7 +171,7 @@ impl<'a> Reads for Here<'a> {
         next: u64,
     ) -> Option<(MoveStep, Migrating)> {
         match self.task(actor) {
-            Some(task) => come_to(&task.records, &Asking { here: self, op }, step, next),
+            Some(task) => task.records.come_to(&Asking { here: self, op }, step, next),
             None => None,
         }
     }

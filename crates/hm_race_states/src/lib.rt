@@ -18,6 +18,8 @@ mod same_seqs;
 mod same_spaces;
 mod same_tasks;
 mod seen;
+pub mod shared_phases;
+pub mod shared_records;
 pub mod small;
 pub mod spaces;
 mod start;

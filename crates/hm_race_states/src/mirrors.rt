@@ -2,10 +2,12 @@
 ghost use Rattle.std.specs.Prelude.{◌≡◌, ℕ, true, [], is_some, IfOk, OnOk, OnErr};
 ghost use Rattle.hm_base.specs.Pages.{Pages, lies_in};
 ghost use Rattle.hm_history.specs.Words.{with_at};
-ghost use Rattle.hm_history.specs.Plain.{Attachment, is_attached, in_window, mirror_proc, mirror_owner, mirror_dev, with_attachment};
+ghost use Rattle.hm_history.specs.Plain.{Attachment, is_attached, in_window, mirror_proc, mirror_owner, mirror_dev};
+ghost use Rattle.hm_history.specs.Plain.{with_attachment};
 ghost use Rattle.hm_race_keys.specs.Sparse.{mixed_items};
 ghost use Rattle.hm_race_keys.specs.Trail.{mirrors_next};
-ghost use Rattle.hm_race_states.specs.Mirrors.{mirror_of, attachment_of, stage_number, mixed_mirror, mirrors_in, plain_by};
+ghost use Rattle.hm_race_states.specs.Mirrors.{mirror_of, attachment_of, stage_number, mixed_mirror, mirrors_in};
+ghost use Rattle.hm_race_states.specs.Mirrors.{plain_by};
 
 use hm_base::{Dev, MirrorId, NoMemory, Proc, Span};
 use hm_history::Kind;
@@ -199,7 +201,8 @@ impl RaceMirrors {
     fn stand(&mut self, mirror: MirrorId, stage: RaceAttachment) -> Result<(), NoMemory>
         ensures ok { OnOk result
             (mirrors_in self.new
-            ≡ with_at (mirrors_in self.old) mirror (with_attachment (attachment_of stage) (mirrors_in self.old mirror))) }
+            ≡ with_at (mirrors_in self.old) mirror
+            (with_attachment (attachment_of stage) (mirrors_in self.old mirror))) }
         ensures err { OnErr result (self.new ≡ self.old) }
     {
         match self.mirror(mirror) {

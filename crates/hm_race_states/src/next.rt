@@ -173,7 +173,7 @@ impl RaceState {
             ≡ tidied script.now (state_next script.now (state_in self.now) entry.now)) }
     {
         let between = self.seqs.after(&entry.kind)?;
-        let seqs = Rc::new(alloc, between.settled())?;
+        let seqs = Rc::new(alloc, between.settled(alloc)?)?;
         let tasks = tasks_after(
             alloc,
             script,

@@ -2,8 +2,9 @@
 ghost use Rattle.std.specs.Prelude.{◌≡◌, true};
 ghost use Rattle.hm_phases.specs.Items.{phases_of};
 
+use crate::shared_phases::SharedPhases;
 use hm_history::phases::{Body, Phase};
-use hm_phases::{Items, Stack};
+use hm_phases::Items;
 
 // Whether the two guards do the same.
 fn same_body(one: &Body, other: &Body) -> bool
@@ -65,7 +66,7 @@ fn same_body(one: &Body, other: &Body) -> bool
 }
 
 // Whether the two phases are the same.
-fn same_phase(one: &Phase, other: &Phase) -> bool
+pub(crate) fn same_phase(one: &Phase, other: &Phase) -> bool
     ensures yes { result ≡ true → one.now ≡ other.now }
     ensures no { one.now ≡ other.now → result ≡ true }
 {
@@ -274,8 +275,8 @@ fn same_items(one: &Items, other: &Items) -> bool
     }
 }
 
-/// Whether the two stacks are the same.
-pub(crate) fn same_stack(one: &Stack, other: &Stack) -> bool
+/// Whether the phases of both are the same.
+pub(crate) fn same_stack(one: &SharedPhases, other: &SharedPhases) -> bool
     ensures yes { result ≡ true → one.now ≡ other.now }
     ensures no { one.now ≡ other.now → result ≡ true }
 {

@@ -1,9 +1,9 @@
 // Small sequences, compared.
-ghost use Rattle.std.specs.Prelude.{◌≡◌, ℕ, true, false, None, slice_index_or};
+ghost use Rattle.std.specs.Prelude.{◌≡◌, ◌≤◌, ℕ, true, false, None, slice_index_or};
 ghost use Rattle.hm_folds.specs.Kept.{interval_of, interval_at, stage_of};
 ghost use Rattle.hm_race_states.specs.SeqBy.{seq_by};
 
-use crate::small::SmallSeqs;
+use crate::small::{SmallSeqs, read};
 use hm_folds::intervals::{KeptInterval, KeptStage};
 
 fn same_stage(one: KeptStage, other: KeptStage) -> bool
@@ -50,7 +50,7 @@ pub fn same_flags(one: &[bool; 32], other: &[bool; 32]) -> bool
     true
 }
 
-fn same_counts(one: &[u64; 32], other: &[u64; 32]) -> bool
+fn same_counts(one: &[u8; 32], other: &[u8; 32]) -> bool
     ensures yes { result ≡ true → (p : ℕ) → slice_index_or one.now p 0 ≡ slice_index_or other.now p 0 }
     ensures no { ((p : ℕ) → slice_index_or one.now p 0 ≡ slice_index_or other.now p 0) → result ≡ true }
 {
@@ -62,12 +62,21 @@ fn same_counts(one: &[u64; 32], other: &[u64; 32]) -> bool
     true
 }
 
-fn same_intervals(one: &[Option<KeptInterval>; 32], other: &[Option<KeptInterval>; 32]) -> bool
+// The longer of two lengths.
+fn longer(one: usize, other: usize) -> usize
+    ensures one { one ≤ result }
+    ensures other { other ≤ result }
+{
+    if one < other { other } else { one }
+}
+
+fn same_intervals(one: &[Option<KeptInterval>], other: &[Option<KeptInterval>]) -> bool
     ensures yes { result ≡ true → (m : ℕ) → interval_at one.now m ≡ interval_at other.now m }
     ensures no { ((m : ℕ) → interval_at one.now m ≡ interval_at other.now m) → result ≡ true }
 {
-    for at in 0..32usize {
-        if !same_interval(&one[at], &other[at]) {
+    let most = longer(one.len(), other.len());
+    for at in 0..most {
+        if !same_interval(&read(one, at), &read(other, at)) {
             return false;
         }
     }

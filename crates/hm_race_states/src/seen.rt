@@ -27,7 +27,8 @@ impl<'a> Here<'a> {
 
     // The place of the page that a fault is about.
     fn decided_place(&self, actor: Actor, touch: &Touch) -> Place
-        ensures { (o : AnyOp) → op_at self.now.script.now actor ((state_in self.now.state.now).going actor).index ≡ Some o
+        ensures { (o : AnyOp)
+            → op_at self.now.script.now actor ((state_in self.now.state.now).going actor).index ≡ Some o
             → result
             ≡ (state_in self.now.state.now).after.places.place (touch_proc (state_in self.now.state.now).after o)
             (touch_page o touch.now) }
@@ -60,7 +61,8 @@ impl<'a> Here<'a> {
 
     // The record of the page to which a migration has come.
     fn page_at_step(&self, actor: Actor, step: MoveStep, next: u64) -> Option<Migrating>
-        ensures { (o : AnyOp) → op_at self.now.script.now actor ((state_in self.now.state.now).going actor).index ≡ Some o
+        ensures { (o : AnyOp)
+            → op_at self.now.script.now actor ((state_in self.now.state.now).going actor).index ≡ Some o
             → result
             ≡ coming_page
             (coming (state_in self.now.state.now).after o ((state_in self.now.state.now).going actor).pages

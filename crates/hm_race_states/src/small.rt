@@ -1,34 +1,40 @@
 // Small sequences, and how they go on by an entry: of a process's sequence counts whether it is odd, of an interval's
 // whether it is its process's.
-ghost use Rattle.std.specs.Prelude.{◌≡◌, ◌==◌, ◌<◌, ◌≤◌, ◌+◌, ℕ, true, false, if◌then◌else◌, slice_index_or, IfOk, OnOk};
+ghost use Rattle.std.specs.Prelude.{◌≡◌, ◌≤◌, ◌+◌, ℕ, true, false, None, nat_le, length, filter, find, slice_index_or};
+ghost use Rattle.std.specs.Prelude.{IfOk};
 ghost use Rattle.hm_base.specs.Pages.{Pages};
-ghost use Rattle.hm_history.specs.Sequences.{sequences_start, sequences_next, interval_seq, interval_proc, in_tree, insert_deferred, next_told, seq_started, seq_ended, interval_inserted, seq_inserted, is_last_end, some_overlap, is_odd};
+ghost use Rattle.hm_history.specs.Words.{numbers};
+ghost use Rattle.hm_history.specs.Sequences.{is_above, sequences_start, sequences_next, interval_seq, interval_proc};
+ghost use Rattle.hm_history.specs.Sequences.{in_tree, insert_deferred, next_told, seq_started, seq_ended};
+ghost use Rattle.hm_history.specs.Sequences.{interval_inserted, seq_inserted, is_last_end, some_overlap, is_odd};
 ghost use Rattle.hm_history.specs.declared.Kind.{Kind as AnyKind};
 ghost use Rattle.hm_races.specs.Numbers.{small_of, small_interval};
 ghost use Rattle.hm_race_states.specs.SeqBy.{seq_by};
-ghost use Rattle.hm_folds.specs.Kept.{interval_of, interval_at, stage_of, standing};
+ghost use Rattle.hm_folds.specs.Kept.{interval_of, interval_at, overlaps_at, stage_of, standing};
 
 use hm_base::{MirrorId, NoMemory, Proc, Span};
 use hm_folds::intervals::{
-    self, KeptInterval, KeptStage, apply_all, first_stage, is_deferred, is_in_tree, proc_of,
+    KeptInterval, KeptStage, apply_all, first_stage, is_deferred, is_in_tree, overlaps, proc_of,
     seq_of, with_seq, with_stage,
 };
 use hm_history::Kind;
+use std::alloc::Global;
 
 /// By process whether its sequence is odd, and how many invalidations are under way; by mirror its interval, whose
-/// sequence is 3 if it is its process's, and else 1.
-#[derive(Clone, Copy)]
+/// sequence is 3 if it is its process's, and else 1. No interval is kept past the last that is there.
+#[derive(Drop)]
 pub struct SmallSeqs {
     pub odd: [bool; 32],
-    pub active: [u64; 32],
-    pub intervals: [Option<KeptInterval>; 32],
+    pub active: [u8; 32],
+    pub intervals: Vec<Option<KeptInterval>>,
+    ghost few: { length intervals.items ≤ 32 },
 }
 
 /// What an entry makes of small sequences, before they are made small again.
 #[derive(Clone, Copy)]
 pub struct Between {
     pub seqs: [u64; 32],
-    pub active: [u64; 32],
+    pub active: [u8; 32],
     pub intervals: [Option<KeptInterval>; 32],
 }
 
@@ -51,7 +57,7 @@ fn odd_of(seq: u64) -> bool
     seq % 2 == 1
 }
 
-fn one_more(count: u64) -> Result<u64, NoMemory>
+fn one_more(count: u8) -> Result<u8, NoMemory>
     ensures { IfOk result (λ n. n ≡ count + 1) }
 {
     match count.checked_add(1) {
@@ -88,15 +94,52 @@ fn settled_intervals(
     settled
 }
 
-// The same intervals once more.
-fn copied(intervals: &[Option<KeptInterval>; 32]) -> [Option<KeptInterval>; 32]
+// The same intervals, with room for all mirrors.
+fn copied(intervals: &[Option<KeptInterval>]) -> [Option<KeptInterval>; 32]
+    requires { length intervals.now ≤ 32 }
     ensures { (m : ℕ) → interval_at result m ≡ interval_at intervals.now m }
 {
     let mut copy = [None; 32];
-    for number in 0..32usize {
+    for number in 0..intervals.len() {
         copy[number] = intervals[number];
     }
     copy
+}
+
+// How many mirrors there are up to the last that has an interval.
+fn used(intervals: &[Option<KeptInterval>; 32]) -> usize
+    ensures within { result ≤ 32 }
+    ensures none { (m : ℕ) → result ≤ m → interval_at intervals.now m ≡ None }
+{
+    let mut count = 0;
+    for number in 0..32usize {
+        if intervals[number].is_some() {
+            count = number + 1;
+        }
+    }
+    count
+}
+
+// The same intervals, up to the last that is there.
+fn kept(
+    alloc: Global,
+    intervals: &[Option<KeptInterval>; 32],
+) -> Result<Vec<Option<KeptInterval>>, NoMemory>
+    ensures few { IfOk result (λ v. length v.items ≤ 32) }
+    ensures same { IfOk result (λ v. (m : ℕ) → interval_at v.items m ≡ interval_at intervals.now m) }
+{
+    let count = used(intervals);
+    Ok(Vec::from_slice(alloc, &intervals[..count])?)
+}
+
+/// The interval of a mirror; none past the last that is kept.
+pub(crate) fn read(intervals: &[Option<KeptInterval>], number: usize) -> Option<KeptInterval>
+    ensures { interval_of result ≡ interval_at intervals.now number }
+{
+    match intervals.get(number) {
+        Some(interval) => *interval,
+        None => None,
+    }
 }
 
 // By process whether its sequence is odd.
@@ -137,12 +180,12 @@ fn is_steady_at(odd: &[bool; 32], interval: &Option<KeptInterval>) -> bool
 }
 
 // Whether all do.
-fn all_steady(odd: &[bool; 32], intervals: &[Option<KeptInterval>; 32]) -> bool
+fn all_steady(odd: &[bool; 32], intervals: &[Option<KeptInterval>]) -> bool
     ensures { result ≡ true → (m : ℕ)
         → small_interval (λ p. seq_by (slice_index_or odd.now p false)) (interval_at intervals.now m)
         ≡ interval_at intervals.now m }
 {
-    for number in 0..32usize {
+    for number in 0..intervals.len() {
         if !is_steady_at(odd, &intervals[number]) {
             return false;
         }
@@ -150,18 +193,47 @@ fn all_steady(odd: &[bool; 32], intervals: &[Option<KeptInterval>; 32]) -> bool
     true
 }
 
+// The least number above this mirror's.
+fn first_above(after: Option<MirrorId>) -> u32
+    ensures { (k : ℕ) → is_above after k ≡ nat_le result k }
+{
+    match after {
+        None => 0,
+        Some(mirror) => mirror.number() + 1,
+    }
+}
+
+// The least mirror above `after` whose interval overlaps the span.
+fn next_told(
+    intervals: &[Option<KeptInterval>],
+    proc: Proc,
+    span: Span,
+    after: Option<MirrorId>,
+) -> Option<MirrorId>
+    requires { length intervals.now ≤ 32 }
+    ensures { result ≡ find (is_above after) (filter (overlaps_at intervals.now proc span) (numbers 0 32)) }
+{
+    for number in first_above(after)..intervals.len() as u32 {
+        if overlaps(&intervals[number as usize], proc, span) {
+            return Some(MirrorId::new(number));
+        }
+    }
+    None
+}
+
 impl Between {
     ghost use Rattle.hm_race_states.specs.Small.{between_seqs, kept_seqs, settled};
 
     /// The small sequences again.
-    pub fn settled(&self) -> SmallSeqs
-        ensures { kept_seqs result ≡ settled (between_seqs self.now) }
+    pub fn settled(&self, alloc: Global) -> Result<SmallSeqs, NoMemory>
+        ensures { IfOk result (λ x. kept_seqs x ≡ settled (between_seqs self.now)) }
     {
-        SmallSeqs {
+        let intervals = kept(alloc, &settled_intervals(&self.seqs, &self.intervals))?;
+        Ok(SmallSeqs {
             odd: odd_ones(&self.seqs),
             active: self.active,
-            intervals: settled_intervals(&self.seqs, &self.intervals),
-        }
+            intervals,
+        })
     }
 
     /// The sequence of the mirror's interval, and 0 if it was never attached.
@@ -175,15 +247,21 @@ impl Between {
 impl SmallSeqs {
     ghost use Rattle.hm_race_states.specs.Small.{between_seqs, kept_seqs, settled, unguarded};
 
-    /// Before the first entry.
-    pub fn start() -> SmallSeqs
+    /// Before the first entry. It takes no memory.
+    pub fn start(alloc: Global) -> SmallSeqs
         ensures { kept_seqs result ≡ sequences_start }
     {
         SmallSeqs {
             odd: [false; 32],
             active: [0; 32],
-            intervals: [None; 32],
+            intervals: Vec::new(alloc),
         }
+    }
+
+    fn interval(&self, mirror: MirrorId) -> Option<KeptInterval>
+        ensures { interval_of result ≡ (kept_seqs self.now).interval mirror }
+    {
+        read(&self.intervals, mirror.number() as usize)
     }
 
     fn is_odd(&self, proc: Proc) -> bool
@@ -201,7 +279,7 @@ impl SmallSeqs {
     }
 
     /// How many invalidations of the process are under way.
-    pub fn active(&self, proc: Proc) -> u64
+    pub fn active(&self, proc: Proc) -> u8
         ensures { result ≡ (kept_seqs self.now).active proc }
     {
         self.active[proc.number() as usize]
@@ -211,34 +289,34 @@ impl SmallSeqs {
     pub fn interval_seq(&self, mirror: MirrorId) -> u64
         ensures { result ≡ interval_seq (kept_seqs self.now) mirror }
     {
-        seq_of(&self.intervals[mirror.number() as usize])
+        seq_of(&self.interval(mirror))
     }
 
     fn interval_proc(&self, mirror: MirrorId) -> Proc
         ensures { result ≡ interval_proc (kept_seqs self.now) mirror }
     {
-        proc_of(&self.intervals[mirror.number() as usize])
+        proc_of(&self.interval(mirror))
     }
 
     /// Whether the mirror's interval is in the tree; one whose removal is deferred is.
     pub fn in_tree(&self, mirror: MirrorId) -> bool
         ensures { result ≡ in_tree (kept_seqs self.now) mirror }
     {
-        is_in_tree(&self.intervals[mirror.number() as usize])
+        is_in_tree(&self.interval(mirror))
     }
 
     /// Whether the insert of the mirror's interval is still deferred.
     pub fn insert_deferred(&self, mirror: MirrorId) -> bool
         ensures { result ≡ insert_deferred (kept_seqs self.now) mirror }
     {
-        is_deferred(&self.intervals[mirror.number() as usize])
+        is_deferred(&self.interval(mirror))
     }
 
     /// The least mirror above `after` that an invalidation of the span is to tell.
     pub fn next_told(&self, proc: Proc, span: Span, after: Option<MirrorId>) -> Option<MirrorId>
         ensures { result ≡ next_told (kept_seqs self.now) proc span after }
     {
-        intervals::next_told(&self.intervals, proc, span, after)
+        next_told(&self.intervals, proc, span, after)
     }
 
     /// Whether an interval in the tree of the process overlaps the span.
@@ -334,7 +412,7 @@ impl SmallSeqs {
         let at = mirror.number() as usize;
         let mut next = self.spread();
         let of_process = self.process_seq(self.interval_proc(mirror));
-        next.intervals[at] = with_seq(&self.intervals[at], of_process);
+        next.intervals[at] = with_seq(&self.interval(mirror), of_process);
         next
     }
 
@@ -372,7 +450,7 @@ impl SmallSeqs {
     {
         let at = mirror.number() as usize;
         let mut next = self.spread();
-        next.intervals[at] = with_stage(&self.intervals[at], stage);
+        next.intervals[at] = with_stage(&self.interval(mirror), stage);
         next
     }
 

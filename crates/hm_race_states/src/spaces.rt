@@ -1,5 +1,6 @@
 // Which processes are there, and their areas. Processes with the same areas share them.
-ghost use Rattle.std.specs.Prelude.{◌≡◌, ◌<◌, ℕ, [], false, length, map, replicate, slice_set, slice_index_or, IfOk, OnOk};
+ghost use Rattle.std.specs.Prelude.{◌≡◌, ◌<◌, ℕ, [], false, length, map, replicate, slice_set, slice_index_or, IfOk};
+ghost use Rattle.std.specs.Prelude.{OnOk};
 ghost use Rattle.std.specs.Rc.{rc_value};
 ghost use Rattle.hm_base.specs.Areas.{without, with_rights, with_area};
 ghost use Rattle.std.specs.Option.{option_map};

@@ -59,7 +59,7 @@ impl RaceState {
             tables: Rc::new(alloc, TableEntries::new(alloc))?,
             locks: Rc::new(alloc, FrameLocks::new(alloc))?,
             maps: Rc::new(alloc, MapLocks::new())?,
-            seqs: Rc::new(alloc, SmallSeqs::start())?,
+            seqs: Rc::new(alloc, SmallSeqs::start(alloc))?,
             tasks: first_tasks(alloc, script)?,
         })
     }

@@ -1,5 +1,6 @@
 // How far an actor is, and how it goes on.
-ghost use Rattle.std.specs.Prelude.{◌≡◌, ◌+◌, ◌<◌, ◌^◌, ℕ, [], true, map, slice_get, count_by, option_copied, is_none, IfOk, OnOk};
+ghost use Rattle.std.specs.Prelude.{◌≡◌, ◌+◌, ◌<◌, ◌^◌, ℕ, [], true, map, slice_get, count_by, option_copied, is_none};
+ghost use Rattle.std.specs.Prelude.{IfOk, OnOk};
 ghost use Rattle.hm_history.specs.Going.{going_from, going_seen, op_at, first_stack};
 ghost use Rattle.hm_actors.specs.Actors.{task_next, task_top, StackFits};
 ghost use Rattle.hm_phases.specs.Items.{phases_of, below_takes_count};
@@ -8,7 +9,9 @@ ghost use Rattle.hm_race_states.specs.Blurs.{blurred_phase};
 ghost use Rattle.hm_reads.specs.Ranges.{top_in_range};
 
 use crate::blur::{all_note_nothing, blurred_items};
-use hm_actors::{Records, op_at};
+use crate::shared_phases::SharedPhases;
+use crate::shared_records::SharedRecords;
+use hm_actors::op_at;
 use hm_base::{Actor, NoMemory, Op, Script};
 use hm_history::Kind;
 use hm_history::phases::{Body, Phase, Seen};
@@ -20,15 +23,15 @@ use std::alloc::Global;
 #[derive(Drop)]
 pub struct RaceTask {
     pub index: u64,
-    pub stack: Stack,
-    pub records: Records,
+    pub stack: SharedPhases,
+    pub records: SharedRecords,
     pub quiet: bool,
     ghost ranged: { top_in_range (slice_get stack 0) ≡ true },
     ghost notes: { quiet ≡ true → (own small : ℕ) → map (blurred_phase own small) stack ≡ stack },
 }
 
 // Whether a fork between the two halves of a page is at a page; all other phases always pass.
-fn in_range(stack: &Stack) -> bool
+fn in_range(stack: &SharedPhases) -> bool
     ensures { result ≡ top_in_range (slice_get stack.now 0) }
 {
     match stack.top() {
@@ -43,7 +46,7 @@ fn in_range(stack: &Stack) -> bool
 }
 
 // Whether one more frame can be counted below the top phase.
-fn takes_count(stack: &Stack) -> bool
+fn takes_count(stack: &SharedPhases) -> bool
     ensures { result ≡ below_takes_count stack.now }
 {
     match stack.items() {
@@ -57,8 +60,8 @@ impl RaceTask {
     ghost use Rattle.hm_race_states.specs.Tasks.{going_in};
 
     // An actor of these parts. It fails if a fork is past the last page, where none ever is.
-    fn made(index: u64, stack: Stack, records: Records) -> Result<RaceTask, NoMemory>
-        ensures { IfOk result (λ t. going_in t ≡ record { index = index; stack = stack; pages = records.items }) }
+    fn made(index: u64, stack: SharedPhases, records: SharedRecords) -> Result<RaceTask, NoMemory>
+        ensures { IfOk result (λ t. going_in t ≡ record { index = index; stack = stack; pages = records }) }
     {
         if !in_range(&stack) {
             return Err(NoMemory);
@@ -80,7 +83,8 @@ impl RaceTask {
         if let Some(op) = op_at(script, actor, index) {
             stack.begin(op);
         }
-        RaceTask::made(index, stack, Records::of(alloc, &[])?)
+        let stack = SharedPhases::of(alloc, &stack.items(), &SharedPhases::none())?;
+        RaceTask::made(index, stack, SharedRecords::none())
     }
 
     /// The actor at its first operation.
@@ -116,6 +120,17 @@ impl RaceTask {
             .count() as u64
     }
 
+    // The same actor once more.
+    fn copy(&self, alloc: Global) -> Result<RaceTask, NoMemory>
+        ensures { IfOk result (λ t. going_in t ≡ going_in self.now) }
+    {
+        RaceTask::made(
+            self.index,
+            SharedPhases::of(alloc, &self.stack.items(), &self.stack)?,
+            self.records.share()?,
+        )
+    }
+
     // The actor, at this operation and this phase, after its entry.
     fn after_top(
         &self,
@@ -129,19 +144,19 @@ impl RaceTask {
         requires below { self.now.index + 1 < 2 ^ 64 }
         requires fits { StackFits op.now self.now.stack kind.now seen.now }
         ensures { IfOk result (λ t. going_in t
-            ≡ (task_top script.now actor (record { going = going_in self.now; spare = 1 }) op.now self.now.stack kind.now
-            seen.now).going) }
+            ≡ (task_top script.now actor (record { going = going_in self.now; spare = 1 }) op.now self.now.stack
+            kind.now seen.now).going) }
     {
-        let mut records = Records::of(alloc, self.records.as_slice())?;
-        let mut stack = Stack::of(self.stack.items());
         let Some(top) = self.stack.top() else {
-            return RaceTask::made(self.index, stack, records);
+            return self.copy(alloc);
         };
-        records.step(top, seen.page, kind);
+        let mut stack = Stack::of(self.stack.items());
         stack.moved(op, kind, seen);
         if is_over(&stack) {
             return Ok(RaceTask::at(alloc, script, actor, self.index + 1)?);
         }
+        let records = self.records.after(alloc, top, seen.page, kind)?;
+        let stack = SharedPhases::of(alloc, &stack.items(), &self.stack)?;
         RaceTask::made(self.index, stack, records)
     }
 
@@ -164,11 +179,7 @@ impl RaceTask {
         }
         match op_at(script, actor, self.index) {
             Some(op) => self.after_top(alloc, script, actor, op, kind, seen),
-            None => RaceTask::made(
-                self.index,
-                Stack::of(self.stack.items()),
-                Records::of(alloc, self.records.as_slice())?,
-            ),
+            None => self.copy(alloc),
         }
     }
 
@@ -179,10 +190,11 @@ impl RaceTask {
           stack = map (blurred_phase own small) (going_in self.now).stack;
         }) }
     {
+        let items = blurred_items(own, small, self.stack.items());
         RaceTask::made(
             self.index,
-            Stack::of(blurred_items(own, small, self.stack.items())),
-            Records::of(alloc, self.records.as_slice())?,
+            SharedPhases::of(alloc, &items, &self.stack)?,
+            self.records.share()?,
         )
     }
 }

@@ -20,7 +20,7 @@ returns g c =
     let m = c.mirror_of-mirror.result in
     let own = c.own_seq-own.result in
     let little = c.interval_seq-small.result in
-    ap going_in c.in_ok-new.ensures.ok ∙ (c.in_ok-blurred.ensures ∙ (ap {B = Going} (λ (z : RaceTask). record { index = z.index; stack = map (blurred_phase own little) z.stack; pages = z.records.items }) c.deref-3.ensures
+    ap going_in c.in_ok-new.ensures.ok ∙ (c.in_ok-blurred.ensures ∙ (ap {B = Going} (λ (z : RaceTask). record { index = z.index; stack = map (blurred_phase own little) z.stack; pages = z.records }) c.deref-3.ensures
     ∙ going_same c.args.script.now (g.C.Came.seqs c.args.came.now) a own little m (going_in t) (map (blurred_phase own little) t.stack)
     (c.mirror_of-mirror.ensures ∙ ap (λ (z : RaceTask). mirror_of (op_at c.args.script.now a (going_in z).index)) c.deref-2.ensures)
     c.own_seq-own.ensures

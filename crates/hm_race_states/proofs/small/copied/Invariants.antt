@@ -1,4 +1,4 @@
-use Rattle.std.proofs.Common.{◌≡◌, ℕ, ◌<◌, length}
+use Rattle.std.proofs.Common.{◌≡◌, ℕ, ◌<◌, ◌≤◌, None, length}
 use Rattle.hm_folds.specs.Kept.{interval_at}
 use Rattle.hm_race_states.proofs.small.copied.Given as goal
 
@@ -6,4 +6,5 @@ abbrev pub invariant-loop-number : goal.invariant-loop-number
 invariant-loop-number l = record {
   len : length l.copy ≡ 32;
   so_far : (m : ℕ) → m < l.number → interval_at l.copy m ≡ interval_at l.intervals m;
+  rest : (m : ℕ) → l.number ≤ m → interval_at l.copy m ≡ None;
 }

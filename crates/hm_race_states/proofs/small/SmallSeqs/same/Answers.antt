@@ -1,4 +1,6 @@
-use Rattle.std.proofs.Common.{◌≡◌, true}
+use Rattle.std.proofs.Common.{◌≡◌, ℕ, true, Option, List, sym, ap, ◌∙◌}
+use Rattle.hm_folds.specs.Kept.{interval_at}
+use Rattle.hm_folds.specs.declared.intervals.KeptInterval.{KeptInterval}
 use Rattle.hm_race_states.proofs.Alike.{odd_alike, active_alike, intervals_alike}
 use Rattle.hm_race_states.proofs.small.SmallSeqs.same.Goals as goal
 
@@ -13,4 +15,8 @@ returns-then-not-same_counts-clause-no c e =
     cc
 
 pub returns-clause-no : goal.returns-clause-no
-returns-clause-no c e = c.same_intervals.ensures.no (intervals_alike c.args.self.now c.args.other.now e)
+returns-clause-no c e =
+    let x = c.args.self.now in
+    let y = c.args.other.now in
+    let read = λ (m : ℕ) (xs : List (Option KeptInterval)). interval_at xs m in
+    c.same_intervals.ensures.no (λ m. ap (read m) c.deref.ensures.value ∙ intervals_alike x y e m ∙ sym (ap (read m) c.deref-2.ensures.value))

@@ -13,7 +13,7 @@ pub rest_after-requires-clause-seqs : goal.rest_after-requires-clause-seqs
 rest_after-requires-clause-seqs c =
     let x = c.args.self.now in
     let e = c.args.entry.now in
-    c.in_ok-seqs-2.ensures ∙ (ap kept_seqs c.in_ok-seqs.ensures.ok ∙ (c.settled.ensures ∙ ap settled (c.in_ok-between.ensures e.actor ∙ ap (λ q. unguarded (sequences_next (kept_seqs q) e.actor e.kind)) c.deref.ensures)))
+    c.in_ok-seqs-2.ensures ∙ (ap kept_seqs c.in_ok-seqs.ensures.ok ∙ (c.in_ok-settled.ensures ∙ ap settled (c.in_ok-between.ensures e.actor ∙ ap (λ q. unguarded (sequences_next (kept_seqs q) e.actor e.kind)) c.deref.ensures)))
 
 pub rest_after-requires-clause-goings : goal.rest_after-requires-clause-goings
 rest_after-requires-clause-goings c =
