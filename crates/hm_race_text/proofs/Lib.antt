@@ -2,3 +2,4 @@ mod Schedules
 mod Led
 mod Blocks
 mod Texts
+mod Last

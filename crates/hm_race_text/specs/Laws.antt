@@ -11,9 +11,10 @@ use Rattle.hm_history.specs.declared.Entry.{Entry}
 use Rattle.hm_races.specs.Outcomes.{Point, point_at, answers_of, raced}
 use Rattle.hm_races.specs.Closed.{IsListed, AreDistinct}
 use Rattle.hm_script.specs.Built.{has_drain}
+use Rattle.hm_script.specs.Spelling.{text}
 use Rattle.hm_race_text.specs.Answers.{answer_lines}
 use Rattle.hm_race_text.specs.Schedule.{with_turns}
-use Rattle.hm_race_text.specs.Text.{Way, block_of, blocks_of}
+use Rattle.hm_race_text.specs.Text.{Way, block_of, blocks_of, turns_text}
 use Rattle.hm_race_text.specs.declared.block.Block.{Block}
 
 -- ---- schedules
@@ -31,6 +32,10 @@ pub record MayHaveTurns (c : Program) (turns : List ℕ) : Type 0 where
 -- a script with such turns after its own schedule is a script
 abbrev pub TurnsStand : Type 0
 TurnsStand = (c : Program) (turns : List ℕ) → IsScript c → MayHaveTurns c turns → IsScript (with_turns c turns)
+
+-- its text is the script's own, and then the lines of these turns
+abbrev pub TurnsComeLast : Type 0
+TurnsComeLast = (c : Program) (turns : List ℕ) → text (with_turns c turns) ≡ text c ++ turns_text turns
 
 -- what is due, and what is legal, does not depend on a schedule
 abbrev pub SameDue : Type 0

@@ -9,6 +9,7 @@ use Rattle.hm_script.specs.Spelling.{line, schedule_words}
 use Rattle.hm_race_text.specs.Answers.{answer_lines}
 use Rattle.hm_race_text.specs.Schedule.{packed}
 use Rattle.hm_race_text.specs.declared.block.Block.{Block}
+use Rattle.hm_race_search.specs.declared.search.End.{End}
 
 -- the answers of the actors at the end of a race, and turns that lead there
 pub record Way : Type 0 where
@@ -52,13 +53,16 @@ abbrev pub blocks_text : ℕ → List Block → List ℕ
 blocks_text n [] = []
 blocks_text n (b ∷ bs) = block_text n b ++ blocks_text (n + 1) bs
 
--- whether all states are known to which the race can come
-abbrev pub whole_word : Bool → List ℕ
-whole_word whole = if whole then codes "whole" else codes "cut"
+-- how much of a race is known: all states to which it can come, or some of them
+abbrev pub end_word : End → List ℕ
+end_word End.Whole = codes "whole"
+end_word End.Cut = codes "cut"
+end_word End.Reached = codes "stopped"
 
 -- the last line: how many states are known, and whether these are all
-abbrev pub states_line : ℕ → Bool → List ℕ
-states_line states whole = line (codes "states" ∷ decimal states ∷ whole_word whole ∷ [])
+abbrev pub states_line : ℕ → End → List ℕ
+states_line states end = line (codes "states" ∷ decimal states ∷ end_word end ∷ [])
 
-unfoldable pub outcomes_text : List Block → ℕ → Bool → List ℕ
-outcomes_text bs states whole = blocks_text 1 bs ++ states_line states whole
+-- all outcomes, and the last line
+unfoldable pub outcomes_text : List Block → ℕ → End → List ℕ
+outcomes_text bs states end = blocks_text 1 bs ++ states_line states end

@@ -1,5 +1,6 @@
 // Laws of blocks and schedules: each is the contract of a function with an empty body.
-ghost use Rattle.hm_race_text.specs.Laws.{BlocksAreFound, NoneTwice, PointsAreLed, SameDue, SameLegal, TurnsLead, TurnsStand, WaysAreShown};
+ghost use Rattle.hm_race_text.specs.Laws.{BlocksAreFound, NoneTwice, PointsAreLed, SameDue, SameLegal};
+ghost use Rattle.hm_race_text.specs.Laws.{TurnsComeLast, TurnsLead, TurnsStand, WaysAreShown};
 
 /// The run of a script with turns after its schedule goes on from its own run by these turns.
 pub fn turns_lead()
@@ -9,6 +10,11 @@ pub fn turns_lead()
 /// It is a script again, if a schedule may have these lines.
 pub fn turns_stand()
     ensures { TurnsStand }
+{}
+
+/// Its text is the script's own, and then the lines of these turns.
+pub fn turns_come_last()
+    ensures { TurnsComeLast }
 {}
 
 /// What is due does not depend on a schedule.

@@ -7,11 +7,14 @@ mod decimal;
 mod laws;
 mod outcomes;
 mod schedule;
+mod turned;
 
 pub use answers::answer_lines;
 pub use block::{Block, add_block};
+pub use decimal::add_decimal;
 pub use laws::{
-    blocks_are_found, none_twice, points_are_led, same_due, same_legal, turns_lead, turns_stand,
-    ways_are_shown,
+    blocks_are_found, none_twice, points_are_led, same_due, same_legal, turns_come_last,
+    turns_lead, turns_stand, ways_are_shown,
 };
-pub use outcomes::{outcomes_text, write_outcomes};
+pub use outcomes::{add_outcome, add_states, outcomes_text};
+pub use turned::text_with_turns;
