@@ -6,3 +6,5 @@ mod Connectives
 mod Growing
 mod Plain
 mod ReadTo
+pub mod Asking
+pub mod Ruled

@@ -4,3 +4,6 @@ pub mod Laws
 pub mod Grammar
 pub mod Tails
 pub mod Reading
+pub mod Questions
+pub mod Rulings
+pub mod Texts

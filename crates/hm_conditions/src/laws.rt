@@ -1,4 +1,5 @@
 // Laws of conditions on the outcomes of a race: each is the contract of a function with an empty body.
+ghost use Rattle.hm_conditions.specs.Rulings.{RulingsAreRight};
 ghost use Rattle.hm_conditions.specs.Laws.{HoldsByWitness, ListedIsRight, RealIsRight, SameEnd, WholeIsRight};
 
 /// A condition of `some` holds by a witness, and one of `none` or `every` if there is no witness.
@@ -24,4 +25,9 @@ pub fn whole_is_right()
 /// Turns after a script's schedule change nothing of when its race has ended.
 pub fn same_end()
     ensures { SameEnd }
+{}
+
+/// What the outcomes that a search has found say of a condition is right of the race.
+pub fn rulings_are_right()
+    ensures { RulingsAreRight }
 {}

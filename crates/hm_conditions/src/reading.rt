@@ -1,7 +1,8 @@
 // The body of a condition, read word by word.
 ghost use Rattle.std.specs.Prelude.{◌≡◌, ◌∷◌, ◌++◌, [], true, IfOk, IfSome, MatchOption, None, Some};
 ghost use Rattle.hm_script.specs.Splitting.{split};
-ghost use Rattle.hm_conditions.specs.Grammar.{body_text, goes_on, is_front, is_plain, literal_text, not_text, place_after, word_kind};
+ghost use Rattle.hm_conditions.specs.Grammar.{body_text, goes_on, is_front, is_plain, literal_text, not_text};
+ghost use Rattle.hm_conditions.specs.Grammar.{place_after, word_kind};
 ghost use Rattle.hm_conditions.specs.Reading.{literal_of, open_text, so_far, stands};
 ghost use Rattle.hm_conditions.specs.declared.words.Place.{Place};
 ghost use Rattle.hm_conditions.specs.declared.words.WordKind.{WordKind};
