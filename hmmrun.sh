@@ -46,8 +46,12 @@ END
 
 words_hmmraces() {
     cat <<'END'
-  (no word)            reads a script: every outcome of its race; gives up beyond 1,000,000 states
-  MOST                 the same; gives up beyond MOST states
+  (no word)            reads a script: every outcome of its race
+  --table              the same as a table: a column for each answer that differs, a row for each outcome
+  --script N           the whole script with the schedule of outcome N
+  --expect CONDITION ..    whether each condition holds, such as 'none a1 loaded p0 0x10000 41'; status 1 if one fails
+  --expect-file LINES  the same of each line of the file LINES
+  MOST, --most MOST    before these: gives up beyond MOST states, and not beyond 1,000,000
 END
 }
 
@@ -61,14 +65,15 @@ END
 words_hmmjudge() {
     cat <<'END'
   (no word)            reads a report: `legal N`, or its first bad line, what is wrong with it and what was due instead
+  --standing           the same; after `legal N` also what is due to each actor
 END
 }
 
 usage() {
     local takes='WORD ..'
-    [ "$name" = hmmraces ] && takes='[MOST]'
+    [ "$name" = hmmraces ] && takes='[MOST] [--table | --script N | --expect CONDITION .. | --expect-file LINES]'
     [ "$name" = hmmview ] && takes='[FROM TO]'
-    [ "$name" = hmmjudge ] && takes=
+    [ "$name" = hmmjudge ] && takes='[--standing]'
     cat <<END
 usage: ./$name.sh [--quick | --ready] ${takes:+$takes }[FILE]
 
@@ -141,11 +146,55 @@ need_bytes() {
     [ $(($2 + $3)) -le $((1 << 48)) ] || refuse "the bytes end beyond 2^48"
 }
 
+# Of the words of hmmraces: the number of states, and what is to be written. Leaves them in `words`, and the number of
+# those that it has looked at in `taken`.
+read_race_words() {
+    local all=$#
+    if [ "${1-}" = --most ]; then
+        [ $# -ge 2 ] || refuse '`--most` takes one number'
+        need_numbers "$2"
+        words+=("$2")
+        shift 2
+    elif [[ ${1-} =~ ^[0-9]+$ ]]; then
+        need_numbers "$1"
+        words+=("$1")
+        shift
+    fi
+    case ${1-} in
+        --table)
+            words+=("$1")
+            shift ;;
+        --script)
+            [ $# -ge 2 ] || refuse '`--script` takes the number of an outcome'
+            need_numbers "$2"
+            words+=("$1" "$2")
+            shift 2 ;;
+        --expect)
+            words+=("$1")
+            shift
+            while [[ ${1-} =~ ^(some|none|every)\  ]]; do
+                words+=("$1")
+                shift
+            done
+            [ "${words[-1]}" != --expect ] || refuse 'a condition begins with `some`, `none` or `every`' ;;
+        --expect-file)
+            [ $# -ge 2 ] || refuse '`--expect-file` takes a file, a condition in each line'
+            [ -r "$2" ] && [ -s "$2" ] || no_file "the file $2 has no line that may be read"
+            mapfile -t -O ${#words[@]} words < <(echo --expect; cat "$2")
+            shift 2 ;;
+    esac
+    [[ ! ${1-} =~ ^[0-9]+$ ]] || refuse 'one number at most: MOST'
+    taken=$((all - $#))
+}
+
 # Looks at the words, and leaves those of the program in `words` and the file to read in `file`.
 read_words() {
-    local takes
+    local takes taken
     words=() file=
     case $name in
+        hmmraces)
+            read_race_words "$@"
+            shift "$taken" ;;
         hmmrun)
             [ $# -gt 0 ] || refuse 'which word?'
             case $1 in
@@ -163,19 +212,25 @@ read_words() {
             esac
             words=("${@:1:takes + 1}")
             shift $((takes + 1)) ;;
+        hmmjudge)
+            if [ "${1-}" = --standing ]; then
+                words=("$1")
+                shift
+            fi
+            is_number "${1-}" && refuse 'no word but --standing and FILE' ;;
         *)
             while [ $# -gt 0 ] && [[ $1 =~ ^[0-9]+$ ]]; do
                 need_numbers "$1"
                 words+=("$1")
                 shift
             done
-            [ "$name" = hmmraces ] && [ ${#words[@]} -gt 1 ] && refuse 'one number at most: MOST'
             [ "$name" = hmmview ] && [ ${#words[@]} -ne 0 ] && [ ${#words[@]} -ne 2 ] &&
-                refuse 'two numbers: FROM TO'
-            [ "$name" = hmmjudge ] && [ ${#words[@]} -ne 0 ] && refuse 'no word but FILE' ;;
+                refuse 'two numbers: FROM TO' ;;
     esac
     case ${1-} in
-        -?*) refuse "there is no \`$1\` here$(nearest "$1" --quick --ready --help --version)" ;;
+        -?*) refuse "there is no \`$1\` here$(nearest "$1" --quick --ready --help --version \
+            $([ "$name" = hmmjudge ] && echo --standing) \
+            $([ "$name" = hmmraces ] && echo --table --script --expect --expect-file --most))" ;;
     esac
     [ $# -le 1 ] || refuse "too many words: \`${*:2}\`"
     file=${1--}
@@ -263,6 +318,8 @@ run() {
     [ "$text" = - ] && text=/dev/stdin
     if [ $status -eq 3 ]; then
         "$top/tools/hmm.py" --explain "$text" | tail -n +2 >&2
+    elif [ "$name" = hmmraces ]; then
+        :
     elif [ $status -eq 1 ] && [ "$(head -c 4 "$text")" = 'hmm ' ] && ! grep -q '^history$' "$text"; then
         say 'this is a script; what is read here is the report that `./hmmrun.sh replay` writes of it'
     elif [ $status -eq 1 ] && [ "$name" != hmmjudge ] && [ "$(wc -c <"$text")" -lt 4000000 ]; then

@@ -1,7 +1,6 @@
 -- Where the schedules lead that are told.
-use Rattle.std.proofs.Common.{◌≡◌, ℕ, ◌≤◌, Bool, true, false, List, [], ◌∷◌, ◌++◌, length, refl, sym, ap, ◌∙◌, subst, append_assoc, append-nil}
-use Rattle.hm_base.specs.Program.{Program, IsScript, run_lines, schedule_fits}
-use Rattle.hm_base.specs.declared.ops.ScheduleLine.{ScheduleLine}
+use Rattle.std.proofs.Common.{◌≡◌, ℕ, ◌≤◌, true, false, List, [], ◌∷◌, ◌++◌, length, refl, sym, ap, ◌∙◌, subst, append_assoc, append-nil}
+use Rattle.hm_base.specs.Program.{Program, IsScript, run_lines}
 use Rattle.hm_history.specs.Laws.{DueFrom, RunsAreDue}
 use Rattle.hm_history.specs.Run.{run}
 use Rattle.hm_history.specs.declared.Entry.{Entry}
@@ -12,8 +11,8 @@ use Rattle.hm_race_text.specs.Laws.{TurnsLead, TurnsStand, SameLegal, LeadsTo, P
 use Rattle.hm_race_text.specs.Schedule.{with_turns}
 use Rattle.hm_race_text.specs.Text.{Way}
 use Rattle.hm_script.specs.Built.{has_drain}
-use Rattle.hm_race_top.specs.Laws.{DrainIsLast, KnownIsTrue}
-use Rattle.hm_race_top.specs.Ways.{told_turns, way_by, ways_of, EndsSo}
+use Rattle.hm_race_top.specs.Laws.{KnownIsTrue}
+use Rattle.hm_race_top.specs.Ways.{way_by, ways_of, EndsSo}
 use Rattle.hm_race_top.proofs.WaysKnown.{came_from}
 
 dues_join : (c : Program) (g h es : List Entry) → DueFrom c g h → DueFrom c (g ++ h) es → DueFrom c g (h ++ es)
@@ -28,7 +27,6 @@ pub record Rests : Type 0 where
   pub stand : TurnsStand
   pub same_legal : SameLegal
   pub led : PointsAreLed
-  pub drain : DrainIsLast
 
 ends_with : Rests → (c : Program) → IsScript c → (n : KnownValue) → IsKnown c (run c) n → n.ended ≡ true → (turns : List ℕ)
     → raced c (run c) turns ≡ raced c (run c) n.turns → (run_lines (with_turns c turns).schedule ≤ 100000 → IsScript (with_turns c turns))
@@ -46,33 +44,16 @@ ends_with by c script n k e turns same stands = record {
     led : LeadsTo c (run c) n.turns (point_at c (run c) n.turns)
     led = by.led c (run c) n.turns k.room
 
-no_lines : (c : Program) → IsScript c → run_lines (with_turns c []).schedule ≤ 100000 → IsScript (with_turns c [])
-no_lines c s few = record {
-  frames = s.frames;
-  devices = s.devices;
-  few_devices = s.few_devices;
-  skip = s.skip;
-  few_actors = s.few_actors;
-  ops = s.ops;
-  few_ops = s.few_ops;
-  schedule = subst (λ (ls : List ScheduleLine). schedule_fits (length c.actors) ls ≡ true) (sym (append-nil c.schedule)) s.schedule;
-  few_lines = few;
-  version = s.version;
-}
-
-ends_so : Rests → (c : Program) → IsScript c → (n : KnownValue) → IsKnown c (run c) n → n.ended ≡ true → EndsSo c (way_by (length c.actors) (has_drain c.schedule) n)
-ends_so by c script n k e = cases (has_drain c.schedule) refl
-  where
-    cases : (t : Bool) → has_drain c.schedule ≡ t → EndsSo c (record { answers = outcome c n.form.answers; turns = told_turns t n.turns })
-    cases false none = ends_with by c script n k e n.turns refl (λ few. by.stand c n.turns script (record { goes_on = none; actors = k.actors; few_lines = few }))
-    cases true some = ends_with by c script n k e [] (sym (by.drain c script some n.turns)) (no_lines c script)
+ends_so : Rests → (c : Program) → IsScript c → has_drain c.schedule ≡ false → (n : KnownValue) → IsKnown c (run c) n → n.ended ≡ true → EndsSo c (way_by (length c.actors) n)
+ends_so by c script none n k e =
+    ends_with by c script n k e n.turns refl (λ few. by.stand c n.turns script (record { goes_on = none; actors = k.actors; few_lines = few }))
 
 pub known_is_true : Rests → BlocksAreFound → KnownIsTrue
-known_is_true by found c script ns known b l =
+known_is_true by found c script none ns known b l =
     let f = found (ways_of c ns) b l in
-    let m = came_from (length c.actors) (has_drain c.schedule) ns f.way f.listed in
+    let m = came_from (length c.actors) ns f.way f.listed in
     record {
       way = f.way;
       block = f.block;
-      ends = subst (λ (w : Way). EndsSo c w) m.way (ends_so by c script m.known (known m.known m.listed) m.ended);
+      ends = subst (λ (w : Way). EndsSo c w) m.way (ends_so by c script none m.known (known m.known m.listed) m.ended);
     }

@@ -2,4 +2,6 @@ pub mod Drain
 pub mod Drains
 pub mod WaysKnown
 pub mod Ends
-pub mod Finding
+pub mod Reporting
+pub mod Listed
+pub mod Holding

@@ -11,7 +11,6 @@ use Rattle.hm_race_text.specs.Answers.{answer_lines}
 use Rattle.hm_race_text.specs.Laws.{lines_of, WaysAreShown}
 use Rattle.hm_race_text.specs.Text.{Way, block_of, with_block, blocks_of}
 use Rattle.hm_race_text.specs.declared.block.Block.{Block}
-use Rattle.hm_script.specs.Built.{has_drain}
 use Rattle.hm_race_top.specs.Laws.{WaysAreOutcomes, CompleteIsAll}
 use Rattle.hm_race_top.specs.Ways.{way_by, ways_by, ways_of, blocks_known}
 
@@ -20,7 +19,7 @@ ways_are_outcomes c [] = refl
 ways_are_outcomes c (n ∷ ns) = by (ways_are_outcomes c ns) n.ended
   where
     by : map (λ (w : Way). w.answers) (ways_of c ns) ≡ outcomes_of c ns → (t : Bool)
-        → map (λ (w : Way). w.answers) (if t then way_by (length c.actors) (has_drain c.schedule) n ∷ ways_of c ns else ways_of c ns) ≡ (if t then outcome c n.form.answers ∷ outcomes_of c ns else outcomes_of c ns)
+        → map (λ (w : Way). w.answers) (if t then way_by (length c.actors) n ∷ ways_of c ns else ways_of c ns) ≡ (if t then outcome c n.form.answers ∷ outcomes_of c ns else outcomes_of c ns)
     by rest true = ap (λ (xs : List (List (List Kind))). outcome c n.form.answers ∷ xs) rest
     by rest false = rest
 
@@ -42,57 +41,57 @@ complete_is_all shown c ns all es due end =
     subst (λ (y : List (List Kind)). IsListed (lines_of (blocks_known c ns)) (answer_lines y)) f.answers (shown (ways_of c ns) f.way f.listed)
 
 -- a state at which all operations have ended, whose way this is
-pub record From (actors : ℕ) (drains : Bool) (ns : List KnownValue) (w : Way) : Type 0 where
+pub record From (actors : ℕ) (ns : List KnownValue) (w : Way) : Type 0 where
   pub known : KnownValue
   pub listed : IsListed ns known
   pub ended : known.ended ≡ true
-  pub way : way_by actors drains known ≡ w
+  pub way : way_by actors known ≡ w
 
-pub came_from : (actors : ℕ) (drains : Bool) (ns : List KnownValue) (w : Way) → IsListed (ways_by actors drains ns) w → From actors drains ns w
-came_from actors drains [] w l = absurd l
-came_from actors drains (n ∷ ns) w l = by (came_from actors drains ns w) n.ended refl l
+pub came_from : (actors : ℕ) (ns : List KnownValue) (w : Way) → IsListed (ways_by actors ns) w → From actors ns w
+came_from actors [] w l = absurd l
+came_from actors (n ∷ ns) w l = by (came_from actors ns w) n.ended refl l
   where
-    later : From actors drains ns w → From actors drains (n ∷ ns) w
+    later : From actors ns w → From actors (n ∷ ns) w
     later f = record { known = f.known; listed = inr f.listed; ended = f.ended; way = f.way }
 
-    by : (IsListed (ways_by actors drains ns) w → From actors drains ns w) → (t : Bool) → n.ended ≡ t
-        → IsListed (if t then way_by actors drains n ∷ ways_by actors drains ns else ways_by actors drains ns) w → From actors drains (n ∷ ns) w
+    by : (IsListed (ways_by actors ns) w → From actors ns w) → (t : Bool) → n.ended ≡ t
+        → IsListed (if t then way_by actors n ∷ ways_by actors ns else ways_by actors ns) w → From actors (n ∷ ns) w
     by rest true e (inl here) = record { known = n; listed = inl refl; ended = e; way = here }
     by rest true e (inr l) = later (rest l)
     by rest false e l = later (rest l)
 
 -- ---- one more state
 
-ways_more : (actors : ℕ) (drains : Bool) (ns : List KnownValue) (n : KnownValue) → ways_by actors drains (ns ++ n ∷ []) ≡ ways_by actors drains ns ++ ways_by actors drains (n ∷ [])
-ways_more actors drains [] n = refl
-ways_more actors drains (m ∷ ns) n = by (ways_more actors drains ns n) m.ended
+ways_more : (actors : ℕ) (ns : List KnownValue) (n : KnownValue) → ways_by actors (ns ++ n ∷ []) ≡ ways_by actors ns ++ ways_by actors (n ∷ [])
+ways_more actors [] n = refl
+ways_more actors (m ∷ ns) n = by (ways_more actors ns n) m.ended
   where
-    by : ways_by actors drains (ns ++ n ∷ []) ≡ ways_by actors drains ns ++ ways_by actors drains (n ∷ []) → (t : Bool)
-        → (if t then way_by actors drains m ∷ ways_by actors drains (ns ++ n ∷ []) else ways_by actors drains (ns ++ n ∷ []))
-        ≡ (if t then way_by actors drains m ∷ ways_by actors drains ns else ways_by actors drains ns) ++ ways_by actors drains (n ∷ [])
-    by rest true = ap (λ (ws : List Way). way_by actors drains m ∷ ws) rest
+    by : ways_by actors (ns ++ n ∷ []) ≡ ways_by actors ns ++ ways_by actors (n ∷ []) → (t : Bool)
+        → (if t then way_by actors m ∷ ways_by actors (ns ++ n ∷ []) else ways_by actors (ns ++ n ∷ []))
+        ≡ (if t then way_by actors m ∷ ways_by actors ns else ways_by actors ns) ++ ways_by actors (n ∷ [])
+    by rest true = ap (λ (ws : List Way). way_by actors m ∷ ws) rest
     by rest false = rest
 
-module _ (actors : ℕ) (drains : Bool) (ns : List KnownValue) (i : ℕ) (n : KnownValue) (lt : i < length ns) (is : get_or ns i n ≡ n) where
-  grown : ways_by actors drains (take (i + 1) ns) ≡ ways_by actors drains (take i ns) ++ ways_by actors drains (n ∷ [])
-  grown = ap (ways_by actors drains) (take_more ns i n lt ∙ ap (λ (x : KnownValue). take i ns ++ x ∷ []) is) ∙ ways_more actors drains (take i ns) n
+module _ (actors : ℕ) (ns : List KnownValue) (i : ℕ) (n : KnownValue) (lt : i < length ns) (is : get_or ns i n ≡ n) where
+  grown : ways_by actors (take (i + 1) ns) ≡ ways_by actors (take i ns) ++ ways_by actors (n ∷ [])
+  grown = ap (ways_by actors) (take_more ns i n lt ∙ ap (λ (x : KnownValue). take i ns ++ x ∷ []) is) ∙ ways_more actors (take i ns) n
 
-  pub one_ended : (bs new : List Block) → n.ended ≡ true → bs ≡ blocks_of (ways_by actors drains (take i ns)) → new ≡ with_block bs (block_of (way_by actors drains n))
-      → new ≡ blocks_of (ways_by actors drains (take (i + 1) ns))
+  pub one_ended : (bs new : List Block) → n.ended ≡ true → bs ≡ blocks_of (ways_by actors (take i ns)) → new ≡ with_block bs (block_of (way_by actors n))
+      → new ≡ blocks_of (ways_by actors (take (i + 1) ns))
   one_ended bs new e so next =
-      let one : ways_by actors drains (n ∷ []) ≡ way_by actors drains n ∷ [] =
-      ap (λ (t : Bool). if t then way_by actors drains n ∷ [] else []) e in
-      next ∙ ap (λ (cs : List Block). with_block cs (block_of (way_by actors drains n))) so
-      ∙ sym (ap blocks_of (grown ∙ ap (λ (ws : List Way). ways_by actors drains (take i ns) ++ ws) one)
-      ∙ fold-append (λ (cs : List Block) (w : Way). with_block cs (block_of w)) [] (ways_by actors drains (take i ns)) (way_by actors drains n ∷ []))
+      let one : ways_by actors (n ∷ []) ≡ way_by actors n ∷ [] =
+      ap (λ (t : Bool). if t then way_by actors n ∷ [] else []) e in
+      next ∙ ap (λ (cs : List Block). with_block cs (block_of (way_by actors n))) so
+      ∙ sym (ap blocks_of (grown ∙ ap (λ (ws : List Way). ways_by actors (take i ns) ++ ws) one)
+      ∙ fold-append (λ (cs : List Block) (w : Way). with_block cs (block_of w)) [] (ways_by actors (take i ns)) (way_by actors n ∷ []))
 
-  pub one_open : (bs : List Block) → n.ended ≡ false → bs ≡ blocks_of (ways_by actors drains (take i ns))
-      → bs ≡ blocks_of (ways_by actors drains (take (i + 1) ns))
+  pub one_open : (bs : List Block) → n.ended ≡ false → bs ≡ blocks_of (ways_by actors (take i ns))
+      → bs ≡ blocks_of (ways_by actors (take (i + 1) ns))
   one_open bs e so =
-      let none : ways_by actors drains (n ∷ []) ≡ [] =
-      ap (λ (t : Bool). if t then way_by actors drains n ∷ [] else []) e in
-      so ∙ sym (ap blocks_of (grown ∙ ap (λ (ws : List Way). ways_by actors drains (take i ns) ++ ws) none)
-      ∙ fold-append (λ (cs : List Block) (w : Way). with_block cs (block_of w)) [] (ways_by actors drains (take i ns)) [])
+      let none : ways_by actors (n ∷ []) ≡ [] =
+      ap (λ (t : Bool). if t then way_by actors n ∷ [] else []) e in
+      so ∙ sym (ap blocks_of (grown ∙ ap (λ (ws : List Way). ways_by actors (take i ns) ++ ws) none)
+      ∙ fold-append (λ (cs : List Block) (w : Way). with_block cs (block_of w)) [] (ways_by actors (take i ns)) [])
 
 -- all of them were taken
 pub took_all : (ns : List KnownValue) (i : ℕ) → length ns ≤ i → take i ns ≡ ns

@@ -1,10 +1,13 @@
 -- The laws, as statements.
-use Rattle.std.specs.Prelude.{◌≡◌, ℕ, true, List, map}
+use Rattle.std.specs.Prelude.{◌≡◌, ℕ, true, false, List, map}
 use Rattle.hm_base.specs.Program.{Program, IsScript}
 use Rattle.hm_history.specs.Run.{run}
 use Rattle.hm_races.specs.Outcomes.{raced}
 use Rattle.hm_race_search.specs.Known.{KnownValue, IsComplete, AreKnown, outcomes_of}
+use Rattle.hm_conditions.specs.Laws.{AllListed, AllReal}
+use Rattle.hm_race_text.specs.Laws.{lines_of}
 use Rattle.hm_race_text.specs.Text.{Way}
+use Rattle.hm_race_text.specs.declared.block.Block.{Block}
 use Rattle.hm_race_top.specs.Ways.{ways_of, blocks_known, AreTrue, HaveAll}
 use Rattle.hm_script.specs.Built.{has_drain}
 
@@ -17,11 +20,20 @@ abbrev pub DrainIsLast : Type 0
 DrainIsLast =
     (c : Program) → IsScript c → has_drain c.schedule ≡ true → (turns : List ℕ) → raced c (run c) turns ≡ run c
 
--- what is written of states that are known is true
+-- what is written of states that are known is true, if the schedule does not end in `drain`
 abbrev pub KnownIsTrue : Type 0
 KnownIsTrue =
-    (c : Program) → IsScript c → (ns : List KnownValue) → AreKnown c (run c) ns → AreTrue c (blocks_known c ns)
+    (c : Program) → IsScript c → has_drain c.schedule ≡ false → (ns : List KnownValue) → AreKnown c (run c) ns
+    → AreTrue c (blocks_known c ns)
 
 -- and it is all, if the states are
 abbrev pub CompleteIsAll : Type 0
 CompleteIsAll = (c : Program) (ns : List KnownValue) → IsComplete c (run c) ns → HaveAll c (blocks_known c ns)
+
+-- blocks that are true are outcomes of the race
+abbrev pub TrueIsReal : Type 0
+TrueIsReal = (c : Program) (bs : List Block) → AreTrue c bs → AllReal c (lines_of bs)
+
+-- and if they are all, every outcome is listed
+abbrev pub AllIsListed : Type 0
+AllIsListed = (c : Program) (bs : List Block) → HaveAll c bs → AllListed c (lines_of bs)

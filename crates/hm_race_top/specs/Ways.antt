@@ -1,5 +1,5 @@
 -- The ways to the outcomes that a search knows, and what holds of what is written of them.
-use Rattle.std.specs.Prelude.{◌≡◌, ◌≤◌, ℕ, Bool, true, if◌then◌else◌, length, List, [], ◌∷◌, ◌++◌, map}
+use Rattle.std.specs.Prelude.{◌≡◌, ◌≤◌, ℕ, true, if◌then◌else◌, length, List, [], ◌∷◌, ◌++◌, map}
 use Rattle.hm_base.specs.Program.{Program, IsScript, run_lines}
 use Rattle.hm_history.specs.Laws.{DueFrom}
 use Rattle.hm_history.specs.Legal.{Legal}
@@ -14,30 +14,23 @@ use Rattle.hm_race_text.specs.Laws.{lines_of}
 use Rattle.hm_race_text.specs.Schedule.{with_turns}
 use Rattle.hm_race_text.specs.Text.{Way, block_of, blocks_of}
 use Rattle.hm_race_text.specs.declared.block.Block.{Block}
-use Rattle.hm_script.specs.Built.{has_drain}
-
--- the turns that are written: none after a `drain`, which leaves nothing to do
-abbrev pub told_turns : Bool → List ℕ → List ℕ
-told_turns drains turns = if drains then [] else turns
 
 -- the way to the state with this number, whose form this is, with the answers of `actors` actors
-abbrev pub way_to : ℕ → Bool → List KnownValue → ℕ → Point → Way
-way_to actors drains ns at f =
-    record { answers = map f.answers (numbers 0 actors); turns = told_turns drains (turns_at ns at) }
+abbrev pub way_to : ℕ → List KnownValue → ℕ → Point → Way
+way_to actors ns at f = record { answers = map f.answers (numbers 0 actors); turns = turns_at ns at }
 
 -- the way to a state, with the answers of `actors` actors
-abbrev pub way_by : ℕ → Bool → KnownValue → Way
-way_by actors drains n = record { answers = map n.form.answers (numbers 0 actors); turns = told_turns drains n.turns }
+abbrev pub way_by : ℕ → KnownValue → Way
+way_by actors n = record { answers = map n.form.answers (numbers 0 actors); turns = n.turns }
 
 -- the ways to those states at which all operations have ended, in the order in which a search came to them
-abbrev pub ways_by : ℕ → Bool → List KnownValue → List Way
-ways_by actors drains [] = []
-ways_by actors drains (n ∷ ns) =
-    if n.ended then way_by actors drains n ∷ ways_by actors drains ns else ways_by actors drains ns
+abbrev pub ways_by : ℕ → List KnownValue → List Way
+ways_by actors [] = []
+ways_by actors (n ∷ ns) = if n.ended then way_by actors n ∷ ways_by actors ns else ways_by actors ns
 
 -- the ways to the outcomes of a script's race, of what a search knows
 abbrev pub ways_of : Program → List KnownValue → List Way
-ways_of c ns = ways_by (length c.actors) (has_drain c.schedule) ns
+ways_of c ns = ways_by (length c.actors) ns
 
 -- what is written of them
 abbrev pub blocks_known : Program → List KnownValue → List Block

@@ -1,103 +1,127 @@
-// The top call: reads a script, searches its race, and writes the outcomes.
-ghost use Rattle.std.specs.Prelude.{◌≡◌, ◌≤◌, false, length, map, string_bytes};
-ghost use Rattle.hm_base.specs.Program.{IsScript};
-ghost use Rattle.hm_race_states.specs.Keyed.{form_in};
+// The top call: reads a script, searches its race, and writes what is asked for.
+ghost use Rattle.std.specs.Prelude.{◌≡◌, false, map, string_bytes};
 ghost use Rattle.hm_race_search.specs.Values.{all_known};
-ghost use Rattle.hm_race_text.specs.Text.{blocks_of, outcomes_text};
-ghost use Rattle.hm_race_top.specs.Asked.{most_of};
-ghost use Rattle.hm_race_top.specs.Races.{HasFound, HasWrittenWays, Races, Searches};
-ghost use Rattle.hm_race_top.specs.Ways.{ways_by};
+ghost use Rattle.hm_race_states.specs.Keyed.{form_in};
+ghost use Rattle.hm_race_top.specs.Races.{HasFound, Races, Searches};
+ghost use Rattle.hm_race_top.specs.Telling.{HasTold, IsSentOn, told};
+ghost use Rattle.hm_script.specs.Built.{has_drain};
 ghost use Rattle.hm_edge.specs.Traffic.{traffic};
 ghost use Rattle.hm_edge.specs.Writing.{WriteFaulted};
-ghost use Rattle.hm_edge.specs.declared.status.Status.{Status};
 
-use crate::asked::most_of;
-use crate::laws::{complete_is_all, known_is_true};
+use crate::asked::{Task, front, task_of};
+use crate::laws::{all_is_listed, complete_is_all, known_is_true, true_is_real};
+use crate::settling::Settling;
+use crate::telling::{tell, write_telling};
 use crate::ways::{blocks_of, has_drain};
 use hm_base::{NoMemory, Script};
-use hm_edge::{Status, read_script};
+use hm_edge::{RaceEnd, Status, read_script};
 use hm_history::StepError;
 use hm_io::{Sink, Source};
-use hm_race_run::search;
+use hm_race_run::{copy_script, search};
 use hm_race_search::Explored;
 use hm_race_states::key::StateKey;
-use hm_race_text::write_outcomes;
-use hm_report::Written;
 use skip_rules::SkipRule;
 use std::alloc::Global;
 
-/// Writes the outcomes that a search has found, of a race of `actors` actors.
-fn write_ways<K: Sink>(
+/// Writes what is asked for, of a search that has ended.
+fn write_found<K: Sink>(
     alloc: Global,
-    actors: u64,
-    drains: bool,
+    script: &Script,
+    task: &Task,
     found: &Explored<StateKey>,
     sink: &mut K,
 ) -> Status
-    requires { actors ≤ 16 }
-    ensures written { HasWrittenWays
-        (outcomes_text (blocks_of (ways_by actors drains (all_known form_in found.now.known.items)))
-        (length found.now.known.items) found.now.whole)
+    ensures written { HasTold (told script.now task.now (all_known form_in found.now.known.items) found.now.end)
         (K.state sink.old) (K.state sink.new) result }
     ensures faults { WriteFaulted (K.state sink.old).faults (K.state sink.new).faults result }
-    ensures flushed { result ≡ Status.Done → (K.state sink.new).pending ≡ false }
+    ensures flushed { IsSentOn (K.state sink.new).pending result }
 {
-    let Ok(blocks) = blocks_of(alloc, actors, drains, found.known.as_slice()) else {
+    script.facts();
+    let known = found.known.as_slice();
+    let Ok(blocks) = blocks_of(alloc, script.actors.len(), known) else {
         return Status::NoMemory;
     };
-    let states = found.known.len() as u64;
-    match write_outcomes(alloc, blocks.as_slice(), states, found.whole, sink) {
-        Written::Done => Status::Done,
-        Written::Fault => Status::WriteFault,
-        Written::NoMemory => Status::NoMemory,
+    let states = known.len() as u64;
+    match tell(alloc, script, task, blocks.as_slice(), states, found.end) {
+        Ok(telling) => write_telling(alloc, &telling, sink),
+        Err(NoMemory) => Status::NoMemory,
     }
 }
 
-/// Searches the race of a script, and writes its outcomes.
-fn find<R: SkipRule, K: Sink>(
+/// Searches the race of a script whose schedule does not end in `drain`, and writes what is asked for.
+fn search_race<R: SkipRule, K: Sink>(
     alloc: Global,
-    script: Script,
+    script: &Script,
     rule: R,
     most: u64,
+    task: &Task,
     sink: &mut K,
 ) -> Status
-    ensures found { HasFound most script (K.state sink.old) (K.state sink.new) result }
+    requires { has_drain script.now.schedule ≡ false }
+    ensures found { HasFound most script.now task.now (K.state sink.old) (K.state sink.new) result }
     ensures faults { WriteFaulted (K.state sink.old).faults (K.state sink.new).faults result }
-    ensures flushed { result ≡ Status.Done → (K.state sink.new).pending ≡ false }
+    ensures flushed { IsSentOn (K.state sink.new).pending result }
 {
     script.facts();
     known_is_true();
     complete_is_all();
+    true_is_real();
+    all_is_listed();
     hm_race_text::none_twice();
-    let actors = script.actors.len();
-    let drains = has_drain(script.schedule.as_slice());
-    match search(alloc, script, rule, most) {
-        Ok(found) => write_ways(alloc, actors, drains, &found, sink),
+    hm_conditions::rulings_are_right();
+    let Ok(copy) = copy_script(alloc, script) else {
+        return Status::NoMemory;
+    };
+    let goal = Settling::new(alloc, task.questions(), script.actors.len());
+    match search(alloc, copy, rule, &goal, most) {
+        Ok(found) => write_found(alloc, script, task, &found, sink),
         Err(StepError::Full(_)) => Status::HistoryFull,
         Err(StepError::NoMemory) => Status::NoMemory,
     }
 }
 
-/// Reads a script, searches its race, and writes its outcomes.
+/// Searches the race of a script, and writes what is asked for.
+fn find<R: SkipRule, K: Sink>(
+    alloc: Global,
+    script: &Script,
+    rule: R,
+    most: u64,
+    task: &Task,
+    sink: &mut K,
+) -> Status
+    ensures found { HasFound most script.now task.now (K.state sink.old) (K.state sink.new) result }
+    ensures faults { WriteFaulted (K.state sink.old).faults (K.state sink.new).faults result }
+    ensures flushed { IsSentOn (K.state sink.new).pending result }
+{
+    if has_drain(script.schedule.as_slice()) {
+        Status::Race(RaceEnd::Drained)
+    } else {
+        search_race(alloc, script, rule, most, task, sink)
+    }
+}
+
+/// Reads a script, searches its race, and writes what is asked for.
 fn read_and_find<R: SkipRule, S: Source, K: Sink>(
     alloc: Global,
     most: u64,
+    task: &Task,
     source: &mut S,
     sink: &mut K,
     rule: R,
 ) -> Status
-    ensures { Searches most
+    ensures { Searches most task.now
         (traffic S.state K.state source.old source.new sink.old sink.new) result }
 {
     match read_script(alloc, source) {
-        Ok(script) => find(alloc, script, rule, most, sink),
+        Ok(script) => find(alloc, &script, rule, most, task, sink),
         Err(status) => status,
     }
 }
 
-/// Reads a script from the source, and writes all outcomes of its race to the sink, as far as a search finds them that
-/// knows no more states than the words after the program's name ask for. The schedule is the set-up; from there every
-/// actor may take its turn at any time. It waits for nobody. The rule is the caller's: which pages a migration skips.
+/// Reads a script from the source, and writes to the sink what the words after the program's name ask for: all outcomes
+/// of its race, one after the other or as a table; the script with the schedule of one outcome; or whether conditions
+/// hold. It knows of no more states than they say. The script's schedule is the set-up; from there every actor may take
+/// its turn at any time. It waits for nobody. The rule is the caller's: which pages a migration skips.
 pub fn races<R: SkipRule, S: Source, K: Sink>(
     alloc: Global,
     words: &[String],
@@ -105,11 +129,14 @@ pub fn races<R: SkipRule, S: Source, K: Sink>(
     sink: &mut K,
     rule: R,
 ) -> Status
-    ensures { Races (most_of (map string_bytes words.now))
+    ensures { Races (map string_bytes words.now)
         (traffic S.state K.state source.old source.new sink.old sink.new) result }
 {
-    match most_of(words) {
-        Some(most) => read_and_find(alloc, most, source, sink, rule),
-        None => Status::Usage,
+    let Some((most, rest)) = front(words) else {
+        return Status::Usage;
+    };
+    match task_of(alloc, rest) {
+        Ok(task) => read_and_find(alloc, most, &task, source, sink, rule),
+        Err(status) => status,
     }
 }

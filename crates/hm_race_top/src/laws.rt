@@ -1,5 +1,6 @@
 // Laws of what is written of a search: each is the contract of a function that does nothing.
-ghost use Rattle.hm_race_top.specs.Laws.{CompleteIsAll, DrainIsLast, KnownIsTrue, WaysAreOutcomes};
+ghost use Rattle.hm_race_top.specs.Laws.{AllIsListed, CompleteIsAll, DrainIsLast, KnownIsTrue, TrueIsReal};
+ghost use Rattle.hm_race_top.specs.Laws.{WaysAreOutcomes};
 
 /// The answers of the ways that are told are the outcomes that a search knows.
 pub fn ways_are_outcomes()
@@ -17,7 +18,6 @@ pub fn drain_is_last()
 pub fn known_is_true()
     ensures { KnownIsTrue }
 {
-    drain_is_last();
     hm_history::laws::runs_are_due();
     hm_laws::every_history_is_legal();
     hm_race_text::turns_lead();
@@ -33,3 +33,15 @@ pub fn complete_is_all()
 {
     hm_race_text::ways_are_shown();
 }
+
+/// Blocks that are true are outcomes of the race.
+pub fn true_is_real()
+    ensures { TrueIsReal }
+{
+    hm_conditions::same_end();
+}
+
+/// If they are all, every outcome is listed.
+pub fn all_is_listed()
+    ensures { AllIsListed }
+{}

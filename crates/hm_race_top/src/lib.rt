@@ -1,13 +1,17 @@
-// The top call: a script is read, and all outcomes of its race are written.
+// The top call: a script is read, and all outcomes of its race are written, or what they say of conditions.
 #![tactic(auto)]
 
 mod asked;
 mod call;
 mod laws;
 mod process;
+mod settling;
+mod telling;
 mod ways;
 
 pub use asked::MOST_STATES;
 pub use call::races;
-pub use laws::{complete_is_all, drain_is_last, known_is_true, ways_are_outcomes};
+pub use laws::{
+    all_is_listed, complete_is_all, drain_is_last, known_is_true, true_is_real, ways_are_outcomes,
+};
 pub use process::{NAME, USAGE, program};

@@ -1,12 +1,12 @@
 // The program hmmraces, but for the real streams: its arguments, one call, and what it says and ends with.
 ghost use Rattle.std.specs.Prelude.{map, string_bytes};
 ghost use Rattle.std.specs.Vec.Iter.{into_iter_items};
-ghost use Rattle.hm_edge.specs.Exits.{Begins, Exits, arguments};
+ghost use Rattle.hm_edge.specs.Exits.{Exits, arguments};
 ghost use Rattle.hm_edge.specs.Traffic.{traffic};
 ghost use Rattle.hm_race_top.specs.Runs.{Runs, name, usage};
 
 use crate::call::races;
-use hm_edge::{Status, finish, words_after_name};
+use hm_edge::{Call, Status};
 use hm_io::{Sink, Source};
 use skip_rules::Multiples;
 use std::alloc::Global;
@@ -17,21 +17,23 @@ use std::io;
 pub const NAME: &str = "hmmraces";
 
 /// What it says if its words are none of the forms.
-pub const USAGE: &str = "usage: hmmraces [MOST]";
+pub const USAGE: &str =
+    "usage: hmmraces [[--most] MOST] [--table | --script N | --expect CONDITION ..]";
 
-/// Makes the call with the words after the program's name, if they are there.
-fn begin<S: Source, K: Sink>(
-    alloc: Global,
-    args: io::Result<Args>,
-    source: &mut S,
-    sink: &mut K,
-) -> Status
-    ensures { Begins Runs (arguments (λ x. map string_bytes (into_iter_items x)) args)
-        (traffic S.state K.state source.old source.new sink.old sink.new) result }
-{
-    match words_after_name(alloc, args) {
-        Ok(words) => races(alloc, words.as_slice(), source, sink, Multiples),
-        Err(status) => status,
+/// The call of hmmraces.
+struct Racing;
+
+impl Call for Racing {
+    ghost Runs = { Runs };
+
+    fn call<S: Source, K: Sink>(
+        &self,
+        alloc: Global,
+        words: &[String],
+        source: &mut S,
+        sink: &mut K,
+    ) -> Status {
+        races(alloc, words, source, sink, Multiples)
     }
 }
 
@@ -48,6 +50,5 @@ pub fn program<S: Source, K: Sink, E: Sink>(
         (traffic S.state K.state source.old source.new sink.old sink.new) (E.state errors.old) (E.state errors.new)
         result }
 {
-    let status = begin(alloc, args, source, sink);
-    finish(alloc, NAME, USAGE, &status, errors)
+    hm_edge::program(alloc, args, &Racing, NAME, USAGE, source, sink, errors)
 }

@@ -5,7 +5,7 @@ ghost use Rattle.hm_race_search.specs.Known.{turns_at};
 ghost use Rattle.hm_race_search.specs.Values.{all_known};
 ghost use Rattle.hm_race_states.specs.Keyed.{form_in};
 ghost use Rattle.hm_race_text.specs.Text.{block_of, blocks_of};
-ghost use Rattle.hm_race_top.specs.Ways.{told_turns, way_to, ways_by};
+ghost use Rattle.hm_race_top.specs.Ways.{way_to, ways_by};
 
 use hm_base::{Actor, ListOf, NoMemory, ScheduleLine};
 use hm_race_search::{Known, turns_to};
@@ -37,18 +37,10 @@ fn listed(alloc: Global, turns: &[Actor]) -> Result<ListOf<Actor>, NoMemory>
     Ok(list)
 }
 
-/// The turns that are told of the state with this number: none after a `drain`.
-fn told_turns(
-    alloc: Global,
-    drains: bool,
-    known: &[Known<StateKey>],
-    at: usize,
-) -> Result<ListOf<Actor>, NoMemory>
-    ensures { IfOk result (λ xs. xs ≡ told_turns drains (turns_at (all_known form_in known.now) at)) }
+/// The turns that lead to the state with this number.
+fn turns_of(alloc: Global, known: &[Known<StateKey>], at: usize) -> Result<ListOf<Actor>, NoMemory>
+    ensures { IfOk result (λ xs. xs ≡ turns_at (all_known form_in known.now) at) }
 {
-    if drains {
-        return Ok(ListOf::new(alloc));
-    }
     let turns = turns_to(alloc, known, at)?;
     Ok(listed(alloc, turns.as_slice())?)
 }
@@ -57,17 +49,16 @@ fn told_turns(
 fn block_of(
     alloc: Global,
     actors: u64,
-    drains: bool,
     known: &[Known<StateKey>],
     at: usize,
     key: &StateKey,
 ) -> Result<Block, NoMemory>
     requires { actors ≤ 16 }
-    ensures { IfOk result (λ b. b ≡ block_of (way_to actors drains (all_known form_in known.now) at (form_in key.now))) }
+    ensures { IfOk result (λ b. b ≡ block_of (way_to actors (all_known form_in known.now) at (form_in key.now))) }
 {
     Ok(Block {
         lines: answer_lines(alloc, &key.answers, actors)?,
-        turns: told_turns(alloc, drains, known, at)?,
+        turns: turns_of(alloc, known, at)?,
     })
 }
 
@@ -75,17 +66,16 @@ fn block_of(
 pub fn blocks_of(
     alloc: Global,
     actors: u64,
-    drains: bool,
     known: &[Known<StateKey>],
 ) -> Result<ListOf<Block>, NoMemory>
     requires { actors ≤ 16 }
-    ensures { IfOk result (λ bs. bs ≡ blocks_of (ways_by actors drains (all_known form_in known.now))) }
+    ensures { IfOk result (λ bs. bs ≡ blocks_of (ways_by actors (all_known form_in known.now))) }
 {
     let mut blocks = ListOf::new(alloc);
     for at in 0..known.len() {
         let state = &known[at];
         if state.ended {
-            let block = block_of(alloc, actors, drains, known, at, &state.key)?;
+            let block = block_of(alloc, actors, known, at, &state.key)?;
             add_block(&mut blocks, block)?;
         }
     }

@@ -9,5 +9,4 @@ returns c = known_is_true (record {
   stand = c.turns_stand.ensures;
   same_legal = c.same_legal.ensures;
   led = c.points_are_led.ensures;
-  drain = c.drain_is_last.ensures;
 }) c.blocks_are_found.ensures

@@ -22,12 +22,12 @@ loop-at-preserved c =
     elim c.if-state.branch [
       | then-state+in_ok-block+in_ok-add_block w ↦
           w.blocks-is
-          ∙ one_ended c.args.actors c.args.drains ns i n lt is c.loop-at.blocks w.add_block.new.blocks w.if-state.true c.loop-at.invariant
+          ∙ one_ended c.args.actors ns i n lt is c.loop-at.blocks w.add_block.new.blocks w.if-state.true c.loop-at.invariant
           (w.in_ok-add_block.ensures ∙ ap (with_block c.loop-at.blocks) w.in_ok-block.ensures)
       | else-state w ↦
           w.blocks-is
-          ∙ one_open c.args.actors c.args.drains ns i n lt is c.loop-at.blocks w.if-state.false c.loop-at.invariant
+          ∙ one_open c.args.actors ns i n lt is c.loop-at.blocks w.if-state.false c.loop-at.invariant
     ]
 
 pub returns : goal.returns
-returns c = c.loop-at.invariant ∙ ap (λ ns. blocks_of (ways_by c.args.actors c.args.drains ns)) (took_all (all_known form_in c.args.known.now) c.loop-at.at (omega (arith, c.loop-at-test.false, known_length form_in c.args.known.now)))
+returns c = c.loop-at.invariant ∙ ap (λ ns. blocks_of (ways_by c.args.actors ns)) (took_all (all_known form_in c.args.known.now) c.loop-at.at (omega (arith, c.loop-at-test.false, known_length form_in c.args.known.now)))

@@ -7,4 +7,4 @@ use Rattle.hm_race_top.proofs.ways.blocks_of.Given as goal
 
 -- the blocks of the states so far
 abbrev pub invariant-loop-at : goal.invariant-loop-at
-invariant-loop-at l = l.blocks ≡ blocks_of (ways_by l.actors l.drains (take l.at (all_known form_in l.known)))
+invariant-loop-at l = l.blocks ≡ blocks_of (ways_by l.actors (take l.at (all_known form_in l.known)))

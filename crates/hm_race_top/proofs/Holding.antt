@@ -1,0 +1,72 @@
+-- What holds of the states that a search knows.
+use Rattle.std.proofs.Common.{◌≡◌, ℕ, ◌≤◌, Bool, true, false, List, length, refl}
+use Rattle.hm_base.specs.Program.{Program, IsScript}
+use Rattle.hm_conditions.specs.Rulings.{RulingsAreRight}
+use Rattle.hm_conditions.specs.Texts.{is_whole}
+use Rattle.hm_conditions.specs.declared.question.Question.{Question}
+use Rattle.hm_history.specs.Run.{run}
+use Rattle.hm_race_search.specs.Goals.{AreMissed, Reaches}
+use Rattle.hm_race_search.specs.Known.{KnownValue, forms, AreFewest, AreKnown, AreRising, HaveForms, IsComplete, IsCut, IsNear}
+use Rattle.hm_race_search.specs.declared.search.End.{End}
+use Rattle.hm_races.specs.Closed.{AreDistinct}
+use Rattle.hm_races.specs.Outcomes.{Point}
+use Rattle.hm_race_text.specs.Laws.{lines_of, NoneTwice}
+use Rattle.hm_script.specs.Built.{has_drain}
+use Rattle.hm_race_top.specs.Goals.{settled}
+use Rattle.hm_race_top.specs.Laws.{AllIsListed, CompleteIsAll, KnownIsTrue, TrueIsReal}
+use Rattle.hm_race_top.specs.Races.{Holds}
+use Rattle.hm_race_top.specs.Ways.{blocks_known, ways_of, AreTrue, HaveAll}
+
+-- what a search of a script's race ensures that has this goal and knows so many states
+pub record HasSearched (most : ℕ) (c : Program) (goal : Point → Bool) (count : ℕ) (known : List KnownValue) (end : End) : Type 0 where
+  pub complete : end ≡ End.Whole → IsComplete c (run c) known
+  pub all : end ≡ End.Whole → HaveForms c (run c) known
+  pub few : end ≡ End.Whole → count ≤ most
+  pub cut : end ≡ End.Cut → IsCut c most count
+  pub reached : end ≡ End.Reached → Reaches goal known
+  pub near : end ≡ End.Reached → IsNear c most count
+  pub missed : (end ≡ End.Reached → ⊥) → AreMissed goal known
+  pub are_known : AreKnown c (run c) known
+  pub distinct : AreDistinct (forms known)
+  pub rising : AreRising known
+  pub fewest : AreFewest c (run c) known
+
+-- the laws that this rests on
+pub record Rests : Type 0 where
+  pub are_true : KnownIsTrue
+  pub are_all : CompleteIsAll
+  pub are_real : TrueIsReal
+  pub are_listed : AllIsListed
+  pub twice : NoneTwice
+  pub right : RulingsAreRight
+
+whole_is : (end : End) → is_whole end ≡ true → end ≡ End.Whole
+whole_is End.Whole e = refl
+whole_is End.Cut e = cc
+whole_is End.Reached e = cc
+
+pub holds_by : Rests → (most : ℕ) (c : Program) → IsScript c → has_drain c.schedule ≡ false → (qs : List Question) (known : List KnownValue) (end : End)
+    → HasSearched most c (settled qs (length c.actors)) (length known) known end → Holds most c qs known end
+holds_by by most c script none qs known end s = record {
+  searched = s.are_known;
+  real = real;
+  distinct = by.twice (ways_of c known);
+  complete = complete;
+  all = s.all;
+  few = s.few;
+  once = s.distinct;
+  cut = s.cut;
+  stopped = s.reached;
+  near = s.near;
+  missed = s.missed;
+  right = λ q l. by.right c q.condition (lines_of (blocks_known c known)) (is_whole end) (by.are_real c (blocks_known c known) real)
+      (λ w. by.are_listed c (blocks_known c known) (complete (whole_is end w)));
+  rising = s.rising;
+  fewest = s.fewest;
+}
+  where
+    real : AreTrue c (blocks_known c known)
+    real = by.are_true c script none known s.are_known
+
+    complete : end ≡ End.Whole → HaveAll c (blocks_known c known)
+    complete e = by.are_all c known (s.complete e)
