@@ -5,9 +5,10 @@
 
 Makes N reports (1,000 unless told) from those given: every other one as tools/spoil_reports.py does, and the others by
 the words of another entry in place of an entry's. The unspoiled ones come first.
-PROGRAM is hmmjudge, such as one that `tools/quick_build.sh hmmjudge FILE` has made. Both must write the same of each
-report: the line, what is wrong with it, which parts are broken, and how each actor stands. Prints what differs, keeps
-those reports, and how often each first word and each part came, and ends with 1 if something differs.
+PROGRAM is hmmjudge, such as one that `tools/quick_build.sh hmmjudge FILE` has made. It is run with --standing. Both must
+write the same of each report: the line, what is wrong with it, which parts are broken, and how each actor stands. The
+lines `shows ..` are not compared. Prints what differs, keeps those reports, and how often each first word and each part
+came, and ends with 1 if something differs.
 """
 import argparse, collections, os, random, subprocess, sys, tempfile
 
@@ -38,14 +39,15 @@ def other_entry(pick, data):
 
 
 def written(program, data):
-    """What the program writes of a report, and its status."""
-    done = subprocess.run([program], input=data, stdout=subprocess.PIPE, stderr=subprocess.DEVNULL)
-    return done.returncode, done.stdout.decode('latin1')
+    """What the program writes of a report, as far as it is compared, and its status."""
+    done = subprocess.run([program, '--standing'], input=data, stdout=subprocess.PIPE, stderr=subprocess.DEVNULL)
+    lines = done.stdout.decode('latin1').splitlines(True)
+    return done.returncode, ''.join(line for line in lines if not line.startswith('shows '))
 
 
 def kind_of(said):
     """What stands in the second line, or that the report is legal."""
-    return said[1].split(' ')[0] if len(said) > 1 else 'legal'
+    return 'legal' if said[0].startswith('legal ') else said[1].split(' ')[0]
 
 
 def main():

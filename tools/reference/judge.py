@@ -131,20 +131,30 @@ def entry_of(text, at):
 
 # ---- reading
 
+class BadHead(Exception):
+    """The report's first bad line, and what is said of it: it is no line of a script, and no `history` after one."""
+
+    def __init__(self, number, fault, complete):
+        super().__init__(number)
+        self.said = [f'bad {number}', fault] + (['ends history'] if complete else [])
+
+
 def head(lines):
     """The script, and the number of the first line after `history`."""
     reader, number = scripts.Reader(), 1
     while True:
+        complete = reader.is_complete()
         if number > len(lines):
-            raise reports.NotLegal(number)
-        if lines[number - 1] == b'history\n' and reader.is_complete():
+            missing = 'bad header' if number == 1 else 'bad word'
+            raise BadHead(number, 'missing' if complete else f'script line {number}: {missing}', complete)
+        if lines[number - 1] == b'history\n' and complete:
             return reader.script, number + 1
         try:
             if not lines[number - 1].endswith(b'\n'):
-                raise Bad
+                raise Bad('bad line end or byte')
             reader.line(lines[number - 1][:-1])
-        except Bad:
-            raise reports.NotLegal(number) from None
+        except Bad as bad:
+            raise BadHead(number, f'script line {number}: {bad}', complete) from None
         number += 1
 
 
@@ -214,6 +224,9 @@ class Judge:
             return f'waits a{actor} {wait_text(due[0])}'
         return f'due a{actor} {line(len(self.machine.history), actor, due[0])}'
 
+    def standings(self):
+        return [self.standing(actor) for actor in range(len(self.machine.ended))]
+
 
 def wait_text(wait):
     if wait.why == 'lock':
@@ -226,15 +239,15 @@ def wait_text(wait):
 
 
 def judge(data):
-    """Whether the report is legal, and the lines that hmmjudge writes of it."""
+    """Whether the report is legal, and the lines that `hmmjudge --standing` writes of it."""
     lines = [piece + b'\n' for piece in data.split(b'\n')]
     lines[-1] = lines[-1][:-1]
     if not lines[-1]:
         lines.pop()
     try:
         script, first = head(lines)
-    except reports.NotLegal as bad:
-        return False, [f'bad {bad.args[0]}', 'script']
+    except BadHead as bad:
+        return False, bad.said
     this, at = Judge(script), first
     while at <= len(lines) and this.takes(lines[at - 1]):
         at += 1
@@ -243,7 +256,6 @@ def judge(data):
     left = lines[at - 1:]
     same = next((k for k, (x, y) in enumerate(zip(tail, left)) if x.encode() != y), min(len(tail), len(left)))
     if same == len(tail) == len(left):
-        return True, [f'legal {len(history)}']
-    said = [f'bad {at + same}', *this.fault(left, same)]
-    said += [this.standing(actor) for actor in range(len(this.machine.ended))]
+        return True, [f'legal {len(history)}', *this.standings()]
+    said = [f'bad {at + same}', *this.fault(left, same), *this.standings()]
     return False, said + ([f'ends {tail[same][:-1]}'] if same < len(tail) else [])

@@ -3,3 +3,4 @@ pub mod Telling
 pub mod Judged
 pub mod StandingLines
 pub mod Pieces
+pub mod Heads

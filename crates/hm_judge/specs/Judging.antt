@@ -16,6 +16,7 @@ use Rattle.hm_script.specs.Spelling.{text}
 use Rattle.hm_report.specs.declared.written.Written.{Written}
 use Rattle.hm_judge.specs.Judgements.{IsTold, verdict_of}
 use Rattle.hm_judge.specs.Texts.{judgement_text}
+use Rattle.hm_judge.specs.declared.asked.Asked.{Asked}
 use Rattle.hm_judge.specs.declared.judgement.Judgement.{Judgement}
 
 -- the judgement is the verdict on these bytes, and what it says of them beside that holds
@@ -39,12 +40,12 @@ pub record IsJudgementFrom (before after : SourceState) (j : Judgement) : Type 0
 
 -- the report is legal
 abbrev pub IsLegal : Judgement → Type 0
-IsLegal (Judgement.Legal r) = Unit {0}
+IsLegal (Judgement.Legal l) = Unit {0}
 IsLegal (Judgement.Bad b) = ⊥
 
 -- this is the first bad line
 abbrev pub IsBadLine : ℕ → Judgement → Type 0
-IsBadLine n (Judgement.Legal r) = ⊥
+IsBadLine n (Judgement.Legal l) = ⊥
 IsBadLine n (Judgement.Bad b) = n ≡ b.line
 
 -- the call ends as the judgement says, or its text did not go out
@@ -59,27 +60,27 @@ EndsAs j _ = ⊥
 abbrev pub ending_of : Judgement → Written → Status
 ending_of j Written.Fault = Status.WriteFault
 ending_of j Written.NoMemory = Status.NoMemory
-ending_of (Judgement.Legal r) Written.Done = Status.Done
+ending_of (Judgement.Legal l) Written.Done = Status.Done
 ending_of (Judgement.Bad b) Written.Done = Status.NotLegal b.line
 
--- a judgement was made on what was read, and this was written of it
-pub record Told (io : Traffic) (status : Status) : Type 0 where
+-- a judgement was made on what was read, and this was written of it, if this is asked for
+pub record Told (asked : Asked) (io : Traffic) (status : Status) : Type 0 where
   pub judgement : Judgement
   pub sound : IsSound (verdict_of judgement)
   pub read : IfSome io.source.left (λ bytes. IsJudgementOn bytes judgement)
   pub ends : EndsAs judgement status
   pub written :
-      HasWritten (judgement_text judgement) (λ t. t ≡ judgement_text judgement) io.sink io.sink_after status
+      HasWritten (judgement_text asked judgement) (λ t. t ≡ judgement_text asked judgement) io.sink io.sink_after status
 
 -- what was read and written, by how the call ends
-abbrev pub HasTold : Traffic → Status → Type 0
-HasTold io Status.Done = Told io Status.Done
-HasTold io (Status.NotLegal n) = Told io (Status.NotLegal n)
-HasTold io Status.WriteFault = Told io Status.WriteFault
-HasTold io Status.NoMemory = (io.sink_after ≡ io.sink) ⊎ Told io Status.NoMemory
-HasTold io Status.ReportTooLong = LeftOver io.source.left 268435456 × (io.sink_after ≡ io.sink)
-HasTold io Status.ReadFault = io.sink_after ≡ io.sink
-HasTold io _ = ⊥
+abbrev pub HasTold : Asked → Traffic → Status → Type 0
+HasTold asked io Status.Done = Told asked io Status.Done
+HasTold asked io (Status.NotLegal n) = Told asked io (Status.NotLegal n)
+HasTold asked io Status.WriteFault = Told asked io Status.WriteFault
+HasTold asked io Status.NoMemory = (io.sink_after ≡ io.sink) ⊎ Told asked io Status.NoMemory
+HasTold asked io Status.ReportTooLong = LeftOver io.source.left 268435456 × (io.sink_after ≡ io.sink)
+HasTold asked io Status.ReadFault = io.sink_after ≡ io.sink
+HasTold asked io _ = ⊥
 
 -- the report of this script and this history was found to be legal, or its text did not go out
 abbrev pub Finds : Status → Type 0
@@ -88,9 +89,9 @@ Finds Status.WriteFault = Unit {0}
 Finds Status.NoMemory = Unit {0}
 Finds _ = ⊥
 
--- a report is read, and the judgement on it is written
-pub record Judges (io : Traffic) (status : Status) : Type 0 where
-  pub told : HasTold io status
+-- a report is read, and the judgement on it is written, as it is asked for
+pub record Judges (asked : Asked) (io : Traffic) (status : Status) : Type 0 where
+  pub told : HasTold asked io status
   pub read_faults : ReadFaulted io.source.faults io.source_after.faults status
   pub write_faults : WriteFaulted io.sink.faults io.sink_after.faults status
   -- If the text went out whole, the sink sent all of it on.

@@ -1,3 +1,4 @@
+pub mod Asked
 pub mod Judgements
 pub mod Standing
 pub mod Texts

@@ -1,13 +1,21 @@
 -- The text of a judgement.
-use Rattle.std.specs.Prelude.{ℕ, Bool, if◌then◌else◌, List, [], ◌∷◌, ◌++◌, length, codes}
+use Rattle.std.specs.Prelude.{ℕ, Bool, if◌then◌else◌, Option, Some, None, List, [], ◌∷◌, ◌++◌, length, codes}
 use Rattle.std.specs.Fmt.{decimal}
 use Rattle.hm_history.specs.declared.Entry.{Entry}
+use Rattle.hm_history.specs.declared.Progress.{Progress}
+use Rattle.hm_report.specs.Line.{spaced}
 use Rattle.hm_report.specs.Report.{entry_line}
+use Rattle.hm_report.specs.Words.{head_words, mirror_text, tail_text}
+use Rattle.hm_script.specs.Reasons.{refused_text}
 use Rattle.hm_parts.specs.declared.parts.Parts.{Parts}
+use Rattle.hm_parts.specs.declared.shown.Shown.{Shown}
+use Rattle.hm_parts.specs.declared.shown.ShownParts.{ShownParts}
 use Rattle.hm_judge.specs.Standing.{standing_lines}
+use Rattle.hm_judge.specs.declared.asked.Asked.{Asked}
 use Rattle.hm_judge.specs.declared.judgement.BadReport.{BadReport}
 use Rattle.hm_judge.specs.declared.judgement.Fault.{Fault}
 use Rattle.hm_judge.specs.declared.judgement.Judgement.{Judgement}
+use Rattle.hm_judge.specs.declared.judgement.LegalReport.{LegalReport}
 
 -- the line on a legal report, with the number of its entries
 abbrev pub legal_line : ℕ → List ℕ
@@ -17,38 +25,50 @@ legal_line n = codes "legal " ++ (decimal n ++ 10 ∷ [])
 abbrev pub bad_line : ℕ → List ℕ
 bad_line n = codes "bad " ++ (decimal n ++ 10 ∷ [])
 
--- the line of a part that is broken; none of one that is met
-unfoldable pub breaks : Bool → List ℕ → List ℕ
-breaks met line = if met then [] else line
+-- that a mirror's table has nothing for a page
+unfoldable pub unset_text : ℕ → ℕ → List ℕ
+unset_text m v = codes "unset " ++ (mirror_text m ++ (32 ∷ decimal v))
 
--- a line for each of the first parts that is broken, in their order
-unfoldable pub first_parts_text : Parts → List ℕ
-first_parts_text x =
-    breaks x.answers (codes "breaks answers\n")
-    ++ (breaks x.places (codes "breaks places\n")
-    ++ (breaks x.frames (codes "breaks frames\n") ++ breaks x.sequences (codes "breaks sequences\n")))
+-- the line that shows why a part is broken: in the words of an entry, what is so there; or that a mirror's table has
+-- nothing for a page
+abbrev pub shown_line : Option Shown → List ℕ
+shown_line None = []
+shown_line (Some (Shown.Words k)) = codes "shows" ++ (spaced (head_words k) ++ (tail_text k ++ 10 ∷ []))
+shown_line (Some (Shown.Unset m v)) = codes "shows " ++ (unset_text m v ++ 10 ∷ [])
 
--- a line for each of the others that is broken, in their order
-unfoldable pub last_parts_text : Parts → List ℕ
-last_parts_text x =
-    breaks x.untold (codes "breaks untold\n")
-    ++ (breaks x.guarded (codes "breaks guarded\n") ++ breaks x.kept (codes "breaks kept\n"))
+-- the line of a part that is broken, and what shows it; nothing of one that is met
+unfoldable pub breaks : Bool → List ℕ → Option Shown → List ℕ
+breaks met line shown = if met then [] else line ++ shown_line shown
 
--- the line of an entry that is not due, and a line for each part that it breaks
-unfoldable pub wrong_text : ℕ → Entry → Parts → List ℕ
-wrong_text at e x =
-    codes "entry " ++ (entry_line at e ++ (codes "breaks due\n" ++ (first_parts_text x ++ last_parts_text x)))
+-- those lines for each of the first parts, in their order
+unfoldable pub first_parts_text : Parts → ShownParts → List ℕ
+first_parts_text x y =
+    breaks x.answers (codes "breaks answers\n") y.answers
+    ++ (breaks x.places (codes "breaks places\n") y.places
+    ++ (breaks x.frames (codes "breaks frames\n") y.frames
+    ++ breaks x.sequences (codes "breaks sequences\n") y.sequences))
 
--- what is wrong, where the next entry has this position
+-- those lines for each of the others, in their order
+unfoldable pub last_parts_text : Parts → ShownParts → List ℕ
+last_parts_text x y =
+    breaks x.untold (codes "breaks untold\n") y.untold
+    ++ (breaks x.guarded (codes "breaks guarded\n") y.guarded ++ breaks x.kept (codes "breaks kept\n") y.kept)
+
+-- the line of an entry that is not due, and those of each part that it breaks
+unfoldable pub wrong_text : ℕ → Entry → Parts → ShownParts → List ℕ
+wrong_text at e x y =
+    codes "entry " ++ (entry_line at e ++ (codes "breaks due\n" ++ (first_parts_text x y ++ last_parts_text x y)))
+
+-- what is wrong, if the next entry has this position
 abbrev pub fault_text : ℕ → Fault → List ℕ
-fault_text at Fault.Head = codes "script\n"
-fault_text at (Fault.Entry e x) = wrong_text at e x
+fault_text at (Fault.Script r) = refused_text r ++ 10 ∷ []
+fault_text at (Fault.Entry e x y) = wrong_text at e x y
 fault_text at Fault.Full = codes "full\n"
 fault_text at Fault.NoEntry = codes "text\n"
 fault_text at Fault.Behind = codes "behind\n"
 fault_text at Fault.Missing = codes "missing\n"
 
--- the line that would end the report; none where no line does
+-- the line that would end the script or the report; none if no line does
 abbrev pub ending_text : List ℕ → List ℕ
 ending_text [] = []
 ending_text (b ∷ bytes) = codes "ends " ++ (b ∷ bytes)
@@ -58,7 +78,16 @@ unfoldable pub bad_text : BadReport → List ℕ
 bad_text b =
     bad_line b.line ++ (fault_text b.at b.fault ++ (standing_lines b.at 0 b.standing.items ++ ending_text b.ending))
 
--- all that is written of a judgement
-abbrev pub judgement_text : Judgement → List ℕ
-judgement_text (Judgement.Legal r) = legal_line (length r.history.entries)
-judgement_text (Judgement.Bad b) = bad_text b
+-- the lines of all actors after a history of this length, if they are asked for
+abbrev pub asked_lines : Asked → ℕ → List Progress → List ℕ
+asked_lines Asked.Verdict at ps = []
+asked_lines Asked.Standing at ps = standing_lines at 0 ps
+
+-- the lines on a legal report
+abbrev pub legal_text : Asked → LegalReport → List ℕ
+legal_text asked l = let n = length l.report.history.entries in legal_line n ++ asked_lines asked n l.standing.items
+
+-- all that is written of a judgement, if this is asked for
+abbrev pub judgement_text : Asked → Judgement → List ℕ
+judgement_text asked (Judgement.Legal l) = legal_text asked l
+judgement_text asked (Judgement.Bad b) = bad_text b

@@ -2,11 +2,11 @@
 ghost use Rattle.std.specs.Prelude.{◌≡◌, ◌+◌, ◌^◌, ◌≤◌, IfOk, length};
 ghost use Rattle.hm_check.specs.Parts.{BeginsNoEntry, TakenFrom, tail_of};
 ghost use Rattle.hm_script.specs.Automaton.{lines};
-ghost use Rattle.hm_judge.specs.Judgements.{IsBadThere, IsJudgementAt};
+ghost use Rattle.hm_judge.specs.Judgements.{IsBadThere, IsJudgementAt, IsLegalOf};
 ghost use Rattle.hm_judge.specs.Judging.{IsJudgementBehind};
 
 use crate::fault::fault_at;
-use crate::judgement::{BadReport, Judgement};
+use crate::judgement::{BadReport, Judgement, LegalReport};
 use crate::lines::copy_line;
 use crate::standing::standings;
 use hm_base::{NoMemory, Script};
@@ -47,7 +47,7 @@ fn put_ending(out: &mut Buffer, world: &World)
     put_tail(out, world.script(), world.history());
 }
 
-/// What is said where the lines after the entries are not those that end the report. As many of them as this are; the
+/// What is said if the lines after the entries are not those that end the report. As many of them as this are; the
 /// first line after `history` has this number.
 fn bad_report(
     alloc: Global,
@@ -78,6 +78,18 @@ fn bad_report(
     })
 }
 
+/// What is said of the report of the world's history.
+fn legal_report(alloc: Global, world: World) -> Result<LegalReport, NoMemory>
+    ensures { IfOk result (IsLegalOf world.script world.history) }
+{
+    let standing = standings(alloc, &world)?;
+    let (script, history) = world.into_parts();
+    Ok(LegalReport {
+        report: Report { script, history },
+        standing,
+    })
+}
+
 /// The judgement on the lines after the world's entries. The first line after `history` has this number.
 fn judge_rest(alloc: Global, world: World, first: u64, rest: &[u8]) -> Result<Judgement, NoMemory>
     requires first { first ≤ 2 ^ 63 + 2 }
@@ -93,8 +105,8 @@ fn judge_rest(alloc: Global, world: World, first: u64, rest: &[u8]) -> Result<Ju
             Ok(Judgement::Bad(bad))
         }
         None => {
-            let (script, history) = world.into_parts();
-            Ok(Judgement::Legal(Report { script, history }))
+            let legal = legal_report(alloc, world)?;
+            Ok(Judgement::Legal(legal))
         }
     }
 }

@@ -6,6 +6,7 @@ ghost use Rattle.hm_judge.specs.Judging.{EndsAs, Judges, ending_of};
 ghost use Rattle.hm_judge.specs.Runs.{Runs};
 ghost use Rattle.hm_judge.specs.Texts.{judgement_text};
 
+use crate::asked::Asked;
 use crate::judgement::Judgement;
 use crate::source::judge_source;
 use crate::text::judgement_text;
@@ -29,14 +30,19 @@ fn ending(judgement: &Judgement, written: Written) -> Status
 }
 
 /// Writes the text of a judgement.
-fn write_judgement<K: Sink>(alloc: Global, judgement: &Judgement, sink: &mut K) -> Status
+fn write_judgement<K: Sink>(
+    alloc: Global,
+    asked: Asked,
+    judgement: &Judgement,
+    sink: &mut K,
+) -> Status
     ensures ends { EndsAs judgement.now result }
-    ensures written { HasWritten (judgement_text judgement.now) (λ t. t ≡ judgement_text judgement.now)
+    ensures written { HasWritten (judgement_text asked judgement.now) (λ t. t ≡ judgement_text asked judgement.now)
         (K.state sink.old) (K.state sink.new) result }
     ensures faults { WriteFaulted (K.state sink.old).faults (K.state sink.new).faults result }
     ensures flushed { IsFlushed (K.state sink.new).pending result }
 {
-    let Ok(text) = judgement_text(alloc, judgement) else {
+    let Ok(text) = judgement_text(alloc, asked, judgement) else {
         return Status::NoMemory;
     };
     let written = write_text(alloc, &text, sink);
@@ -44,16 +50,22 @@ fn write_judgement<K: Sink>(alloc: Global, judgement: &Judgement, sink: &mut K) 
 }
 
 /// Reads a report, and writes the judgement on it.
-fn judge_report<S: Source, K: Sink>(alloc: Global, source: &mut S, sink: &mut K) -> Status
-    ensures { Judges (traffic S.state K.state source.old source.new sink.old sink.new) result }
+fn judge_report<S: Source, K: Sink>(
+    alloc: Global,
+    asked: Asked,
+    source: &mut S,
+    sink: &mut K,
+) -> Status
+    ensures { Judges asked (traffic S.state K.state source.old source.new sink.old sink.new) result }
 {
     match judge_source(alloc, source) {
-        Ok(judgement) => write_judgement(alloc, &judgement, sink),
+        Ok(judgement) => write_judgement(alloc, asked, &judgement, sink),
         Err(status) => status,
     }
 }
 
-/// Reads a report from the source, and writes the judgement on it to the sink. It waits for nobody.
+/// Reads a report from the source, and writes the judgement on it to the sink, as the words after the program's name
+/// ask for it. It waits for nobody.
 pub fn judge<S: Source, K: Sink>(
     alloc: Global,
     words: &[String],
@@ -63,8 +75,8 @@ pub fn judge<S: Source, K: Sink>(
     ensures { Runs (map string_bytes words.now)
         (traffic S.state K.state source.old source.new sink.old sink.new) result }
 {
-    match words {
-        [] => judge_report(alloc, source, sink),
-        _ => Status::Usage,
+    match Asked::of(words) {
+        Some(asked) => judge_report(alloc, asked, source, sink),
+        None => Status::Usage,
     }
 }

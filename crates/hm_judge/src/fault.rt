@@ -2,6 +2,7 @@
 ghost use Rattle.std.specs.Prelude.{IfOk, slice_get};
 ghost use Rattle.hm_check.specs.Parts.{BeginsNoEntry, IsNoEntry};
 ghost use Rattle.hm_parts.specs.Parts.{AreParts};
+ghost use Rattle.hm_parts.specs.Shown.{AreShown};
 ghost use Rattle.hm_script.specs.Automaton.{lines};
 ghost use Rattle.hm_judge.specs.Judgements.{IsFault, IsLineFault};
 
@@ -9,7 +10,7 @@ use crate::judgement::Fault;
 use crate::lines::line_at;
 use hm_base::{MOST_ENTRIES, NoMemory};
 use hm_history::Entry;
-use hm_parts::{Parts, parts_of};
+use hm_parts::{Parts, ShownParts, parts_of, shown_of};
 use hm_reading::LineReader;
 use hm_world::World;
 use std::alloc::Global;
@@ -21,6 +22,14 @@ fn parts_in(alloc: Global, world: &World, entry: &Entry) -> Result<Parts, NoMemo
     world.facts();
     let records = world.records(entry.actor);
     parts_of(alloc, world, world.history().as_slice(), records, entry)
+}
+
+/// What bears on each part after the world's history.
+fn shown_in(alloc: Global, world: &World, entry: &Entry) -> Result<ShownParts, NoMemory>
+    ensures { IfOk result (AreShown world.now.script world.now.history entry.now) }
+{
+    world.facts();
+    shown_of(alloc, world, world.history().as_slice(), entry)
 }
 
 /// What is wrong with a line that is that of no entry that is due.
@@ -37,7 +46,8 @@ fn line_fault(alloc: Global, world: &World, line: &[u8]) -> Result<Fault, NoMemo
     match reader.entry(alloc, line, at)? {
         Some(entry) => {
             let parts = parts_in(alloc, world, &entry)?;
-            Ok(Fault::Entry(entry, parts))
+            let shown = shown_in(alloc, world, &entry)?;
+            Ok(Fault::Entry(entry, parts, shown))
         }
         None => Ok(Fault::NoEntry),
     }

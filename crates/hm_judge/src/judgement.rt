@@ -2,15 +2,25 @@
 use hm_base::Text;
 use hm_check::Report;
 use hm_history::{Entry, Progress};
-use hm_parts::Parts;
+use hm_parts::{Parts, ShownParts};
+use hm_script::Refused;
 
 /// The judgement on bytes.
 #[derive(Drop)]
 pub enum Judgement {
-    /// They are the report of this script and this history, which is legal for it.
-    Legal(Report),
+    /// They are a legal report.
+    Legal(LegalReport),
     /// They are no legal report.
     Bad(BadReport),
+}
+
+/// What is said of a legal report.
+#[derive(Drop)]
+pub struct LegalReport {
+    /// Its script, and its history, which is legal for it.
+    pub report: Report,
+    /// What is due to each actor of the script after the history.
+    pub standing: Vec<Progress>,
 }
 
 /// What is said of bytes that are no legal report.
@@ -21,19 +31,21 @@ pub struct BadReport {
     /// How many entries before it were due, each after those before it.
     pub at: u64,
     pub fault: Fault,
-    /// What was due to each actor of the script after those entries; empty if the script itself is bad.
+    /// What was due to each actor of the script after those entries; empty if the script is bad.
     pub standing: Vec<Progress>,
-    /// The line that goes on to end the report there; empty if none does, or if the script itself is bad.
+    /// The line that goes on to end the report there, or the line `history` if the lines before it are a script; empty
+    /// if there is none.
     pub ending: Text,
 }
 
 /// What is wrong with a first bad line.
 #[derive(Drop)]
 pub enum Fault {
-    /// It is no line of a script, and no line `history` after one.
-    Head,
-    /// It is the line of this entry, which is not due: which other parts of legality the entry meets.
-    Entry(Entry, Parts),
+    /// It is no line of a script, for this reason, and not `history` after one.
+    Script(Refused),
+    /// It is the line of this entry, which is not due: which other parts of legality the entry meets, and what bears on
+    /// each.
+    Entry(Entry, Parts, ShownParts),
     /// As many entries stand before it as a history has, and it does not end the report.
     Full,
     /// It is the line of no entry that has its place, and does not end the report.

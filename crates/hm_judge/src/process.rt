@@ -1,12 +1,12 @@
 // The program hmmjudge, but for the real streams: its arguments, one call, and what it says and ends with.
 ghost use Rattle.std.specs.Prelude.{map, string_bytes};
 ghost use Rattle.std.specs.Vec.Iter.{into_iter_items};
-ghost use Rattle.hm_edge.specs.Exits.{Begins, Exits, arguments};
+ghost use Rattle.hm_edge.specs.Exits.{Exits, arguments};
 ghost use Rattle.hm_edge.specs.Traffic.{traffic};
 ghost use Rattle.hm_judge.specs.Runs.{Runs, name, usage};
 
 use crate::call::judge;
-use hm_edge::{Status, finish, words_after_name};
+use hm_edge::{Call, Status};
 use hm_io::{Sink, Source};
 use std::alloc::Global;
 use std::env::Args;
@@ -16,21 +16,22 @@ use std::io;
 pub const NAME: &str = "hmmjudge";
 
 /// What it says if there are words.
-pub const USAGE: &str = "usage: hmmjudge";
+pub const USAGE: &str = "usage: hmmjudge [--standing]";
 
-/// Makes the call with the words after the program's name, if they are there.
-fn begin<S: Source, K: Sink>(
-    alloc: Global,
-    args: io::Result<Args>,
-    source: &mut S,
-    sink: &mut K,
-) -> Status
-    ensures { Begins Runs (arguments (λ x. map string_bytes (into_iter_items x)) args)
-        (traffic S.state K.state source.old source.new sink.old sink.new) result }
-{
-    match words_after_name(alloc, args) {
-        Ok(words) => judge(alloc, words.as_slice(), source, sink),
-        Err(status) => status,
+/// The call of hmmjudge.
+struct Judging;
+
+impl Call for Judging {
+    ghost Runs = { Runs };
+
+    fn call<S: Source, K: Sink>(
+        &self,
+        alloc: Global,
+        words: &[String],
+        source: &mut S,
+        sink: &mut K,
+    ) -> Status {
+        judge(alloc, words, source, sink)
     }
 }
 
@@ -47,6 +48,5 @@ pub fn program<S: Source, K: Sink, E: Sink>(
         (traffic S.state K.state source.old source.new sink.old sink.new) (E.state errors.old) (E.state errors.new)
         result }
 {
-    let status = begin(alloc, args, source, sink);
-    finish(alloc, NAME, USAGE, &status, errors)
+    hm_edge::program(alloc, args, &Judging, NAME, USAGE, source, sink, errors)
 }

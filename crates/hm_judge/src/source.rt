@@ -1,14 +1,14 @@
 // The judgement on all that a source has.
 ghost use Rattle.std.specs.Prelude.{◌≡◌, IfOk, IfErr, OnOk};
-ghost use Rattle.hm_check.specs.Judging.{HasNotJudged, IsSound};
-ghost use Rattle.hm_edge.specs.Reading.{ReadFaulted};
+ghost use Rattle.hm_check.specs.Judging.{IsSound};
+ghost use Rattle.hm_edge.specs.Reading.{HasNotJudged, ReadFaulted};
 ghost use Rattle.hm_judge.specs.Judgements.{verdict_of};
 ghost use Rattle.hm_judge.specs.Judging.{IsJudgementFrom};
 
 use crate::judgement::Judgement;
 use crate::verdict::judge_bytes;
-use hm_base::{MOST_REPORT_BYTES, NoMemory};
-use hm_edge::{Input, Status, read_all};
+use hm_base::NoMemory;
+use hm_edge::{Status, read_report};
 use hm_io::Source;
 use std::alloc::Global;
 
@@ -20,12 +20,7 @@ pub fn judge_source<S: Source>(alloc: Global, source: &mut S) -> Result<Judgemen
     ensures faults { OnOk result ((S.state source.new).faults ≡ (S.state source.old).faults) }
     ensures fault { IfErr result (ReadFaulted (S.state source.old).faults (S.state source.new).faults) }
 {
-    let text = match read_all(alloc, source, MOST_REPORT_BYTES) {
-        Input::Whole(text) => text,
-        Input::Fault => return Err(Status::ReadFault),
-        Input::TooLong => return Err(Status::ReportTooLong),
-        Input::NoMemory => return Err(Status::NoMemory),
-    };
+    let text = read_report(alloc, source)?;
     match judge_bytes(alloc, text.as_slice()) {
         Ok(judgement) => Ok(judgement),
         Err(NoMemory) => Err(Status::NoMemory),

@@ -1,61 +1,172 @@
 // The text of a judgement.
-ghost use Rattle.std.specs.Prelude.{◌≡◌, ◌+◌, ◌≤◌, ◌∷◌, ◌++◌, [], length, IfOk, OnOk};
+ghost use Rattle.std.specs.Prelude.{◌≡◌, ◌+◌, ◌≤◌, ◌∷◌, ◌++◌, [], codes, length, IfOk, OnOk};
 ghost use Rattle.std.specs.Fmt.{decimal};
-ghost use Rattle.hm_report.specs.Words.{frame_text};
-ghost use Rattle.hm_judge.specs.Standing.{standing_line, standing_lines, why_text};
-ghost use Rattle.hm_judge.specs.Texts.{bad_text, breaks, ending_text, fault_text, first_parts_text, judgement_text, last_parts_text, wrong_text};
+ghost use Rattle.hm_report.specs.Line.{spaced};
+ghost use Rattle.hm_report.specs.Words.{head_words, tail_text};
+ghost use Rattle.hm_script.specs.Reasons.{refused_text};
+ghost use Rattle.hm_judge.specs.Standing.{standing_line, standing_lines};
+ghost use Rattle.hm_judge.specs.Texts.{asked_lines, bad_text, breaks, ending_text, fault_text, first_parts_text};
+ghost use Rattle.hm_judge.specs.Texts.{judgement_text, last_parts_text, legal_text, shown_line, unset_text, wrong_text};
 
-use crate::judgement::{BadReport, Fault, Judgement};
-use hm_base::{Frame, NoMemory, PoolId, Text};
-use hm_history::{Entry, Progress, Why};
-use hm_parts::Parts;
-use hm_report::{Buffer, add_entry, put_decimal};
+use crate::asked::Asked;
+use crate::judgement::{BadReport, Fault, Judgement, LegalReport};
+use hm_base::{MirrorId, NoMemory, Page, Text};
+use hm_check::put_why;
+use hm_history::{Entry, Kind, Progress};
+use hm_parts::{Parts, Shown, ShownParts};
+use hm_report::{Buffer, add_entry, add_tail, put_decimal, put_head};
+use hm_script::Refused;
 use std::alloc::Global;
 
 // ---- what is wrong
 
-/// Adds the line of a part, if it is broken.
-#[tactic(auto, unfolding(crate::specs::Texts::breaks))]
-fn add_break(text: &mut Text, met: bool, line: &[u8]) -> Result<(), NoMemory>
-    ensures { OnOk result (text.new ≡ text.old ++ breaks met line.now) }
+/// Adds what is so, in the words of an entry. The buffer is written over.
+#[tactic(auto, using(std::proofs::Common::append_assoc))]
+fn add_words(text: &mut Text, out: &mut Buffer, kind: &Kind) -> Result<(), NoMemory>
+    ensures { OnOk result (text.new
+        ≡ text.old ++ (codes "shows" ++ (spaced (head_words kind.now) ++ (tail_text kind.now ++ 10 ∷ [])))) }
 {
-    if met { Ok(()) } else { text.extend(line) }
+    out.clear();
+    out.put(b"shows");
+    put_head(out, kind);
+    text.extend(out.as_slice())?;
+    add_tail(text, kind)?;
+    text.push(b'\n')
 }
 
-/// Adds a line for each of the first parts that is broken.
-fn add_first_parts(text: &mut Text, parts: &Parts) -> Result<(), NoMemory>
-    ensures { OnOk result (text.new ≡ text.old ++ first_parts_text parts.now) }
+/// Adds that the mirror's table has nothing for the page.
+#[tactic(auto, using(std::proofs::Common::append_assoc), unfolding(crate::specs::Texts::unset_text))]
+fn put_unset(out: &mut Buffer, mirror: MirrorId, page: Page)
+    requires { length out.old ≤ 100 }
+    ensures text { out.new ≡ out.old ++ unset_text mirror page }
+    ensures room { length out.new ≤ length out.old + 1000 }
 {
-    add_break(text, parts.answers, b"breaks answers\n")?;
-    add_break(text, parts.places, b"breaks places\n")?;
-    add_break(text, parts.frames, b"breaks frames\n")?;
-    add_break(text, parts.sequences, b"breaks sequences\n")
+    put_decimal(out, b"unset m", u64::from(mirror.number()));
+    put_decimal(out, b" ", page.number());
 }
 
-/// Adds a line for each of the others that is broken.
-fn add_last_parts(text: &mut Text, parts: &Parts) -> Result<(), NoMemory>
-    ensures { OnOk result (text.new ≡ text.old ++ last_parts_text parts.now) }
+/// Adds the line that the mirror's table has nothing for the page. The buffer is written over.
+#[tactic(auto, using(std::proofs::Common::append_assoc))]
+fn add_unset(
+    text: &mut Text,
+    out: &mut Buffer,
+    mirror: MirrorId,
+    page: Page,
+) -> Result<(), NoMemory>
+    ensures { OnOk result (text.new ≡ text.old ++ (codes "shows " ++ (unset_text mirror page ++ 10 ∷ []))) }
 {
-    add_break(text, parts.untold, b"breaks untold\n")?;
-    add_break(text, parts.guarded, b"breaks guarded\n")?;
-    add_break(text, parts.kept, b"breaks kept\n")
+    out.clear();
+    out.put(b"shows ");
+    put_unset(out, mirror, page);
+    out.push(b'\n');
+    text.extend(out.as_slice())
 }
 
-/// Adds the line of an entry that is not due, and a line for each part that it breaks. The buffer is written over.
+/// Adds the line of what is so, if there is one. The buffer is written over.
+fn add_shown(text: &mut Text, out: &mut Buffer, shown: &Option<Shown>) -> Result<(), NoMemory>
+    ensures { OnOk result (text.new ≡ text.old ++ shown_line shown.now) }
+{
+    match shown {
+        None => Ok(()),
+        Some(Shown::Words(kind)) => add_words(text, out, kind),
+        Some(Shown::Unset(mirror, page)) => add_unset(text, out, *mirror, *page),
+    }
+}
+
+/// Adds the line of a part, and what shows it, if it is broken. The buffer is written over.
+#[tactic(auto, using(std::proofs::Common::append_assoc), unfolding(crate::specs::Texts::breaks))]
+fn add_break(
+    text: &mut Text,
+    out: &mut Buffer,
+    met: bool,
+    line: &[u8],
+    shown: &Option<Shown>,
+) -> Result<(), NoMemory>
+    ensures { OnOk result (text.new ≡ text.old ++ breaks met line.now shown.now) }
+{
+    if met {
+        return Ok(());
+    }
+    text.extend(line)?;
+    add_shown(text, out, shown)
+}
+
+/// Adds the lines of each of the first parts that is broken. The buffer is written over.
+fn add_first_parts(
+    text: &mut Text,
+    out: &mut Buffer,
+    parts: &Parts,
+    shown: &ShownParts,
+) -> Result<(), NoMemory>
+    ensures { OnOk result (text.new ≡ text.old ++ first_parts_text parts.now shown.now) }
+{
+    add_break(
+        text,
+        out,
+        parts.answers,
+        b"breaks answers\n",
+        &shown.answers,
+    )?;
+    add_break(text, out, parts.places, b"breaks places\n", &shown.places)?;
+    add_break(text, out, parts.frames, b"breaks frames\n", &shown.frames)?;
+    add_break(
+        text,
+        out,
+        parts.sequences,
+        b"breaks sequences\n",
+        &shown.sequences,
+    )
+}
+
+/// Adds the lines of each of the others that is broken. The buffer is written over.
+fn add_last_parts(
+    text: &mut Text,
+    out: &mut Buffer,
+    parts: &Parts,
+    shown: &ShownParts,
+) -> Result<(), NoMemory>
+    ensures { OnOk result (text.new ≡ text.old ++ last_parts_text parts.now shown.now) }
+{
+    add_break(text, out, parts.untold, b"breaks untold\n", &shown.untold)?;
+    add_break(
+        text,
+        out,
+        parts.guarded,
+        b"breaks guarded\n",
+        &shown.guarded,
+    )?;
+    add_break(text, out, parts.kept, b"breaks kept\n", &shown.kept)
+}
+
+/// Adds the line of an entry that is not due, and those of each part that it breaks. The buffer is written over.
 fn add_wrong(
     text: &mut Text,
     out: &mut Buffer,
     at: u64,
     entry: &Entry,
     parts: &Parts,
+    shown: &ShownParts,
 ) -> Result<(), NoMemory>
-    ensures { OnOk result (text.new ≡ text.old ++ wrong_text at entry.now parts.now) }
+    ensures { OnOk result (text.new ≡ text.old ++ wrong_text at entry.now parts.now shown.now) }
 {
     text.extend(b"entry ")?;
     add_entry(text, out, at, entry)?;
     text.extend(b"breaks due\n")?;
-    add_first_parts(text, parts)?;
-    add_last_parts(text, parts)
+    add_first_parts(text, out, parts, shown)?;
+    add_last_parts(text, out, parts, shown)
+}
+
+/// Adds why a script was refused. The buffer is written over.
+#[tactic(auto, using(std::proofs::Common::append_assoc))]
+fn add_refused(text: &mut Text, out: &mut Buffer, refused: &Refused) -> Result<(), NoMemory>
+    ensures { OnOk result (text.new ≡ text.old ++ (refused_text refused.now ++ 10 ∷ [])) }
+{
+    out.clear();
+    put_decimal(out, b"script line ", refused.line);
+    out.put(b": ");
+    text.extend(out.as_slice())?;
+    text.extend(refused.why.text().as_bytes())?;
+    text.push(b'\n')
 }
 
 /// Adds what is wrong. The buffer is written over.
@@ -63,8 +174,8 @@ fn add_fault(text: &mut Text, out: &mut Buffer, at: u64, fault: &Fault) -> Resul
     ensures { OnOk result (text.new ≡ text.old ++ fault_text at fault.now) }
 {
     match fault {
-        Fault::Head => text.extend(b"script\n"),
-        Fault::Entry(entry, parts) => add_wrong(text, out, at, entry, parts),
+        Fault::Script(refused) => add_refused(text, out, refused),
+        Fault::Entry(entry, parts, shown) => add_wrong(text, out, at, entry, parts, shown),
         Fault::Full => text.extend(b"full\n"),
         Fault::NoEntry => text.extend(b"text\n"),
         Fault::Behind => text.extend(b"behind\n"),
@@ -73,50 +184,6 @@ fn add_fault(text: &mut Text, out: &mut Buffer, at: u64, fault: &Fault) -> Resul
 }
 
 // ---- how the actors stand
-
-/// Adds the frame.
-#[tactic(auto, using(std::proofs::Common::append_assoc))]
-fn put_frame(out: &mut Buffer, frame: &Frame)
-    requires { length out.old ≤ 1000 }
-    ensures text { out.new ≡ out.old ++ frame_text frame.now }
-    ensures room { length out.new ≤ length out.old + 200 }
-{
-    match frame.pool {
-        PoolId::System => put_decimal(out, b"s", u64::from(frame.number)),
-        PoolId::Device(dev) => {
-            put_decimal(out, b"d", u64::from(dev.number()));
-            put_decimal(out, b".", u64::from(frame.number));
-        }
-    }
-}
-
-/// Adds why an actor waits.
-#[tactic(auto, using(std::proofs::Common::append_assoc))]
-fn put_why(out: &mut Buffer, why: &Why)
-    requires { length out.old ≤ 100 }
-    ensures text { out.new ≡ out.old ++ why_text why.now }
-    ensures room { length out.new ≤ length out.old + 1000 }
-{
-    match why {
-        Why::MapLock(proc, actor) => {
-            put_decimal(out, b"lock p", u64::from(proc.number()));
-            put_decimal(out, b" a", u64::from(actor.number()));
-        }
-        Why::Moving(proc, page) => {
-            put_decimal(out, b"moving p", u64::from(proc.number()));
-            put_decimal(out, b" ", page.number());
-        }
-        Why::FrameLocked(frame, actor) => {
-            out.put(b"frame ");
-            put_frame(out, frame);
-            put_decimal(out, b" a", u64::from(actor.number()));
-        }
-        Why::Invalidating(mirror, seq) => {
-            put_decimal(out, b"told m", u64::from(mirror.number()));
-            put_decimal(out, b" ", *seq);
-        }
-    }
-}
 
 /// Adds the line of an actor. The buffer is written over.
 #[tactic(auto, using(std::proofs::Common::append_assoc))]
@@ -140,7 +207,7 @@ fn add_standing(
         Progress::Waiting(why) => {
             put_decimal(out, b"waits a", actor);
             out.push(b' ');
-            put_why(out, why);
+            put_why(out, why, b" ");
             out.push(b'\n');
             text.extend(out.as_slice())
         }
@@ -169,7 +236,7 @@ fn add_standings(
 
 // ---- all of it
 
-/// Adds the line that would end the report, if there is one.
+/// Adds the line that would end the script or the report, if there is one.
 #[tactic(auto, using(std::proofs::Common::append_assoc))]
 fn add_ending(text: &mut Text, ending: &[u8]) -> Result<(), NoMemory>
     ensures { OnOk result (text.new ≡ text.old ++ ending_text ending.now) }
@@ -204,17 +271,47 @@ fn add_bad(text: &mut Text, out: &mut Buffer, bad: &BadReport) -> Result<(), NoM
     add_ending(text, bad.ending.as_slice())
 }
 
-/// The text of a judgement: `legal N` with the number of entries; or `bad L` with the first bad line, what is wrong with
-/// it, how each actor stands there, and what would end the report.
-pub fn judgement_text(alloc: Global, judgement: &Judgement) -> Result<Text, NoMemory>
-    ensures { IfOk result (λ t. t ≡ judgement_text judgement.now) }
+/// Adds the lines of all actors after a history of this length, if they are asked for.
+fn add_asked(
+    text: &mut Text,
+    out: &mut Buffer,
+    asked: Asked,
+    at: u64,
+    standing: &[Progress],
+) -> Result<(), NoMemory>
+    ensures { OnOk result (text.new ≡ text.old ++ asked_lines asked at standing.now) }
+{
+    match asked {
+        Asked::Verdict => Ok(()),
+        Asked::Standing => add_standings(text, out, at, standing),
+    }
+}
+
+/// Adds what is said of a legal report.
+#[tactic(auto, using(std::proofs::Common::append_assoc))]
+fn add_legal(
+    text: &mut Text,
+    out: &mut Buffer,
+    asked: Asked,
+    legal: &LegalReport,
+) -> Result<(), NoMemory>
+    ensures { OnOk result (text.new ≡ text.old ++ legal_text asked legal.now) }
+{
+    let count = legal.report.history.len();
+    add_numbered(text, out, b"legal ", count)?;
+    add_asked(text, out, asked, count, legal.standing.as_slice())
+}
+
+/// The text of a judgement: `legal N` with the number of entries, and how each actor stands at its end if that is asked
+/// for; or `bad L` with the first bad line, what is wrong with it, how each actor stands there, and what would end the
+/// report.
+pub fn judgement_text(alloc: Global, asked: Asked, judgement: &Judgement) -> Result<Text, NoMemory>
+    ensures { IfOk result (λ t. t ≡ judgement_text asked judgement.now) }
 {
     let mut out = Buffer::new(alloc)?;
     let mut text = Text::new(alloc);
     match judgement {
-        Judgement::Legal(report) => {
-            add_numbered(&mut text, &mut out, b"legal ", report.history.len())?;
-        }
+        Judgement::Legal(legal) => add_legal(&mut text, &mut out, asked, legal)?,
         Judgement::Bad(bad) => add_bad(&mut text, &mut out, bad)?,
     }
     Ok(text)

@@ -3,3 +3,4 @@ pub mod Lasts
 pub mod PlacesOn
 pub mod Scans
 pub mod Saying
+pub mod Showing

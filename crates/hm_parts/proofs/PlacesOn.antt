@@ -1,15 +1,15 @@
 -- The places that are kept go on with the history, and so does whether an actor was short of a frame.
-use Rattle.std.proofs.Common.{◌≡◌, ◌==◌, ℕ, zero, suc, ◌+◌, ◌<◌, ◌≤◌, Bool, true, false, ◌&&◌, ◌||◌, if◌then◌else◌, not, is_none, Option, Some, None, List, [], ◌∷◌, ◌++◌, length, get_or, take, drop, refl, sym, ap, ◌∙◌, subst, arith}
+use Rattle.std.proofs.Common.{◌≡◌, ◌==◌, ℕ, zero, suc, ◌+◌, ◌<◌, Bool, true, false, ◌&&◌, if◌then◌else◌, not, is_none, Option, Some, None, List, [], ◌∷◌, ◌++◌, length, get_or, take, drop, refl, sym, ap, ◌∙◌, subst, arith}
 use Rattle.std.specs.Prelude.{IfSome, Result, Ok, Err}
 use Rattle.std.proofs.Math.Path.{fun_ext}
-use Rattle.std.proofs.lemmas.List.{take_more, drop-append-le, take-append-le}
+use Rattle.std.proofs.lemmas.List.{take_more, take-append-le}
 use Rattle.std.proofs.Math.Seq.{drop-append_seam, take-append_seam}
 use Rattle.hm_base.specs.Program.{Program}
 use Rattle.hm_base.specs.declared.PoolId.{PoolId}
 use Rattle.hm_history.specs.After.{After, after, after_entry}
 use Rattle.hm_history.specs.Legal.{is_finishing, is_no_frame, was_short, system_is_full}
 use Rattle.hm_history.specs.Lookups.{last_where}
-use Rattle.hm_history.specs.Places.{Places, lowest_free, places_accept, places_next}
+use Rattle.hm_history.specs.Places.{lowest_free, places_accept}
 use Rattle.hm_history.specs.Plain.{Plain, mirror_owner, plain_next}
 use Rattle.hm_history.specs.Sequences.{Sequences, sequences_next, sequences_accept}
 use Rattle.hm_history.specs.Lookups.{narrows_guarded}

@@ -1,5 +1,5 @@
 -- When what is kept of places and sequences stands for a history.
-use Rattle.std.specs.Prelude.{◌≡◌, ℕ, Bool, List}
+use Rattle.std.specs.Prelude.{◌≡◌, ℕ, List}
 use Rattle.hm_base.specs.Program.{Program}
 use Rattle.hm_history.specs.After.{after}
 use Rattle.hm_history.specs.Legal.{was_short}

@@ -2,3 +2,4 @@ pub mod Short
 pub mod Followed
 pub mod Reasons
 pub mod Parts
+pub mod Shown

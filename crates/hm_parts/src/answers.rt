@@ -22,7 +22,11 @@ pub fn may_follow(answer: Result<(), FoldError>) -> Result<bool, NoMemory>
 }
 
 /// The plain state after the entries, of which each has to be legal after those before it.
-fn plain_after(alloc: Global, script: &Script, entries: &[Entry]) -> Result<PlainState, NoMemory>
+pub fn plain_after(
+    alloc: Global,
+    script: &Script,
+    entries: &[Entry],
+) -> Result<PlainState, NoMemory>
     ensures { IfOk result (λ x. plain_of x ≡ (after entries.now).plain) }
 {
     let mut state = PlainState::start(alloc, script)?;

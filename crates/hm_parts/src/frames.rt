@@ -57,8 +57,8 @@ pub fn is_full(state: &PlaceState) -> bool
     state.lowest_free(PoolId::System).is_none()
 }
 
-/// Whether no frame was free when the actor last asked for one to bring a page home or to empty a frame, after one entry
-/// more. The state is that before it.
+/// Whether no frame was free when the actor last asked for one to bring a page home or to empty a frame, after one more
+/// entry. The state is that before it.
 pub fn short_next(state: &PlaceState, actor: Actor, short: bool, entry: &Entry) -> bool
     ensures { ForShown state.now (λ c s. result ≡ short_next c s actor short entry.now) }
 {

@@ -59,7 +59,7 @@ fn is_not_here<W: Reads>(world: &W, op: &Op, proc: Proc, page: Page) -> bool
     }
 }
 
-fn kept_frame<W: Reads>(world: &W, proc: Proc, at: &KeptAt) -> Option<Frame>
+pub fn kept_frame<W: Reads>(world: &W, proc: Proc, at: &KeptAt) -> Option<Frame>
     ensures { result ≡ spec.kept_frame (W.state world.now).after proc at.now }
 {
     match at {
@@ -98,18 +98,24 @@ fn skips<W: Reads>(world: &W, op: &Op, page: Page) -> bool
     is_to_device(op) && Multiples.skips(world.script().skip, page.number())
 }
 
+/// Where the migration takes its frames.
+pub fn pool_of<W: Reads>(world: &W, op: &Op) -> PoolId
+    ensures { result ≡ pool_of (W.state world.now).after op.now }
+{
+    if is_to_device(op) {
+        PoolId::Device(world.mirror_dev(op_mirror(op)))
+    } else {
+        PoolId::System
+    }
+}
+
 /// Whether no frame is free where the migration takes its frames.
 fn has_none<W: Reads>(world: &W, op: &Op) -> bool
     ensures { result
         ≡ is_none (lowest_free (W.program world.now) (W.state world.now).after.places
         (pool_of (W.state world.now).after op.now)) }
 {
-    let pool = if is_to_device(op) {
-        PoolId::Device(world.mirror_dev(op_mirror(op)))
-    } else {
-        PoolId::System
-    };
-    world.lowest_free(pool).is_none()
+    world.lowest_free(pool_of(world, op)).is_none()
 }
 
 /// Whether the reason holds of a page of the process.

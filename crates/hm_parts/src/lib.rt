@@ -9,6 +9,12 @@ mod laws;
 mod lookups;
 mod parts;
 mod places;
+mod show_answers;
+mod show_kept;
+mod show_places;
+mod show_sequences;
+mod shown;
 
 pub use laws::may_follow;
 pub use parts::{Parts, parts_of};
+pub use shown::{Shown, ShownParts, shown_of};

@@ -3,7 +3,8 @@ ghost use Rattle.std.specs.Prelude.{◌≡◌, ◌+◌, ◌==◌, ◌&&◌, ◌<
 ghost use Rattle.std.specs.List.{list_all};
 ghost use Rattle.hm_base.specs.Pages.{covers};
 ghost use Rattle.hm_history.specs.Words.{page_of};
-ghost use Rattle.hm_history.specs.Lookups.{last_where, is_set_of, is_begin_of, is_told_of, set_from, is_begin_before, at_set, is_untold, uses_untold};
+ghost use Rattle.hm_history.specs.Lookups.{last_where, is_set_of, is_begin_of, is_told_of, set_from, is_begin_before};
+ghost use Rattle.hm_history.specs.Lookups.{at_set, is_untold, uses_untold};
 ghost use Rattle.hm_history.specs.declared.Entry.{Entry as AnyEntry};
 
 use hm_base::{Actor, MirrorId, Span};

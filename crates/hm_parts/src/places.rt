@@ -20,8 +20,8 @@ use std::alloc::Global;
 
 /// The places and sequences after a history, and whether an actor was short of a frame in it.
 #[derive(Drop)]
-struct PlacesSoFar {
-    state: PlaceState,
+pub struct PlacesSoFar {
+    pub state: PlaceState,
     sequences: SeqState,
     short: bool,
 }
@@ -51,7 +51,7 @@ fn go_on(so_far: &mut PlacesSoFar, actor: Actor, entry: &Entry) -> Result<(), No
 }
 
 /// The places and sequences after the entries, of which each has to be legal after those before it.
-fn places_after(
+pub fn places_after(
     alloc: Global,
     script: &Script,
     entries: &[Entry],

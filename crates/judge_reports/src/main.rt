@@ -1,7 +1,7 @@
 // Judges every report in the folder that it runs in, and writes after its name what is said of it.
 #![tactic(auto)]
 
-use hm_judge::{judge_bytes, judgement_text};
+use hm_judge::{Asked, judge_bytes, judgement_text};
 use std::{fs, io, str};
 
 /// The names of the reports, in order.
@@ -25,7 +25,7 @@ fn tell(rt: &HostRuntime, name: &str) -> io::Result<()> {
     let Ok(judgement) = judge_bytes(rt.alloc(), bytes.as_slice()) else {
         return println!(rt; "out of memory");
     };
-    match judgement_text(rt.alloc(), &judgement) {
+    match judgement_text(rt.alloc(), Asked::Standing, &judgement) {
         Ok(text) => match str::from_utf8(text.as_slice()) {
             Ok(said) => println!(rt; "{said}"),
             Err(_) => println!(rt; "no text"),

@@ -10,9 +10,8 @@ returns-in_ok-bad-in-Some c = record {
   said = c.in_ok-bad-in-Some.ensures;
 }
 
-pub returns-in-None : goal.returns-in-None
-returns-in-None c = record {
-  script = c.into_parts-script.ensures.script;
-  history = c.into_parts-script.ensures.history;
+pub returns-in_ok-legal-in-None : goal.returns-in_ok-legal-in-None
+returns-in_ok-legal-in-None c = record {
+  said = c.in_ok-legal-in-None.ensures;
   ends = sym (c.as_slice-tail.ensures ∙ c.put_ending.ensures.text) ∙ c.in-None.ensures.differ;
 }

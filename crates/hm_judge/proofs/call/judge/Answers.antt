@@ -1,16 +1,16 @@
-use Rattle.std.proofs.Common.{◌<◌, length, refl, arith, string_bytes}
+use Rattle.std.proofs.Common.{refl, subst, Option}
 use Rattle.hm_edge.specs.Traffic.{traffic}
-use Rattle.hm_judge.proofs.Judged.{runs_judge, runs_refused}
+use Rattle.hm_edge.specs.declared.status.Status.{Status}
+use Rattle.hm_judge.specs.Runs.{RunsAsked}
+use Rattle.hm_judge.specs.declared.asked.Asked.{Asked}
 use Rattle.hm_judge.proofs.call.judge.Goals as goal
 
-pub returns-in-empty : goal.returns-in-empty
-returns-in-empty g c =
-    let below : length c.args.words.now < 1 = omega arith in
-    runs_judge string_bytes c.args.words.now (traffic g.S.Source.state g.K.Sink.state c.args.source.now c.judge_report.new.source c.args.sink.now c.judge_report.new.sink) c.judge_report.result
-    below c.judge_report.ensures
+pub returns-in-Some : goal.returns-in-Some
+returns-in-Some g c =
+    let io = traffic g.S.Source.state g.K.Sink.state c.args.source.now c.judge_report.new.source c.args.sink.now c.judge_report.new.sink in
+    subst (λ (o : Option Asked). RunsAsked o io c.judge_report.result) c.in-Some.ensures c.judge_report.ensures
 
-pub returns-in_default : goal.returns-in_default
-returns-in_default g c =
-    let some : 0 < length c.args.words.now = omega arith in
-    runs_refused string_bytes c.args.words.now (traffic g.S.Source.state g.K.Sink.state c.args.source.now c.args.source.now c.args.sink.now c.args.sink.now)
-    some (record { unread = refl; unwritten = refl })
+pub returns-in-None : goal.returns-in-None
+returns-in-None g c =
+    let io = traffic g.S.Source.state g.K.Sink.state c.args.source.now c.args.source.now c.args.sink.now c.args.sink.now in
+    subst (λ (o : Option Asked). RunsAsked o io Status.Usage) c.in-None.ensures (record { usage = refl; untouched = record { unread = refl; unwritten = refl } })

@@ -7,6 +7,7 @@ pub returns : goal.returns
 unfolding last_parts_text
 returns c =
     let x = c.args.parts.now in
+    let y = c.args.shown.now in
     third c.add_break-3.result c.args.text.now c.add_break.new.text c.add_break-2.new.text c.add_break-3.new.text
-    (breaks x.untold (codes "breaks untold\n")) (breaks x.guarded (codes "breaks guarded\n")) (breaks x.kept (codes "breaks kept\n"))
+    (breaks x.untold (codes "breaks untold\n") y.untold) (breaks x.guarded (codes "breaks guarded\n") y.guarded) (breaks x.kept (codes "breaks kept\n") y.kept)
     c.in_ok-add_break.ensures c.in_ok-add_break-2.ensures c.add_break-3.ensures

@@ -7,5 +7,5 @@ use Rattle.hm_judge.proofs.verdict.judge_bytes.Goals as goal
 pub returns-in-Ok : goal.returns-in-Ok
 returns-in-Ok c = on_ok c.judge_behind.result _ _ (λ j judged. behind_head c.args.bytes.now c.in-Ok.head.rest.now c.in-Ok.head.script c.in-Ok.head.first j (subst (ReadsHead c.args.bytes.now) c.in-Ok.is c.in_ok-head.ensures.read) judged) c.judge_behind.ensures
 
-pub returns-in-Err : goal.returns-in-Err
-returns-in-Err c = head_is c.one_text.ensures c.args.bytes.now c.in-Err.bad.0 c.head_report.result (subst (ReadsHead c.args.bytes.now) c.in-Err.is c.in_ok-head.ensures.read) c.head_report.ensures.line c.head_report.ensures.fault c.head_report.ensures.standing c.head_report.ensures.ending
+pub returns-in_ok-bad-in-Err : goal.returns-in_ok-bad-in-Err
+returns-in_ok-bad-in-Err c = head_is c.one_text.ensures c.args.bytes.now c.in_ok-bad-in-Err.bad c.in_ok-bad-in-Err.ensures
