@@ -21,7 +21,7 @@ COPIES = [
     ('replay_examples/data/gallery', 'examples/gallery', ('',), ('.hmm', '.report')),
     ('replay_examples/data/refused', 'examples/refused', ('',), ('.hmm', '.message', '.status')),
     ('replay_examples/data/long', 'examples', ('all_operations',), ('.hmm', '.report')),
-    ('race_examples/data', 'examples/races', ('',), ('.hmm', '.outcomes', '.report')),
+    ('race_examples/data', 'examples/races', ('',), ('.hmm', '.outcomes', '.conditions', '.rulings', '.report')),
 ]
 # how the names of files end that lie beside copies and are the crate's own: the lines of a page
 OWN = ('.lines',)

@@ -1,9 +1,10 @@
-// Searches the race of every script in the folder that it runs in, and draws every report there. Compares the outcomes
-// with those in the files beside them, and the pages with the lines there, between the files of the folder page.
+// Searches the race of every script in the folder that it runs in, asks for the conditions there, and draws every report.
+// Compares the outcomes and what is said of the conditions with the files beside them, and the pages with the lines
+// there, between the files of the folder page.
 #![tactic(auto)]
 
 use hm_base::NoMemory;
-use hm_edge::Status;
+use hm_edge::{RaceEnd, Status};
 use hm_io::{MemorySink, MemorySource};
 use hm_race_top::races;
 use hm_view::view;
@@ -25,6 +26,8 @@ const MARK: &str = "<pre id=\"data\">";
 enum Made {
     /// The outcomes of a script's race.
     Outcomes,
+    /// What is said of conditions on its outcomes.
+    Rulings,
     /// The page of a report.
     Page,
 }
@@ -34,14 +37,38 @@ impl Made {
     fn endings(self) -> (&'static str, &'static str) {
         match self {
             Made::Outcomes => (".hmm", ".outcomes"),
+            Made::Rulings => (".conditions", ".rulings"),
             Made::Page => (".report", ".lines"),
         }
     }
 
-    fn write(self, alloc: Global, source: &mut MemorySource, sink: &mut MemorySink) -> Status {
+    /// How the name of the file ends that is read.
+    fn read(self) -> &'static str {
         match self {
-            Made::Outcomes => races(alloc, &[], source, sink, Multiples),
-            Made::Page => view(alloc, &[], source, sink),
+            Made::Outcomes | Made::Rulings => ".hmm",
+            Made::Page => ".report",
+        }
+    }
+
+    fn write(
+        self,
+        alloc: Global,
+        words: &[String],
+        source: &mut MemorySource,
+        sink: &mut MemorySink,
+    ) -> Status {
+        match self {
+            Made::Outcomes | Made::Rulings => races(alloc, words, source, sink, Multiples),
+            Made::Page => view(alloc, words, source, sink),
+        }
+    }
+
+    /// Whether a call that wrote this text ends so.
+    fn ends(text: &str, status: &Status) -> bool {
+        match status {
+            Status::Done => !text.starts_with("fails "),
+            Status::Race(RaceEnd::Fails) => text.starts_with("fails "),
+            _ => false,
         }
     }
 }
@@ -102,23 +129,37 @@ fn page_with(rt: &HostRuntime, lines: &str) -> io::Result<String> {
     }
 }
 
+/// The words that ask for the conditions in the file, one in each line; none of other examples.
+fn words_of(rt: &HostRuntime, stem: &str, made: Made) -> io::Result<Vec<String>> {
+    let mut words = Vec::new(rt.alloc());
+    if matches!(made, Made::Rulings) {
+        words.push(String::from_str(rt.alloc(), "--expect")?)?;
+        let path = format!(in rt.alloc(); "{stem}.conditions")?;
+        for line in fs::read_to_string(rt, path.as_str())?.lines() {
+            words.push(String::from_str(rt.alloc(), line)?)?;
+        }
+    }
+    Ok(words)
+}
+
 /// Whether what is made of the example is what the file beside it has.
 fn agrees(rt: &HostRuntime, stem: &str, made: Made) -> io::Result<bool> {
-    let (ending, beside) = made.endings();
-    let path = format!(in rt.alloc(); "{stem}{ending}")?;
+    let (_, beside) = made.endings();
+    let path = format!(in rt.alloc(); "{stem}{}", made.read())?;
     let example = fs::read(rt, path.as_str())?;
     let path = format!(in rt.alloc(); "{stem}{beside}")?;
     let beside = fs::read_to_string(rt, path.as_str())?;
+    let words = words_of(rt, stem, made)?;
     let wanted = match made {
-        Made::Outcomes => beside,
+        Made::Outcomes | Made::Rulings => beside,
         Made::Page => page_with(rt, beside.as_str())?,
     };
     let mut source = MemorySource::new(rt.alloc(), example.as_slice(), PIECE, &[]).map_err(
         no_memory,
     )?;
     let mut sink = MemorySink::new(rt.alloc(), ROOM, &[]).map_err(no_memory)?;
-    let status = made.write(rt.alloc(), &mut source, &mut sink);
-    Ok(matches!(&status, Status::Done) && sink.held() == wanted.as_str().as_bytes())
+    let status = made.write(rt.alloc(), words.as_slice(), &mut source, &mut sink);
+    Ok(Made::ends(wanted.as_str(), &status) && sink.held() == wanted.as_str().as_bytes())
 }
 
 /// How many examples agree; each that does not is named.
@@ -137,6 +178,9 @@ fn compare(rt: &HostRuntime, made: Made) -> io::Result<u64> {
 
 fn main(rt: HostRuntime) -> io::Result<()> {
     let races = compare(&rt, Made::Outcomes)?;
+    let rulings = compare(&rt, Made::Rulings)?;
     let pages = compare(&rt, Made::Page)?;
-    println!(rt; "{races} races have the outcomes beside them, and {pages} report its page")
+    println!(rt; "{races} races have the outcomes beside them")?;
+    println!(rt; "of {rulings} races it is said what is beside them of their conditions")?;
+    println!(rt; "{pages} report has its page")
 }
