@@ -1,0 +1,10 @@
+pub mod Flaws
+pub mod Drivers
+pub mod Overrides
+pub mod Flawed
+pub mod Parts
+pub mod Judged
+pub mod Recalled
+pub mod Closed
+pub mod Races
+pub mod Laws
