@@ -12,8 +12,11 @@ With --drawn it draws RUNS scripts (from seed 1) of two actors, whose races have
 Of those with a single outcome it leaves four in five out.
 The command (./hmmraces.sh --ready; any program of the same behaviour will do) must say `whole`, must have the same
 outcomes as this tool, each once, and each schedule that it writes must lead to its outcome with all operations ended, as
-tools/reference replays it. Ends with status 1 at the first script for which that fails, which is then printed. It is run by
-hand, outside the gate: all this is proved.
+tools/reference replays it. Its number of states must lie between two counts that this tool makes along all orders: of
+what all actors share, with the answers and how many operations of each have ended, which two states may have in common;
+and of that with the entries of each actor since its operation began, which two states never have in common. Where the
+two counts are equal, the number is known. Ends with status 1 at the first script for which that fails, which is then
+printed. It is run by hand, outside the gate: all this is proved.
 """
 import argparse, os, random, subprocess, sys
 
@@ -51,9 +54,24 @@ def outcome(machine, length):
                  for actor, entry in machine.history[length:] if actor == wanted and entry[0] in ANSWERS)
 
 
+class Noting(Machine):
+    """A machine that notes at which position each actor's operation began."""
+
+    def __init__(self, script):
+        super().__init__(script)
+        self.began = [0] * len(script.actors)
+
+    def step(self, actor):
+        before = self.ended[actor]
+        did = super().step(actor)
+        if self.ended[actor] != before:
+            self.began[actor] = len(self.history)
+        return did
+
+
 def machine_after(script, turns):
     """A machine after the set-up and these turns, and the length of the set-up."""
-    machine = Machine(script)
+    machine = Noting(script)
     machine.replay()
     length = len(machine.history)
     for actor in turns:
@@ -61,12 +79,81 @@ def machine_after(script, turns):
     return machine, length
 
 
-def outcomes(script, most=MOST_ENTRIES):
+def shared(state):
+    """What all actors share, without positions and absolute sequences: a function of a state of the search."""
+    covered = {p: {v: bytes(page) for v, page in pages.items() if any(page) and any(a.span.has(v) for a in state.areas[p])}
+               for p, pages in state.bytes.items()}
+    mirrors = {m: (x.device, x.process, x.window, x.attached, x.stage, state.is_invalidating(m))
+               for m, x in state.mirrors.items()}
+    tables = {m: {v: entry[:2] for v, entry in table.items()} for m, table in state.tables.items()}
+    places = {p: {v: x for v, x in pages.items() if x.kind != 'none'} for p, pages in state.places.items()}
+    sequences = {p: (state.seq[p] % 2, state.active[p]) for p in sorted({*state.seq, *state.active})}
+    return repr((sorted(state.areas.items()), sorted((p, sorted(pages.items())) for p, pages in covered.items()),
+                 sorted(state.given), sorted(mirrors.items()),
+                 sorted((m, sorted(table.items())) for m, table in tables.items()),
+                 sorted((p, sorted(pages.items())) for p, pages in places.items() if pages),
+                 sorted((str(d), sorted(numbers)) for d, numbers in state.held.items()),
+                 sorted(state.withdrawn), sorted(state.removed), {p: x for p, x in sequences.items() if x != (0, 0)},
+                 sorted(state.map_lock.items()), sorted((str(f), a) for f, a in state.locker.items())))
+
+
+def written(machine):
+    """Every byte that was stored, by process and address, also where no area is any more."""
+    found = {}
+    for _, entry in machine.history:
+        if entry[0] in ('stored', 'added'):
+            who = entry[1] if entry[0] == 'stored' else ('m', entry[1])
+            process = who[1] if who[0] == 'p' else machine.state.mirrors[who[1]].process
+            data = entry[3] if entry[0] == 'stored' else entry[4]
+            found.update({(process, entry[2] + at): byte for at, byte in enumerate(data)})
+        elif entry[0] == 'forked':
+            found.update({(entry[2], at): byte for (p, at), byte in [*found.items()] if p == entry[1]})
+    return tuple(sorted(found.items()))
+
+
+def own(machine, actor):
+    """The actor's entries since its operation began, without positions; of a sequence whether it is still that of its
+    mirror or process."""
+    state, ended, entries = machine.state, machine.ended[actor], []
+    for a, entry in machine.history[machine.began[actor]:]:
+        if a != actor:
+            continue
+        match entry:
+            case ('begin', m, seq) | ('detaching', m, seq):
+                entries.append((entry[0], m, state.mirrors[m].seq == seq))
+            case ('set', m, page, frame, right, _):
+                entries.append(('set', m, page, frame, right))
+            case ('told', m, span, _):
+                entries.append(('told', m, span))
+            case ('start', p, span, _) | ('end', p, span, _):
+                entries.append((entry[0], p, span))
+            case _:
+                entries.append(entry)
+    return ended, tuple(map(repr, entries))
+
+
+class Counts:
+    """Two counts of states, between which their number lies."""
+
+    def __init__(self):
+        self.shared, self.told = set(), set()
+
+    def note(self, machine, length):
+        actors = range(len(machine.ended))
+        answers = tuple(outcome(machine, length))
+        known = (shared(machine.state), tuple(machine.ended), answers)
+        self.shared.add(known)
+        self.told.add((known, written(machine), tuple(own(machine, actor) for actor in actors)))
+
+
+def outcomes(script, most=MOST_ENTRIES, counts=None):
     """All outcomes. After each list of turns each actor is asked again from the start, since a machine is not copied."""
     found, todo, actors = set(), [[]], range(len(script.actors))
     while todo:
         turns = todo.pop()
         machine, length = machine_after(script, turns)
+        if counts:
+            counts.note(machine, length)
         if all(map(machine.is_idle, actors)):
             found.add(outcome(machine, length))
             continue
@@ -107,9 +194,13 @@ def judge(script, output):
     found = [tuple(answers) for answers, lines in told]
     if len(set(found)) < len(found):
         raise Wrong('an outcome twice')
-    if set(found) != outcomes(script):
+    counts = Counts()
+    if set(found) != outcomes(script, counts=counts):
         raise Wrong('other outcomes than by trying every order')
-    return len(found)
+    least, most = len(counts.shared), len(counts.told)
+    if not least <= int(words[1]) <= most:
+        raise Wrong(f'{words[1]} states, where there are {least} to {most}')
+    return len(found), least == most
 
 
 def access(draw, pages):
@@ -145,7 +236,7 @@ def drawn(draw):
 
 
 def compare(command, runs, seed):
-    draw, done, total = random.Random(seed), 0, 0
+    draw, done, total, known = random.Random(seed), 0, 0, 0
     while done < runs:
         text = drawn(draw)
         script = scripts.parse(text)
@@ -158,13 +249,15 @@ def compare(command, runs, seed):
         try:
             if ran.returncode != 0:
                 raise Wrong(f'status {ran.returncode}: {ran.stderr.decode()}')
-            total += judge(script, ran.stdout)
+            found, is_known = judge(script, ran.stdout)
+            total, known = total + found, known + is_known
         except Wrong as why:
             sys.stdout.buffer.write(text + ran.stdout)
             print(f'race_outcomes.py: {why}', file=sys.stderr)
             sys.exit(1)
         done += 1
-    print(f'{runs} drawn races: the same {total} outcomes, each with a schedule that leads to it')
+    print(f'{runs} drawn races: the same {total} outcomes, each with a schedule that leads to it; the number of states lies '
+          f'between both counts, and is known in {known} races')
 
 
 def main():

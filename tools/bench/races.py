@@ -9,7 +9,7 @@ The races are those of the gallery, the worked scripts of two and three actors w
 out, so that all they do is raced), and two that are made here, which are larger. A search's time is that of the processor,
 its own and the system's for it, and the memory is the most that it held. Races with fewer than 1,000 states are added up.
 """
-import argparse, glob, os, re, resource, subprocess, sys
+import argparse, glob, os, re, subprocess, sys, tempfile
 
 TOP = os.path.dirname(os.path.dirname(os.path.dirname(os.path.abspath(__file__))))
 EXAMPLES = os.path.join(TOP, 'examples')
@@ -59,16 +59,21 @@ turns 0 12
 
 
 def search(program, script, most):
-    """Returns the last line's words, the processor time in seconds, and the most memory in KiB."""
-    with subprocess.Popen([program, str(most)], stdin=subprocess.PIPE, stdout=subprocess.PIPE) as run:
-        run.stdin.write(script.encode())
-        run.stdin.close()
-        lines = run.stdout.read().decode().split('\n')
-        _, status, usage = os.wait4(run.pid, 0)
-        run.returncode = os.waitstatus_to_exitcode(status)
+    """Returns the last line's words, the processor time in seconds, and the most memory in KiB. The program is started by
+    `time`, which is small: of a process that this one starts the system would count this one's own memory too."""
+    with tempfile.TemporaryFile() as said:
+        with subprocess.Popen(['/usr/bin/time', '-f', '%M', program, str(most)], stdin=subprocess.PIPE,
+                              stdout=subprocess.PIPE, stderr=said) as run:
+            run.stdin.write(script.encode())
+            run.stdin.close()
+            lines = run.stdout.read().decode().split('\n')
+            _, status, usage = os.wait4(run.pid, 0)
+            run.returncode = os.waitstatus_to_exitcode(status)
+        said.seek(0)
+        held = said.read().split()
     if run.returncode:
         sys.exit(f'{program} ended with status {run.returncode}')
-    return lines[-2].split(), usage.ru_utime + usage.ru_stime, usage.ru_maxrss
+    return lines[-2].split(), usage.ru_utime + usage.ru_stime, int(held[-1])
 
 
 def races():
