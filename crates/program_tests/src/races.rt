@@ -5,7 +5,14 @@ use std::alloc::Global;
 use std::process::Abort;
 use std::test::Fail;
 
-const USAGE: &str = "hmmraces: usage: hmmraces [MOST]\n";
+const USAGE: &str =
+    "hmmraces: usage: hmmraces [[--most] MOST] [--table | --script N | --expect CONDITION ..]\n";
+
+const NOTHING: &str =
+    "hmmraces: nothing is left to race after drain: end the schedule where the race is to begin\n";
+
+/// A script whose schedule leaves nothing to race.
+const DRAINED: &str = "hmm 1\nframes 0\ndrain\n";
 
 fn run<R: Abort>(rt: &R, alloc: Global, case: &Case<'_>) -> Result<(), Fail> {
     let mut streams = open_streams(alloc, case)?;
@@ -29,6 +36,15 @@ fn hmmraces_ends_with_each_code(rt: HostRuntime) -> Result<(), Fail> {
         expected("", EMPTY, 0, "outcome 1\nstates 1 whole\n", ""),
         expected("many", EMPTY, 2, "", USAGE),
         expected("1 2", EMPTY, 2, "", USAGE),
+        expected(
+            "--expect some",
+            EMPTY,
+            2,
+            "",
+            "hmmraces: condition 1: bad word 2\n",
+        ),
+        expected("--script 2", EMPTY, 9, "", "hmmraces: no such outcome\n"),
+        expected("", DRAINED, 9, "", NOTHING),
         expected("", "", 3, "", "hmmraces: script line 1: bad header\n"),
         Case {
             bad_read: 1,
