@@ -1,6 +1,6 @@
-// Searches the race of every script in the folder that it runs in, asks for the conditions there, and draws every report.
-// Compares the outcomes and what is said of the conditions with the files beside them, and the pages with the lines
-// there, between the files of the folder page.
+// Searches the race of every script in the folder that it runs in, asks for the conditions there, and draws every
+// report. Compares the outcomes and what is said of the conditions with the files beside them, and the pages with the
+// lines there, between the files of the folder page.
 #![tactic(auto)]
 
 use hm_base::NoMemory;
