@@ -53,7 +53,7 @@ def files(ending, part=None):
 
 
 def is_test(crate):
-    return crate.endswith(('_tests', '_examples')) or crate in ('check_reports', 'rows')
+    return crate.endswith(('_tests', '_examples')) or crate == 'rows'
 
 
 # the map

@@ -185,7 +185,7 @@ def imports(body, more):
     lines += [f'use {path}.{{{name}}}' for path, name in IMPORTS.items() if re.search(rf'(?<!\w){name}\.', body)]
     frames = [n for n in ('sys_frame', 'dev_frame') if used(n)]
     if frames:
-        lines.append('use Rattle.hm_history.specs.Words.{' + ', '.join(frames) + '}')
+        lines.append('use Rattle.hm_history.specs.Memory.Words.{' + ', '.join(frames) + '}')
     lines.append('use Rattle.hm_history.specs.declared.Entry.{Entry}')
     for path, names in more.items():
         wanted = [n for n in names if used(n)]
@@ -194,7 +194,8 @@ def imports(body, more):
     return '\n'.join(lines) + '\n'
 
 
-FITS = 'record { is_due = refl; answers = refl; places = refl; frames = refl; sequences = refl; untold = refl; guarded = refl; kept = refl }'
+KEEPS = 'record { answers = refl; places = refl; frames = refl; sequences = refl; untold = refl; guarded = refl }'
+FITS = f'record {{ is_due = refl; rules = {KEEPS}; kept = refl }}'
 
 
 def tried_entries():
@@ -245,7 +246,7 @@ runs : run script ≡ history
 legal : Legal script history
 legal = {legal}
 {tried_terms(tried)}'''
-    head = imports(body, {'Rattle.hm_history.specs.Run': ['run', 'enough'], **DEFINITIONS})
+    head = imports(body, {'Rattle.hm_history.specs.Kernel.Run': ['run', 'enough'], **DEFINITIONS})
     return f'-- The worked script {name}: its run, and that it is legal.\n' + head + body
 
 
@@ -289,11 +290,11 @@ TESTS = {
     'kept': 'kept_rightly script (state_of script {h}) (record {{ actor = {a}; kind = {k} }})',
 }
 DEFINITIONS = {
-    'Rattle.hm_history.specs.After': ['after'], 'Rattle.hm_history.specs.Plain': ['mirror_owner', 'plain_accepts'],
-    'Rattle.hm_history.specs.Places': ['places_accept'], 'Rattle.hm_history.specs.Sequences': ['sequences_accept'],
-    'Rattle.hm_history.specs.Lookups': ['uses_untold', 'narrows_guarded'],
-    'Rattle.hm_history.specs.Legal': ['Legal', 'fails_rightly', 'kept_rightly'],
-    'Rattle.hm_history.specs.Going': ['state_of'],
+    'Rattle.hm_history.specs.Memory.After': ['after'], 'Rattle.hm_history.specs.Memory.Plain': ['mirror_owner', 'plain_accepts'],
+    'Rattle.hm_history.specs.Memory.Places': ['places_accept'], 'Rattle.hm_history.specs.Memory.Sequences': ['sequences_accept'],
+    'Rattle.hm_history.specs.Memory.Lookups': ['uses_untold', 'narrows_guarded'],
+    'Rattle.hm_history.specs.Memory.Rules': ['fails_rightly'], 'Rattle.hm_history.specs.Kernel.Legal': ['Legal', 'kept_rightly'],
+    'Rattle.hm_history.specs.Kernel.Going': ['state_of'],
 }
 WRONG_SCRIPT = 'hmm 1\nframes 4\ndevice 0 4\nactor 0\nmap 0 16 1 rw\nstore 0 0x10000 41\nattach 0 0 0 16 1\ntodev 0 16 1\nturns 0 99\n'
 

@@ -4,7 +4,7 @@
     tools/spoil_reports.py [--count N] [--seed N] [--with 'COMMAND'] .. REPORT ..
 
 Makes N reports (1,000 unless told) from those given: a byte, a number, or a line is changed, dropped, doubled, swapped
-or cut. crates/check_reports/out/check_reports says of each whether it is legal, or the first bad line. Each COMMAND,
+or cut. crates/check_examples/out/check_examples says of each whether it is legal, or the first bad line. Each COMMAND,
 such as 'tools/reference/cli.py check', reads one report on standard input and must say the same. Prints what differs,
 keeps those reports, and ends with 1 if there are any.
 """
@@ -13,7 +13,7 @@ import argparse, os, random, re, shlex, subprocess, sys, tempfile
 import words as given
 
 TOP = os.path.dirname(os.path.dirname(os.path.abspath(__file__)))
-PROGRAM = os.path.join(TOP, 'crates/check_reports/out/check_reports')
+PROGRAM = os.path.join(TOP, 'crates/check_examples/out/check_examples')
 
 
 def change_byte(pick, data):

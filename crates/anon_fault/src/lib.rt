@@ -3,10 +3,10 @@
 
 ghost use Rattle.std.specs.Prelude.{◌≡◌, true, IsTrue, IfOk};
 ghost use Rattle.hm_base.specs.Program.{op_in_range};
-ghost use Rattle.hm_history.specs.Words.{place_in, same_place};
-ghost use Rattle.hm_history.specs.Operation.{op_writes, op_who, op_piece};
-ghost use Rattle.hm_history.specs.Words.{page_of};
-ghost use Rattle.hm_history.specs.Due as spec;
+ghost use Rattle.hm_history.specs.Memory.Words.{place_in, same_place};
+ghost use Rattle.hm_history.specs.Kernel.Operation.{op_writes, op_who, op_piece};
+ghost use Rattle.hm_history.specs.Memory.Words.{page_of};
+ghost use Rattle.hm_history.specs.Kernel.Due as spec;
 ghost use Rattle.hm_history.specs.declared.Kind as kind;
 ghost use Rattle.hm_history.specs.declared.Who as who;
 ghost use Rattle.hm_history.specs.declared.phases.Touch as touch;

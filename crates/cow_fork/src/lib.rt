@@ -3,8 +3,8 @@
 #![tactic(auto)]
 
 ghost use Rattle.std.specs.Prelude.{◌≡◌, true, IsTrue};
-ghost use Rattle.hm_history.specs.Places.{is_used, next_page};
-ghost use Rattle.hm_history.specs.Due as spec;
+ghost use Rattle.hm_history.specs.Memory.Places.{is_used, next_page};
+ghost use Rattle.hm_history.specs.Kernel.Due as spec;
 ghost use Rattle.hm_base.specs.declared.ops.Op as op;
 ghost use Rattle.hm_history.specs.declared.Kind as kind;
 ghost use Rattle.hm_reads.specs.Ranges.{body_in_range};

@@ -5,9 +5,9 @@
 ghost use Rattle.std.specs.Prelude.{◌≡◌, ◌^◌, ◌<◌, true, false, Some, [], ◌∷◌, IsTrue, IfOk};
 ghost use Rattle.hm_base.specs.Program.{op_in_range};
 ghost use Rattle.hm_base.specs.declared.Place as place;
-ghost use Rattle.hm_history.specs.Words.{sys_frame, same_place, page_of};
-ghost use Rattle.hm_history.specs.Plain.{plain_bytes};
-ghost use Rattle.hm_history.specs.Due as spec;
+ghost use Rattle.hm_history.specs.Memory.Words.{sys_frame, same_place, page_of};
+ghost use Rattle.hm_history.specs.Memory.Plain.{plain_bytes};
+ghost use Rattle.hm_history.specs.Kernel.Due as spec;
 ghost use Rattle.hm_history.specs.declared.Kind as kind;
 ghost use Rattle.hm_history.specs.declared.TableRight as right;
 ghost use Rattle.hm_history.specs.declared.Who as who;

@@ -5,8 +5,8 @@
 ghost use Rattle.std.specs.Prelude.{◌≡◌, ◌&&◌, is_none, IsTrue};
 ghost use Rattle.hm_base.specs.Program.{op_in_range};
 ghost use Rattle.hm_base.specs.declared.Place as place;
-ghost use Rattle.hm_history.specs.Words.{is_frame, names_directly, writable};
-ghost use Rattle.hm_history.specs.Due as spec;
+ghost use Rattle.hm_history.specs.Memory.Words.{is_frame, names_directly, writable};
+ghost use Rattle.hm_history.specs.Kernel.Due as spec;
 ghost use Rattle.hm_history.specs.declared.Kind as kind;
 
 use hm_base::frames::{is_frame, names_directly};

@@ -1,5 +1,6 @@
 -- The bits of words of 64, numbered through the words, and the list of truths that they stand for.
-use Rattle.std.specs.Prelude.{◌≡◌, ℕ, ◌+◌, ◌*◌, ◌/◌, ◌%◌, ◌^◌, ◌<◌, ◌≤◌, Bool, true, false, not, ◌==◌, List, length, map, drop, slice_index, Option, option_map}
+use Rattle.std.specs.Prelude.{◌≡◌, ℕ, ◌+◌, ◌*◌, ◌/◌, ◌%◌, ◌^◌, ◌<◌, ◌≤◌, Bool, true, false, not, ◌==◌, List, length}
+use Rattle.std.specs.Prelude.{map, drop, slice_index, Option, option_map}
 use Rattle.std.specs.List.{range_with_len, position}
 use Rattle.std.specs.Option.{MatchOption}
 use Rattle.std.specs.Int.{bit_at}

@@ -1,5 +1,6 @@
 -- A pool of frames of 4,096 bytes, as contracts see it.
-use Rattle.std.specs.Prelude.{◌≡◌, ℕ, ◌+◌, ◌-◌, ◌*◌, ◌<◌, ◌^◌, Bool, true, false, not, Option, Some, None, List, ◌++◌, length, replicate, slice_set, slice_index_or, slice_range, if◌then◌else◌}
+use Rattle.std.specs.Prelude.{◌≡◌, ℕ, ◌+◌, ◌-◌, ◌*◌, ◌<◌, ◌^◌, Bool, true, false, not, Option, Some, None, List, ◌++◌}
+use Rattle.std.specs.Prelude.{length, replicate, slice_set, slice_index_or, slice_range, if◌then◌else◌}
 use Rattle.std.specs.List.{position, splice}
 use Rattle.frame_pool.specs.declared.pool.Piece.{Piece}
 use Rattle.frame_pool.specs.declared.pool.Piece.TheVariants.{All, Part}

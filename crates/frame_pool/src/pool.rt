@@ -1,7 +1,9 @@
 // A pool of frames: they are taken and dropped, read, written and copied, locked and unlocked.
-ghost use Rattle.std.specs.Prelude.{◌≡◌, ◌≢◌, ℕ, ◌+◌, ◌*◌, ◌<◌, ◌≤◌, true, false, Some, None, is_some, length, replicate, IfOk, IfSome, MatchResult};
+ghost use Rattle.std.specs.Prelude.{◌≡◌, ◌≢◌, ℕ, ◌+◌, ◌*◌, ◌<◌, ◌≤◌, true, false, Some, None, is_some, length};
+ghost use Rattle.std.specs.Prelude.{replicate, IfOk, IfSome, MatchResult};
 ghost use Rattle.frame_pool.specs.Bits.{next_true};
-ghost use Rattle.frame_pool.specs.Frames.{IsFrames, IsPiece, fresh, is_held, locker, lowest_free, lowest_taken, taken, dropped, written, copied, part_of, locked, unlocked, piece_start, piece_len};
+ghost use Rattle.frame_pool.specs.Frames.{IsFrames, IsPiece, fresh, is_held, locker, lowest_free, lowest_taken, taken};
+ghost use Rattle.frame_pool.specs.Frames.{dropped, written, copied, part_of, locked, unlocked, piece_start, piece_len};
 
 use crate::bytes::FRAME_BYTES;
 use crate::number_set::NumberSet;

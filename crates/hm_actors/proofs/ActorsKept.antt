@@ -7,9 +7,9 @@ use Rattle.std.proofs.lemmas.Option.{slice_get_past}
 use Rattle.std.proofs.lemmas.Grind.{elements, common_steps}
 use Rattle.hm_base.specs.Program.{Program}
 use Rattle.hm_base.specs.declared.ops.Op.{Op}
-use Rattle.hm_history.specs.Words.{with_at}
-use Rattle.hm_history.specs.After.{After}
-use Rattle.hm_history.specs.Going.{State, Going, going_next, going_top, going_seen, op_at, ops_of, state_start, state_next}
+use Rattle.hm_history.specs.Memory.Words.{with_at}
+use Rattle.hm_history.specs.Memory.After.{After}
+use Rattle.hm_history.specs.Kernel.Going.{State, Going, going_next, going_top, going_seen, op_at, ops_of, state_start, state_next}
 use Rattle.hm_history.specs.declared.Kind.{Kind}
 use Rattle.hm_history.specs.declared.phases.Seen.{Seen}
 use Rattle.hm_history.specs.declared.phases.Phase.{Phase}

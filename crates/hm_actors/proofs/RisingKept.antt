@@ -8,7 +8,7 @@ use Rattle.std.proofs.lemmas.Bool.{cases_eq, cases_lt}
 use Rattle.std.proofs.lemmas.Bool.Decides.{nat_tests}
 use Rattle.std.proofs.lemmas.List.{ext_get_or, get_or-map, length-drop, length-map, length-set, take_all}
 use Rattle.std.proofs.lemmas.Grind.{elements, common_steps}
-use Rattle.hm_history.specs.Going.{with_record}
+use Rattle.hm_history.specs.Kernel.Going.{with_record}
 use Rattle.hm_history.specs.declared.phases.Migrating.{Migrating}
 use Rattle.hm_actors.specs.Coming.{first_from}
 use Rattle.hm_actors.specs.Rising.{Rises, IsBefore, EndsBelow}

@@ -3,8 +3,8 @@ use Rattle.std.proofs.Common.{◌≡◌, ℕ, ◌+◌, ◌≤◌, true, false, S
 use Rattle.std.proofs.lemmas.List.{get_or_past}
 use Rattle.hm_base.specs.Program.{Program}
 use Rattle.hm_base.specs.declared.ops.Op.{Op}
-use Rattle.hm_history.specs.Stacks.{stack_after}
-use Rattle.hm_history.specs.Going.{going_from, going_on, recorded}
+use Rattle.hm_history.specs.Kernel.Stacks.{stack_after}
+use Rattle.hm_history.specs.Kernel.Going.{going_from, going_on, recorded}
 use Rattle.hm_history.specs.declared.Kind.{Kind}
 use Rattle.hm_history.specs.declared.phases.Seen.{Seen}
 use Rattle.hm_history.specs.declared.phases.Phase.{Phase}

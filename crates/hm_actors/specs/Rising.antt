@@ -4,7 +4,8 @@ use Rattle.hm_history.specs.declared.phases.Migrating.{Migrating}
 
 -- each page is above those before it
 abbrev pub Rises : List Migrating → Type 0
-Rises xs = (i j : ℕ) (d : Migrating) → i < j → j < length xs → (slice_index_or xs i d).page < (slice_index_or xs j d).page
+Rises xs = (i j : ℕ) (d : Migrating) → i < j → j < length xs
+    → (slice_index_or xs i d).page < (slice_index_or xs j d).page
 
 -- the first n records have pages below this one
 abbrev pub IsBefore : ℕ → ℕ → List Migrating → Type 0

@@ -1,10 +1,12 @@
 // All actors of a script.
-ghost use Rattle.std.specs.Prelude.{◌≡◌, ◌<◌, ◌≤◌, List, [], true, false, is_none, count_by, length, OnOk, OnErr, IfOk, option_copied, slice_get};
-ghost use Rattle.hm_history.specs.Going.{op_at, steps_from};
+ghost use Rattle.std.specs.Prelude.{◌≡◌, ◌<◌, ◌≤◌, List, [], true, false, is_none, count_by, length, OnOk, OnErr, IfOk};
+ghost use Rattle.std.specs.Prelude.{option_copied, slice_get};
+ghost use Rattle.hm_history.specs.Kernel.Going.{op_at, steps_from};
 ghost use Rattle.hm_history.specs.declared.phases.Phase.{Phase as AnyPhase};
 ghost use Rattle.hm_actors.specs.Coming.{come_by};
 ghost use Rattle.hm_phases.specs.Items.{phases_of};
-ghost use Rattle.hm_actors.specs.Actors.{actors_start, actors_next, adds_record, going_of, goings, ActorsFit, ActorsRoom};
+ghost use Rattle.hm_actors.specs.Actors.{actors_start, actors_next, adds_record, going_of, goings, ActorsFit};
+ghost use Rattle.hm_actors.specs.Actors.{ActorsRoom};
 
 use crate::coming::Concerns;
 use crate::records::Records;

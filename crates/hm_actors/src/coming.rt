@@ -1,6 +1,6 @@
 // The page to which a migration has come.
 ghost use Rattle.std.specs.Prelude.{◌≡◌, Bool, option_copied};
-ghost use Rattle.hm_history.specs.Going.{steps_from};
+ghost use Rattle.hm_history.specs.Kernel.Going.{steps_from};
 ghost use Rattle.hm_history.specs.declared.phases.Migrating.{Migrating as Record};
 ghost use Rattle.hm_history.specs.declared.phases.MoveStep.{MoveStep as Step};
 ghost use Rattle.hm_actors.specs.Coming.{first_from, come_by};

@@ -1,6 +1,6 @@
 // Where the record of a page stands among records in rising page order.
 ghost use Rattle.std.specs.Prelude.{◌≡◌, Bool, ◌≤◌, ◌==◌, [], ◌∷◌, ◌++◌, true, length, nat_lt, if◌then◌else◌};
-ghost use Rattle.hm_history.specs.Going.{with_record};
+ghost use Rattle.hm_history.specs.Kernel.Going.{with_record};
 ghost use Rattle.hm_history.specs.declared.phases.Migrating.{Migrating as Record};
 ghost use Rattle.hm_actors.specs.Coming.{first_from};
 ghost use Rattle.hm_actors.specs.Rising.{Rises, IsBefore, EndsBelow};

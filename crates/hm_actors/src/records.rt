@@ -1,6 +1,7 @@
 // The records of a migration, with room kept ahead.
-ghost use Rattle.std.specs.Prelude.{◌≡◌, ℕ, Bool, ◌+◌, ◌-◌, ◌≤◌, [], ◌∷◌, ◌++◌, ◌==◌, true, false, None, length, map, OnOk, OnErr, IfOk, if◌then◌else◌};
-ghost use Rattle.hm_history.specs.Going.{with_record, recorded_at, recorded_body, recorded};
+ghost use Rattle.std.specs.Prelude.{◌≡◌, ℕ, Bool, ◌+◌, ◌-◌, ◌≤◌, [], ◌∷◌, ◌++◌, ◌==◌, true, false, None, length, map};
+ghost use Rattle.std.specs.Prelude.{OnOk, OnErr, IfOk, if◌then◌else◌};
+ghost use Rattle.hm_history.specs.Kernel.Going.{with_record, recorded_at, recorded_body, recorded};
 ghost use Rattle.hm_base.specs.PlaceWords.{moving_frame};
 ghost use Rattle.hm_history.specs.declared.phases.Migrating.{Migrating as Record};
 ghost use Rattle.hm_actors.specs.Coming.{first_from};

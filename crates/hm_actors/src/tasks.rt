@@ -1,6 +1,7 @@
 // One actor: the number of its operation, the phases there, and the key of its migration.
-ghost use Rattle.std.specs.Prelude.{◌≡◌, ◌+◌, ◌<◌, ◌≤◌, ◌^◌, [], true, None, Some, OnOk, OnErr, OnSome, IfOk, is_none, option_copied, slice_get};
-ghost use Rattle.hm_history.specs.Going.{first_stack, op_at};
+ghost use Rattle.std.specs.Prelude.{◌≡◌, ◌+◌, ◌<◌, ◌≤◌, ◌^◌, [], true, None, Some, OnOk, OnErr, OnSome, IfOk, is_none};
+ghost use Rattle.std.specs.Prelude.{option_copied, slice_get};
+ghost use Rattle.hm_history.specs.Kernel.Going.{first_stack, op_at};
 ghost use Rattle.hm_phases.specs.Items.{phases_of};
 ghost use Rattle.hm_actors.specs.Actors.{task_next, task_top, adds_at, adds_record, ActorsFit, HasRoom, StackFits};
 ghost use Rattle.hm_actors.specs.Migrations.{key_of, task_shown, HasItem, Changes};

@@ -1,7 +1,7 @@
 // The migrations under way: the records of each stand in a slab, under the key that the actor's task holds.
 ghost use Rattle.std.specs.Prelude.{◌≡◌, ◌≤◌, ℕ, [], true, None, Some, OnErr, IfOk};
 ghost use Rattle.slab.specs.Slab.{get, Updates, SameValues};
-ghost use Rattle.hm_history.specs.Going.{recorded, steps_from};
+ghost use Rattle.hm_history.specs.Kernel.Going.{recorded, steps_from};
 ghost use Rattle.hm_actors.specs.Coming.{come_by};
 ghost use Rattle.hm_actors.specs.Actors.{adds_at, spare_next};
 ghost use Rattle.hm_actors.specs.Migrations.{kept_at, HasItem, Changes};

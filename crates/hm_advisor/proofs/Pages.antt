@@ -6,7 +6,7 @@ use Rattle.std.proofs.lemmas.List.{map-append}
 use Rattle.std.proofs.lemmas.Grind.{flat_map-append}
 use Rattle.std.proofs.lemmas.List.Elements.{filter-append}
 use Rattle.hm_history.proofs.Numbers.{numbers_append}
-use Rattle.hm_history.specs.Words.{numbers}
+use Rattle.hm_history.specs.Memory.Words.{numbers}
 use Rattle.hm_history.specs.declared.Who.{Who}
 use Rattle.hm_advisor.specs.Counts.{count_at, is_accessed, pages_counted, window_counts, counts_by}
 use Rattle.hm_advisor.specs.declared.counts.Count.{Count}

@@ -1,8 +1,9 @@
 -- For each attached mirror, the accessed pages of its window, with how often each was accessed.
-use Rattle.std.specs.Prelude.{◌≡◌, ℕ, ◌≤◌, ◌<◌, Bool, not, ◌&&◌, ◌==◌, Option, Some, None, List, [], map, filter, length, slice_index_or}
+use Rattle.std.specs.Prelude.{◌≡◌, ℕ, ◌≤◌, ◌<◌, Bool, not, ◌&&◌, ◌==◌, Option, Some, None, List, [], map, filter}
+use Rattle.std.specs.Prelude.{length, slice_index_or}
 use Rattle.std.specs.List.{flat_map}
-use Rattle.hm_history.specs.After.{after}
-use Rattle.hm_history.specs.Words.{numbers}
+use Rattle.hm_history.specs.Memory.After.{after}
+use Rattle.hm_history.specs.Memory.Words.{numbers}
 use Rattle.hm_history.specs.declared.Who.{Who}
 use Rattle.hm_history.specs.declared.Entry.{Entry}
 use Rattle.hm_advisor.specs.Accesses.{accesses, count_for, AreSized}

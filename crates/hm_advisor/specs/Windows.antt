@@ -1,6 +1,6 @@
 -- The mirrors that are attached, with their processes and windows.
 use Rattle.std.specs.Prelude.{true, false, Option, Some, None, List, slice_set}
-use Rattle.hm_history.specs.Plain.{MirrorState, is_attached_state}
+use Rattle.hm_history.specs.Memory.Plain.{MirrorState, is_attached_state}
 use Rattle.hm_history.specs.declared.Kind.{Kind}
 use Rattle.hm_advisor.specs.declared.windows.Window.{Window}
 

@@ -1,7 +1,8 @@
 // Whose accesses a history has, and how often each page was accessed.
 ghost use Rattle.std.specs.Prelude.{◌≡◌, ℕ, ◌+◌, ◌<◌, ◌^◌, length, IfOk, OnOk};
 ghost use Rattle.hm_history.specs.declared.Who.{Who as AnyWho};
-ghost use Rattle.hm_advisor.specs.Accesses.{access_of, count_for, IsNoted, IsCounted, AreSized, AreFew, number_of, is_cpu};
+ghost use Rattle.hm_advisor.specs.Accesses.{access_of, count_for, IsNoted, IsCounted, AreSized, AreFew, number_of};
+ghost use Rattle.hm_advisor.specs.Accesses.{is_cpu};
 ghost use Rattle.hm_advisor.specs.Tally.{count_in};
 
 use crate::tallies::Tallies;

@@ -1,7 +1,8 @@
 // The counts of a history: for each attached mirror, the accessed pages of its window.
 ghost use Rattle.std.specs.Prelude.{◌≡◌, ◌+◌, ◌++◌, ◌≤◌, Some, IfOk, OnOk};
 ghost use Rattle.hm_advisor.specs.Accesses.{count_for, AreSized};
-ghost use Rattle.hm_advisor.specs.Counts.{count_at, counts, counts_by, pages_counted, window_counts, HasSeen, IsNextPage};
+ghost use Rattle.hm_advisor.specs.Counts.{count_at, counts, counts_by, pages_counted, window_counts, HasSeen};
+ghost use Rattle.hm_advisor.specs.Counts.{IsNextPage};
 
 use crate::accesses::Accesses;
 use crate::windows::{MIRRORS, Window, step};

@@ -1,5 +1,6 @@
 -- The areas of a process: disjoint spans with a right each, in rising order (mm/mmap.c, for private anonymous memory).
-use Rattle.std.specs.Prelude.{ℕ, ◌+◌, ◌-◌, min, max, Bool, nat_lt, ◌==◌, if◌then◌else◌, Option, List, [], ◌∷◌, ◌++◌, flat_map, sum_by, find, option_map}
+use Rattle.std.specs.Prelude.{ℕ, ◌+◌, ◌-◌, min, max, Bool, nat_lt, ◌==◌, if◌then◌else◌, Option, List, [], ◌∷◌, ◌++◌}
+use Rattle.std.specs.Prelude.{flat_map, sum_by, find, option_map}
 use Rattle.std.specs.List.{list_any}
 use Rattle.hm_base.specs.Pages.{Pages, covers, overlap}
 use Rattle.hm_base.specs.declared.ops.Rights.{Rights}

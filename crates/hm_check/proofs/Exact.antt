@@ -14,11 +14,11 @@ use Rattle.hm_check.specs.declared.verdict.Verdict.{Verdict}
 use Rattle.hm_check.specs.declared.verdict.Verdict.TheVariants.{Yes, No}
 use Rattle.hm_check.specs.Judged.{Judged, IsYes, JudgedBehind}
 use Rattle.hm_check.specs.Parts.{tail_of, MayCome, BeginsNoEntry, TakenFrom}
-use Rattle.hm_report_lines.specs.Heads.{IsBadHead, IsHead}
-use Rattle.hm_report_lines.specs.Parts.{entry_list, Differ}
-use Rattle.hm_report_lines.proofs.Scripts.{OneText, same_script, cons_take}
-use Rattle.hm_report_lines.proofs.Shared.{one_lines, shares_behind, cancel}
-use Rattle.hm_report_lines.proofs.TextLines.{entry_list_length}
+use Rattle.hm_report_front.specs.Heads.{IsBadHead, IsHead}
+use Rattle.hm_report_front.specs.Parts.{entry_list, Differ}
+use Rattle.hm_report_front.proofs.Scripts.{OneText, same_script, cons_take}
+use Rattle.hm_report_front.proofs.Shared.{one_lines, shares_behind, cancel}
+use Rattle.hm_report_front.proofs.TextLines.{entry_list_length}
 use Rattle.hm_check.proofs.ReportLines.{report_lines}
 use Rattle.hm_check.proofs.Naming.{tail_line, no_entry}
 use Rattle.hm_check.proofs.Follow.{follow}

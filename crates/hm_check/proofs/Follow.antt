@@ -6,16 +6,16 @@ use Rattle.std.proofs.lemmas.Bool.{cases_lt}
 use Rattle.std.proofs.lemmas.Option.{slice_get_past}
 use Rattle.hm_base.specs.Program.{Program, IsScript}
 use Rattle.hm_base.specs.declared.ops.Op.{Op}
-use Rattle.hm_history.specs.Due.{due, due_top}
-use Rattle.hm_history.specs.Going.{ops_of, op_at, state_of}
+use Rattle.hm_history.specs.Kernel.Due.{due, due_top}
+use Rattle.hm_history.specs.Kernel.Going.{ops_of, op_at, state_of}
 use Rattle.hm_history.specs.Laws.{DueFrom}
 use Rattle.hm_history.specs.declared.Entry.{Entry}
 use Rattle.hm_history.specs.declared.Progress.{Progress}
 use Rattle.hm_script.specs.Automaton.{lines}
 use Rattle.hm_report.specs.Report.{entry_line}
-use Rattle.hm_report_lines.specs.Parts.{entry_list}
+use Rattle.hm_report_front.specs.Parts.{entry_list}
 use Rattle.hm_check.specs.Parts.{tail_of}
-use Rattle.hm_report_lines.proofs.Scripts.{cons_take}
+use Rattle.hm_report_front.proofs.Scripts.{cons_take}
 use Rattle.hm_check.proofs.Naming.{tail_line, no_entry, same_actor}
 
 -- ---- the entries

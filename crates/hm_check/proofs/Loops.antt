@@ -3,13 +3,13 @@ use Rattle.std.proofs.Common.{◌≡◌, ℕ, suc, ◌+◌, ◌<◌, ◌≤◌, 
 use Rattle.hm_base.specs.Program.{Program}
 use Rattle.hm_history.specs.declared.Entry.{Entry}
 use Rattle.hm_script.specs.Automaton.{lines}
-use Rattle.hm_history.specs.Going.{ops_of}
+use Rattle.hm_history.specs.Kernel.Going.{ops_of}
 use Rattle.hm_report.specs.Counted.{EndsAreCounted}
 use Rattle.hm_report.specs.Ended.{ended_after}
 use Rattle.hm_report.specs.Report.{entry_line, unfinished_line, unfinished_among, unfinished_lines, end_line, first_unended}
 use Rattle.hm_report.proofs.Lines.{among_more, unfinished_same}
 use Rattle.hm_world.specs.WorldValue.{WorldValue, opening}
-use Rattle.hm_report_lines.specs.Parts.{entry_list}
+use Rattle.hm_report_front.specs.Parts.{entry_list}
 use Rattle.hm_check.specs.Parts.{BeginsNoEntry, IsNoEntry, Added, TakesAll, tail_of}
 
 -- ---- the entries

@@ -8,14 +8,14 @@ use Rattle.std.proofs.lemmas.Bool.Decides.{nat_tests}
 use Rattle.std.proofs.lemmas.Fmt.{decimal_digit, decimal_step}
 use Rattle.std.proofs.lemmas.List.{append_cancel_left}
 use Rattle.hm_base.specs.Program.{Program}
-use Rattle.hm_history.specs.Words.{numbers}
-use Rattle.hm_history.specs.Going.{ops_of}
+use Rattle.hm_history.specs.Memory.Words.{numbers}
+use Rattle.hm_history.specs.Kernel.Going.{ops_of}
 use Rattle.hm_history.specs.declared.Entry.{Entry}
 use Rattle.hm_script.specs.Automaton.{lines, onto_line}
 use Rattle.hm_script.specs.Spelling.{line}
 use Rattle.hm_report.specs.Words.{actor_text, kind_words}
 use Rattle.hm_report.specs.Report.{entry_line, unfinished_line, end_line, first_unended}
-use Rattle.hm_report_lines.proofs.FirstByte.{entry_first}
+use Rattle.hm_report_front.proofs.FirstByte.{entry_first}
 use Rattle.hm_check.specs.Parts.{IsNoDigit, tail_of}
 
 -- ---- the actor

@@ -6,9 +6,9 @@ use Rattle.hm_history.specs.declared.Entry.{Entry}
 use Rattle.hm_script.specs.Automaton.{lines}
 use Rattle.hm_script.specs.Spelling.{text}
 use Rattle.hm_report.specs.Report.{entry_lines, history_line, report}
-use Rattle.hm_report_lines.specs.Heads.{lines_behind}
-use Rattle.hm_report_lines.specs.Parts.{entry_list}
-use Rattle.hm_report_lines.proofs.TextLines.{lines_line, lines_text, lines_entries}
+use Rattle.hm_report_front.specs.Heads.{lines_behind}
+use Rattle.hm_report_front.specs.Parts.{entry_list}
+use Rattle.hm_report_front.proofs.TextLines.{lines_line, lines_text, lines_entries}
 use Rattle.hm_check.specs.Parts.{tail_of}
 
 pub report_lines : (c : Program) (h : List Entry) → lines (report c h) ≡ lines_behind c (entry_list 0 h ++ lines (tail_of c h))

@@ -1,12 +1,12 @@
 -- The parts of a report, line by line.
 use Rattle.std.specs.Prelude.{◌≡◌, ℕ, ◌<◌, ◌≤◌, Bool, true, false, List, [], ◌∷◌, ◌++◌, length, ⊤}
 use Rattle.hm_base.specs.Program.{Program, IsScript}
-use Rattle.hm_history.specs.Due.{due}
+use Rattle.hm_history.specs.Kernel.Due.{due}
 use Rattle.hm_history.specs.Laws.{DueFrom}
 use Rattle.hm_history.specs.declared.Entry.{Entry}
 use Rattle.hm_history.specs.declared.Progress.{Progress}
 use Rattle.hm_report.specs.Report.{entry_line, unfinished_lines, end_line, first_unended}
-use Rattle.hm_report_lines.specs.Parts.{entry_list}
+use Rattle.hm_report_front.specs.Parts.{entry_list}
 use Rattle.hm_script.specs.Automaton.{lines}
 use Rattle.hm_world.specs.WorldValue.{WorldValue, grown}
 

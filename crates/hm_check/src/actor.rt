@@ -7,7 +7,7 @@ ghost use Rattle.hm_check.specs.Parts.{IsNoDigit};
 
 use hm_base::Actor;
 use hm_report::{Buffer, put_decimal};
-use hm_report_lines::strip_front;
+use hm_report_front::strip_front;
 
 /// The actor with whose number the bytes begin.
 fn actor_at(digits: &[u8]) -> Option<Actor>

@@ -7,7 +7,7 @@ use crate::actor::actor_in;
 use hm_base::{MOST_ENTRIES, NoMemory};
 use hm_history::Progress;
 use hm_report::Buffer;
-use hm_report_lines::is_line_of;
+use hm_report_front::is_line_of;
 use hm_script::cut_line;
 use hm_world::World;
 use skip_rules::Multiples;

@@ -14,7 +14,7 @@ use crate::tail::put_tail;
 use hm_base::{NoMemory, Script};
 use hm_history::History;
 use hm_report::Buffer;
-use hm_report_lines::{first_difference, read_head};
+use hm_report_front::{first_difference, read_head};
 use hm_world::World;
 use std::alloc::Global;
 

@@ -2,7 +2,7 @@
 use Rattle.std.proofs.Common.{◌≡◌, ℕ, zero, suc, ◌+◌, ◌<◌, ◌≤◌, inl, inr, Some, None, Option, List, [], ◌∷◌, ◌++◌, map, length, get_or, take, drop, refl, sym, ap, ◌∙◌, subst, arith}
 use Rattle.std.specs.Prelude.{◌⊎◌}
 use Rattle.std.proofs.lemmas.List.{drop_more, take_more, map-append}
-use Rattle.hm_races.specs.Closed.{IsListed}
+use Rattle.hm_race_laws.specs.Closed.{IsListed}
 use Rattle.hm_script.specs.Splitting.{split}
 use Rattle.hm_conditions.specs.Grammar.{first_bad, IsBad}
 use Rattle.hm_conditions.specs.declared.grammar.BadCondition.{BadCondition}

@@ -3,7 +3,7 @@ use Rattle.std.proofs.Common.{◌≡◌, ℕ, Bool, true, false, not, Option, So
 use Rattle.std.specs.Prelude.{◌⊎◌, ◌||◌, is_some}
 use Rattle.std.specs.List.{list_any}
 use Rattle.hm_base.specs.Program.{Program}
-use Rattle.hm_races.specs.Closed.{IsListed}
+use Rattle.hm_race_laws.specs.Closed.{IsListed}
 use Rattle.hm_conditions.specs.declared.condition.Quantifier.{Quantifier}
 use Rattle.hm_conditions.specs.Meets.{meets}
 use Rattle.hm_conditions.specs.Judged.{holds_for, decides_for, witness}

@@ -2,10 +2,10 @@
 use Rattle.std.specs.Prelude.{◌≡◌, ℕ, Bool, true, false, Some, None, List, ◌++◌}
 use Rattle.hm_base.specs.Program.{Program}
 use Rattle.hm_history.specs.Laws.{DueFrom}
-use Rattle.hm_history.specs.Run.{run}
+use Rattle.hm_history.specs.Kernel.Run.{run}
 use Rattle.hm_history.specs.declared.Entry.{Entry}
-use Rattle.hm_races.specs.Closed.{IsListed}
-use Rattle.hm_races.specs.Outcomes.{outcome, answers_of, ended}
+use Rattle.hm_race_laws.specs.Closed.{IsListed}
+use Rattle.hm_race_laws.specs.Outcomes.{outcome, answers_of, ended}
 use Rattle.hm_race_text.specs.Answers.{answer_lines}
 use Rattle.hm_race_text.specs.Schedule.{with_turns}
 use Rattle.hm_conditions.specs.declared.condition.Condition.{Condition}

@@ -1,6 +1,6 @@
 -- Several conditions, each with its text.
 use Rattle.std.specs.Prelude.{◌≡◌, ℕ, ◌+◌, true, Option, Some, None, List, [], ◌∷◌, map, ⊤}
-use Rattle.hm_races.specs.Closed.{IsListed}
+use Rattle.hm_race_laws.specs.Closed.{IsListed}
 use Rattle.hm_script.specs.Splitting.{split}
 use Rattle.hm_conditions.specs.Grammar.{condition_text, first_bad, is_plain}
 use Rattle.hm_conditions.specs.declared.question.BadQuestion.{BadQuestion}

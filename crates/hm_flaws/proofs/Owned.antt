@@ -3,10 +3,10 @@ use Rattle.std.proofs.Common.{◌≡◌, ℕ, Bool, true, false, ◌==◌, if◌
 use Rattle.std.proofs.lemmas.Bool.Decides.{nat_tests}
 use Rattle.hm_base.specs.Pages.{Pages, covers}
 use Rattle.hm_base.specs.Program.{Program}
-use Rattle.hm_history.specs.Places.{places_next, with_entry, erased_table}
-use Rattle.hm_history.specs.Sequences.{Stage, Interval, with_seq, with_stage, applied, is_last_end, sequences_next, interval_inserted, interval_proc, is_odd}
-use Rattle.hm_history.specs.After.{After}
-use Rattle.hm_history.specs.Going.{op_at, state_of}
+use Rattle.hm_history.specs.Memory.Places.{places_next, with_entry, erased_table}
+use Rattle.hm_history.specs.Memory.Sequences.{Stage, Interval, with_seq, with_stage, applied, is_last_end, sequences_next, interval_inserted, interval_proc, is_odd}
+use Rattle.hm_history.specs.Memory.After.{After}
+use Rattle.hm_history.specs.Kernel.Going.{op_at, state_of}
 use Rattle.hm_history.specs.declared.Kind.{Kind}
 use Rattle.hm_history.specs.declared.Entry.{Entry}
 use Rattle.hm_flaws.specs.Flaws.{Flaw}

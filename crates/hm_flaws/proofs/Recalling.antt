@@ -6,14 +6,15 @@ use Rattle.std.proofs.lemmas.List.{drop-append-le, take-append-le}
 use Rattle.std.proofs.Math.Seq.{drop-append_seam, take-append_seam}
 use Rattle.std.proofs.lemmas.List.Sums.{fold-append}
 use Rattle.hm_base.specs.Program.{Program}
-use Rattle.hm_history.specs.Lookups.{narrows_guarded, last_from, last_where, is_set_of, is_begin_of, is_told_of, set_from, at_set, is_untold, uses_untold}
-use Rattle.hm_history.specs.After.{after_nothing, after_entry, after}
-use Rattle.hm_history.specs.Going.{Going}
-use Rattle.hm_history.specs.Words.{page_of}
-use Rattle.hm_history.specs.Plain.{plain_accepts, mirror_owner}
-use Rattle.hm_history.specs.Places.{places_accept}
-use Rattle.hm_history.specs.Sequences.{sequences_accept}
-use Rattle.hm_history.specs.Legal.{is_finishing, is_no_frame, was_short, system_is_full, needs_full, fails_rightly, kept_rightly}
+use Rattle.hm_history.specs.Memory.Lookups.{narrows_guarded, last_from, last_where, is_set_of, is_begin_of, is_told_of, set_from, at_set, is_untold, uses_untold}
+use Rattle.hm_history.specs.Memory.After.{after_nothing, after_entry, after}
+use Rattle.hm_history.specs.Kernel.Going.{Going}
+use Rattle.hm_history.specs.Memory.Words.{page_of}
+use Rattle.hm_history.specs.Memory.Plain.{plain_accepts, mirror_owner}
+use Rattle.hm_history.specs.Memory.Places.{places_accept}
+use Rattle.hm_history.specs.Memory.Sequences.{sequences_accept}
+use Rattle.hm_history.specs.Memory.Rules.{is_finishing, is_no_frame, was_short, system_is_full, needs_full, fails_rightly}
+use Rattle.hm_history.specs.Kernel.Legal.{kept_rightly}
 use Rattle.hm_history.specs.declared.Who.{Who}
 use Rattle.hm_history.specs.declared.Kind.{Kind}
 use Rattle.hm_history.specs.declared.Entry.{Entry}

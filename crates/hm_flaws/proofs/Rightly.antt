@@ -2,10 +2,10 @@
 use Rattle.std.proofs.Common.{◌≡◌, ℕ, true, false, Some, None, List, [], ◌∷◌, ◌++◌, refl, sym, ap, ◌∙◌, subst, fold, append_assoc, append-nil}
 use Rattle.std.proofs.lemmas.List.Sums.{fold-append}
 use Rattle.hm_base.specs.Program.{Program, IsScript}
-use Rattle.hm_history.specs.After.{after}
-use Rattle.hm_history.specs.Going.{State, Going, state_next, state_start, state_of, state_of-snoc}
-use Rattle.hm_history.specs.Due.{due_in}
-use Rattle.hm_history.specs.Legal.{MayFollow, LegalFrom, kept_rightly}
+use Rattle.hm_history.specs.Memory.After.{after}
+use Rattle.hm_history.specs.Kernel.Going.{State, Going, state_next, state_start, state_of, state_of-snoc}
+use Rattle.hm_history.specs.Kernel.Due.{due_in}
+use Rattle.hm_history.specs.Kernel.Legal.{MayFollow, LegalFrom, kept_rightly}
 use Rattle.hm_history.specs.Laws.{DueFrom}
 use Rattle.hm_history.specs.declared.Entry.{Entry}
 use Rattle.hm_history.specs.declared.Progress.{Progress}
@@ -33,12 +33,12 @@ last_follows c g [] e l = subst (λ z. MayFollow c z e) (sym (append-nil g)) l.0
 last_follows c g (x ∷ es) e l = subst (λ z. MayFollow c z e) (append_assoc g (x ∷ []) es) (last_follows c (g ++ x ∷ []) es e l.1)
 
 meets_all : (c : Program) (h : List Entry) (e : Entry) (u : State) → u ≡ state_of c h → u.after ≡ after h → MayFollow c h e → (part : Part) → meets_part c h u.going e part ≡ true
-meets_all c h e u s t m Part.Answers = m.answers
-meets_all c h e u s t m Part.Places = m.places
-meets_all c h e u s t m Part.Frames = m.frames
-meets_all c h e u s t m Part.Sequences = m.sequences
-meets_all c h e u s t m Part.Untold = m.untold
-meets_all c h e u s t m Part.Guarded = m.guarded
+meets_all c h e u s t m Part.Answers = m.rules.answers
+meets_all c h e u s t m Part.Places = m.rules.places
+meets_all c h e u s t m Part.Frames = m.rules.frames
+meets_all c h e u s t m Part.Sequences = m.rules.sequences
+meets_all c h e u s t m Part.Untold = m.rules.untold
+meets_all c h e u s t m Part.Guarded = m.rules.guarded
 meets_all c h e u s t m Part.Kept = ap (λ z. kept_rightly c z e) same ∙ m.kept
   where
     same : record { after = after h; going = u.going } ≡ state_of c h

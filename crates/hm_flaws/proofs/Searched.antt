@@ -1,7 +1,7 @@
 -- A search with nothing left to look at, in which no entry breaks a part of legality: the driver breaks none.
 use Rattle.std.proofs.Common.{◌≡◌, None, List, [], ◌∷◌, ◌++◌, sym, subst, append_assoc, append-nil}
 use Rattle.hm_base.specs.Program.{Program}
-use Rattle.hm_history.specs.Going.{state_of}
+use Rattle.hm_history.specs.Kernel.Going.{state_of}
 use Rattle.hm_history.specs.declared.Entry.{Entry}
 use Rattle.hm_flaws.specs.Flaws.{Flaw}
 use Rattle.hm_flaws.specs.Flawed.{flawed_from, flawed_next, flawed_after}

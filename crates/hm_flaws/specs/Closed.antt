@@ -3,7 +3,7 @@
 use Rattle.std.specs.Prelude.{◌≡◌, ℕ, None, List, [], ◌∷◌, ◌++◌}
 use Rattle.hm_base.specs.Program.{Program}
 use Rattle.hm_history.specs.declared.Entry.{Entry}
-use Rattle.hm_races.specs.Closed.{IsListed}
+use Rattle.hm_race_laws.specs.Closed.{IsListed}
 use Rattle.hm_flaws.specs.Flaws.{Flaw}
 use Rattle.hm_flaws.specs.Flawed.{flawed_after}
 use Rattle.hm_flaws.specs.Parts.{Part}

@@ -6,13 +6,13 @@ use Rattle.hm_base.specs.Pages.{Pages, covers}
 use Rattle.hm_base.specs.declared.Frame.{Frame}
 use Rattle.hm_base.specs.declared.PoolId.{PoolId}
 use Rattle.hm_base.specs.declared.ops.Op.{Op}
-use Rattle.hm_history.specs.Words.{with_at, page_of, is_frame}
-use Rattle.hm_history.specs.Plain.{MirrorState, mirror_dev}
-use Rattle.hm_history.specs.Places.{TableEntry, with_entry, erased_table}
-use Rattle.hm_history.specs.Sequences.{interval_seq, interval_proc, interval_inserted}
-use Rattle.hm_history.specs.Contents.{contents_next, stored_in}
-use Rattle.hm_history.specs.Operation.{op_mirror, is_migration, is_evicting}
-use Rattle.hm_history.specs.After.{After}
+use Rattle.hm_history.specs.Memory.Words.{with_at, page_of, is_frame}
+use Rattle.hm_history.specs.Memory.Plain.{MirrorState, mirror_dev}
+use Rattle.hm_history.specs.Memory.Places.{TableEntry, with_entry, erased_table}
+use Rattle.hm_history.specs.Memory.Sequences.{interval_seq, interval_proc, interval_inserted}
+use Rattle.hm_history.specs.Memory.Contents.{contents_next, stored_in}
+use Rattle.hm_history.specs.Kernel.Operation.{op_mirror, is_migration, is_evicting}
+use Rattle.hm_history.specs.Memory.After.{After}
 use Rattle.hm_history.specs.declared.Kind.{Kind}
 use Rattle.hm_history.specs.declared.Who.{Who}
 use Rattle.hm_history.specs.declared.phases.Body.{Body}

@@ -4,14 +4,14 @@ use Rattle.std.specs.Prelude.{length}
 use Rattle.hm_base.specs.Program.{Program}
 use Rattle.hm_base.specs.declared.Frame.{Frame}
 use Rattle.hm_base.specs.declared.ops.Op.{Op}
-use Rattle.hm_history.specs.Words.{with_at, page_of, bytes_from}
-use Rattle.hm_history.specs.Places.{Places}
-use Rattle.hm_history.specs.Sequences.{Interval, with_seq}
+use Rattle.hm_history.specs.Memory.Words.{with_at, page_of, bytes_from}
+use Rattle.hm_history.specs.Memory.Places.{Places}
+use Rattle.hm_history.specs.Memory.Sequences.{Interval, with_seq}
 use Rattle.hm_history.specs.declared.locks.MapLock.{MapLock}
-use Rattle.hm_history.specs.Contents.{contents_of, shown_by}
-use Rattle.hm_history.specs.After.{After, after_entry}
-use Rattle.hm_history.specs.Going.{State, Going, op_at, state_of, going_next}
-use Rattle.hm_history.specs.Due.{progress}
+use Rattle.hm_history.specs.Memory.Contents.{contents_of, shown_by}
+use Rattle.hm_history.specs.Memory.After.{After, after_entry}
+use Rattle.hm_history.specs.Kernel.Going.{State, Going, op_at, state_of, going_next}
+use Rattle.hm_history.specs.Kernel.Due.{progress}
 use Rattle.hm_history.specs.declared.KeptAt.{KeptAt}
 use Rattle.hm_history.specs.declared.KeptWhy.{KeptWhy}
 use Rattle.hm_history.specs.declared.Kind.{Kind}

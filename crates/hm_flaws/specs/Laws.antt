@@ -1,7 +1,7 @@
 -- The laws, as statements.
 use Rattle.std.specs.Prelude.{◌≡◌, ℕ, Some, List, []}
 use Rattle.hm_base.specs.Program.{Program, IsScript}
-use Rattle.hm_history.specs.Due.{due_in}
+use Rattle.hm_history.specs.Kernel.Due.{due_in}
 use Rattle.hm_history.specs.Laws.{DueFrom}
 use Rattle.hm_history.specs.declared.Entry.{Entry}
 use Rattle.hm_flaws.specs.Flaws.{Flaw}

@@ -3,14 +3,15 @@ use Rattle.std.specs.Prelude.{ℕ, ◌+◌, ◌%◌, Bool, true, false, not, ◌
 use Rattle.hm_base.specs.Program.{Program}
 use Rattle.hm_base.specs.declared.Place.{Place}
 use Rattle.hm_base.specs.declared.ops.Op.{Op}
-use Rattle.hm_history.specs.Words.{page_of, dev_frame, names, writable}
-use Rattle.hm_history.specs.Plain.{is_attached, mirror_proc}
-use Rattle.hm_history.specs.Places.{TableEntry, entry_passes, may_read, held_from}
-use Rattle.hm_history.specs.Operation.{op_mirror, op_writes, op_piece}
-use Rattle.hm_history.specs.After.{After}
-use Rattle.hm_history.specs.Going.{touch_page, touch_proc}
-use Rattle.hm_history.specs.Due.{due_phase, due_noted, right_of, is_invalidating, repeats, fault, suits, is_usable}
-use Rattle.hm_history.specs.Due.{answer_of_piece, frames_end, frame_at}
+use Rattle.hm_history.specs.Memory.Words.{page_of, dev_frame, names, writable}
+use Rattle.hm_history.specs.Memory.Plain.{is_attached, mirror_proc}
+use Rattle.hm_history.specs.Memory.Places.{TableEntry, entry_passes, may_read, held_from}
+use Rattle.hm_history.specs.Kernel.Operation.{op_mirror, op_writes, op_piece}
+use Rattle.hm_history.specs.Memory.After.{After}
+use Rattle.hm_history.specs.Kernel.Going.{touch_page, touch_proc}
+use Rattle.hm_history.specs.Kernel.Due.{due_phase, due_noted, right_of, is_invalidating, repeats, fault, suits}
+use Rattle.hm_history.specs.Kernel.Due.{is_usable}
+use Rattle.hm_history.specs.Kernel.Due.{answer_of_piece, frames_end, frame_at}
 use Rattle.hm_history.specs.declared.TableRight.{TableRight}
 use Rattle.hm_history.specs.declared.Kind.{Kind}
 use Rattle.hm_history.specs.declared.phases.Migrating.{Migrating}

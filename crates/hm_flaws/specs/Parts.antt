@@ -1,13 +1,14 @@
 -- Which part of legality an entry breaks. That it is due to a right driver's actor is none of the parts here.
 use Rattle.std.specs.Prelude.{ℕ, Bool, true, false, Option, Some, None, List, [], ◌∷◌}
 use Rattle.hm_base.specs.Program.{Program}
-use Rattle.hm_history.specs.Plain.{plain_accepts, mirror_owner}
-use Rattle.hm_history.specs.Places.{places_accept}
-use Rattle.hm_history.specs.Sequences.{sequences_accept}
-use Rattle.hm_history.specs.Lookups.{uses_untold, narrows_guarded}
-use Rattle.hm_history.specs.After.{after}
-use Rattle.hm_history.specs.Going.{Going}
-use Rattle.hm_history.specs.Legal.{fails_rightly, kept_rightly}
+use Rattle.hm_history.specs.Memory.Plain.{plain_accepts, mirror_owner}
+use Rattle.hm_history.specs.Memory.Places.{places_accept}
+use Rattle.hm_history.specs.Memory.Sequences.{sequences_accept}
+use Rattle.hm_history.specs.Memory.Lookups.{uses_untold, narrows_guarded}
+use Rattle.hm_history.specs.Memory.After.{after}
+use Rattle.hm_history.specs.Kernel.Going.{Going}
+use Rattle.hm_history.specs.Memory.Rules.{fails_rightly}
+use Rattle.hm_history.specs.Kernel.Legal.{kept_rightly}
 use Rattle.hm_history.specs.declared.Entry.{Entry}
 
 -- the parts of legality besides `is_due`, by the names of its fields

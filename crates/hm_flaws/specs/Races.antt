@@ -7,9 +7,9 @@ use Rattle.hm_base.specs.Program.{Program}
 use Rattle.hm_base.specs.declared.ops.Version.{Version}
 use Rattle.hm_base.specs.declared.ops.Rights.{Rights}
 use Rattle.hm_base.specs.declared.ops.Op.{Op}
-use Rattle.hm_history.specs.Run.{turns, is_entry, actors_of}
+use Rattle.hm_history.specs.Kernel.Run.{turns, is_entry, actors_of}
 use Rattle.hm_history.specs.declared.Entry.{Entry}
-use Rattle.hm_races.specs.Outcomes.{ended_in}
+use Rattle.hm_race_laws.specs.Outcomes.{ended_in}
 use Rattle.hm_flaws.specs.Flaws.{Flaw}
 use Rattle.hm_flaws.specs.Flawed.{Flawed, due_by}
 use Rattle.hm_flaws.specs.Parts.{Part, all_parts}

@@ -3,14 +3,15 @@ use Rattle.std.specs.Prelude.{ℕ, ◌+◌, Bool, true, false, not, ◌&&◌, �
 use Rattle.std.specs.Prelude.{None, is_none, List, [], ◌∷◌, fold}
 use Rattle.hm_base.specs.Program.{Program}
 use Rattle.hm_base.specs.declared.PoolId.{PoolId}
-use Rattle.hm_history.specs.Words.{page_of}
-use Rattle.hm_history.specs.Plain.{plain_accepts, mirror_owner}
-use Rattle.hm_history.specs.Places.{places_accept, lowest_free}
-use Rattle.hm_history.specs.Sequences.{sequences_accept}
-use Rattle.hm_history.specs.Lookups.{narrows_guarded, is_set_of, is_begin_of, is_told_of, set_from}
-use Rattle.hm_history.specs.After.{After, after_nothing, after_entry}
-use Rattle.hm_history.specs.Going.{Going}
-use Rattle.hm_history.specs.Legal.{kept_rightly, needs_full, is_finishing, is_no_frame}
+use Rattle.hm_history.specs.Memory.Words.{page_of}
+use Rattle.hm_history.specs.Memory.Plain.{plain_accepts, mirror_owner}
+use Rattle.hm_history.specs.Memory.Places.{places_accept, lowest_free}
+use Rattle.hm_history.specs.Memory.Sequences.{sequences_accept}
+use Rattle.hm_history.specs.Memory.Lookups.{narrows_guarded, is_set_of, is_begin_of, is_told_of, set_from}
+use Rattle.hm_history.specs.Memory.After.{After, after_nothing, after_entry}
+use Rattle.hm_history.specs.Kernel.Going.{Going}
+use Rattle.hm_history.specs.Memory.Rules.{needs_full, is_finishing, is_no_frame}
+use Rattle.hm_history.specs.Kernel.Legal.{kept_rightly}
 use Rattle.hm_history.specs.declared.Who.{Who}
 use Rattle.hm_history.specs.declared.Kind.{Kind}
 use Rattle.hm_history.specs.declared.Entry.{Entry}

@@ -9,7 +9,7 @@ use Rattle.hm_base.specs.declared.area.Area.{Area}
 use Rattle.hm_base.specs.declared.ops.Rights.{Rights}
 use Rattle.hm_base.specs.declared.cause.Cause.{Cause}
 use Rattle.hm_history.proofs.Updates.{with_case, len_set}
-use Rattle.hm_history.specs.Plain.{Plain, MirrorState, cause_at, outside_cause, is_read_only, owner, rights_of, proc_of}
+use Rattle.hm_history.specs.Memory.Plain.{Plain, MirrorState, cause_at, outside_cause, is_read_only, owner, rights_of, proc_of}
 use Rattle.hm_history.specs.declared.Kind.{Kind}
 use Rattle.hm_history.specs.declared.Who.{Who}
 use Rattle.hm_spaces.specs.Spaces.{SpacesValue, spaces_next, there_next, named_next, areas_next}

@@ -3,8 +3,8 @@ use Rattle.std.proofs.Common.{◌≡◌, ℕ, ◌+◌, ◌-◌, ◌<◌, Bool, t
 use Rattle.std.specs.Prelude.{count_by}
 use Rattle.std.proofs.lemmas.Bool.Decides.{nat_tests}
 use Rattle.std.proofs.lemmas.List.Sums.{sum_by-set}
-use Rattle.hm_history.specs.Words.{with_at}
-use Rattle.hm_history.specs.Sequences.{Guarded, guard_passes}
+use Rattle.hm_history.specs.Memory.Words.{with_at}
+use Rattle.hm_history.specs.Memory.Sequences.{Guarded, guard_passes}
 use Rattle.hm_history.proofs.Updates.{with_case}
 use Rattle.hm_folds.specs.declared.guards.KeptGuard.{KeptGuard}
 use Rattle.hm_folds.specs.Kept.{guard_of, guards_proc}

@@ -7,8 +7,8 @@ use Rattle.hm_base.specs.Program.{Program}
 use Rattle.hm_base.specs.declared.Frame.{Frame}
 use Rattle.hm_base.specs.declared.PoolId.{PoolId}
 use Rattle.hm_base.specs.PlaceWords.{pool_index}
-use Rattle.hm_history.specs.Words.{least}
-use Rattle.hm_history.specs.Places.{pool_size}
+use Rattle.hm_history.specs.Memory.Words.{least}
+use Rattle.hm_history.specs.Memory.Places.{pool_size}
 use Rattle.hm_folds.specs.Numbers.{has_number}
 use Rattle.hm_folds.specs.HeldFrames.{held_of, held_at, frames_of, frames_in}
 use Rattle.hm_folds.specs.declared.held.Held.{Held}

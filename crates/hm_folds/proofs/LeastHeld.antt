@@ -2,7 +2,7 @@
 use Rattle.std.proofs.Common.{◌≡◌, ℕ, zero, suc, ◌+◌, ◌-◌, ◌<◌, ◌≤◌, Bool, true, false, not, ◌==◌, ◌||◌, Option, Some, None, ◌⊎◌, inl, inr, refl, sym, ap, ◌∙◌, arith}
 use Rattle.std.proofs.lemmas.Bool.{cases_eq, cases_lt}
 use Rattle.std.proofs.lemmas.Bool.Decides.{nat_tests}
-use Rattle.hm_history.specs.Words.{least}
+use Rattle.hm_history.specs.Memory.Words.{least}
 use Rattle.hm_spaces.proofs.Least.{least_at, least_found, least_none}
 use Rattle.hm_folds.specs.Numbers.{has_number, IsLeast, IsFirstNumber}
 use Rattle.hm_folds.specs.Held.{IsHeld}

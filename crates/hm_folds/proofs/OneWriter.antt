@@ -7,7 +7,7 @@ use Rattle.std.proofs.lemmas.Bool.Decides.{nat_tests}
 use Rattle.hm_base.specs.declared.Frame.{Frame}
 use Rattle.hm_base.specs.declared.Place.{Place}
 use Rattle.hm_base.specs.PlaceWords.{is_frame, writable}
-use Rattle.hm_history.specs.Places.{Places, is_page, one_writer, stands_for, is_frame_target}
+use Rattle.hm_history.specs.Memory.Places.{Places, is_page, one_writer, stands_for, is_frame_target}
 use Rattle.hm_history.proofs.Tests.{true_false}
 use Rattle.hm_history.proofs.Frames.{frame_same, frame_itself}
 use Rattle.hm_tables.specs.Shown.{is_once}

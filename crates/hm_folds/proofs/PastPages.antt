@@ -7,8 +7,8 @@ use Rattle.std.proofs.lemmas.Bool.Decides.{nat_tests}
 use Rattle.hm_base.specs.Program.{Program}
 use Rattle.hm_base.specs.declared.Place.{Place}
 use Rattle.hm_base.specs.PlaceWords.{is_empty_place, writable}
-use Rattle.hm_history.specs.Words.{page_of}
-use Rattle.hm_history.specs.Places.{Places, is_page, lowest, next_page, is_used, table_reads, table_writes, table_sole, entry_passes, TableEntry, may_read, may_write, is_sole, is_target, is_exclusive, is_exclusive_of, stands_for}
+use Rattle.hm_history.specs.Memory.Words.{page_of}
+use Rattle.hm_history.specs.Memory.Places.{Places, is_page, lowest, next_page, is_used, table_reads, table_writes, table_sole, entry_passes, TableEntry, may_read, may_write, is_sole, is_target, is_exclusive, is_exclusive_of, stands_for}
 use Rattle.hm_history.proofs.Tests.{true_false}
 use Rattle.hm_tables.specs.Values.{Tables, place_of_word}
 use Rattle.hm_tables.specs.Shown.{TablesShown}

@@ -8,8 +8,8 @@ use Rattle.hm_base.specs.declared.PoolId.{PoolId}
 use Rattle.hm_base.specs.declared.Frame.{Frame}
 use Rattle.hm_base.specs.declared.Place.{Place}
 use Rattle.hm_base.specs.PlaceWords.{is_frame, writable}
-use Rattle.hm_history.specs.Words.{least}
-use Rattle.hm_history.specs.Places.{Places, TableEntry, frame_of, pool_size, is_withdrawn, lowest_free, held_from, one_writer, places_next, places_accept, stands_for, is_target, is_exclusive, may_read, may_write, table_reads, table_writes}
+use Rattle.hm_history.specs.Memory.Words.{least}
+use Rattle.hm_history.specs.Memory.Places.{Places, TableEntry, frame_of, pool_size, is_withdrawn, lowest_free, held_from, one_writer, places_next, places_accept, stands_for, is_target, is_exclusive, may_read, may_write, table_reads, table_writes}
 use Rattle.hm_history.specs.declared.Kind.{Kind}
 use Rattle.hm_history.specs.declared.Who.{Who}
 use Rattle.hm_history.specs.declared.TableRight.{TableRight}

@@ -7,8 +7,8 @@ use Rattle.hm_base.specs.declared.Frame.{Frame}
 use Rattle.hm_base.specs.declared.Place.{Place}
 use Rattle.hm_base.specs.declared.Place.TheVariants.{Empty, Zero, Sys, Own, Moving, Exclusive}
 use Rattle.hm_base.specs.PlaceWords.{is_frame, same_frame, names, writable, is_empty_place}
-use Rattle.hm_history.specs.Places.{Places, is_page, one_writer, places_next, holds_target, lowest_named}
-use Rattle.hm_history.specs.Contents.{backing}
+use Rattle.hm_history.specs.Memory.Places.{Places, is_page, one_writer, places_next, holds_target, lowest_named}
+use Rattle.hm_history.specs.Memory.Contents.{backing}
 use Rattle.hm_history.specs.declared.Kind.{Kind}
 use Rattle.hm_history.proofs.Tests.{true_false}
 use Rattle.hm_history.proofs.Frames.{frame_same, is_frame_from}

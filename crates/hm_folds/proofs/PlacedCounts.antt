@@ -7,7 +7,7 @@ use Rattle.std.proofs.lemmas.Bool.{and_parts, not-true}
 use Rattle.std.proofs.lemmas.Bool.Decides.{nat_tests}
 use Rattle.std.proofs.lemmas.List.Sums.{sum_by-cons}
 use Rattle.hm_base.specs.declared.Place.{Place}
-use Rattle.hm_history.specs.Places.{is_page, with_page, with_place}
+use Rattle.hm_history.specs.Memory.Places.{is_page, with_page, with_place}
 use Rattle.hm_tables.specs.Shown.{is_once}
 use Rattle.hm_folds.proofs.Counts.{one_if}
 

@@ -3,8 +3,8 @@ use Rattle.std.proofs.Common.{◌≡◌, ℕ, Bool, true, false, ◌==◌, Optio
 use Rattle.std.proofs.Math.Path.{fun_ext}
 use Rattle.std.proofs.lemmas.Bool.Decides.{nat_tests}
 use Rattle.hm_base.specs.declared.area.Area.{Area}
-use Rattle.hm_history.specs.Words.{with_at}
-use Rattle.hm_history.specs.Plain.{Plain, MirrorState, plain_start, plain_next}
+use Rattle.hm_history.specs.Memory.Words.{with_at}
+use Rattle.hm_history.specs.Memory.Plain.{Plain, MirrorState, plain_start, plain_next}
 use Rattle.hm_history.specs.declared.Kind.{Kind}
 use Rattle.hm_spaces.specs.Spaces.{SpacesValue, SpacesFit, spaces_start, spaces_next, there_next, named_next, areas_next}
 use Rattle.hm_folds.specs.Ranges.{IsSized, InRange, end_below}

@@ -5,8 +5,8 @@ use Rattle.std.proofs.lemmas.Bool.{and_parts, and_right, cases_lt}
 use Rattle.std.proofs.lemmas.Bool.Decides.{nat_tests}
 use Rattle.std.proofs.Math.Path.{fun_ext}
 use Rattle.hm_base.specs.Pages.{Pages}
-use Rattle.hm_history.specs.Words.{with_at}
-use Rattle.hm_history.specs.Sequences.{Sequences, Interval, Guarded, sequences_start, sequences_next, sequences_accept, overlapping, guard_passes, with_told, with_seq, seq_started, seq_ended, seq_inserted, interval_inserted, interval_proc, intervals_ended, applied, is_last_end, overlaps, same_span, is_next_told, all_told, is_odd, InTree, InsertDeferred}
+use Rattle.hm_history.specs.Memory.Words.{with_at}
+use Rattle.hm_history.specs.Memory.Sequences.{Sequences, Interval, Guarded, sequences_start, sequences_next, sequences_accept, overlapping, guard_passes, with_told, with_seq, seq_started, seq_ended, seq_inserted, interval_inserted, interval_proc, intervals_ended, applied, is_last_end, overlaps, same_span, is_next_told, all_told, is_odd, InTree, InsertDeferred}
 use Rattle.hm_history.specs.declared.Kind.{Kind}
 use Rattle.hm_folds.specs.declared.guards.KeptGuard.{KeptGuard}
 use Rattle.hm_folds.specs.declared.intervals.KeptInterval.{KeptInterval}

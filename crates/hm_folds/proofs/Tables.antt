@@ -6,11 +6,11 @@ use Rattle.std.proofs.lemmas.Bool.Decides.{nat_tests}
 use Rattle.std.proofs.Math.Path.{fun_ext}
 use Rattle.hm_base.specs.declared.PoolId.{PoolId}
 use Rattle.hm_base.specs.declared.Frame.{Frame}
-use Rattle.hm_history.specs.Words.{with_at}
-use Rattle.hm_history.specs.Plain.{Plain, MirrorState, Attachment, Attached, Detaching, Gone, mirror_owner, with_attachment}
+use Rattle.hm_history.specs.Memory.Words.{with_at}
+use Rattle.hm_history.specs.Memory.Plain.{Plain, MirrorState, Attachment, Attached, Detaching, Gone, mirror_owner, with_attachment}
 use Rattle.hm_history.specs.declared.Kind.{Kind}
 use Rattle.hm_history.proofs.Updates.{with_case, here_at, other_at}
-use Rattle.hm_history.specs.Places.{TableEntry, with_entry, erased_table}
+use Rattle.hm_history.specs.Memory.Places.{TableEntry, with_entry, erased_table}
 use Rattle.hm_folds.specs.TableMap.{dev_of, dev_of_pool, target_of, entry_in}
 use Rattle.hm_folds.specs.MirrorTables.{tables_of, OwnersFollow}
 use Rattle.hm_folds.specs.declared.table_map.TableMap.{TableMap}

@@ -4,7 +4,7 @@ use Rattle.std.proofs.lemmas.Bool.Decides.{nat_tests}
 use Rattle.std.proofs.lemmas.Grind.{elements}
 use Rattle.std.proofs.Math.Path.{fun_ext}
 use Rattle.std.proofs.lemmas.List.{get_or_default}
-use Rattle.hm_history.specs.Words.{with_at}
+use Rattle.hm_history.specs.Memory.Words.{with_at}
 
 pub set_at : {X : Type 0} (xs : List X) (p : ℕ) (x d : X) (k : ℕ) → p < length xs → slice_index_or (slice_set xs p x) k d ≡ with_at (λ j. slice_index_or xs j d) p x k
 set_at xs p x d k l = grind (arith, nat_tests, elements)

@@ -7,8 +7,8 @@ use Rattle.std.proofs.lemmas.Bool.Decides.{nat_tests}
 use Rattle.std.proofs.lemmas.Grind.{elements}
 use Rattle.std.proofs.Math.Path.{fun_ext}
 use Rattle.hm_base.specs.Pages.{Pages}
-use Rattle.hm_history.specs.Words.{with_at, same_bytes, bytes_from}
-use Rattle.hm_history.specs.Plain.{with_bytes, with_zeros}
+use Rattle.hm_history.specs.Memory.Words.{with_at, same_bytes, bytes_from}
+use Rattle.hm_history.specs.Memory.Plain.{with_bytes, with_zeros}
 use Rattle.hm_folds.specs.Stored.{byte_in}
 use Rattle.hm_folds.specs.Memory.{bytes_of}
 use Rattle.hm_folds.specs.declared.stored.Stored.{Stored}

@@ -1,6 +1,6 @@
 -- By number, which processes were there at some time.
 use Rattle.std.specs.Prelude.{ℕ, Bool, false, List, slice_index_or}
-use Rattle.hm_history.specs.Plain.{plain_start, plain_next}
+use Rattle.hm_history.specs.Memory.Plain.{plain_start, plain_next}
 use Rattle.hm_history.specs.declared.Kind.{Kind}
 
 -- a process was there at some time; a number past the list was not

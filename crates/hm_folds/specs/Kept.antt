@@ -1,12 +1,14 @@
 -- What is kept of the sequences: by number, as lists. Contracts see the functions of the definitions.
 use Rattle.std.specs.Prelude.{ℕ, Bool, false, ◌&&◌, ◌==◌, Option, Some, None, List, filter, count_by, slice_index_or}
-use Rattle.hm_history.specs.Words.{numbers, with_at}
+use Rattle.hm_history.specs.Memory.Words.{numbers, with_at}
 use Rattle.hm_base.specs.Pages.{Pages, overlap}
-use Rattle.hm_history.specs.Sequences.{Interval, Guarded, Sequences, Stage, interval_passes, in_tree_state, with_stage}
-use Rattle.hm_history.specs.Sequences as stage
+use Rattle.hm_history.specs.Memory.Sequences.{Interval, Guarded, Sequences, Stage, interval_passes, in_tree_state}
+use Rattle.hm_history.specs.Memory.Sequences.{with_stage}
+use Rattle.hm_history.specs.Memory.Sequences as stage
 use Rattle.hm_folds.specs.declared.intervals.KeptInterval.{KeptInterval}
 use Rattle.hm_folds.specs.declared.intervals.KeptStage.{KeptStage}
-use Rattle.hm_folds.specs.declared.intervals.KeptStage.TheVariants.{InTree, InsertDeferred, RemoveDeferred, Removed, Out}
+use Rattle.hm_folds.specs.declared.intervals.KeptStage.TheVariants.{InTree, InsertDeferred, RemoveDeferred, Removed}
+use Rattle.hm_folds.specs.declared.intervals.KeptStage.TheVariants.{Out}
 use Rattle.hm_folds.specs.declared.guards.KeptGuard.{KeptGuard}
 use Rattle.hm_folds.specs.declared.sequences.SeqState.{SeqState}
 

@@ -1,8 +1,8 @@
 -- The tables of all mirrors, and the device and the process of each.
 use Rattle.std.specs.Prelude.{◌≡◌, ℕ, Option, Some, None, List, slice_get, slice_index_or}
-use Rattle.hm_history.specs.Words.{with_at}
-use Rattle.hm_history.specs.Places.{TableEntry, places_start, places_next}
-use Rattle.hm_history.specs.Plain.{Plain, mirror_owner, plain_next}
+use Rattle.hm_history.specs.Memory.Words.{with_at}
+use Rattle.hm_history.specs.Memory.Places.{TableEntry, places_start, places_next}
+use Rattle.hm_history.specs.Memory.Plain.{Plain, mirror_owner, plain_next}
 use Rattle.hm_history.specs.declared.Kind.{Kind}
 use Rattle.hm_folds.specs.TableMap.{entry_in}
 use Rattle.hm_folds.specs.declared.table_map.TableMap.{TableMap}

@@ -4,8 +4,8 @@ use Rattle.hm_base.specs.Program.{Program}
 use Rattle.hm_base.specs.declared.PoolId.{PoolId}
 use Rattle.hm_base.specs.declared.Frame.{Frame}
 use Rattle.hm_base.specs.PlaceWords.{is_frame, names}
-use Rattle.hm_history.specs.Words.{least}
-use Rattle.hm_history.specs.Places.{Places, frame_of, pool_size, one_writer}
+use Rattle.hm_history.specs.Memory.Words.{least}
+use Rattle.hm_history.specs.Memory.Places.{Places, frame_of, pool_size, one_writer}
 use Rattle.hm_history.specs.declared.Kind.{Kind}
 use Rattle.hm_tables.specs.Shown.{TablesShown}
 use Rattle.hm_folds.specs.Been.{been_of}

@@ -1,7 +1,7 @@
 -- The plain state that is kept.
 use Rattle.std.specs.Prelude.{ℕ, Bool, true, false, not, ◌&&◌, nat_lt, is_none, Option, List, [], slice_index_or}
 use Rattle.hm_base.specs.declared.ops.Op.{Op}
-use Rattle.hm_history.specs.Plain.{Plain, area_refusal}
+use Rattle.hm_history.specs.Memory.Plain.{Plain, area_refusal}
 use Rattle.hm_history.specs.declared.Kind.{Kind}
 use Rattle.hm_folds.specs.Been.{been_of}
 use Rattle.hm_folds.specs.Memory.{bytes_of}

@@ -4,10 +4,13 @@ use Rattle.hm_base.specs.Program.{Program}
 use Rattle.hm_base.specs.declared.Frame.{Frame}
 use Rattle.hm_base.specs.declared.Place.{Place}
 use Rattle.hm_base.specs.PlaceWords.{is_frame, names, moving_frame, writable}
-use Rattle.hm_history.specs.Words.{page_of}
-use Rattle.hm_history.specs.Plain.{owned}
-use Rattle.hm_history.specs.Places.{Places, TableEntry, one_writer, places_start, places_next, lowest_free, lowest_named, held_from, is_removed, holds_target, cpu_reads, cpu_writes, table_reads, table_writes, may_read, may_write, is_target, is_exclusive, stands_for}
-use Rattle.hm_history.specs.Contents.{backing}
+use Rattle.hm_history.specs.Memory.Words.{page_of}
+use Rattle.hm_history.specs.Memory.Plain.{owned}
+use Rattle.hm_history.specs.Memory.Places.{Places, TableEntry, one_writer, places_start, places_next, lowest_free}
+use Rattle.hm_history.specs.Memory.Places.{lowest_named, held_from, is_removed, holds_target, cpu_reads, cpu_writes}
+use Rattle.hm_history.specs.Memory.Places.{table_reads, table_writes, may_read, may_write, is_target, is_exclusive}
+use Rattle.hm_history.specs.Memory.Places.{stands_for}
+use Rattle.hm_history.specs.Memory.Contents.{backing}
 use Rattle.hm_history.specs.declared.Kind.{Kind}
 use Rattle.hm_history.specs.declared.TableRight.{TableRight}
 use Rattle.hm_history.specs.declared.Who.{Who}
@@ -43,7 +46,8 @@ share_of x = record { pages = 1; writers = if writable x then 1 else 0 }
 -- after pages have moved from one frame to another, no writable page shares that one
 abbrev pub one_writer_after : (Frame → Shares) → Option Frame → Shares → Option Frame → Shares → Bool
 one_writer_after f None more from fewer = true
-one_writer_after f (Some t) more from fewer = has_one_writer (plus (if is_frame from t then less (f t) fewer else f t) more)
+one_writer_after f (Some t) more from fewer =
+    has_one_writer (plus (if is_frame from t then less (f t) fewer else f t) more)
 
 -- the access goes through the place of its page, or through its mirror's table
 abbrev pub may_access : (ℕ → Option ℕ) → Places → Who → ℕ → Bool → Bool

@@ -2,7 +2,7 @@
 use Rattle.std.specs.Prelude.{◌≡◌, ℕ, ◌≤◌, ◌<◌, Option, Some, None, option_map}
 use Rattle.std.specs.Ordering.{nat_cmp}
 use Rattle.std.specs.BTreeMap as tree
-use Rattle.hm_history.specs.Places.{TableEntry}
+use Rattle.hm_history.specs.Memory.Places.{TableEntry}
 use Rattle.hm_base.specs.declared.Frame.{Frame}
 use Rattle.hm_base.specs.declared.PoolId.{PoolId}
 use Rattle.hm_folds.specs.declared.table_map.KeptEntry.{KeptEntry}

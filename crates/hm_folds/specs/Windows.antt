@@ -1,8 +1,8 @@
 -- The mirrors that are kept, as the plain state has them.
 use Rattle.std.specs.Prelude.{ℕ, Bool, Option, Some, None, option_map, List, slice_index_or}
 use Rattle.hm_base.specs.Pages.{Pages}
-use Rattle.hm_history.specs.Plain.{MirrorState, Attachment, is_attached_state, plain_start, plain_next}
-use Rattle.hm_history.specs.Plain as stage
+use Rattle.hm_history.specs.Memory.Plain.{MirrorState, Attachment, is_attached_state, plain_start, plain_next}
+use Rattle.hm_history.specs.Memory.Plain as stage
 use Rattle.hm_history.specs.declared.Kind.{Kind}
 use Rattle.hm_folds.specs.declared.windows.KeptMirror.{KeptMirror}
 use Rattle.hm_folds.specs.declared.windows.KeptAttachment.{KeptAttachment}

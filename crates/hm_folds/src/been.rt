@@ -1,6 +1,6 @@
 // Which processes were there at some time, and the numbers that an entry names.
 ghost use Rattle.std.specs.Prelude.{◌≡◌, true};
-ghost use Rattle.hm_history.specs.Words.{with_at};
+ghost use Rattle.hm_history.specs.Memory.Words.{with_at};
 ghost use Rattle.hm_folds.specs.Ranges.{InRange};
 ghost use Rattle.hm_folds.specs.Been.{been_of, been_next};
 

@@ -1,7 +1,8 @@
 // The invalidations under way, one of each actor at most, and sets of mirrors.
-ghost use Rattle.std.specs.Prelude.{◌≡◌, ◌++◌, ◌∷◌, [], ◌==◌, ◌&&◌, ◌||◌, ◌≤◌, ℕ, nat_lt, nat_le, true, length, count_by, is_none};
+ghost use Rattle.std.specs.Prelude.{◌≡◌, ◌++◌, ◌∷◌, [], ◌==◌, ◌&&◌, ◌||◌, ◌≤◌, ℕ, nat_lt, nat_le, true, length};
+ghost use Rattle.std.specs.Prelude.{count_by, is_none};
 ghost use Rattle.std.specs.List.{list_all, list_any};
-ghost use Rattle.hm_history.specs.Sequences.{guard_passes, with_told, same_span, all_told, Guarded as AnyGuard};
+ghost use Rattle.hm_history.specs.Memory.Sequences.{guard_passes, with_told, same_span, all_told, Guarded as AnyGuard};
 ghost use Rattle.hm_base.specs.Pages.{covers};
 ghost use Rattle.hm_folds.specs.Kept.{mirrors_of, guard_of, guards_proc};
 

@@ -1,6 +1,6 @@
 // Which frames of a pool are held.
 ghost use Rattle.std.specs.Prelude.{◌≡◌, ◌==◌, ◌||◌, ◌&&◌, ◌-◌, not, ℕ, ◌≤◌, ◌<◌, true, false, Some, IfOk, OnOk, OnErr};
-ghost use Rattle.hm_history.specs.Words.{least};
+ghost use Rattle.hm_history.specs.Memory.Words.{least};
 ghost use Rattle.hm_folds.specs.Numbers.{has_number};
 ghost use Rattle.hm_folds.specs.Held.{IsHeld};
 

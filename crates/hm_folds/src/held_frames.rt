@@ -3,8 +3,8 @@ ghost use Rattle.std.specs.Prelude.{◌≡◌, ◌-◌, not, ℕ, ◌<◌, ◌^�
 ghost use Rattle.hm_base.specs.PlaceWords.{with_frame};
 ghost use Rattle.hm_base.specs.declared.Frame.{Frame as AnyFrame};
 ghost use Rattle.hm_base.specs.declared.PoolId.{PoolId as AnyPool};
-ghost use Rattle.hm_history.specs.Words.{least};
-ghost use Rattle.hm_history.specs.Places.{frame_of, pool_size};
+ghost use Rattle.hm_history.specs.Memory.Words.{least};
+ghost use Rattle.hm_history.specs.Memory.Places.{frame_of, pool_size};
 ghost use Rattle.hm_folds.specs.HeldFrames.{held_at, frames_in};
 
 use crate::held::Held;

@@ -1,10 +1,13 @@
 // The interval of a mirror, and where it is.
 ghost use Rattle.std.specs.Prelude.{◌≡◌, ◌≤◌, ℕ, nat_le, filter, find, is_some, if◌then◌else◌};
-ghost use Rattle.hm_history.specs.Words.{numbers};
-ghost use Rattle.hm_history.specs.Sequences.{interval_passes, in_tree_state, deferred_state, removed_state, applied, applied_stage, with_seq, with_stage, is_above, Interval as AnyInterval};
-ghost use Rattle.hm_history.specs.Sequences as stage;
+ghost use Rattle.hm_history.specs.Memory.Words.{numbers};
+ghost use Rattle.hm_history.specs.Memory.Sequences.{interval_passes, in_tree_state, deferred_state, removed_state};
+ghost use Rattle.hm_history.specs.Memory.Sequences.{applied, applied_stage, with_seq, with_stage, is_above};
+ghost use Rattle.hm_history.specs.Memory.Sequences.{Interval as AnyInterval};
+ghost use Rattle.hm_history.specs.Memory.Sequences as stage;
 ghost use Rattle.hm_base.specs.Pages.{overlap};
-ghost use Rattle.hm_folds.specs.Kept.{interval_of, interval_at, stage_of, overlaps_in, overlaps_at, mirrors_of, seq_in, proc_in};
+ghost use Rattle.hm_folds.specs.Kept.{interval_of, interval_at, stage_of, overlaps_in, overlaps_at, mirrors_of, seq_in};
+ghost use Rattle.hm_folds.specs.Kept.{proc_in};
 
 use hm_base::{MirrorId, Proc, Span};
 

@@ -1,8 +1,8 @@
 // The bytes that each process has written.
 ghost use Rattle.std.specs.Prelude.{◌≡◌, ℕ, ◌<◌, ◌^◌, ◌+◌, ◌≤◌, true, length, IfOk, OnOk, OnErr};
 ghost use Rattle.hm_base.specs.Pages.{IsSpan};
-ghost use Rattle.hm_history.specs.Words.{with_at};
-ghost use Rattle.hm_history.specs.Plain.{with_bytes, with_zeros};
+ghost use Rattle.hm_history.specs.Memory.Words.{with_at};
+ghost use Rattle.hm_history.specs.Memory.Plain.{with_bytes, with_zeros};
 ghost use Rattle.hm_folds.specs.Memory.{bytes_of};
 
 use crate::stored::Stored;

@@ -1,8 +1,8 @@
 // The tables of all mirrors, and the device and the process of each.
 ghost use Rattle.std.specs.Prelude.{◌≡◌, ℕ, IfOk, OnOk, OnErr, Some, None, true, false, is_ok, length, option_map};
 ghost use Rattle.hm_folds.specs.Applied.{takes_room};
-ghost use Rattle.hm_history.specs.Words.{with_at};
-ghost use Rattle.hm_history.specs.Places.{with_entry, erased_table};
+ghost use Rattle.hm_history.specs.Memory.Words.{with_at};
+ghost use Rattle.hm_history.specs.Memory.Places.{with_entry, erased_table};
 ghost use Rattle.hm_base.specs.Pages.{covers};
 ghost use Rattle.hm_folds.specs.TableMap.{entry_of};
 ghost use Rattle.hm_folds.specs.MirrorTables.{tables_of, table_next, numbers_of, device_next, owner_next, OwnersFollow};

@@ -1,7 +1,8 @@
 // Tests of places, of table entries and of frames.
 ghost use Rattle.std.specs.Prelude.{◌≡◌, ◌&&◌, not, true, if◌then◌else◌};
 ghost use Rattle.hm_base.specs.PlaceWords.{writable};
-ghost use Rattle.hm_history.specs.Places.{cpu_reads, cpu_writes, may_read, may_write, is_sole, is_exclusive, is_exclusive_of, is_for_device};
+ghost use Rattle.hm_history.specs.Memory.Places.{cpu_reads, cpu_writes, may_read, may_write, is_sole, is_exclusive};
+ghost use Rattle.hm_history.specs.Memory.Places.{is_exclusive_of, is_for_device};
 
 use hm_base::frames::{is_frame, sys_frame};
 use hm_base::{Actor, Dev, Frame, Place, PoolId};

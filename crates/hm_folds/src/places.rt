@@ -1,7 +1,9 @@
 // Where pages lie, which frames are held, and the mirrors' tables.
 ghost use Rattle.std.specs.Prelude.{◌≡◌, ℕ, not, false, unwrap_or, IfOk, OnOk, OnErr};
-ghost use Rattle.hm_history.specs.Plain.{plain_start, mirror_owner};
-ghost use Rattle.hm_history.specs.Places.{places_start, places_next, places_accept, uses, is_used, next_page, lowest_direct, lowest_moving, lowest_free, held_from, is_withdrawn, is_removed};
+ghost use Rattle.hm_history.specs.Memory.Plain.{plain_start, mirror_owner};
+ghost use Rattle.hm_history.specs.Memory.Places.{places_start, places_next, places_accept, uses, is_used, next_page};
+ghost use Rattle.hm_history.specs.Memory.Places.{lowest_direct, lowest_moving, lowest_free, held_from, is_withdrawn};
+ghost use Rattle.hm_history.specs.Memory.Places.{is_removed};
 ghost use Rattle.hm_folds.specs.Applied.{is_not_legal, is_no_memory, takes_room};
 ghost use Rattle.hm_folds.specs.MirrorTables.{owner_next};
 ghost use Rattle.hm_folds.specs.Commits.{committed_at};

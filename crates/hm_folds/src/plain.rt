@@ -1,8 +1,11 @@
 // Processes, areas, plain bytes and mirrors: what the memory of a process is, wherever its pages lie.
-ghost use Rattle.std.specs.Prelude.{◌≡◌, ◌==◌, ◌&&◌, ◌||◌, ℕ, ◌<◌, ◌≤◌, ◌^◌, ◌+◌, not, true, is_none, is_some, is_ok, false, length, nat_lt, IfOk, OnOk, OnErr, None, []};
+ghost use Rattle.std.specs.Prelude.{◌≡◌, ◌==◌, ◌&&◌, ◌||◌, ℕ, ◌<◌, ◌≤◌, ◌^◌, ◌+◌, not, true, is_none, is_some, is_ok};
+ghost use Rattle.std.specs.Prelude.{false, length, nat_lt, IfOk, OnOk, OnErr, None, []};
 ghost use Rattle.hm_folds.specs.Memory.{bytes_of};
-ghost use Rattle.hm_history.specs.Words.{page_of, same_bytes, bytes_from};
-ghost use Rattle.hm_history.specs.Plain.{plain_start, plain_next, plain_accepts, rights_of, area_refusal, cause_at, outside_cause, is_cause, may_fail, owner, owned, proc_of, is_attached, plain_bytes, written_for};
+ghost use Rattle.hm_history.specs.Memory.Words.{page_of, same_bytes, bytes_from};
+ghost use Rattle.hm_history.specs.Memory.Plain.{plain_start, plain_next, plain_accepts, rights_of, area_refusal};
+ghost use Rattle.hm_history.specs.Memory.Plain.{cause_at, outside_cause, is_cause, may_fail, owner, owned, proc_of};
+ghost use Rattle.hm_history.specs.Memory.Plain.{is_attached, plain_bytes, written_for};
 ghost use Rattle.hm_history.specs.declared.Kind.{Kind as AnyKind};
 ghost use Rattle.hm_history.specs.declared.Who.{Who as AnyWho};
 ghost use Rattle.hm_spaces.specs.Spaces.{SpacesFit};

@@ -1,7 +1,9 @@
 // Invalidations, intervals and their sequences, of all processes (mm/mmu_notifier.c).
 ghost use Rattle.std.specs.Prelude.{◌≡◌, ◌≤◌, ◌==◌, ◌+◌, ◌%◌, ℕ, IfOk, OnErr, is_ok, Ok, Err, true, if◌then◌else◌};
-ghost use Rattle.hm_history.specs.Sequences.{sequences_start, sequences_next, sequences_accept, interval_seq, interval_proc, insert_deferred, in_tree, next_told, is_odd, is_next_told, is_last_end, interval_inserted, seq_inserted};
-ghost use Rattle.hm_history.specs.Lookups.{is_guarded};
+ghost use Rattle.hm_history.specs.Memory.Sequences.{sequences_start, sequences_next, sequences_accept, interval_seq};
+ghost use Rattle.hm_history.specs.Memory.Sequences.{interval_proc, insert_deferred, in_tree, next_told, is_odd};
+ghost use Rattle.hm_history.specs.Memory.Sequences.{is_next_told, is_last_end, interval_inserted, seq_inserted};
+ghost use Rattle.hm_history.specs.Memory.Lookups.{is_guarded};
 ghost use Rattle.hm_history.specs.declared.Kind.{Kind as AnyKind};
 ghost use Rattle.hm_folds.specs.Kept.{sequences_of, interval_of, guarded, stage_of, standing};
 

@@ -1,6 +1,7 @@
 // The bytes that a process has written.
-ghost use Rattle.std.specs.Prelude.{◌≡◌, ◌==◌, ◌&&◌, ℕ, ◌+◌, ◌≤◌, ◌<◌, ◌^◌, nat_le, nat_lt, true, if◌then◌else◌, is_some, length, IfOk, OnOk, OnErr};
-ghost use Rattle.hm_history.specs.Plain.{with_bytes};
+ghost use Rattle.std.specs.Prelude.{◌≡◌, ◌==◌, ◌&&◌, ℕ, ◌+◌, ◌≤◌, ◌<◌, ◌^◌, nat_le, nat_lt, true, if◌then◌else◌};
+ghost use Rattle.std.specs.Prelude.{is_some, length, IfOk, OnOk, OnErr};
+ghost use Rattle.hm_history.specs.Memory.Plain.{with_bytes};
 ghost use Rattle.hm_folds.specs.Stored.{byte_in, has_byte, IsFirst};
 
 use hm_base::NoMemory;

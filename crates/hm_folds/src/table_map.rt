@@ -1,5 +1,6 @@
 // What a device keeps of a mirror's pages.
-ghost use Rattle.std.specs.Prelude.{◌≡◌, ◌==◌, ◌&&◌, ℕ, ◌≤◌, ◌<◌, ◌^◌, nat_le, nat_lt, if◌then◌else◌, option_map, Some, None, IfOk, OnOk, OnErr};
+ghost use Rattle.std.specs.Prelude.{◌≡◌, ◌==◌, ◌&&◌, ℕ, ◌≤◌, ◌<◌, ◌^◌, nat_le, nat_lt, if◌then◌else◌, option_map, Some};
+ghost use Rattle.std.specs.Prelude.{None, IfOk, OnOk, OnErr};
 ghost use Rattle.hm_base.specs.declared.Frame.{Frame as AnyFrame};
 ghost use Rattle.hm_folds.specs.TableMap.{dev_of, target_of, entry_in, entry_of, IsFirstEntry};
 

@@ -1,10 +1,12 @@
 // The mirrors: each with its device, process and window, and how far it is.
 ghost use Rattle.std.specs.Prelude.{◌≡◌, ◌&&◌, ◌||◌, ℕ, is_none};
 ghost use Rattle.hm_base.specs.Pages.{lies_in, one_page};
-ghost use Rattle.hm_history.specs.Words.{with_at};
+ghost use Rattle.hm_history.specs.Memory.Words.{with_at};
 ghost use Rattle.hm_history.specs.declared.Kind.{Kind as AnyKind};
-ghost use Rattle.hm_history.specs.Plain.{mirror_passes, is_attached_state, is_detaching_state, with_attachment, MirrorState as AnyState};
-ghost use Rattle.hm_folds.specs.Windows.{attachment_of, mirror_of, mirrors_of, mirrors_next, mirror_read, owner_in, proc_in};
+ghost use Rattle.hm_history.specs.Memory.Plain.{mirror_passes, is_attached_state, is_detaching_state, with_attachment};
+ghost use Rattle.hm_history.specs.Memory.Plain.{MirrorState as AnyState};
+ghost use Rattle.hm_folds.specs.Windows.{attachment_of, mirror_of, mirrors_of, mirrors_next, mirror_read, owner_in};
+ghost use Rattle.hm_folds.specs.Windows.{proc_in};
 
 use hm_base::{Dev, MirrorId, Proc, Span};
 use hm_history::Kind;

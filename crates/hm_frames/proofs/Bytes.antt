@@ -3,9 +3,9 @@ use Rattle.std.proofs.Common.{◌≡◌, ◌≢◌, ℕ, zero, suc, ◌+◌, ◌
 use Rattle.std.proofs.lemmas.Bool.{cases_eq, cases_lt}
 use Rattle.std.proofs.lemmas.Bool.Decides.{nat_tests}
 use Rattle.std.proofs.lemmas.List.{get_or-take, get_or-drop, length-take, length-drop}
-use Rattle.hm_history.specs.Words.{with_at, bytes_from, page_of}
-use Rattle.hm_history.specs.Plain.{with_bytes}
-use Rattle.hm_history.specs.Contents.{with_piece, with_part_copied, zeros}
+use Rattle.hm_history.specs.Memory.Words.{with_at, bytes_from, page_of}
+use Rattle.hm_history.specs.Memory.Plain.{with_bytes}
+use Rattle.hm_history.specs.Memory.Contents.{with_piece, with_part_copied, zeros}
 use Rattle.frame_pool.specs.Frames.{overwritten, part_of, zero_frame}
 use Rattle.frame_pool.proofs.Overwrites.{get_overwritten_below, get_overwritten_in, get_overwritten_past, zero_frame_length}
 

@@ -10,13 +10,13 @@ use Rattle.hm_base.specs.declared.Frame.{Frame}
 use Rattle.hm_base.specs.declared.Place.{Place}
 use Rattle.hm_base.specs.declared.Place.TheVariants.{Sys, Moving}
 use Rattle.hm_base.specs.Program.{Program, IsScript}
-use Rattle.hm_history.specs.Words.{with_at, with_frame, sys_frame, names}
-use Rattle.hm_history.specs.Plain.{with_bytes}
-use Rattle.hm_history.specs.Places.{Places, pool_size, lowest_named, places_next}
-use Rattle.hm_history.specs.Locks.{Locks, frame_placed, with_lock, is_locker, orphan, left_behind}
-use Rattle.hm_history.specs.Contents as contents
-use Rattle.hm_history.specs.Contents.{with_part_copied, with_piece, zeros, backing}
-use Rattle.hm_history.specs.After.{After, after_entry, after_nothing}
+use Rattle.hm_history.specs.Memory.Words.{with_at, with_frame, sys_frame, names}
+use Rattle.hm_history.specs.Memory.Plain.{with_bytes}
+use Rattle.hm_history.specs.Memory.Places.{Places, pool_size, lowest_named, places_next}
+use Rattle.hm_history.specs.Memory.Locks.{Locks, frame_placed, with_lock, is_locker, orphan, left_behind}
+use Rattle.hm_history.specs.Memory.Contents as contents
+use Rattle.hm_history.specs.Memory.Contents.{with_part_copied, with_piece, zeros, backing}
+use Rattle.hm_history.specs.Memory.After.{After, after_entry, after_nothing}
 use Rattle.hm_history.specs.declared.Kind.{Kind}
 use Rattle.frame_pool.specs.Frames.{Frames, part_of, IsPiece}
 use Rattle.hm_frames.specs.Pools.{PoolState, PoolsState, fresh_pools, fresh_pool, pool_at, with_pool, pool_taken, pool_dropped, pool_locked, pool_unlocked, pool_written, pool_committed, pool_settled, pool_frozen, withdrawn_in, backing_in, placed_in, locked_in, stored_in, piece_of_part, copied_in, frames_next}

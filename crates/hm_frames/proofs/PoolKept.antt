@@ -4,9 +4,9 @@ use Rattle.std.proofs.lemmas.Bool.{cases_eq, cases_lt}
 use Rattle.std.proofs.lemmas.Bool.Decides.{nat_tests}
 use Rattle.std.proofs.lemmas.List.{get_or-set_same, get_or-set_other, get_or_past, length-set, length-replicate}
 use Rattle.hm_base.specs.declared.Frame.{Frame}
-use Rattle.hm_history.specs.Words.{with_at}
-use Rattle.hm_history.specs.Plain.{with_bytes}
-use Rattle.hm_history.specs.Contents.{zeros}
+use Rattle.hm_history.specs.Memory.Words.{with_at}
+use Rattle.hm_history.specs.Memory.Plain.{with_bytes}
+use Rattle.hm_history.specs.Memory.Contents.{zeros}
 use Rattle.frame_pool.specs.Frames.{Frames, IsFrames, fresh, is_held, locker, lowest_free, overwritten, zero_frame}
 use Rattle.frame_pool.specs.Frames as pool
 use Rattle.frame_pool.proofs.Overwrites.{length-overwritten, zero_frame_length}

@@ -4,7 +4,7 @@ use Rattle.std.specs.List.{position, position_from}
 use Rattle.std.specs.Prelude.{option_map}
 use Rattle.std.proofs.lemmas.List.{get_or-drop, length-drop}
 use Rattle.std.proofs.lemmas.Iterator.Adapters.{position_from-zero}
-use Rattle.hm_history.specs.Words.{least}
+use Rattle.hm_history.specs.Memory.Words.{least}
 use Rattle.frame_pool.specs.Bits.{next_true}
 
 -- a list's first element that passes is the least number that does

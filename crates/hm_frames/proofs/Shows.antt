@@ -9,10 +9,10 @@ use Rattle.hm_base.specs.declared.Frame.{Frame}
 use Rattle.hm_base.specs.declared.Place.{Place}
 use Rattle.hm_base.specs.declared.Place.TheVariants.{Moving}
 use Rattle.hm_base.specs.Program.{Program}
-use Rattle.hm_history.specs.Words.{least, bytes_from}
-use Rattle.hm_history.specs.Places.{frame_of, pool_size, is_withdrawn, lowest_free, held_from, stands_for}
-use Rattle.hm_history.specs.Contents.{backing, contents_of, shown_by, zeros}
-use Rattle.hm_history.specs.After.{After}
+use Rattle.hm_history.specs.Memory.Words.{least, bytes_from}
+use Rattle.hm_history.specs.Memory.Places.{frame_of, pool_size, is_withdrawn, lowest_free, held_from, stands_for}
+use Rattle.hm_history.specs.Memory.Contents.{backing, contents_of, shown_by, zeros}
+use Rattle.hm_history.specs.Memory.After.{After}
 use Rattle.frame_pool.specs.Frames.{Frames, is_held, locker, part_of}
 use Rattle.frame_pool.specs.Frames as pool
 use Rattle.frame_pool.proofs.Free.{lowest_is}

@@ -7,9 +7,9 @@ use Rattle.hm_base.specs.declared.PoolId.{PoolId}
 use Rattle.hm_base.specs.declared.PoolId.TheVariants.{System, Device}
 use Rattle.hm_base.specs.declared.Frame.{Frame}
 use Rattle.hm_base.specs.Program.{Program}
-use Rattle.hm_history.specs.Words.{with_at, with_frame, same_pool}
-use Rattle.hm_history.specs.Places.{frame_of, pool_size}
-use Rattle.hm_history.specs.Locks.{is_locker}
+use Rattle.hm_history.specs.Memory.Words.{with_at, with_frame, same_pool}
+use Rattle.hm_history.specs.Memory.Places.{frame_of, pool_size}
+use Rattle.hm_history.specs.Memory.Locks.{is_locker}
 use Rattle.frame_pool.specs.Frames.{is_held, locker}
 use Rattle.hm_frames.specs.Pools.{PoolState, PoolsState, fresh_pool, pool_index, pool_at, with_pool, is_held_in, pool_settled, pool_unlocked}
 use Rattle.hm_frames.specs.Shown.{PoolShown, PoolsShown}

@@ -1,6 +1,8 @@
 -- The pools as contracts see them, and what each kind of entry changes in them.
-use Rattle.std.specs.Prelude.{ℕ, ◌+◌, ◌*◌, ◌%◌, Bool, true, false, ◌==◌, if◌then◌else◌, Option, Some, None, is_none, unwrap_or, List, [], ◌∷◌, replicate, slice_set, slice_index_or}
-use Rattle.frame_pool.specs.Frames.{Frames, fresh, is_held, locker, lowest_free, taken, dropped, written, locked, unlocked, piece_of, piece_start, part_of}
+use Rattle.std.specs.Prelude.{ℕ, ◌+◌, ◌*◌, ◌%◌, Bool, true, false, ◌==◌, if◌then◌else◌, Option, Some, None, is_none}
+use Rattle.std.specs.Prelude.{unwrap_or, List, [], ◌∷◌, replicate, slice_set, slice_index_or}
+use Rattle.frame_pool.specs.Frames.{Frames, fresh, is_held, locker, lowest_free, taken, dropped, written, locked}
+use Rattle.frame_pool.specs.Frames.{unlocked, piece_of, piece_start, part_of}
 use Rattle.frame_pool.specs.Bits.{next_true}
 use Rattle.frame_pool.specs.declared.pool.Piece.{Piece}
 use Rattle.frame_pool.specs.declared.pool.Piece.TheVariants.{All, Part}
@@ -11,9 +13,9 @@ use Rattle.hm_base.specs.declared.Frame.{Frame}
 use Rattle.hm_base.specs.declared.Place.{Place}
 use Rattle.hm_base.specs.declared.Place.TheVariants.{Empty, Zero, Sys, Own, Moving, Exclusive}
 use Rattle.hm_base.specs.Program.{Program}
-use Rattle.hm_history.specs.Words.{sys_frame, dev_frame}
-use Rattle.hm_history.specs.Places.{frame_of}
-use Rattle.hm_history.specs.Locks.{is_locker}
+use Rattle.hm_history.specs.Memory.Words.{sys_frame, dev_frame}
+use Rattle.hm_history.specs.Memory.Places.{frame_of}
+use Rattle.hm_history.specs.Memory.Locks.{is_locker}
 use Rattle.hm_history.specs.declared.Kind.{Kind}
 
 -- the frames of a pool, and where each was committed to since it was last taken

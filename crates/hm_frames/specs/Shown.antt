@@ -1,5 +1,6 @@
 -- When the pools show the frames of a state, and what a step asks of that state.
-use Rattle.std.specs.Prelude.{◌≡◌, ◌≢◌, ℕ, ◌+◌, ◌*◌, ◌%◌, ◌<◌, ◌≤◌, Bool, true, false, Option, Some, None, is_some, length, slice_index, slice_index_or}
+use Rattle.std.specs.Prelude.{◌≡◌, ◌≢◌, ℕ, ◌+◌, ◌*◌, ◌%◌, ◌<◌, ◌≤◌, Bool, true, false, Option, Some, None, is_some}
+use Rattle.std.specs.Prelude.{length, slice_index, slice_index_or}
 use Rattle.frame_pool.specs.Frames.{IsFrames, IsPiece, is_held, locker}
 use Rattle.hm_base.specs.declared.PoolId.{PoolId}
 use Rattle.hm_base.specs.declared.PoolId.TheVariants.{System}
@@ -7,13 +8,14 @@ use Rattle.hm_base.specs.declared.Frame.{Frame}
 use Rattle.hm_base.specs.declared.Place.{Place}
 use Rattle.hm_base.specs.declared.Place.TheVariants.{Empty}
 use Rattle.hm_base.specs.Program.{Program}
-use Rattle.hm_history.specs.Words.{names, page_of}
-use Rattle.hm_history.specs.Plain.{Plain, owner, mirror_owner}
-use Rattle.hm_history.specs.Places.{Places, frame_of, pool_size, lowest_free}
-use Rattle.hm_history.specs.Contents.{backing, place_for}
-use Rattle.hm_history.specs.After.{After}
+use Rattle.hm_history.specs.Memory.Words.{names, page_of}
+use Rattle.hm_history.specs.Memory.Plain.{Plain, owner, mirror_owner}
+use Rattle.hm_history.specs.Memory.Places.{Places, frame_of, pool_size, lowest_free}
+use Rattle.hm_history.specs.Memory.Contents.{backing, place_for}
+use Rattle.hm_history.specs.Memory.After.{After}
 use Rattle.hm_history.specs.declared.Kind.{Kind}
-use Rattle.hm_frames.specs.Pools.{PoolState, PoolsState, pool_at, is_held_in, locker_in, lowest_free_in, backing_in, piece_of_part, is_removed_in, is_withdrawn_in}
+use Rattle.hm_frames.specs.Pools.{PoolState, PoolsState, pool_at, is_held_in, locker_in, lowest_free_in, backing_in}
+use Rattle.hm_frames.specs.Pools.{piece_of_part, is_removed_in, is_withdrawn_in}
 
 -- the lists of a pool fit each other
 pub record IsPoolState (y : PoolState) : Type 0 where

@@ -1,8 +1,11 @@
 // The frames of one pool, and for each the frame to which its contents were committed.
-ghost use Rattle.std.specs.Prelude.{◌≡◌, ◌≢◌, ℕ, ◌+◌, ◌*◌, ◌<◌, ◌≤◌, true, Some, None, is_some, length, replicate, slice_index_or, IfOk};
+ghost use Rattle.std.specs.Prelude.{◌≡◌, ◌≢◌, ℕ, ◌+◌, ◌*◌, ◌<◌, ◌≤◌, true, Some, None, is_some, length, replicate};
+ghost use Rattle.std.specs.Prelude.{slice_index_or, IfOk};
 ghost use Rattle.frame_pool.specs.Bits.{next_true};
-ghost use Rattle.frame_pool.specs.Frames.{IsPiece, is_held, locker, locked, unlocked, lowest_free, part_of, piece_of, piece_start};
-ghost use Rattle.hm_frames.specs.Pools.{fresh_pool, pool_taken, pool_dropped, pool_locked, pool_unlocked, pool_written, pool_committed, pool_settled, pool_frozen, withdrawn_in};
+ghost use Rattle.frame_pool.specs.Frames.{IsPiece, is_held, locker, locked, unlocked, lowest_free, part_of, piece_of};
+ghost use Rattle.frame_pool.specs.Frames.{piece_start};
+ghost use Rattle.hm_frames.specs.Pools.{fresh_pool, pool_taken, pool_dropped, pool_locked, pool_unlocked, pool_written};
+ghost use Rattle.hm_frames.specs.Pools.{pool_committed, pool_settled, pool_frozen, withdrawn_in};
 
 use frame_pool::{Piece, Pool};
 use hm_base::{Actor, Frame, NoMemory};

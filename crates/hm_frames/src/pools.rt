@@ -1,11 +1,17 @@
 // The pools of the system and of all devices, with a step for every kind of entry.
-ghost use Rattle.std.specs.Prelude.{◌≡◌, ◌≢◌, ℕ, ◌+◌, ◌*◌, ◌%◌, ◌<◌, ◌≤◌, true, Some, None, is_some, unwrap_or, if◌then◌else◌, length, replicate, IfOk};
+ghost use Rattle.std.specs.Prelude.{◌≡◌, ◌≢◌, ℕ, ◌+◌, ◌*◌, ◌%◌, ◌<◌, ◌≤◌, true, Some, None, is_some, unwrap_or};
+ghost use Rattle.std.specs.Prelude.{if◌then◌else◌, length, replicate, IfOk};
 ghost use Rattle.frame_pool.specs.Frames.{IsPiece};
 ghost use Rattle.hm_base.specs.PlaceWords.{names};
 ghost use Rattle.hm_base.specs.declared.limits.TheConstants.{MOST_DEVICES};
 ghost use Rattle.hm_base.specs.declared.Frame.{Frame};
 ghost use Rattle.hm_base.specs.declared.PoolId.{PoolId};
-ghost use Rattle.hm_frames.specs.Pools.{fresh_pool, fresh_pools, frames_of_device, pool_at, with_pool, pool_taken, pool_dropped, pool_locked, pool_unlocked, pool_settled, pool_frozen, pool_committed, withdrawn_in, is_held_in, locker_in, other_locker_in, committed_to_in, lowest_free_in, held_from_in, is_withdrawn_in, is_removed_in, bytes_in, shown_in, stands_for_in, backing_in, is_moving, placed_in, locked_in, stored_in, piece_of_part, copied_in, frames_next};
+ghost use Rattle.hm_frames.specs.Pools.{fresh_pool, fresh_pools, frames_of_device, pool_at, with_pool, pool_taken};
+ghost use Rattle.hm_frames.specs.Pools.{pool_dropped, pool_locked, pool_unlocked, pool_settled, pool_frozen};
+ghost use Rattle.hm_frames.specs.Pools.{pool_committed, withdrawn_in, is_held_in, locker_in, other_locker_in};
+ghost use Rattle.hm_frames.specs.Pools.{committed_to_in, lowest_free_in, held_from_in, is_withdrawn_in, is_removed_in};
+ghost use Rattle.hm_frames.specs.Pools.{bytes_in, shown_in, stands_for_in, backing_in, is_moving, placed_in, locked_in};
+ghost use Rattle.hm_frames.specs.Pools.{stored_in, piece_of_part, copied_in, frames_next};
 ghost use Rattle.hm_frames.specs.Shown.{StepFits};
 
 use crate::one_pool::OnePool;

@@ -3,7 +3,7 @@ use Rattle.std.proofs.Common.{◌≡◌, ◌≢◌, ◌⊎◌, inl, inr, true, f
 use Rattle.std.proofs.lemmas.Bool.Decides.{nat_tests}
 use Rattle.hm_base.specs.declared.PoolId.{PoolId}
 use Rattle.hm_base.specs.declared.Frame.{Frame}
-use Rattle.hm_history.specs.Words.{same_pool, same_frame, is_frame}
+use Rattle.hm_history.specs.Memory.Words.{same_pool, same_frame, is_frame}
 
 pub pool_tells : (x y : PoolId) → ((same_pool x y ≡ true) × (x ≡ y)) ⊎ ((same_pool x y ≡ false) × (x ≢ y))
 pool_tells PoolId.System PoolId.System = inl (refl, refl)

@@ -1,7 +1,7 @@
 -- The process of a mirror, where it was attached.
 use Rattle.std.proofs.Common.{◌≡◌, ℕ, Bool, true, Option, Some, None, is_some, refl, ap, ◌∙◌}
 use Rattle.std.specs.Prelude.{option_map}
-use Rattle.hm_history.specs.Plain.{Plain, MirrorState, mirror_proc, mirror_owner, owned}
+use Rattle.hm_history.specs.Memory.Plain.{Plain, MirrorState, mirror_proc, mirror_owner, owned}
 
 -- what its owner passes, the mirror's process passes
 pub owned_proc : (s : Plain) (m : ℕ) (test : ℕ → Bool) → owned (mirror_owner s m) test ≡ true → test (mirror_proc s m) ≡ true

@@ -2,7 +2,7 @@
 use Rattle.std.proofs.Common.{◌≡◌, ℕ, ◌⊎◌, true, List, arith}
 use Rattle.std.specs.List.{list_any}
 use Rattle.std.proofs.lemmas.Bool.Decides.{nat_tests}
-use Rattle.hm_history.specs.Places.{is_page, with_page}
+use Rattle.hm_history.specs.Memory.Places.{is_page, with_page}
 
 pub is_page_true : (p v : ℕ) (x : ℕ × ℕ) → is_page p v x ≡ true → x ≡ (p, v)
 is_page_true p v x h = grind (arith, nat_tests)

@@ -1,14 +1,16 @@
 -- A run adds what is due.
-use Rattle.std.proofs.Common.{◌≡◌, ℕ, zero, suc, Bool, true, false, Option, None, Some, List, [], ◌∷◌, ◌++◌, refl, sym, subst, append_assoc, append-nil, fold}
+use Rattle.std.proofs.Common.{◌≡◌, ℕ, zero, suc, ◌<◌, Bool, true, false, Option, None, Some, List, [], ◌∷◌, ◌++◌, length, get_or, take, refl, sym, ap, subst, append_assoc, append-nil, fold, arith}
+use Rattle.std.specs.Prelude.{◌&&◌}
+use Rattle.std.proofs.lemmas.Bool.Decides.{nat_tests}
 use Rattle.hm_base.specs.Program.{Program}
 use Rattle.hm_base.specs.declared.ops.Op.{Op}
 use Rattle.hm_base.specs.declared.ops.ScheduleLine.{ScheduleLine}
-use Rattle.hm_history.specs.After.{After}
-use Rattle.hm_history.specs.Going.{state_of}
-use Rattle.hm_history.specs.Due.{due, due_top, due_phase, progress}
-use Rattle.hm_history.specs.Run.{enough, has_room, added, turn, turns, turns_on, actors_of, round, drained, line_run}
+use Rattle.hm_history.specs.Memory.After.{After}
+use Rattle.hm_history.specs.Kernel.Going.{state_of}
+use Rattle.hm_history.specs.Kernel.Due.{due, due_top, due_phase, progress}
+use Rattle.hm_history.specs.Kernel.Run.{enough, has_room, added, is_entry, is_idle, turn, turns, turns_on, actors_of, round, drained, line_run}
 use Rattle.hm_history.specs.Laws.{DueFrom, RunsAreDue}
-use Rattle.hm_history.specs.Legal.{LegalFrom}
+use Rattle.hm_history.specs.Kernel.Legal.{LegalFrom}
 use Rattle.hm_history.specs.declared.Entry.{Entry}
 use Rattle.hm_history.specs.declared.Progress.{Progress}
 use Rattle.hm_history.specs.declared.phases.Migrating.{Migrating}
@@ -32,6 +34,34 @@ due_own c h a e p = subst (λ b. due c h b ≡ Progress.Did e) (due_top_own c (s
 pub DueFrom-append : (c : Program) (g h : List Entry) (e : Entry) → DueFrom c g h → due c (g ++ h) e.actor ≡ Progress.Did e → DueFrom c g (h ++ e ∷ [])
 DueFrom-append c g [] e d p = (rw append-nil at p, tt)
 DueFrom-append c g (x ∷ h) e d p = (d.0, DueFrom-append c (g ++ x ∷ []) h e d.1 (subst (λ l. due c l e.actor ≡ Progress.Did e) (sym (append_assoc g (x ∷ []) h)) p))
+
+-- entries that were due, and then others
+pub DueFrom-join : (c : Program) (g h es : List Entry) → DueFrom c g h → DueFrom c (g ++ h) es → DueFrom c g (h ++ es)
+DueFrom-join c g [] es d after = subst (λ l. DueFrom c l es) (append-nil g) after
+DueFrom-join c g (x ∷ h) es d after = (d.0, DueFrom-join c (g ++ x ∷ []) h es d.1 (subst (λ l. DueFrom c l es) (sym (append_assoc g (x ∷ []) h)) after))
+
+-- the entry at a position was due there
+pub due_at : (c : Program) (g h : List Entry) (i : ℕ) (d : Entry) → i < length h → DueFrom c g h → due c (g ++ take i h) (get_or h i d).actor ≡ Progress.Did (get_or h i d)
+due_at c g [] i d below l = absurd (omega (arith, below))
+due_at c g (e ∷ h) zero d below l = subst (λ (y : List Entry). due c y e.actor ≡ Progress.Did e) (sym (append-nil g)) l.0
+due_at c g (e ∷ h) (suc i) d below l =
+    subst (λ (y : List Entry). due c y (get_or h i d).actor ≡ Progress.Did (get_or h i d)) (append_assoc g (e ∷ []) (take i h))
+    (due_at c (g ++ e ∷ []) h i d (omega (arith, below)) l.1)
+
+-- a history that is not too long has room
+pub has_room_below : (h : List Entry) → length h < 2000000 → has_room h ≡ true
+has_room_below h l = grind (arith, nat_tests)
+
+-- an actor with nothing left to do has no entry
+pub idle_quiet : (p : Progress) → is_idle p ≡ true → is_entry p ≡ false
+idle_quiet (Progress.Did e) idle = cc
+idle_quiet (Progress.Waiting why) idle = refl
+idle_quiet Progress.Idle idle = refl
+
+-- turns of an actor to whom no entry is due add none
+pub turns_stop : (c : Program) (h : List Entry) (a n : ℕ) → is_entry (due c h a) ≡ false → turns_on c h a n ≡ h
+turns_stop c h a zero quiet = refl
+turns_stop c h a (suc n) quiet = ap (λ b. elim (b && has_room h) [ true ↦ turns_on c (turn c h a) a n | false ↦ h ]) quiet
 
 pub added_due : (c : Program) (h : List Entry) (a : ℕ) (n : Progress) → due c h a ≡ n → DueFrom c [] h → DueFrom c [] (added h n)
 added_due c h a (Progress.Did e) p d =

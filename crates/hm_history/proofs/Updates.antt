@@ -3,7 +3,7 @@ use Rattle.std.proofs.Common.{◌≡◌, ℕ, ◌<◌, ◌⊎◌, inl, inr, Opti
 use Rattle.std.proofs.lemmas.Bool.{cases_eq}
 use Rattle.std.proofs.lemmas.Bool.Decides.{nat_tests}
 use Rattle.std.proofs.lemmas.Grind.{elements, common_steps}
-use Rattle.hm_history.specs.Words.{with_at}
+use Rattle.hm_history.specs.Memory.Words.{with_at}
 
 pub other_at : {X : Type 0} (f : ℕ → X) (m k : ℕ) (x : X) → (k ≡ m → ⊥) → with_at f m x k ≡ f k
 other_at f m k x ne = grind (arith, nat_tests)

@@ -1,8 +1,8 @@
 -- What holds of each run.
 use Rattle.std.specs.Prelude.{◌≡◌, List, [], ◌∷◌, ◌++◌, ⊤}
 use Rattle.hm_base.specs.Program.{Program}
-use Rattle.hm_history.specs.Due.{due}
-use Rattle.hm_history.specs.Run.{run}
+use Rattle.hm_history.specs.Kernel.Due.{due}
+use Rattle.hm_history.specs.Kernel.Run.{run}
 use Rattle.hm_history.specs.declared.Entry.{Entry}
 use Rattle.hm_history.specs.declared.Progress.{Progress}
 

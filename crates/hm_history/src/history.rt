@@ -1,5 +1,6 @@
 // A list of entries that grows, with room kept ahead.
-ghost use Rattle.std.specs.Prelude.{◌≡◌, ℕ, ◌+◌, ◌-◌, ◌<◌, ◌≤◌, [], ◌∷◌, ◌++◌, length, OnOk, OnErr, IfOk, option_copied, slice_get};
+ghost use Rattle.std.specs.Prelude.{◌≡◌, ℕ, ◌+◌, ◌-◌, ◌<◌, ◌≤◌, [], ◌∷◌, ◌++◌, length, OnOk, OnErr, IfOk};
+ghost use Rattle.std.specs.Prelude.{option_copied, slice_get};
 ghost use Rattle.hm_base.specs.declared.limits.TheConstants.{MOST_ENTRIES};
 
 use crate::Entry;

@@ -47,8 +47,8 @@ pub enum Flushed {
 pub trait Source {
     ghost use Rattle.hm_io.specs.Streams.{SourceState, GotCount, Reads, ReadCause};
 
-    /// The bytes that are left, if they are known: in memory, or of a reader whose own contract says them; and how often
-    /// a read has failed.
+    /// The bytes that are left, if they are known: in memory, or of a reader whose own contract says them; and how
+    /// often a read has failed.
     ghost state: { Self → SourceState };
 
     /// Puts the front of what is left at the front of the buffer.
@@ -65,7 +65,8 @@ pub trait Source {
 
 /// Where bytes go, one piece after another.
 pub trait Sink {
-    ghost use Rattle.hm_io.specs.Streams.{SinkState, PutCount, Writes, WriteCause, WantCause, Stays, IsSentOn, FlushCause};
+    ghost use Rattle.hm_io.specs.Streams.{SinkState, PutCount, Writes, WriteCause, WantCause, Stays, IsSentOn};
+    ghost use Rattle.hm_io.specs.Streams.{FlushCause};
 
     /// The bytes that it holds, if they are known: in memory, or of a writer whose own contract says them; how often a
     /// write or a flush has failed; how often it ran out of memory; and whether bytes that it took may not have gone on

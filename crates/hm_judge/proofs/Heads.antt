@@ -5,10 +5,10 @@ use Rattle.std.proofs.lemmas.List.{take_all, take-append-le, take-take, take-app
 use Rattle.std.proofs.Math.Seq.{take-append_seam, take-append-add}
 use Rattle.hm_base.specs.Program.{Program, IsScript}
 use Rattle.hm_report.specs.Report.{history_line}
-use Rattle.hm_report_lines.specs.Heads.{IsBadHead, lines_behind}
-use Rattle.hm_report_lines.proofs.Cutting.{joined, joined_append, joined_lines, lines_take}
-use Rattle.hm_report_lines.proofs.Scripts.{take_whole}
-use Rattle.hm_report_lines.proofs.Shared.{one_lines}
+use Rattle.hm_report_front.specs.Heads.{IsBadHead, lines_behind}
+use Rattle.hm_report_front.proofs.Cutting.{joined, joined_append, joined_lines, lines_take}
+use Rattle.hm_report_front.proofs.Scripts.{take_whole}
+use Rattle.hm_report_front.proofs.Shared.{one_lines}
 use Rattle.hm_script.specs.Automaton.{lines}
 use Rattle.hm_script.specs.BadLine.{IsFirstBad, SharesLines}
 use Rattle.hm_script.specs.Reader.{Reads}

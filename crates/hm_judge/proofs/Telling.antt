@@ -3,14 +3,14 @@ use Rattle.std.proofs.Common.{◌≡◌, ℕ, ◌+◌, inl, inr, List, ◌∷◌
 use Rattle.std.specs.Prelude.{map}
 use Rattle.hm_base.specs.Program.{Program}
 use Rattle.hm_history.specs.declared.Entry.{Entry}
-use Rattle.hm_history.specs.Due.{due}
-use Rattle.hm_history.specs.Run.{actors_of}
+use Rattle.hm_history.specs.Kernel.Due.{due}
+use Rattle.hm_history.specs.Kernel.Run.{actors_of}
 use Rattle.hm_script.specs.Automaton.{lines}
 use Rattle.hm_script.specs.Spelling.{text}
 use Rattle.hm_report.specs.Report.{history_line, report}
-use Rattle.hm_report_lines.specs.Heads.{IsHead}
-use Rattle.hm_report_lines.specs.Parts.{Differ}
-use Rattle.hm_report_lines.proofs.Scripts.{OneText}
+use Rattle.hm_report_front.specs.Heads.{IsHead}
+use Rattle.hm_report_front.specs.Parts.{Differ}
+use Rattle.hm_report_front.proofs.Scripts.{OneText}
 use Rattle.hm_check.specs.FirstBad.{IsFirstBad, IsLegalReport}
 use Rattle.hm_check.specs.Judged.{Judged}
 use Rattle.hm_laws.specs.Laws.{HistoryIsLegal}

@@ -2,16 +2,16 @@
 use Rattle.std.specs.Prelude.{◌≡◌, ◌⊎◌, ℕ, zero, suc, ◌+◌, ◌-◌, ◌≤◌, List, [], ◌∷◌, ◌++◌, length, map, take, slice_get}
 use Rattle.std.specs.Prelude.{Option, Some, None, Err}
 use Rattle.hm_base.specs.Program.{Program, IsScript}
-use Rattle.hm_history.specs.Due.{due}
+use Rattle.hm_history.specs.Kernel.Due.{due}
 use Rattle.hm_history.specs.Laws.{DueFrom}
-use Rattle.hm_history.specs.Run.{actors_of}
+use Rattle.hm_history.specs.Kernel.Run.{actors_of}
 use Rattle.hm_history.specs.declared.Entry.{Entry}
 use Rattle.hm_history.specs.declared.Progress.{Progress}
 use Rattle.hm_report.specs.Report.{entry_line, history_line}
-use Rattle.hm_report_lines.specs.Heads.{IsBadHead, lines_behind}
-use Rattle.hm_report_lines.specs.Parts.{Differ, entry_list}
-use Rattle.hm_reading.specs.Entries.{IsRead}
-use Rattle.hm_reading.specs.Fits.{FitsEntry}
+use Rattle.hm_report_front.specs.Heads.{IsBadHead, lines_behind}
+use Rattle.hm_report_front.specs.Parts.{Differ, entry_list}
+use Rattle.hm_entry_reading.specs.Entries.{IsRead}
+use Rattle.hm_entry_reading.specs.Fits.{FitsEntry}
 use Rattle.hm_edge.specs.Reading.{IsTextOf}
 use Rattle.hm_script.specs.Automaton.{lines, reading}
 use Rattle.hm_script.specs.Built.{every_word}

@@ -13,7 +13,7 @@ use hm_base::{NoMemory, Script};
 use hm_check::{Report, put_tail, take_entries};
 use hm_reads::Reads;
 use hm_report::Buffer;
-use hm_report_lines::first_difference;
+use hm_report_front::first_difference;
 use hm_world::World;
 use std::alloc::Global;
 

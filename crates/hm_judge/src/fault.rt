@@ -9,9 +9,9 @@ ghost use Rattle.hm_judge.specs.Judgements.{IsFault, IsLineFault};
 use crate::judgement::Fault;
 use crate::lines::line_at;
 use hm_base::{MOST_ENTRIES, NoMemory};
+use hm_entry_reading::LineReader;
 use hm_history::Entry;
 use hm_parts::{Parts, ShownParts, parts_of, shown_of};
-use hm_reading::LineReader;
 use hm_world::World;
 use std::alloc::Global;
 

@@ -1,6 +1,6 @@
 // What is wrong with a script, or with the line after it.
 ghost use Rattle.std.specs.Prelude.{IfOk};
-ghost use Rattle.hm_report_lines.specs.Heads.{IsBadHead};
+ghost use Rattle.hm_report_front.specs.Heads.{IsBadHead};
 ghost use Rattle.hm_script.specs.Automaton.{lines};
 ghost use Rattle.hm_judge.specs.Judgements.{HasBadHead, IsAtLine, IsHeadEnding, IsHeadFault};
 

@@ -1,7 +1,7 @@
 // How each actor stands.
 ghost use Rattle.std.specs.Prelude.{◌≡◌, IfOk, map};
-ghost use Rattle.hm_history.specs.Due.{due};
-ghost use Rattle.hm_history.specs.Run.{actors_of};
+ghost use Rattle.hm_history.specs.Kernel.Due.{due};
+ghost use Rattle.hm_history.specs.Kernel.Run.{actors_of};
 
 use hm_base::{Actor, NoMemory};
 use hm_history::Progress;

@@ -6,7 +6,7 @@ use crate::behind::judge_behind;
 use crate::head::head_report;
 use crate::judgement::Judgement;
 use hm_base::NoMemory;
-use hm_report_lines::read_head;
+use hm_report_front::read_head;
 use std::alloc::Global;
 
 /// Judges bytes. The verdict is that of `hm_check::check`, and is found as there, in one pass. If a line is that of an

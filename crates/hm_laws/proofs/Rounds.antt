@@ -8,12 +8,12 @@ use Rattle.std.proofs.lemmas.Bool.Decides.{nat_tests}
 use Rattle.std.proofs.lemmas.Option.{slice_get_within}
 use Rattle.hm_base.specs.Program.{Program, IsScript}
 use Rattle.hm_base.specs.declared.ops.Op.{Op}
-use Rattle.hm_history.specs.After.{After}
-use Rattle.hm_history.specs.Due.{due, due_top}
-use Rattle.hm_history.specs.Going.{op_at, state_of}
+use Rattle.hm_history.specs.Memory.After.{After}
+use Rattle.hm_history.specs.Kernel.Due.{due, due_top}
+use Rattle.hm_history.specs.Kernel.Going.{op_at, state_of}
 use Rattle.hm_history.specs.Laws.{DueFrom}
-use Rattle.hm_history.specs.Run.{enough, has_room, added, is_entry, is_idle, turn, turns_on, actors_of, round, all_idle, drained}
-use Rattle.hm_history.specs.Words.{numbers}
+use Rattle.hm_history.specs.Kernel.Run.{enough, has_room, added, is_entry, is_idle, turn, turns_on, actors_of, round, all_idle, drained}
+use Rattle.hm_history.specs.Memory.Words.{numbers}
 use Rattle.hm_history.specs.declared.Entry.{Entry}
 use Rattle.hm_history.specs.declared.Progress.{Progress}
 use Rattle.hm_history.specs.declared.phases.Migrating.{Migrating}

@@ -1,5 +1,6 @@
 -- When an entry may be added: by the state and the past alone, whoever is where.
-use Rattle.std.specs.Prelude.{◌≡◌, ℕ, ◌<◌, ◌≤◌, ◌⊎◌, ◌^◌, ◌%◌, ◌+◌, Bool, true, false, ◌||◌, ◌==◌, Option, Some, None, is_some, length, ⊤}
+use Rattle.std.specs.Prelude.{◌≡◌, ℕ, ◌<◌, ◌≤◌, ◌⊎◌, ◌^◌, ◌%◌, ◌+◌, Bool, true, false, ◌||◌, ◌==◌, Option, Some, None}
+use Rattle.std.specs.Prelude.{is_some, length, ⊤}
 use Rattle.hm_base.specs.Pages.{Pages, covers}
 use Rattle.hm_base.specs.Areas.{last_of}
 use Rattle.hm_base.specs.Program.{Program}
@@ -7,14 +8,16 @@ use Rattle.hm_base.specs.declared.Frame.{Frame}
 use Rattle.hm_base.specs.declared.Place.{Place}
 use Rattle.hm_base.specs.declared.Place.TheVariants.{Sys, Own}
 use Rattle.hm_base.specs.declared.ops.Rights.TheVariants.{Read}
-use Rattle.hm_history.specs.Words.{page_of, sys_frame, dev_frame, names, names_directly, moving_frame, writable, is_empty_place}
-use Rattle.hm_history.specs.Plain.{MirrorState, rights_of, is_read_write, is_attached_state, is_attached, plain_accepts, mirror_owner}
-use Rattle.hm_history.specs.Places.{is_exclusive, lowest_free, places_accept}
-use Rattle.hm_history.specs.Sequences.{interval_seq, sequences_accept}
-use Rattle.hm_history.specs.Lookups.{loses, is_guarded}
-use Rattle.hm_history.specs.Contents.{shown_by}
-use Rattle.hm_history.specs.After.{After, after_entry}
-use Rattle.hm_history.specs.Due.{has_no_frame}
+use Rattle.hm_history.specs.Memory.Words.{page_of, sys_frame, dev_frame, names, names_directly, moving_frame, writable}
+use Rattle.hm_history.specs.Memory.Words.{is_empty_place}
+use Rattle.hm_history.specs.Memory.Plain.{MirrorState, rights_of, is_read_write, is_attached_state, is_attached}
+use Rattle.hm_history.specs.Memory.Plain.{plain_accepts, mirror_owner}
+use Rattle.hm_history.specs.Memory.Places.{is_exclusive, lowest_free, places_accept}
+use Rattle.hm_history.specs.Memory.Sequences.{interval_seq, sequences_accept}
+use Rattle.hm_history.specs.Memory.Lookups.{loses, is_guarded}
+use Rattle.hm_history.specs.Memory.Contents.{shown_by}
+use Rattle.hm_history.specs.Memory.After.{After, after_entry}
+use Rattle.hm_history.specs.Kernel.Due.{has_no_frame}
 use Rattle.hm_history.specs.declared.TableRight.{TableRight}
 use Rattle.hm_history.specs.declared.Kind.{Kind}
 use Rattle.hm_laws.specs.Stood.{lock_on, stood, is_moving, IsNamed, Unnamed, Unstood}

@@ -1,5 +1,6 @@
 -- What each actor knows at its stack of phases, whatever the others do.
-use Rattle.std.specs.Prelude.{◌≡◌, ℕ, ◌<◌, ◌≤◌, Bool, true, false, not, ◌&&◌, ◌||◌, ◌==◌, is_some, Option, Some, None, List, [], ◌∷◌, nat_lt, nat_le, if◌then◌else◌, ◌++◌, ⊤, ◌⊎◌}
+use Rattle.std.specs.Prelude.{◌≡◌, ℕ, ◌<◌, ◌≤◌, Bool, true, false, not, ◌&&◌, ◌||◌, ◌==◌, is_some, Option, Some, None}
+use Rattle.std.specs.Prelude.{List, [], ◌∷◌, nat_lt, nat_le, if◌then◌else◌, ◌++◌, ⊤, ◌⊎◌}
 use Rattle.std.specs.List.{list_any, list_all}
 use Rattle.hm_base.specs.Pages.{Pages, one_page, all_pages, covers}
 use Rattle.hm_base.specs.Areas.{last_of}
@@ -8,28 +9,34 @@ use Rattle.hm_base.specs.declared.Frame.{Frame}
 use Rattle.hm_base.specs.declared.Place.{Place}
 use Rattle.hm_base.specs.declared.ops.Op.{Op}
 use Rattle.hm_base.specs.declared.ops.Rights.{Rights}
-use Rattle.hm_history.specs.Words.{writable, is_empty_place, same_frame, names, names_directly, moving_frame, dev_frame, page_of}
-use Rattle.hm_history.specs.Plain.{Plain, rights_of, is_read_write, area_refusal, mirror_passes, is_attached, is_detaching_state, mirror_proc, mirror_dev, proc_of}
-use Rattle.hm_history.specs.Places.{is_for_device, is_exclusive_by}
-use Rattle.hm_history.specs.Sequences.{Guarded, is_above, interval_seq}
-use Rattle.hm_history.specs.Legal.{was_fresh}
-use Rattle.hm_history.specs.Contents.{zeros}
-use Rattle.hm_history.specs.After.{After}
-use Rattle.hm_history.specs.Operation.{op_piece, op_mirror, op_who, is_evicting, is_remove, is_migration}
-use Rattle.hm_history.specs.Going.{Going, op_at, touch_page}
+use Rattle.hm_history.specs.Memory.Words.{writable, is_empty_place, same_frame, names, names_directly, moving_frame}
+use Rattle.hm_history.specs.Memory.Words.{dev_frame, page_of}
+use Rattle.hm_history.specs.Memory.Plain.{Plain, rights_of, is_read_write, area_refusal, mirror_passes, is_attached}
+use Rattle.hm_history.specs.Memory.Plain.{is_detaching_state, mirror_proc, mirror_dev, proc_of}
+use Rattle.hm_history.specs.Memory.Places.{is_for_device, is_exclusive_by}
+use Rattle.hm_history.specs.Memory.Sequences.{Guarded, is_above, interval_seq}
+use Rattle.hm_history.specs.Kernel.Legal.{was_fresh}
+use Rattle.hm_history.specs.Memory.Contents.{zeros}
+use Rattle.hm_history.specs.Memory.After.{After}
+use Rattle.hm_history.specs.Kernel.Operation.{op_piece, op_mirror, op_who, is_evicting, is_remove, is_migration}
+use Rattle.hm_history.specs.Kernel.Going.{Going, op_at, touch_page}
 use Rattle.hm_history.specs.declared.Who.{Who}
 use Rattle.hm_laws.specs.Stood.{lock_on, is_moving, Matches}
-use Rattle.hm_history.specs.Due.{proc_of_op, child_of, process_seq, right_of, pool_of, has_no_frame}
+use Rattle.hm_history.specs.Kernel.Due.{proc_of_op, child_of, process_seq, right_of, pool_of, has_no_frame}
 use Rattle.hm_history.specs.declared.phases.Migrating.{Migrating}
 use Rattle.hm_history.specs.declared.phases.MoveStep.{MoveStep}
 use Rattle.hm_history.specs.declared.phases.Touch.{Touch}
 use Rattle.hm_history.specs.declared.phases.Body.{Body}
 use Rattle.hm_history.specs.declared.phases.Phase.{Phase}
 use Rattle.hm_laws.specs.Past.{Past}
-pub use Rattle.hm_laws.specs.Shapes.{is_cpu, is_device_access, has_piece, takes_lock, is_detach, is_snap, is_attach, begins, is_fork, takes_exclusive, is_add, zaps, narrows, widens, op_span, at_page, is_core, of_system, is_zero_place}
+pub use Rattle.hm_laws.specs.Shapes.{is_cpu, is_device_access, has_piece, takes_lock, is_detach, is_snap, is_attach}
+pub use Rattle.hm_laws.specs.Shapes.{begins, is_fork, takes_exclusive, is_add, zaps, narrows, widens, op_span, at_page}
+pub use Rattle.hm_laws.specs.Shapes.{is_core, of_system, is_zero_place}
 use Rattle.hm_laws.specs.Sound.{has_met}
-use Rattle.hm_laws.specs.Allowed.{shows, CleanBut, Clean, ReadsThere, WritesThere, HasChild, Alike, OwnsFrame, IsSource, IsFrozen}
-use Rattle.hm_laws.specs.Records.{same_step, is_past, is_nil, starts_empty, op_range, pages_below, WellListed, staged, parts_of, has_source, has_pair, has_fresh, apart_from}
+use Rattle.hm_laws.specs.Allowed.{shows, CleanBut, Clean, ReadsThere, WritesThere, HasChild, Alike, OwnsFrame, IsSource}
+use Rattle.hm_laws.specs.Allowed.{IsFrozen}
+use Rattle.hm_laws.specs.Records.{same_step, is_past, is_nil, starts_empty, op_range, pages_below, WellListed, staged}
+use Rattle.hm_laws.specs.Records.{parts_of, has_source, has_pair, has_fresh, apart_from}
 use Rattle.hm_laws.specs.Moves.{Parts, IsReturning, IsReturned}
 
 -- one thing that an actor may know. Facts are data, so that what is known at a phase is a list that a test can go

@@ -1,15 +1,15 @@
 -- The laws, as statements.
 use Rattle.std.specs.Prelude.{◌≡◌, ℕ, ◌%◌, false, true, Some, is_some, List, [], IsTrue}
 use Rattle.hm_base.specs.Program.{Program, IsScript}
-use Rattle.hm_history.specs.Words.{page_of, is_empty_place}
-use Rattle.hm_history.specs.Plain.{rights_of, plain_accepts, mirror_owner}
-use Rattle.hm_history.specs.Places.{places_accept}
-use Rattle.hm_history.specs.Sequences.{sequences_accept}
-use Rattle.hm_history.specs.Lookups.{narrows_guarded}
-use Rattle.hm_history.specs.Contents.{contents_of}
-use Rattle.hm_history.specs.After.{After, after}
-use Rattle.hm_history.specs.Legal.{Legal}
-use Rattle.hm_history.specs.Run.{run}
+use Rattle.hm_history.specs.Memory.Words.{page_of, is_empty_place}
+use Rattle.hm_history.specs.Memory.Plain.{rights_of, plain_accepts, mirror_owner}
+use Rattle.hm_history.specs.Memory.Places.{places_accept}
+use Rattle.hm_history.specs.Memory.Sequences.{sequences_accept}
+use Rattle.hm_history.specs.Memory.Lookups.{narrows_guarded}
+use Rattle.hm_history.specs.Memory.Contents.{contents_of}
+use Rattle.hm_history.specs.Memory.After.{After, after}
+use Rattle.hm_history.specs.Kernel.Legal.{Legal}
+use Rattle.hm_history.specs.Kernel.Run.{run}
 use Rattle.hm_history.specs.Laws.{DueFrom}
 use Rattle.hm_history.specs.declared.Entry.{Entry}
 use Rattle.hm_history.specs.declared.Kind.{Kind}

@@ -2,8 +2,8 @@
 use Rattle.std.specs.Prelude.{◌≡◌, ℕ, ◌<◌, ◌*◌, ◌⊎◌, Option, Some, None}
 use Rattle.hm_base.specs.declared.Frame.{Frame}
 use Rattle.hm_base.specs.declared.Place.{Place}
-use Rattle.hm_history.specs.Words.{names_directly, moving_frame}
-use Rattle.hm_history.specs.After.{After}
+use Rattle.hm_history.specs.Memory.Words.{names_directly, moving_frame}
+use Rattle.hm_history.specs.Memory.After.{After}
 use Rattle.hm_laws.specs.Stood.{stood, Unstood}
 use Rattle.hm_laws.specs.Allowed.{AllMoving}
 

@@ -1,8 +1,8 @@
 -- Somebody always goes on: as long as an operation has not ended, an entry is due to some actor.
 use Rattle.std.specs.Prelude.{◌≡◌, ℕ, true, is_some, List, []}
 use Rattle.hm_base.specs.Program.{Program, IsScript}
-use Rattle.hm_history.specs.Going.{op_at, state_of}
-use Rattle.hm_history.specs.Due.{due}
+use Rattle.hm_history.specs.Kernel.Going.{op_at, state_of}
+use Rattle.hm_history.specs.Kernel.Due.{due}
 use Rattle.hm_history.specs.Laws.{DueFrom}
 use Rattle.hm_history.specs.declared.Entry.{Entry}
 use Rattle.hm_history.specs.declared.Progress.{Progress}

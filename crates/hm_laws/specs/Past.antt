@@ -1,7 +1,7 @@
 -- What the laws ask of the past and the state does not keep.
 use Rattle.std.specs.Prelude.{ℕ, ◌+◌, Bool, false, ◌&&◌, ◌||◌, ◌==◌, if◌then◌else◌, Option, Some, None}
 use Rattle.hm_base.specs.Pages.{Pages, covers}
-use Rattle.hm_history.specs.Words.{with_at}
+use Rattle.hm_history.specs.Memory.Words.{with_at}
 use Rattle.hm_history.specs.declared.Kind.{Kind}
 
 -- who gave a process its number; who detaches a mirror; the first position from which a mirror has not been told of a

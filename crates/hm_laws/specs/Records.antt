@@ -1,11 +1,12 @@
 -- The records of a migration: its pages in order, and which steps are past for each.
-use Rattle.std.specs.Prelude.{◌≡◌, ℕ, Bool, true, false, not, ◌&&◌, ◌||◌, ◌==◌, nat_lt, if◌then◌else◌, Option, Some, None, is_some, is_none, List, [], ◌∷◌, ◌⊎◌}
+use Rattle.std.specs.Prelude.{◌≡◌, ℕ, Bool, true, false, not, ◌&&◌, ◌||◌, ◌==◌, nat_lt, if◌then◌else◌, Option, Some}
+use Rattle.std.specs.Prelude.{None, is_some, is_none, List, [], ◌∷◌, ◌⊎◌}
 use Rattle.std.specs.List.{list_any, list_all}
 use Rattle.hm_base.specs.Pages.{Pages}
 use Rattle.hm_base.specs.declared.Frame.{Frame}
 use Rattle.hm_base.specs.declared.ops.Op.{Op}
-use Rattle.hm_history.specs.Words.{same_frame, is_frame}
-use Rattle.hm_history.specs.Operation.{is_to_device, is_migration}
+use Rattle.hm_history.specs.Memory.Words.{same_frame, is_frame}
+use Rattle.hm_history.specs.Kernel.Operation.{is_to_device, is_migration}
 use Rattle.hm_history.specs.declared.phases.Migrating.{Migrating}
 use Rattle.hm_history.specs.declared.phases.MoveStep.{MoveStep}
 

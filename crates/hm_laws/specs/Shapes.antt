@@ -6,8 +6,8 @@ use Rattle.hm_base.specs.declared.Frame.{Frame}
 use Rattle.hm_base.specs.declared.Place.{Place}
 use Rattle.hm_base.specs.declared.ops.Op.{Op}
 use Rattle.hm_base.specs.declared.ops.Rights.{Rights}
-use Rattle.hm_history.specs.Words.{page_of, same_pool}
-use Rattle.hm_history.specs.Operation.{op_piece, op_pieces, is_migration, is_exclusive_op}
+use Rattle.hm_history.specs.Memory.Words.{page_of, same_pool}
+use Rattle.hm_history.specs.Kernel.Operation.{op_piece, op_pieces, is_migration, is_exclusive_op}
 
 -- an access by the CPU
 abbrev pub is_cpu : Op → Bool

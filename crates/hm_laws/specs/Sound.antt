@@ -1,5 +1,6 @@
 -- What holds of every state, whoever is where: by component, each rule over the parts that it reads.
-use Rattle.std.specs.Prelude.{◌≡◌, ℕ, ◌<◌, ◌≤◌, ◌⊎◌, ◌^◌, ◌%◌, ◌+◌, Bool, true, false, ◌==◌, nat_lt, Option, Some, None, is_some, List, [], length, if◌then◌else◌, zero, suc}
+use Rattle.std.specs.Prelude.{◌≡◌, ℕ, ◌<◌, ◌≤◌, ◌⊎◌, ◌^◌, ◌%◌, ◌+◌, Bool, true, false, ◌==◌, nat_lt, Option, Some, None}
+use Rattle.std.specs.Prelude.{is_some, List, [], length, if◌then◌else◌, zero, suc}
 use Rattle.std.specs.List.{list_any}
 use Rattle.hm_base.specs.Pages.{Pages, covers, overlap}
 use Rattle.hm_base.specs.Areas.{rights_at}
@@ -7,12 +8,15 @@ use Rattle.hm_base.specs.Program.{Program}
 use Rattle.hm_base.specs.declared.area.Area.{Area}
 use Rattle.hm_base.specs.declared.Frame.{Frame}
 use Rattle.hm_base.specs.declared.Place.{Place}
-use Rattle.hm_history.specs.Words.{page_of, names, names_directly, moving_frame, writable, is_empty_place, dev_frame}
-use Rattle.hm_history.specs.Plain.{MirrorState, Attachment, Attached, Detaching, Gone, is_read_write, mirror_passes, is_attached_state}
-use Rattle.hm_history.specs.Places.{TableEntry, is_page, pool_size, is_for_device}
-use Rattle.hm_history.specs.Sequences.{Sequences, Interval, Guarded, Stage, InTree, InsertDeferred, RemoveDeferred, Removed, Out, is_odd, deferred_state, overlapping}
-use Rattle.hm_history.specs.Contents.{shown_by}
-use Rattle.hm_history.specs.After.{After}
+use Rattle.hm_history.specs.Memory.Words.{page_of, names, names_directly, moving_frame, writable, is_empty_place}
+use Rattle.hm_history.specs.Memory.Words.{dev_frame}
+use Rattle.hm_history.specs.Memory.Plain.{MirrorState, Attachment, Attached, Detaching, Gone, is_read_write}
+use Rattle.hm_history.specs.Memory.Plain.{mirror_passes, is_attached_state}
+use Rattle.hm_history.specs.Memory.Places.{TableEntry, is_page, pool_size, is_for_device}
+use Rattle.hm_history.specs.Memory.Sequences.{Sequences, Interval, Guarded, Stage, InTree, InsertDeferred}
+use Rattle.hm_history.specs.Memory.Sequences.{RemoveDeferred, Removed, Out, is_odd, deferred_state, overlapping}
+use Rattle.hm_history.specs.Memory.Contents.{shown_by}
+use Rattle.hm_history.specs.Memory.After.{After}
 use Rattle.hm_history.specs.declared.locks.MapLock.{MapLock}
 use Rattle.hm_laws.specs.Stood.{lock_on, stood, is_moving, IsNamed, Matches}
 use Rattle.hm_laws.specs.Past.{Past}

@@ -1,10 +1,10 @@
 -- What stands after each history of entries that were due, for a program that keeps a state of it.
 use Rattle.std.specs.Prelude.{◌≡◌, ℕ, ◌<◌, ◌≤◌, true, Some, None, List, length, ⊤}
 use Rattle.hm_base.specs.Program.{Program}
-use Rattle.hm_history.specs.Locks.{writer, lowest_other}
-use Rattle.hm_history.specs.Going.{State, state_of}
-use Rattle.hm_history.specs.After.{After, after}
-use Rattle.hm_history.specs.Due.{due}
+use Rattle.hm_history.specs.Memory.Locks.{writer, lowest_other}
+use Rattle.hm_history.specs.Kernel.Going.{State, state_of}
+use Rattle.hm_history.specs.Memory.After.{After, after}
+use Rattle.hm_history.specs.Kernel.Due.{due}
 use Rattle.hm_history.specs.declared.Kind.{Kind}
 use Rattle.hm_history.specs.declared.Entry.{Entry}
 use Rattle.hm_history.specs.declared.Progress.{Progress}

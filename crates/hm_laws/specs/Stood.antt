@@ -3,7 +3,7 @@ use Rattle.std.specs.Prelude.{◌≡◌, ℕ, Bool, true, false, Option, Some, N
 use Rattle.hm_base.specs.declared.Frame.{Frame}
 use Rattle.hm_base.specs.declared.Place.{Place}
 use Rattle.hm_base.specs.declared.Place.TheVariants.{Empty, Zero, Sys, Own, Moving, Exclusive}
-use Rattle.hm_history.specs.Words.{sys_frame, dev_frame, names}
+use Rattle.hm_history.specs.Memory.Words.{sys_frame, dev_frame, names}
 use Rattle.hm_history.specs.declared.TableRight.{TableRight}
 use Rattle.hm_history.specs.declared.TableRight.TheVariants.{Read, Write, Sole}
 use Rattle.hm_history.specs.declared.locks.MapLock.{MapLock}

@@ -2,7 +2,8 @@
 // the definitions alone: a program that adds what is due has them for nothing.
 #![tactic(auto)]
 
-ghost use Rattle.hm_laws.specs.Laws.{RunIsLegal, HistoryIsLegal, FramesRead, RulesAreKept, AllowedMayStand, HistoryStands};
+ghost use Rattle.hm_laws.specs.Laws.{RunIsLegal, HistoryIsLegal, FramesRead, RulesAreKept, AllowedMayStand};
+ghost use Rattle.hm_laws.specs.Laws.{HistoryStands};
 ghost use Rattle.hm_laws.specs.NeverStuck.{NeverStuck};
 
 /// The run of a script's schedule is legal, whatever the turns.

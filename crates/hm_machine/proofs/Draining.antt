@@ -4,12 +4,12 @@ use Rattle.std.specs.Prelude.{Result, Ok, Err, not, ◌&&◌, ◌||◌, fold, �
 use Rattle.hm_base.specs.Program.{Program}
 use mathlib.Core.List.{IsPrefix}
 use Rattle.hm_turns.proofs.Sums.{prefix_refl, prefix_trans}
-use Rattle.hm_history.specs.Due.{due}
-use Rattle.hm_history.specs.Run.{enough, has_room, is_entry, turn, turns_on, actors_of, round, drained}
+use Rattle.hm_history.specs.Kernel.Due.{due}
+use Rattle.hm_history.specs.Kernel.Run.{enough, has_room, is_entry, turn, turns_on, actors_of, round, drained}
 use Rattle.hm_history.specs.declared.Entry.{Entry}
 use Rattle.hm_history.specs.declared.StepError.{StepError}
 use Rattle.hm_world.specs.WorldValue.{WorldValue}
-use Rattle.hm_history.specs.Overrun.{overruns_turn, some_overruns}
+use Rattle.hm_history.specs.Kernel.Overrun.{overruns_turn, some_overruns}
 use Rattle.hm_machine.specs.Turning.{Adds, CameTo, with_history}
 use Rattle.hm_machine.proofs.Fullness.{quiet_turn}
 use Rattle.hm_machine.proofs.Lines.{line_at}

@@ -2,11 +2,11 @@
 use Rattle.std.proofs.Common.{◌≡◌, ℕ, zero, suc, ◌<◌, true, false, ltb, List, [], ◌∷◌, ◌++◌, length, refl, ap, ◌∙◌, arith}
 use Rattle.std.proofs.lemmas.Bool.Decides.{nat_tests}
 use Rattle.hm_base.specs.Program.{Program}
-use Rattle.hm_history.specs.Due.{due}
-use Rattle.hm_history.specs.Run.{added, is_entry, turn, turns}
+use Rattle.hm_history.specs.Kernel.Due.{due}
+use Rattle.hm_history.specs.Kernel.Run.{added, is_entry, turn, turns}
 use Rattle.hm_history.specs.declared.Entry.{Entry}
 use Rattle.hm_history.specs.declared.Progress.{Progress}
-use Rattle.hm_history.specs.Overrun.{overruns_turns}
+use Rattle.hm_history.specs.Kernel.Overrun.{overruns_turns}
 
 pub with_room : (h : List Entry) (e : Entry) → length h < 2000000 → added h (Progress.Did e) ≡ h ++ e ∷ []
 with_room h e room =

@@ -4,11 +4,11 @@ use Rattle.std.specs.Prelude.{Ok, Err, slice_get, fold, ⊤}
 use Rattle.hm_base.specs.declared.ops.ScheduleLine.{ScheduleLine}
 use mathlib.Core.List.{IsPrefix}
 use Rattle.hm_turns.proofs.Sums.{prefix_trans}
-use Rattle.hm_history.specs.Run.{line_run}
+use Rattle.hm_history.specs.Kernel.Run.{line_run}
 use Rattle.hm_history.specs.declared.Entry.{Entry}
 use Rattle.hm_history.specs.declared.StepError.{StepError}
 use Rattle.hm_world.specs.WorldValue.{WorldValue, halted_by}
-use Rattle.hm_history.specs.Overrun.{overruns_line, overruns_lines}
+use Rattle.hm_history.specs.Kernel.Overrun.{overruns_line, overruns_lines}
 use Rattle.hm_machine.specs.Turning.{CameTo, with_history}
 use Rattle.hm_machine.proofs.Rounds.{full_lines, grows_line, grows_lines}
 use Rattle.hm_machine.proofs.Short.{short_of}

@@ -7,11 +7,11 @@ use Rattle.std.proofs.lemmas.Bool.Decides.{nat_tests}
 use Rattle.hm_base.specs.Areas.{rights_at}
 use Rattle.hm_base.specs.Program.{Program}
 use Rattle.hm_base.specs.declared.Place.{Place}
-use Rattle.hm_history.specs.After.{After, after}
-use Rattle.hm_history.specs.Locks.{lock_passes, writer}
-use Rattle.hm_history.specs.Plain.{rights_of}
-use Rattle.hm_history.specs.Words.{bytes_from, is_empty_place, numbers, page_of}
-use Rattle.hm_history.specs.Contents.{contents_of}
+use Rattle.hm_history.specs.Memory.After.{After, after}
+use Rattle.hm_history.specs.Memory.Locks.{lock_passes, writer}
+use Rattle.hm_history.specs.Memory.Plain.{rights_of}
+use Rattle.hm_history.specs.Memory.Words.{bytes_from, is_empty_place, numbers, page_of}
+use Rattle.hm_history.specs.Memory.Contents.{contents_of}
 use Rattle.hm_history.specs.declared.Entry.{Entry}
 use Rattle.hm_history.specs.declared.locks.MapLock.{MapLock}
 use Rattle.hm_laws.specs.Laws.{ReadsRight}

@@ -8,9 +8,9 @@ use mathlib.Core.List.{IsPrefix}
 use Rattle.hm_turns.proofs.Sums.{prefix_refl, prefix_trans}
 use Rattle.hm_base.specs.Program.{Program}
 use Rattle.hm_base.specs.declared.ops.ScheduleLine.{ScheduleLine}
-use Rattle.hm_history.specs.Due.{due}
-use Rattle.hm_history.specs.Run.{enough, has_room, added, is_entry, is_idle, turn, turns, turns_on, actors_of, round, all_idle, drained, line_run}
-use Rattle.hm_history.specs.Words.{numbers}
+use Rattle.hm_history.specs.Kernel.Due.{due}
+use Rattle.hm_history.specs.Kernel.Run.{enough, has_room, added, is_entry, is_idle, turn, turns, turns_on, actors_of, round, all_idle, drained, line_run}
+use Rattle.hm_history.specs.Memory.Words.{numbers}
 use Rattle.hm_history.specs.declared.Entry.{Entry}
 use Rattle.hm_history.specs.declared.Progress.{Progress}
 use Rattle.hm_machine.proofs.Fullness.{full_turns, quiet_turn}

@@ -3,8 +3,8 @@ use Rattle.std.proofs.Common.{◌≡◌, ℕ, zero, suc, ◌+◌, ◌-◌, true,
 use Rattle.std.specs.Prelude.{is_some, option_map}
 use Rattle.std.proofs.lemmas.List.Sums.{fold-append}
 use Rattle.std.proofs.lemmas.Option.{slice_get_within}
-use Rattle.hm_history.specs.After.{after, after_entry, after_nothing}
-use Rattle.hm_history.specs.Plain.{MirrorState, Plain, plain_next, touched}
+use Rattle.hm_history.specs.Memory.After.{after, after_entry, after_nothing}
+use Rattle.hm_history.specs.Memory.Plain.{MirrorState, Plain, plain_next, touched}
 use Rattle.hm_history.specs.declared.Entry.{Entry}
 use Rattle.hm_history.specs.declared.Kind.{Kind}
 use Rattle.hm_history.specs.declared.Who.{Who}

@@ -3,12 +3,12 @@ use Rattle.std.proofs.Common.{◌≡◌, ℕ, suc, Bool, true, false, List, leng
 use Rattle.std.specs.Prelude.{Ok, Err, ◌||◌}
 use mathlib.Core.List.{IsPrefix}
 use Rattle.hm_turns.proofs.Sums.{prefix_trans}
-use Rattle.hm_history.specs.Due.{due}
-use Rattle.hm_history.specs.Run.{turn, turns}
+use Rattle.hm_history.specs.Kernel.Due.{due}
+use Rattle.hm_history.specs.Kernel.Run.{turn, turns}
 use Rattle.hm_history.specs.declared.Entry.{Entry}
 use Rattle.hm_history.specs.declared.StepError.{StepError}
 use Rattle.hm_world.specs.WorldValue.{WorldValue, halted_by}
-use Rattle.hm_history.specs.Overrun.{overruns_turn, overruns_turns}
+use Rattle.hm_history.specs.Kernel.Overrun.{overruns_turn, overruns_turns}
 use Rattle.hm_machine.specs.Turning.{Adds, CameTo, with_history}
 use Rattle.hm_machine.proofs.Rounds.{grows_added, grows_turns}
 use Rattle.hm_machine.proofs.Short.{short_here, short_of}

@@ -2,11 +2,11 @@
 use Rattle.std.proofs.Common.{◌≡◌, ℕ, zero, suc, ◌+◌, ◌==◌, ◌&&◌, Bool, false, Option, Some, None, List, [], refl, ap, arith}
 use Rattle.hm_base.specs.Program.{Program, IsScript}
 use Rattle.hm_base.specs.declared.ops.Op.{Op}
-use Rattle.hm_history.specs.After.{After, after}
-use Rattle.hm_history.specs.Going.{Going, op_at, state_of}
+use Rattle.hm_history.specs.Memory.After.{After, after}
+use Rattle.hm_history.specs.Kernel.Going.{Going, op_at, state_of}
 use Rattle.hm_history.specs.Laws.{DueFrom}
-use Rattle.hm_history.specs.Locks.{lock_passes, writer}
-use Rattle.hm_history.specs.Words.{least}
+use Rattle.hm_history.specs.Memory.Locks.{lock_passes, writer}
+use Rattle.hm_history.specs.Memory.Words.{least}
 use Rattle.hm_history.specs.declared.Entry.{Entry}
 use Rattle.hm_history.specs.declared.locks.MapLock.{MapLock}
 use Rattle.hm_laws.specs.Facts.{HoldsAll, Knows, facts_of}

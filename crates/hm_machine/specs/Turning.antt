@@ -1,8 +1,9 @@
 -- What a turn makes of a machine, and a schedule's turns in order.
-use Rattle.std.specs.Prelude.{◌≡◌, ℕ, ◌<◌, Bool, true, false, not, ◌&&◌, Option, Some, None, Result, Ok, Err, List, length, ⊤}
+use Rattle.std.specs.Prelude.{◌≡◌, ℕ, ◌<◌, Bool, true, false, not, ◌&&◌, Option, Some, None, Result, Ok, Err, List}
+use Rattle.std.specs.Prelude.{length, ⊤}
 use mathlib.Core.List.{IsPrefix}
-use Rattle.hm_history.specs.Due.{due}
-use Rattle.hm_history.specs.Run.{has_room, added, is_entry}
+use Rattle.hm_history.specs.Kernel.Due.{due}
+use Rattle.hm_history.specs.Kernel.Run.{has_room, added, is_entry}
 use Rattle.hm_history.specs.declared.Entry.{Entry}
 use Rattle.hm_history.specs.declared.Progress.{Progress}
 use Rattle.hm_history.specs.declared.Progress.TheVariants.{Did, Waiting, Idle}

@@ -8,11 +8,11 @@ mod stepped;
 ghost use Rattle.std.specs.Prelude.{◌≡◌, ◌<◌, ◌≤◌, fold, length, slice_get, IfOk, None, Some, false};
 ghost use Rattle.hm_base.specs.declared.limits.TheConstants.{MOST_ACTORS};
 ghost use Rattle.hm_base.specs.declared.ops.ScheduleLine.{ScheduleLine};
-ghost use Rattle.hm_history.specs.Due.{due};
-ghost use Rattle.hm_history.specs.Run.{turns, turns_on, round, drained, enough, has_room, actors_of, line_run};
+ghost use Rattle.hm_history.specs.Kernel.Due.{due};
+ghost use Rattle.hm_history.specs.Kernel.Run.{turns, turns_on, round, drained, enough, has_room, actors_of, line_run};
 ghost use Rattle.hm_history.specs.declared.Progress.{Progress};
 ghost use Rattle.hm_world.specs.WorldValue.{opening, halted_by, MayHalt};
-ghost use Rattle.hm_history.specs.Overrun.{overruns_line, overruns_lines, overruns_turns, some_overruns};
+ghost use Rattle.hm_history.specs.Kernel.Overrun.{overruns_line, overruns_lines, overruns_turns, some_overruns};
 ghost use Rattle.hm_machine.specs.Turning.{Turned, TurnsTo, Adds, CameTo};
 
 use hm_base::{Actor, MOST_ENTRIES, NoMemory, Schedule, ScheduleLine, Script};

@@ -1,6 +1,6 @@
 // Looking at the memory of a machine's processes.
 ghost use Rattle.std.specs.Prelude.{◌≡◌, length, true};
-ghost use Rattle.hm_history.specs.Words.{bytes_from};
+ghost use Rattle.hm_history.specs.Memory.Words.{bytes_from};
 ghost use Rattle.hm_machine.specs.Showing.{shown_at};
 ghost use Rattle.hm_turns.specs.Looking.{IsLook, all_have_areas};
 ghost use Rattle.hm_world.specs.WorldValue.{now};

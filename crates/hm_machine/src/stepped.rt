@@ -1,9 +1,9 @@
 // A machine that threads share.
 ghost use Rattle.std.specs.Prelude.{◌≡◌, ◌-◌, length, option_copied, slice_get};
 ghost use Rattle.hm_base.specs.Program.{IsScript};
-ghost use Rattle.hm_history.specs.Due.{due};
-ghost use Rattle.hm_history.specs.Legal.{Legal};
-ghost use Rattle.hm_history.specs.Plain.{mirror_owner, touched};
+ghost use Rattle.hm_history.specs.Kernel.Due.{due};
+ghost use Rattle.hm_history.specs.Kernel.Legal.{Legal};
+ghost use Rattle.hm_history.specs.Memory.Plain.{mirror_owner, touched};
 ghost use Rattle.hm_turns.specs.Stepping.{Steps};
 ghost use Rattle.hm_world.specs.WorldValue.{HaltsRightly, now};
 
@@ -85,8 +85,8 @@ impl<R: SkipRule> Machine<R> {
 }
 
 impl<R: SkipRule> Stepped for Machine<R> {
-    ghost use Rattle.hm_history.specs.Due.{due};
-    ghost use Rattle.hm_history.specs.Legal.{Legal};
+    ghost use Rattle.hm_history.specs.Kernel.Due.{due};
+    ghost use Rattle.hm_history.specs.Kernel.Legal.{Legal};
 
     ghost script = { λ m. m.script };
 

@@ -2,8 +2,8 @@
 use Rattle.std.proofs.Common.{◌≡◌, ℕ, ◌<◌, true, Option, Some, None, List, refl, ap, ◌∙◌}
 use Rattle.std.proofs.lemmas.List.{get_or-replicate}
 use Rattle.hm_base.specs.Pages.{Pages, covers}
-use Rattle.hm_history.specs.Plain.{Plain, mirror_passes, plain_start}
-use Rattle.hm_history.specs.Places.{Places, places_start}
+use Rattle.hm_history.specs.Memory.Plain.{Plain, mirror_passes, plain_start}
+use Rattle.hm_history.specs.Memory.Places.{Places, places_start}
 use Rattle.hm_history.specs.declared.Kind.{Kind}
 use Rattle.hm_mirrors.specs.Mirrors.{mirrors_start, mirror_at, InTable, CanStep}
 use Rattle.hm_mirrors.specs.Shown.{HasWindow, MirrorsShown, MirrorsFit}

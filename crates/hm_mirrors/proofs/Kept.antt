@@ -3,9 +3,9 @@ use Rattle.std.proofs.Common.{◌≡◌, ℕ, ◌<◌, Bool, true, false, ◌==�
 use Rattle.std.specs.Prelude.{option_map}
 use Rattle.hm_base.specs.Pages.{Pages, covers}
 use Rattle.hm_base.specs.declared.Frame.{Frame}
-use Rattle.hm_history.specs.Words.{with_at}
-use Rattle.hm_history.specs.Plain.{Plain, MirrorState, mirror_passes, with_attachment, plain_next}
-use Rattle.hm_history.specs.Places.{Places, TableEntry, with_entry, erased_table, places_next}
+use Rattle.hm_history.specs.Memory.Words.{with_at}
+use Rattle.hm_history.specs.Memory.Plain.{Plain, MirrorState, mirror_passes, with_attachment, plain_next}
+use Rattle.hm_history.specs.Memory.Places.{Places, TableEntry, with_entry, erased_table, places_next}
 use Rattle.hm_history.specs.declared.Kind.{Kind}
 use Rattle.hm_history.specs.declared.TableRight.{TableRight}
 use Rattle.mirror_tables.specs.Entries as kept

@@ -10,7 +10,7 @@ use Rattle.hm_base.specs.Pages.{Pages, covers}
 use Rattle.hm_base.specs.PlaceWords.{sys_frame}
 use Rattle.hm_base.specs.declared.PoolId.{PoolId}
 use Rattle.hm_base.specs.declared.Frame.{Frame}
-use Rattle.hm_history.specs.Places.{TableEntry, with_entry, erased_table}
+use Rattle.hm_history.specs.Memory.Places.{TableEntry, with_entry, erased_table}
 use Rattle.hm_history.specs.declared.TableRight.{TableRight}
 use Rattle.mirror_tables.specs.Entries as kept
 use Rattle.mirror_tables.specs.declared.entry.MirrorEntry.{MirrorEntry}

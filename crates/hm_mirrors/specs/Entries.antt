@@ -3,7 +3,7 @@ use Rattle.std.specs.Prelude.{ℕ, Bool, true, false, if◌then◌else◌, Optio
 use Rattle.hm_base.specs.declared.Frame.{Frame}
 use Rattle.hm_base.specs.declared.PoolId.{PoolId}
 use Rattle.hm_base.specs.PlaceWords.{sys_frame}
-use Rattle.hm_history.specs.Places.{TableEntry, may_write}
+use Rattle.hm_history.specs.Memory.Places.{TableEntry, may_write}
 use Rattle.hm_history.specs.declared.TableRight.{TableRight}
 use Rattle.mirror_tables.specs.declared.entry.MirrorEntry.{MirrorEntry}
 use Rattle.mirror_tables.specs.declared.entry.Target.{Target}

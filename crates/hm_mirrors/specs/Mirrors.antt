@@ -1,7 +1,8 @@
 -- The mirrors with their tables, by number, as contracts see them.
-use Rattle.std.specs.Prelude.{◌≡◌, ℕ, ◌<◌, ◌≤◌, Bool, true, false, ◌&&◌, Option, Some, None, option_map, List, [], replicate, slice_index_or, slice_set, ⊤}
+use Rattle.std.specs.Prelude.{◌≡◌, ℕ, ◌<◌, ◌≤◌, Bool, true, false, ◌&&◌, Option, Some, None, option_map, List, []}
+use Rattle.std.specs.Prelude.{replicate, slice_index_or, slice_set, ⊤}
 use Rattle.hm_base.specs.Pages.{Pages, covers, lies_in}
-use Rattle.hm_history.specs.Places.{TableEntry}
+use Rattle.hm_history.specs.Memory.Places.{TableEntry}
 use Rattle.hm_history.specs.declared.Kind.{Kind}
 use Rattle.hm_history.specs.declared.Who.{Who}
 use Rattle.mirror_tables.specs.Entries.{Table, entry_at, with_entry, without_span, changed, room_at}

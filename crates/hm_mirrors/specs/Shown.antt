@@ -1,8 +1,8 @@
 -- The mirrors and tables show those of a history, and what a change of them asks of these.
 use Rattle.std.specs.Prelude.{◌≡◌, ℕ, ◌<◌, true, Option, Some, None, is_none, option_map, List, length, ⊤}
 use Rattle.hm_base.specs.Pages.{covers}
-use Rattle.hm_history.specs.Plain.{MirrorState, Attachment, Attached, Detaching, Gone, mirror_passes}
-use Rattle.hm_history.specs.Places.{TableEntry}
+use Rattle.hm_history.specs.Memory.Plain.{MirrorState, Attachment, Attached, Detaching, Gone, mirror_passes}
+use Rattle.hm_history.specs.Memory.Places.{TableEntry}
 use Rattle.hm_history.specs.declared.Kind.{Kind}
 use Rattle.hm_mirrors.specs.Entries.{is_kept_right}
 use Rattle.hm_mirrors.specs.Mirrors.{mirror_at, info_of, table_of}

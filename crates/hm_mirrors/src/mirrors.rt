@@ -1,8 +1,11 @@
 // The mirrors by number.
 ghost use Rattle.std.specs.Prelude.{◌≡◌, ◌<◌, Some, None, OnOk, OnErr, IfOk, is_some};
-ghost use Rattle.hm_history.specs.Places.{entry_passes, is_sole};
-ghost use Rattle.hm_mirrors.specs.Mirrors.{mirrors_start, mirrors_next, mirror_at, info_of, is_attached_of, in_window_of, proc_of, device_of, owner_of, entry_of, table_of, room_of, room_for, reserved, MirrorsRoom, CanStep, HasRoom, InTable, changed_mirror, with_mirror, attached, standing_as, erased_in, set_in, with_room};
-ghost use Rattle.hm_history.specs.Due.{is_usable};
+ghost use Rattle.hm_history.specs.Memory.Places.{entry_passes, is_sole};
+ghost use Rattle.hm_mirrors.specs.Mirrors.{mirrors_start, mirrors_next, mirror_at, info_of, is_attached_of};
+ghost use Rattle.hm_mirrors.specs.Mirrors.{in_window_of, proc_of, device_of, owner_of, entry_of, table_of, room_of};
+ghost use Rattle.hm_mirrors.specs.Mirrors.{room_for, reserved, MirrorsRoom, CanStep, HasRoom, InTable, changed_mirror};
+ghost use Rattle.hm_mirrors.specs.Mirrors.{with_mirror, attached, standing_as, erased_in, set_in, with_room};
+ghost use Rattle.hm_history.specs.Kernel.Due.{is_usable};
 ghost use Rattle.hm_base.specs.Pages.{lies_in};
 ghost use Rattle.hm_mirrors.specs.Entries.{entry_for, target_for};
 

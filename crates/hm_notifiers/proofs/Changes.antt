@@ -1,8 +1,8 @@
 -- The notifiers of one process change, and with them what they show.
 use Rattle.std.proofs.Common.{◌≡◌, ℕ, ◌+◌, ◌<◌, ◌≤◌, Option, Some, None, List, length, refl, sym, ap, subst, ◌∙◌, arith}
 use Rattle.std.specs.Prelude.{option_map, slice_index_or, slice_set, ◌==◌, if◌then◌else◌}
-use Rattle.hm_history.specs.Words.{with_at}
-use Rattle.hm_history.specs.Sequences.{Interval}
+use Rattle.hm_history.specs.Memory.Words.{with_at}
+use Rattle.hm_history.specs.Memory.Sequences.{Interval}
 use Rattle.notifier_seq.specs.declared.interval.Interval.{Interval as Kept}
 use Rattle.notifier_seq.specs.Sequences as one
 use Rattle.hm_notifiers.specs.NotifiersValue.{NotifiersValue, of_proc, with_proc, nothing}

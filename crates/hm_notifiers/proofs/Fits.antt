@@ -4,7 +4,7 @@ use Rattle.std.specs.Prelude.{IsSome}
 use Rattle.std.specs.List.{list_all}
 use Rattle.std.proofs.lemmas.Bool.{and_parts, and_right}
 use Rattle.hm_base.specs.Pages.{Pages}
-use Rattle.hm_history.specs.Sequences.{Sequences, Interval, Guarded, Stage, InTree, InsertDeferred, RemoveDeferred, Removed, Out, is_odd, interval_passes, overlaps, sequences_accept, guard_passes, same_span, is_next_told, in_tree_state, deferred_state, removed_state}
+use Rattle.hm_history.specs.Memory.Sequences.{Sequences, Interval, Guarded, Stage, InTree, InsertDeferred, RemoveDeferred, Removed, Out, is_odd, interval_passes, overlaps, sequences_accept, guard_passes, same_span, is_next_told, in_tree_state, deferred_state, removed_state}
 use Rattle.hm_history.specs.declared.Kind.{Kind}
 use Rattle.notifier_seq.specs.Sequences as one
 use Rattle.hm_notifiers.specs.NotifiersValue.{NotifiersValue, of_proc, of_mirror, CanStep}

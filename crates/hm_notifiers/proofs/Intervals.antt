@@ -1,7 +1,7 @@
 -- What is kept of an interval.
 use Rattle.std.proofs.Common.{◌≡◌, ℕ, Bool, true, false, ◌==◌, Option, Some, None, refl, sym, ◌∙◌}
 use Rattle.std.proofs.lemmas.Bool.{eqb-true, eq-eqb, ne_eqb}
-use Rattle.hm_history.specs.Sequences.{Interval, Stage, InTree, InsertDeferred, RemoveDeferred, Removed, Out, in_tree_state, deferred_state, applied_stage, applied}
+use Rattle.hm_history.specs.Memory.Sequences.{Interval, Stage, InTree, InsertDeferred, RemoveDeferred, Removed, Out, in_tree_state, deferred_state, applied_stage, applied}
 use Rattle.notifier_seq.specs.Sequences as one
 use Rattle.hm_notifiers.specs.Shown.{position_of, kept_of, interval_of}
 

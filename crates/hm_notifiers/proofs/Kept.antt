@@ -5,8 +5,8 @@ use Rattle.std.proofs.Math.ListN.{get_or-map}
 use Rattle.std.proofs.lemmas.List.{length-map}
 use Rattle.std.proofs.lemmas.Bool.{not-true}
 use Rattle.hm_base.specs.Pages.{Pages}
-use Rattle.hm_history.specs.Words.{with_at}
-use Rattle.hm_history.specs.Sequences.{Sequences, Interval, Stage, InTree, InsertDeferred, RemoveDeferred, Removed, Out, is_odd, interval_passes, applied, applied_stage, intervals_ended, is_last_end, seq_started, seq_ended, seq_inserted, interval_inserted, interval_proc, sequences_next, with_seq, with_stage}
+use Rattle.hm_history.specs.Memory.Words.{with_at}
+use Rattle.hm_history.specs.Memory.Sequences.{Sequences, Interval, Stage, InTree, InsertDeferred, RemoveDeferred, Removed, Out, is_odd, interval_passes, applied, applied_stage, intervals_ended, is_last_end, seq_started, seq_ended, seq_inserted, interval_inserted, interval_proc, sequences_next, with_seq, with_stage}
 use Rattle.hm_history.specs.declared.Kind.{Kind}
 use Rattle.notifier_seq.specs.declared.interval.Interval.{Interval as Kept}
 use Rattle.notifier_seq.specs.declared.interval.Stage.{Stage as Position}

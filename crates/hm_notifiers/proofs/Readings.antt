@@ -3,8 +3,8 @@ use Rattle.std.proofs.Common.{◌≡◌, ℕ, zero, suc, ◌+◌, ◌-◌, ◌<�
 use Rattle.std.specs.Prelude.{option_map, unwrap_or}
 use Rattle.std.proofs.lemmas.Bool.{and_right}
 use Rattle.hm_base.specs.Pages.{Pages, overlap}
-use Rattle.hm_history.specs.Words.{numbers}
-use Rattle.hm_history.specs.Sequences.{Sequences, Interval, in_tree_state, interval_passes, is_odd, interval_proc, overlaps, overlapping, is_above, next_told, some_overlap, seq_started, is_last_end, seq_ended, seq_inserted, interval_inserted}
+use Rattle.hm_history.specs.Memory.Words.{numbers}
+use Rattle.hm_history.specs.Memory.Sequences.{Sequences, Interval, in_tree_state, interval_passes, is_odd, interval_proc, overlaps, overlapping, is_above, next_told, some_overlap, seq_started, is_last_end, seq_ended, seq_inserted, interval_inserted}
 use Rattle.interval_tree.specs.Intervals as tree
 use Rattle.interval_tree.specs.Intervals.{all_ids}
 use Rattle.notifier_seq.specs.declared.interval.Interval.{Interval as Kept}

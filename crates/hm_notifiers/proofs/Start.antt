@@ -1,7 +1,7 @@
 -- At the start.
 use Rattle.std.proofs.Common.{◌≡◌, ℕ, ◌<◌, None, length, refl, ap, ◌∙◌, arith}
 use Rattle.std.proofs.lemmas.List.{length-replicate, get_or-replicate}
-use Rattle.hm_history.specs.Sequences.{sequences_start}
+use Rattle.hm_history.specs.Memory.Sequences.{sequences_start}
 use Rattle.notifier_seq.specs.Sequences as one
 use Rattle.hm_notifiers.specs.NotifiersValue.{all_start, notifiers_start, of_proc, nothing}
 use Rattle.hm_notifiers.specs.Shown.{NotifiersValueShown}

@@ -1,5 +1,6 @@
 -- The notifiers of each process, and the process that each mirror's interval belongs to, as contracts see them.
-use Rattle.std.specs.Prelude.{◌≡◌, ℕ, ◌^◌, ◌<◌, ◌≤◌, Bool, true, false, if◌then◌else◌, Option, Some, None, IsSome, unwrap_or, List, [], length, replicate, slice_index_or, slice_set, ⊤}
+use Rattle.std.specs.Prelude.{◌≡◌, ℕ, ◌^◌, ◌<◌, ◌≤◌, Bool, true, false, if◌then◌else◌, Option, Some, None, IsSome}
+use Rattle.std.specs.Prelude.{unwrap_or, List, [], length, replicate, slice_index_or, slice_set, ⊤}
 use Rattle.hm_base.specs.Pages.{Pages}
 use Rattle.hm_history.specs.declared.Kind.{Kind}
 use Rattle.notifier_seq.specs.Sequences as one

@@ -1,6 +1,8 @@
 -- The notifiers show the sequences of a history, and what a change of them asks of these.
-use Rattle.std.specs.Prelude.{◌≡◌, ℕ, ◌+◌, ◌^◌, ◌<◌, ◌≤◌, Bool, true, false, not, ◌==◌, if◌then◌else◌, Option, Some, None, is_some, option_map, length, ⊤}
-use Rattle.hm_history.specs.Sequences.{Sequences, Interval, Stage, InTree, InsertDeferred, RemoveDeferred, Removed, Out, is_odd, interval_passes}
+use Rattle.std.specs.Prelude.{◌≡◌, ℕ, ◌+◌, ◌^◌, ◌<◌, ◌≤◌, Bool, true, false, not, ◌==◌, if◌then◌else◌, Option, Some}
+use Rattle.std.specs.Prelude.{None, is_some, option_map, length, ⊤}
+use Rattle.hm_history.specs.Memory.Sequences.{Sequences, Interval, Stage, InTree, InsertDeferred, RemoveDeferred}
+use Rattle.hm_history.specs.Memory.Sequences.{Removed, Out, is_odd, interval_passes}
 use Rattle.hm_history.specs.declared.Kind.{Kind}
 use Rattle.notifier_seq.specs.declared.interval.Interval.{Interval as Kept}
 use Rattle.notifier_seq.specs.declared.interval.Stage.{Stage as Position}

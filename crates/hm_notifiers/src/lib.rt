@@ -3,7 +3,11 @@
 #![tactic(auto)]
 
 ghost use Rattle.std.specs.Prelude.{◌≡◌, ◌<◌, ◌≤◌, ◌^◌, IfOk, OnOk, IsSome, None, Some, true, false};
-ghost use Rattle.hm_notifiers.specs.NotifiersValue.{all_start, notifiers_start, notifiers_next, CanStep, NotifiersRoom, SameNotifiers, InRange, of_proc, of_mirror, proc_of, seq_of, active_of, interval_seq_of, in_tree_of, insert_deferred_of, next_told_of, some_overlap_of, seq_started_of, seq_ended_of, interval_inserted_of, with_proc, with_interval, without_interval};
+ghost use Rattle.hm_notifiers.specs.NotifiersValue.{all_start, notifiers_start, notifiers_next, CanStep, NotifiersRoom};
+ghost use Rattle.hm_notifiers.specs.NotifiersValue.{SameNotifiers, InRange, of_proc, of_mirror, proc_of, seq_of};
+ghost use Rattle.hm_notifiers.specs.NotifiersValue.{active_of, interval_seq_of, in_tree_of, insert_deferred_of};
+ghost use Rattle.hm_notifiers.specs.NotifiersValue.{next_told_of, some_overlap_of, seq_started_of, seq_ended_of};
+ghost use Rattle.hm_notifiers.specs.NotifiersValue.{interval_inserted_of, with_proc, with_interval, without_interval};
 ghost use Rattle.notifier_seq.specs.Sequences as one;
 
 use hm_base::{MirrorId, NoMemory, Proc, Span};

@@ -2,7 +2,7 @@
 use Rattle.std.proofs.Common.{◌≡◌, ℕ, ◌+◌, ◌<◌, None, List, [], ◌∷◌, ◌++◌, length, get_or, take, sym, ap, ◌∙◌}
 use Rattle.std.proofs.lemmas.List.{take_more}
 use Rattle.std.proofs.lemmas.List.Sums.{fold-append}
-use Rattle.hm_history.specs.After.{after, after_entry, after_nothing}
+use Rattle.hm_history.specs.Memory.After.{after, after_entry, after_nothing}
 use Rattle.hm_history.specs.declared.Entry.{Entry}
 use Rattle.hm_parts.specs.Shown.{last_told, told_next}
 

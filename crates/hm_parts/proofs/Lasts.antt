@@ -2,7 +2,7 @@
 use Rattle.std.proofs.Common.{◌≡◌, ℕ, zero, suc, ◌+◌, ◌<◌, ◌≤◌, Bool, true, false, if◌then◌else◌, Option, Some, None, List, [], ◌∷◌, ◌++◌, length, get_or, take, sym, ap, ◌∙◌, subst, arith}
 use Rattle.std.specs.Prelude.{IfSome}
 use Rattle.std.proofs.lemmas.List.{take_more, length-take-le}
-use Rattle.hm_history.specs.Lookups.{last_from, last_where}
+use Rattle.hm_history.specs.Memory.Lookups.{last_from, last_where}
 use Rattle.hm_history.specs.declared.Entry.{Entry}
 use Rattle.hm_laws.proofs.Past.Told.{last_snoc}
 

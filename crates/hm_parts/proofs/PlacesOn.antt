@@ -6,13 +6,13 @@ use Rattle.std.proofs.lemmas.List.{take_more, take-append-le}
 use Rattle.std.proofs.Math.Seq.{drop-append_seam, take-append_seam}
 use Rattle.hm_base.specs.Program.{Program}
 use Rattle.hm_base.specs.declared.PoolId.{PoolId}
-use Rattle.hm_history.specs.After.{After, after, after_entry}
-use Rattle.hm_history.specs.Legal.{is_finishing, is_no_frame, was_short, system_is_full}
-use Rattle.hm_history.specs.Lookups.{last_where}
-use Rattle.hm_history.specs.Places.{lowest_free, places_accept}
-use Rattle.hm_history.specs.Plain.{Plain, mirror_owner, plain_next}
-use Rattle.hm_history.specs.Sequences.{Sequences, sequences_next, sequences_accept}
-use Rattle.hm_history.specs.Lookups.{narrows_guarded}
+use Rattle.hm_history.specs.Memory.After.{After, after, after_entry}
+use Rattle.hm_history.specs.Memory.Rules.{is_finishing, is_no_frame, was_short, system_is_full}
+use Rattle.hm_history.specs.Memory.Lookups.{last_where}
+use Rattle.hm_history.specs.Memory.Places.{lowest_free, places_accept}
+use Rattle.hm_history.specs.Memory.Plain.{Plain, mirror_owner, plain_next}
+use Rattle.hm_history.specs.Memory.Sequences.{Sequences, sequences_next, sequences_accept}
+use Rattle.hm_history.specs.Memory.Lookups.{narrows_guarded}
 use Rattle.hm_history.specs.declared.Entry.{Entry}
 use Rattle.hm_history.specs.declared.Kind.{Kind}
 use Rattle.hm_history.specs.declared.FoldError.{FoldError}

@@ -1,6 +1,6 @@
 -- What a scan of a history finds.
 use Rattle.std.proofs.Common.{◌≡◌, ℕ, zero, suc, ◌<◌, Bool, false, Option, Some, None, List, [], ◌∷◌, length, get_or, drop, refl, ap, ◌∙◌, arith}
-use Rattle.hm_history.specs.Lookups.{last_where, is_set_of, at_set, is_untold}
+use Rattle.hm_history.specs.Memory.Lookups.{last_where, is_set_of, at_set, is_untold}
 use Rattle.hm_history.specs.declared.Entry.{Entry}
 
 -- an entry and those after it

@@ -5,11 +5,11 @@ use Rattle.hm_base.specs.Pages.{Pages}
 use Rattle.hm_base.specs.Program.{Program}
 use Rattle.hm_base.specs.declared.Frame.{Frame}
 use Rattle.hm_folds.specs.Standing.{entry_read}
-use Rattle.hm_history.specs.After.{After, after}
-use Rattle.hm_history.specs.Going.{State, state_of}
-use Rattle.hm_history.specs.Places.{Places}
-use Rattle.hm_history.specs.Plain.{Plain, plain_bytes, proc_of}
-use Rattle.hm_history.specs.Words.{bytes_from, page_of}
+use Rattle.hm_history.specs.Memory.After.{After, after}
+use Rattle.hm_history.specs.Kernel.Going.{State, state_of}
+use Rattle.hm_history.specs.Memory.Places.{Places}
+use Rattle.hm_history.specs.Memory.Plain.{Plain, plain_bytes, proc_of}
+use Rattle.hm_history.specs.Memory.Words.{bytes_from, page_of}
 use Rattle.hm_history.specs.declared.Entry.{Entry}
 use Rattle.hm_history.specs.declared.Kind.{Kind}
 use Rattle.hm_history.specs.declared.TableRight.{TableRight}

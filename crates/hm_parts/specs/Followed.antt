@@ -1,11 +1,11 @@
 -- When what is kept of places and sequences stands for a history.
 use Rattle.std.specs.Prelude.{◌≡◌, ℕ, List}
 use Rattle.hm_base.specs.Program.{Program}
-use Rattle.hm_history.specs.After.{after}
-use Rattle.hm_history.specs.Legal.{was_short}
-use Rattle.hm_history.specs.Places.{places_next}
-use Rattle.hm_history.specs.Plain.{mirror_owner}
-use Rattle.hm_history.specs.Sequences.{sequences_next}
+use Rattle.hm_history.specs.Memory.After.{after}
+use Rattle.hm_history.specs.Memory.Rules.{was_short}
+use Rattle.hm_history.specs.Memory.Places.{places_next}
+use Rattle.hm_history.specs.Memory.Plain.{mirror_owner}
+use Rattle.hm_history.specs.Memory.Sequences.{sequences_next}
 use Rattle.hm_history.specs.declared.Entry.{Entry}
 use Rattle.hm_folds.specs.Kept.{sequences_of}
 use Rattle.hm_folds.specs.MirrorTables.{owner_next}

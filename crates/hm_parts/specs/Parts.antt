@@ -1,14 +1,15 @@
 -- Which parts of what a legal history asks of its next entry an entry meets, beside that it is due.
 use Rattle.std.specs.Prelude.{◌≡◌, ◌↔◌, Bool, ◌&&◌, IsTrue, List}
 use Rattle.hm_base.specs.Program.{Program}
-use Rattle.hm_history.specs.Plain.{mirror_owner, plain_accepts}
-use Rattle.hm_history.specs.Places.{places_accept}
-use Rattle.hm_history.specs.Sequences.{sequences_accept}
-use Rattle.hm_history.specs.Lookups.{uses_untold, narrows_guarded}
-use Rattle.hm_history.specs.Legal.{MayFollow, fails_rightly, kept_rightly}
-use Rattle.hm_history.specs.After.{after}
-use Rattle.hm_history.specs.Due.{due}
-use Rattle.hm_history.specs.Going.{state_of}
+use Rattle.hm_history.specs.Memory.Plain.{mirror_owner, plain_accepts}
+use Rattle.hm_history.specs.Memory.Places.{places_accept}
+use Rattle.hm_history.specs.Memory.Sequences.{sequences_accept}
+use Rattle.hm_history.specs.Memory.Lookups.{uses_untold, narrows_guarded}
+use Rattle.hm_history.specs.Memory.Rules.{fails_rightly}
+use Rattle.hm_history.specs.Kernel.Legal.{MayFollow, kept_rightly}
+use Rattle.hm_history.specs.Memory.After.{after}
+use Rattle.hm_history.specs.Kernel.Due.{due}
+use Rattle.hm_history.specs.Kernel.Going.{state_of}
 use Rattle.hm_history.specs.declared.Entry.{Entry}
 use Rattle.hm_history.specs.declared.Progress.{Progress}
 use Rattle.hm_parts.specs.declared.parts.Parts.{Parts}

@@ -2,8 +2,8 @@
 use Rattle.std.specs.Prelude.{ℕ, Bool, not, ◌&&◌, ◌==◌, is_none, if◌then◌else◌, [], ◌∷◌}
 use Rattle.hm_base.specs.Program.{Program}
 use Rattle.hm_base.specs.declared.PoolId.{PoolId}
-use Rattle.hm_history.specs.Legal.{is_finishing, is_no_frame}
-use Rattle.hm_history.specs.Places.{Places, lowest_free}
+use Rattle.hm_history.specs.Memory.Rules.{is_finishing, is_no_frame}
+use Rattle.hm_history.specs.Memory.Places.{Places, lowest_free}
 use Rattle.hm_history.specs.declared.Entry.{Entry}
 
 -- whether the actor was short after one entry more; s is the places before it

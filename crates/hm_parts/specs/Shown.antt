@@ -9,15 +9,15 @@ use Rattle.hm_base.specs.declared.Frame.{Frame}
 use Rattle.hm_base.specs.declared.PoolId.{PoolId}
 use Rattle.hm_base.specs.declared.cause.Cause.{Cause}
 use Rattle.hm_base.specs.declared.ops.Op.{Op}
-use Rattle.hm_history.specs.After.{After, after}
-use Rattle.hm_history.specs.Due.{pool_of}
-use Rattle.hm_history.specs.Going.{State, op_at, state_of}
-use Rattle.hm_history.specs.Legal.{kept_frame}
-use Rattle.hm_history.specs.Operation.{op_mirror}
-use Rattle.hm_history.specs.Places.{Places, TableEntry, held_from, lowest_free, lowest_named}
-use Rattle.hm_history.specs.Plain.{Plain, area_refusal, cause_at, is_attached, mirror_proc, plain_bytes}
-use Rattle.hm_history.specs.Sequences.{interval_inserted, interval_seq, next_told, seq_ended, seq_started}
-use Rattle.hm_history.specs.Words.{page_of}
+use Rattle.hm_history.specs.Memory.After.{After, after}
+use Rattle.hm_history.specs.Kernel.Due.{pool_of}
+use Rattle.hm_history.specs.Kernel.Going.{State, op_at, state_of}
+use Rattle.hm_history.specs.Kernel.Legal.{kept_frame}
+use Rattle.hm_history.specs.Kernel.Operation.{op_mirror}
+use Rattle.hm_history.specs.Memory.Places.{Places, TableEntry, held_from, lowest_free, lowest_named}
+use Rattle.hm_history.specs.Memory.Plain.{Plain, area_refusal, cause_at, is_attached, mirror_proc, plain_bytes}
+use Rattle.hm_history.specs.Memory.Sequences.{interval_inserted, interval_seq, next_told, seq_ended, seq_started}
+use Rattle.hm_history.specs.Memory.Words.{page_of}
 use Rattle.hm_history.specs.declared.Entry.{Entry}
 use Rattle.hm_history.specs.declared.KeptAt.{KeptAt}
 use Rattle.hm_history.specs.declared.KeptWhy.{KeptWhy}

@@ -1,7 +1,7 @@
 // Answers by plain bytes.
 ghost use Rattle.std.specs.Prelude.{◌≡◌, IfOk, not};
-ghost use Rattle.hm_history.specs.Plain.{plain_accepts};
-ghost use Rattle.hm_history.specs.After.{after};
+ghost use Rattle.hm_history.specs.Memory.Plain.{plain_accepts};
+ghost use Rattle.hm_history.specs.Memory.After.{after};
 ghost use Rattle.hm_folds.specs.Applied.{is_not_legal};
 ghost use Rattle.hm_folds.specs.Plain.{plain_of};
 

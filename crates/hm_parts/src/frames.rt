@@ -1,7 +1,7 @@
 // Failures for want of a frame.
 ghost use Rattle.std.specs.Prelude.{◌≡◌, ◌&&◌, ◌==◌, ◌∷◌, [], not, is_none, if◌then◌else◌};
-ghost use Rattle.hm_history.specs.Legal.{is_finishing, is_no_frame, wants_frame, needs_full};
-ghost use Rattle.hm_history.specs.Places.{lowest_free};
+ghost use Rattle.hm_history.specs.Memory.Rules.{is_finishing, is_no_frame, wants_frame, needs_full};
+ghost use Rattle.hm_history.specs.Memory.Places.{lowest_free};
 ghost use Rattle.hm_folds.specs.Places.{ForShown};
 ghost use Rattle.hm_base.specs.declared.PoolId.{PoolId as AnyPool};
 ghost use Rattle.hm_parts.specs.Short.{short_next};

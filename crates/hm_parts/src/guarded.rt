@@ -1,6 +1,6 @@
 // Whether a place takes something away.
 ghost use Rattle.std.specs.Prelude.{◌≡◌};
-ghost use Rattle.hm_history.specs.Lookups.{loses};
+ghost use Rattle.hm_history.specs.Memory.Lookups.{loses};
 ghost use Rattle.hm_base.specs.declared.Frame.{Frame as AnyFrame};
 ghost use Rattle.hm_base.specs.declared.Place.{Place as AnyPlace};
 

@@ -1,15 +1,15 @@
 // What is kept, and whether for its reason.
 ghost use Rattle.std.specs.Prelude.{◌≡◌, ◌&&◌, ◌==◌, not, is_none, ℕ};
 ghost use Rattle.std.specs.List.{list_any};
-ghost use Rattle.hm_history.specs.Legal as spec;
-ghost use Rattle.hm_history.specs.Legal.{kept_rightly, was_fresh, kept_for, kept_op};
-ghost use Rattle.hm_history.specs.Due.{has_no_frame, skips, pool_of};
-ghost use Rattle.hm_history.specs.Places.{lowest_free};
-ghost use Rattle.hm_history.specs.Going.{op_at};
+ghost use Rattle.hm_history.specs.Kernel.Legal as spec;
+ghost use Rattle.hm_history.specs.Kernel.Legal.{kept_rightly, was_fresh, kept_for, kept_op};
+ghost use Rattle.hm_history.specs.Kernel.Due.{has_no_frame, skips, pool_of};
+ghost use Rattle.hm_history.specs.Memory.Places.{lowest_free};
+ghost use Rattle.hm_history.specs.Kernel.Going.{op_at};
 ghost use Rattle.hm_history.specs.declared.KeptAt.{KeptAt as AnyKept};
 ghost use Rattle.hm_history.specs.declared.KeptWhy.{KeptWhy as AnyWhy};
-ghost use Rattle.hm_history.specs.Plain.{mirror_proc};
-ghost use Rattle.hm_history.specs.Operation.{op_mirror};
+ghost use Rattle.hm_history.specs.Memory.Plain.{mirror_proc};
+ghost use Rattle.hm_history.specs.Kernel.Operation.{op_mirror};
 ghost use Rattle.hm_parts.specs.Reasons.{IsOfPage};
 
 use hm_base::frames::names;

@@ -2,9 +2,10 @@
 ghost use Rattle.std.specs.Prelude.{◌≡◌, ◌+◌, ◌==◌, ◌&&◌, ◌<◌, not, length, drop, take, IfSome, ◌≤◌};
 ghost use Rattle.std.specs.List.{list_all};
 ghost use Rattle.hm_base.specs.Pages.{covers};
-ghost use Rattle.hm_history.specs.Words.{page_of};
-ghost use Rattle.hm_history.specs.Lookups.{last_where, is_set_of, is_begin_of, is_told_of, set_from, is_begin_before};
-ghost use Rattle.hm_history.specs.Lookups.{at_set, is_untold, uses_untold};
+ghost use Rattle.hm_history.specs.Memory.Words.{page_of};
+ghost use Rattle.hm_history.specs.Memory.Lookups.{last_where, is_set_of, is_begin_of, is_told_of, set_from};
+ghost use Rattle.hm_history.specs.Memory.Lookups.{is_begin_before};
+ghost use Rattle.hm_history.specs.Memory.Lookups.{at_set, is_untold, uses_untold};
 ghost use Rattle.hm_history.specs.declared.Entry.{Entry as AnyEntry};
 
 use hm_base::{Actor, MirrorId, Span};

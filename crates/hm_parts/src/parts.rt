@@ -1,6 +1,6 @@
 // All parts of what a legal history asks of its next entry.
 ghost use Rattle.std.specs.Prelude.{◌≡◌, IfOk};
-ghost use Rattle.hm_history.specs.Going.{state_of};
+ghost use Rattle.hm_history.specs.Kernel.Going.{state_of};
 ghost use Rattle.hm_parts.specs.Parts.{AreParts, parts_hold};
 
 use crate::answers::meets_plain;

@@ -1,11 +1,11 @@
 // Places, frames, mirror tables and sequences.
 ghost use Rattle.std.specs.Prelude.{◌≡◌, ◌||◌, not, IfOk, OnOk};
-ghost use Rattle.hm_history.specs.Plain.{mirror_owner};
-ghost use Rattle.hm_history.specs.Places.{places_accept};
-ghost use Rattle.hm_history.specs.Legal.{fails_rightly};
-ghost use Rattle.hm_history.specs.Lookups.{is_guarded, loses, narrows_guarded};
-ghost use Rattle.hm_history.specs.Sequences.{sequences_accept};
-ghost use Rattle.hm_history.specs.After.{after};
+ghost use Rattle.hm_history.specs.Memory.Plain.{mirror_owner};
+ghost use Rattle.hm_history.specs.Memory.Places.{places_accept};
+ghost use Rattle.hm_history.specs.Memory.Rules.{fails_rightly};
+ghost use Rattle.hm_history.specs.Memory.Lookups.{is_guarded, loses, narrows_guarded};
+ghost use Rattle.hm_history.specs.Memory.Sequences.{sequences_accept};
+ghost use Rattle.hm_history.specs.Memory.After.{after};
 ghost use Rattle.hm_folds.specs.Kept.{sequences_of};
 ghost use Rattle.hm_folds.specs.Places.{ForShown};
 ghost use Rattle.hm_parts.specs.Followed.{PlacesFollow, GoesOn};

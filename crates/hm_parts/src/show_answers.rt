@@ -1,8 +1,8 @@
 // What shows why an entry is no answer by plain bytes, areas, processes and mirrors.
 ghost use Rattle.std.specs.Prelude.{◌≡◌, IfOk};
-ghost use Rattle.hm_history.specs.Going.{state_of};
-ghost use Rattle.hm_history.specs.Plain as plain;
-ghost use Rattle.hm_history.specs.Words.{bytes_from};
+ghost use Rattle.hm_history.specs.Kernel.Going.{state_of};
+ghost use Rattle.hm_history.specs.Memory.Plain as plain;
+ghost use Rattle.hm_history.specs.Memory.Words.{bytes_from};
 ghost use Rattle.hm_folds.specs.Plain.{plain_of};
 ghost use Rattle.hm_parts.specs.Shown.{add_read, against, area_shown, change_shown, failed, held_bytes, is_forbidden};
 ghost use Rattle.hm_parts.specs.Shown.{is_free_name, read_of, read_shown, refused, shows_answers, shows_areas};

@@ -1,7 +1,7 @@
 // What bears on the reason for which something is kept.
 ghost use Rattle.std.specs.Prelude.{◌≡◌};
-ghost use Rattle.hm_history.specs.Due.{pool_of};
-ghost use Rattle.hm_history.specs.Places.{lowest_free};
+ghost use Rattle.hm_history.specs.Kernel.Due.{pool_of};
+ghost use Rattle.hm_history.specs.Memory.Places.{lowest_free};
 ghost use Rattle.hm_parts.specs.Shown.{kept_place, locked_by, locker_shown, shows_kept, shows_reason, taken};
 
 use crate::kept::{kept_frame, pool_of};

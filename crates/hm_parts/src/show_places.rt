@@ -1,8 +1,8 @@
 // What shows why places, frames, mirror tables or guards do not allow an entry.
 ghost use Rattle.std.specs.Prelude.{◌≡◌, IfOk, Option, Some};
 ghost use Rattle.hm_folds.specs.Standing.{entry_read};
-ghost use Rattle.hm_history.specs.After.{after};
-ghost use Rattle.hm_history.specs.Places.{TableEntry};
+ghost use Rattle.hm_history.specs.Memory.After.{after};
+ghost use Rattle.hm_history.specs.Memory.Places.{TableEntry};
 ghost use Rattle.hm_parts.specs.Shown.{dropped, entry_at, entry_of, entry_shown, named_at, named_first, place_at};
 ghost use Rattle.hm_parts.specs.Shown.{place_shown, shows_guarded, shows_places, table_at, table_of, through};
 ghost use Rattle.hm_parts.specs.Shown.{withdrawn};

@@ -1,6 +1,6 @@
 // What shows why an invalidation, an interval or a look-up has another sequence.
 ghost use Rattle.std.specs.Prelude.{◌≡◌};
-ghost use Rattle.hm_history.specs.Plain.{mirror_proc};
+ghost use Rattle.hm_history.specs.Memory.Plain.{mirror_proc};
 ghost use Rattle.hm_parts.specs.Shown.{ends, last_told, shows_interval, shows_sequences, starts, tells, told};
 ghost use Rattle.hm_parts.specs.Shown.{told_after, told_next};
 

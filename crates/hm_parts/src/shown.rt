@@ -1,8 +1,8 @@
 // What shows why a part is broken.
 ghost use Rattle.std.specs.Prelude.{◌≡◌, IfOk};
 ghost use Rattle.hm_base.specs.declared.PoolId as pool;
-ghost use Rattle.hm_history.specs.Going.{state_of};
-ghost use Rattle.hm_history.specs.Places.{lowest_free};
+ghost use Rattle.hm_history.specs.Kernel.Going.{state_of};
+ghost use Rattle.hm_history.specs.Memory.Places.{lowest_free};
 ghost use Rattle.hm_parts.specs.Shown.{AreShown, or_else, taken};
 
 use crate::show_answers::shows_answers;

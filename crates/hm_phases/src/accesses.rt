@@ -1,8 +1,8 @@
 // Accesses piece by piece, and the decisions of a fault.
 ghost use Rattle.std.specs.Prelude.{◌≡◌, [], ◌∷◌, length, slice_index};
-ghost use Rattle.hm_history.specs.Words.{pieces};
-ghost use Rattle.hm_history.specs.Operation.{op_pieces};
-ghost use Rattle.hm_history.specs.Stacks as spec;
+ghost use Rattle.hm_history.specs.Memory.Words.{pieces};
+ghost use Rattle.hm_history.specs.Kernel.Operation.{op_pieces};
+ghost use Rattle.hm_history.specs.Kernel.Stacks as spec;
 ghost use Rattle.hm_history.specs.declared.phases.Body.{Body as AnyBody};
 ghost use Rattle.hm_history.specs.declared.phases.Phase.{Phase as AnyPhase};
 

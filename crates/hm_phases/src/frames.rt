@@ -1,8 +1,8 @@
 // A frame that is emptied: its other mappings, the copy, the finish; and the frames of an eviction.
 ghost use Rattle.std.specs.Prelude.{◌≡◌, [], ◌≤◌, ◌<◌, ◌∷◌, length, IsTrue};
-ghost use Rattle.hm_history.specs.Words.{names};
-ghost use Rattle.hm_history.specs.Operation.{is_remove};
-ghost use Rattle.hm_history.specs.Stacks as spec;
+ghost use Rattle.hm_history.specs.Memory.Words.{names};
+ghost use Rattle.hm_history.specs.Kernel.Operation.{is_remove};
+ghost use Rattle.hm_history.specs.Kernel.Stacks as spec;
 ghost use Rattle.hm_phases.specs.Items.{first_takes_count};
 
 use crate::Stack;

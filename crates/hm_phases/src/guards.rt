@@ -1,7 +1,7 @@
 // A guard: the mirrors told, its body, its end.
 ghost use Rattle.std.specs.Prelude.{◌≡◌, [], ◌∷◌, ◌+◌, ◌≤◌, ◌<◌, ◌^◌, length};
-ghost use Rattle.hm_history.specs.Operation.{is_evicting};
-ghost use Rattle.hm_history.specs.Stacks as spec;
+ghost use Rattle.hm_history.specs.Kernel.Operation.{is_evicting};
+ghost use Rattle.hm_history.specs.Kernel.Stacks as spec;
 ghost use Rattle.hm_history.specs.declared.KeptAt.{KeptAt};
 
 use crate::Stack;

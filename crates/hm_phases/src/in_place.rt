@@ -2,7 +2,7 @@
 ghost use Rattle.std.specs.Prelude.{◌≡◌, ◌≤◌, ◌<◌, ◌∷◌, Bool, true, false, List, length, IsTrue};
 ghost use Rattle.hm_base.specs.Pages.{Pages};
 ghost use Rattle.hm_base.specs.declared.ops.Op.{Op as AnyOp};
-ghost use Rattle.hm_history.specs.Stacks as spec;
+ghost use Rattle.hm_history.specs.Kernel.Stacks as spec;
 ghost use Rattle.hm_history.specs.declared.phases.Phase.{Phase as AnyPhase};
 ghost use Rattle.hm_phases.specs.Items.{below_takes_count, catches, ends_plainly, finish_ends};
 

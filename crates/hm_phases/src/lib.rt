@@ -3,8 +3,9 @@
 // the stack of each actor.
 #![tactic(auto)]
 
-ghost use Rattle.std.specs.Prelude.{◌≡◌, ℕ, ◌+◌, ◌≤◌, ◌<◌, [], ◌∷◌, length, IfOk, IsTrue, IsOk, true, false, option_copied, slice_get};
-ghost use Rattle.hm_history.specs.Stacks.{first_phase, stack_after};
+ghost use Rattle.std.specs.Prelude.{◌≡◌, ℕ, ◌+◌, ◌≤◌, ◌<◌, [], ◌∷◌, length, IfOk, IsTrue, IsOk, true, false};
+ghost use Rattle.std.specs.Prelude.{option_copied, slice_get};
+ghost use Rattle.hm_history.specs.Kernel.Stacks.{first_phase, stack_after};
 ghost use Rattle.hm_phases.specs.Items.{below_takes_count, phases_of};
 
 use hm_base::{NoMemory, Op};

@@ -1,6 +1,6 @@
 // The steps of a migration after its setup.
 ghost use Rattle.std.specs.Prelude.{◌≡◌, ◌+◌, ◌≤◌, [], ◌∷◌, length};
-ghost use Rattle.hm_history.specs.Stacks as spec;
+ghost use Rattle.hm_history.specs.Kernel.Stacks as spec;
 
 use crate::Stack;
 use crate::frames::finishing_over;

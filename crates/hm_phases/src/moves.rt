@@ -1,6 +1,6 @@
 // The phases after an entry of their actor.
 ghost use Rattle.std.specs.Prelude.{◌≡◌, ◌≤◌, length, IsTrue};
-ghost use Rattle.hm_history.specs.Stacks as spec;
+ghost use Rattle.hm_history.specs.Kernel.Stacks as spec;
 ghost use Rattle.hm_phases.specs.Items.{first_takes_count, below_takes_count};
 
 use crate::accesses::{

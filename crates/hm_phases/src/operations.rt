@@ -1,6 +1,6 @@
 // The first steps of an operation, and the operations on areas and snapshots.
 ghost use Rattle.std.specs.Prelude.{◌≡◌, false, [], ◌∷◌};
-ghost use Rattle.hm_history.specs.Stacks as spec;
+ghost use Rattle.hm_history.specs.Kernel.Stacks as spec;
 
 use crate::Stack;
 use crate::guards::opened_over;

@@ -3,8 +3,8 @@ use Rattle.std.proofs.Common.{◌≡◌, ℕ, zero, suc, List, Option, Some, Non
 use Rattle.std.specs.Prelude.{⊤, is_some}
 use Rattle.hm_base.specs.PlaceWords.{pool_index}
 use Rattle.hm_base.specs.declared.Frame.{Frame}
-use Rattle.hm_history.specs.Places.{frame_of}
-use Rattle.hm_races.specs.Keys.{pool_at}
+use Rattle.hm_history.specs.Memory.Places.{frame_of}
+use Rattle.hm_race_laws.specs.Keys.{pool_at}
 use Rattle.hm_race_keys.specs.Sparse.{found}
 use Rattle.hm_race_keys.specs.FrameTables.{held_in, lockers_in}
 use Rattle.hm_race_keys.specs.declared.sparse.Item.{Item}

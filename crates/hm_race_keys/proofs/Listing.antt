@@ -5,7 +5,7 @@ use Rattle.std.specs.List.{list_any}
 use Rattle.std.proofs.lemmas.Bool.Decides.{nat_tests}
 use Rattle.hm_base.specs.PlaceWords.{is_empty_place}
 use Rattle.hm_base.specs.declared.Place.{Place}
-use Rattle.hm_history.specs.Places.{is_page, lower, lowest, next_page}
+use Rattle.hm_history.specs.Memory.Places.{is_page, lower, lowest, next_page}
 use Rattle.hm_reads.specs.Cursors.{page_before}
 use Rattle.hm_race_keys.specs.Sparse.{stands_at, stands_before, rising_from, found}
 use Rattle.hm_race_keys.specs.PagePlaces.{places_in, listed, places_of, may_keep, IsPlaced, first_item}

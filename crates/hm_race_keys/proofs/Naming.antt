@@ -6,7 +6,7 @@ use Rattle.std.proofs.lemmas.Bool.Decides.{nat_tests}
 use Rattle.hm_base.specs.PlaceWords.{is_frame, names}
 use Rattle.hm_base.specs.declared.Frame.{Frame}
 use Rattle.hm_base.specs.declared.Place.{Place}
-use Rattle.hm_history.specs.Places.{is_page, lower, lowest, with_page, with_place}
+use Rattle.hm_history.specs.Memory.Places.{is_page, lower, lowest, with_page, with_place}
 use Rattle.hm_race_keys.specs.Sparse.{stands_at, rising_from, found}
 use Rattle.hm_race_keys.specs.PagePlaces.{places_in, listed}
 use Rattle.hm_race_keys.specs.Questions.{named_beside}

@@ -1,6 +1,6 @@
 -- Tables that are read alike have the same items.
 use Rattle.std.proofs.Common.{◌≡◌, ℕ, List, Option, Some, None, refl, ap}
-use Rattle.hm_history.specs.Places.{TableEntry}
+use Rattle.hm_history.specs.Memory.Places.{TableEntry}
 use Rattle.hm_race_keys.specs.Sparse.{found}
 use Rattle.hm_race_keys.specs.TableEntries.{table_in, entry_of}
 use Rattle.hm_race_keys.specs.declared.sparse.Item.{Item}

@@ -1,9 +1,10 @@
 -- What the items of places stand for.
-use Rattle.std.specs.Prelude.{◌≡◌, ℕ, ◌^◌, Bool, true, ◌&&◌, not, nat_lt, if◌then◌else◌, Option, Some, None, List, [], ◌∷◌, unwrap_or}
+use Rattle.std.specs.Prelude.{◌≡◌, ℕ, ◌^◌, Bool, true, ◌&&◌, not, nat_lt, if◌then◌else◌, Option, Some, None, List, []}
+use Rattle.std.specs.Prelude.{◌∷◌, unwrap_or}
 use Rattle.hm_base.specs.PlaceWords.{is_empty_place}
 use Rattle.hm_base.specs.declared.Place.{Place}
 use Rattle.entry_words.specs.Word.{word_of}
-use Rattle.hm_history.specs.Places.{Places, places_start}
+use Rattle.hm_history.specs.Memory.Places.{Places, places_start}
 use Rattle.hm_race_keys.specs.Sparse.{found, mixed}
 use Rattle.hm_race_keys.specs.declared.sparse.Item.{Item}
 

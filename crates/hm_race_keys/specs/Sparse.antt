@@ -1,5 +1,6 @@
 -- Lists of items by row and number, and the numbers that are made of them.
-use Rattle.std.specs.Prelude.{◌≡◌, ℕ, suc, ◌+◌, ◌*◌, ◌/◌, ◌%◌, ◌^◌, Bool, true, false, ◌==◌, ◌&&◌, ◌||◌, not, if◌then◌else◌, ◌≤◌, ◌<◌, nat_lt, Option, Some, None, List, [], ◌∷◌, length}
+use Rattle.std.specs.Prelude.{◌≡◌, ℕ, suc, ◌+◌, ◌*◌, ◌/◌, ◌%◌, ◌^◌, Bool, true, false, ◌==◌, ◌&&◌, ◌||◌, not}
+use Rattle.std.specs.Prelude.{if◌then◌else◌, ◌≤◌, ◌<◌, nat_lt, Option, Some, None, List, [], ◌∷◌, length}
 use Rattle.hm_race_keys.specs.declared.sparse.Item.{Item}
 
 -- the item stands at a number of a row

@@ -2,7 +2,7 @@
 use Rattle.std.specs.Prelude.{ℕ, ◌+◌, Option, Some, None, List}
 use Rattle.hm_base.specs.PlaceWords.{pool_index}
 use Rattle.hm_base.specs.declared.Frame.{Frame}
-use Rattle.hm_history.specs.Places.{TableEntry}
+use Rattle.hm_history.specs.Memory.Places.{TableEntry}
 use Rattle.hm_history.specs.declared.TableRight.{TableRight}
 use Rattle.hm_history.specs.declared.TableRight.TheVariants.{Read, Write, Sole}
 use Rattle.hm_race_keys.specs.Sparse.{found, mixed}

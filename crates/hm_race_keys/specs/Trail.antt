@@ -3,11 +3,11 @@ use Rattle.std.specs.Prelude.{ℕ, Bool, Option, Some, None, List, [], slice_ind
 use Rattle.hm_base.specs.PlaceWords.{with_frame}
 use Rattle.hm_base.specs.declared.Frame.{Frame}
 use Rattle.hm_base.specs.declared.Place.{Place}
-use Rattle.hm_history.specs.Places.{TableEntry, places_start, places_next}
-use Rattle.hm_history.specs.Plain.{MirrorState, plain_start, plain_next}
-use Rattle.hm_history.specs.Locks.{locks_start, frame_placed, with_lock}
+use Rattle.hm_history.specs.Memory.Places.{TableEntry, places_start, places_next}
+use Rattle.hm_history.specs.Memory.Plain.{MirrorState, plain_start, plain_next}
+use Rattle.hm_history.specs.Memory.Locks.{locks_start, frame_placed, with_lock}
 use Rattle.hm_history.specs.declared.Kind.{Kind}
-use Rattle.hm_races.specs.Positions.{forget_kind}
+use Rattle.hm_race_laws.specs.Positions.{forget_kind}
 
 -- the places after an entry, for which the other parts do not count
 abbrev pub place_next : (ℕ → ℕ → Place) → Kind → ℕ → ℕ → Place

@@ -1,6 +1,6 @@
 // Answers, copied and compared.
 ghost use Rattle.std.specs.Prelude.{◌≡◌, true, Some, IfOk};
-ghost use Rattle.hm_races.specs.Outcomes.{answer_of};
+ghost use Rattle.hm_race_laws.specs.Outcomes.{answer_of};
 
 use hm_base::{Bytes, NoMemory};
 use hm_history::Kind;

@@ -1,6 +1,6 @@
 // Which devices are withdrawn or removed.
 ghost use Rattle.std.specs.Prelude.{◌≡◌, ℕ, true, false};
-ghost use Rattle.hm_history.specs.Places.{places_start, is_withdrawn};
+ghost use Rattle.hm_history.specs.Memory.Places.{places_start, is_withdrawn};
 ghost use Rattle.hm_race_keys.specs.Arrays.{flag_in, mixed_flags};
 ghost use Rattle.hm_race_keys.specs.Trail.{withdrawn_next, removed_next};
 

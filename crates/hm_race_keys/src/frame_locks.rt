@@ -1,8 +1,8 @@
 // Who has frames locked.
 ghost use Rattle.std.specs.Prelude.{◌≡◌, ℕ, true, [], Some, None, IfOk, OnOk, OnErr};
 ghost use Rattle.hm_base.specs.declared.Frame.{Frame as AnyFrame};
-ghost use Rattle.hm_history.specs.Words.{with_frame};
-ghost use Rattle.hm_history.specs.Locks.{locks_start, frame_placed, is_locker, other_locker, orphan};
+ghost use Rattle.hm_history.specs.Memory.Words.{with_frame};
+ghost use Rattle.hm_history.specs.Memory.Locks.{locks_start, frame_placed, is_locker, other_locker, orphan};
 ghost use Rattle.hm_race_keys.specs.Sparse.{rising_from, mixed_items};
 ghost use Rattle.hm_race_keys.specs.FrameTables.{lockers_in, mixed_actor};
 ghost use Rattle.hm_race_keys.specs.PagePlaces.{places_of};

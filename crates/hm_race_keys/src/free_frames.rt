@@ -1,7 +1,8 @@
 // The lowest free and the lowest held frame of a pool.
 ghost use Rattle.std.specs.Prelude.{◌≡◌, ◌-◌, not};
-ghost use Rattle.hm_history.specs.Words.{least};
-ghost use Rattle.hm_history.specs.Places.{places_start, frame_of, pool_size, is_withdrawn, lowest_free, held_from};
+ghost use Rattle.hm_history.specs.Memory.Words.{least};
+ghost use Rattle.hm_history.specs.Memory.Places.{places_start, frame_of, pool_size, is_withdrawn, lowest_free};
+ghost use Rattle.hm_history.specs.Memory.Places.{held_from};
 ghost use Rattle.hm_race_keys.specs.Arrays.{flag_in};
 ghost use Rattle.hm_race_keys.specs.FrameTables.{held_in};
 

@@ -1,7 +1,7 @@
 // The frames that are held.
 ghost use Rattle.std.specs.Prelude.{◌≡◌, true, false, [], IfOk, OnOk, OnErr};
 ghost use Rattle.hm_base.specs.declared.Frame.{Frame as AnyFrame};
-ghost use Rattle.hm_history.specs.Words.{with_frame};
+ghost use Rattle.hm_history.specs.Memory.Words.{with_frame};
 ghost use Rattle.hm_race_keys.specs.Sparse.{rising_from, mixed_items};
 ghost use Rattle.hm_race_keys.specs.FrameTables.{held_in, mixed_held};
 ghost use Rattle.hm_race_keys.specs.Trail.{held_next};

@@ -1,7 +1,7 @@
 // Who has mmap locks.
 ghost use Rattle.std.specs.Prelude.{◌≡◌, ℕ, true, Some, None};
-ghost use Rattle.hm_history.specs.Words.{with_at};
-ghost use Rattle.hm_history.specs.Locks.{releases, locks_start, map_next};
+ghost use Rattle.hm_history.specs.Memory.Words.{with_at};
+ghost use Rattle.hm_history.specs.Memory.Locks.{releases, locks_start, map_next};
 ghost use Rattle.hm_race_keys.specs.Arrays.{lock_in, mixed_lock, mixed_locks};
 
 use crate::sparse::mixed;

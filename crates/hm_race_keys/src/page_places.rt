@@ -1,7 +1,7 @@
 // The place of each page that has one.
 ghost use Rattle.std.specs.Prelude.{◌≡◌, ℕ, true, [], IfOk, OnOk, OnErr};
 ghost use Rattle.hm_base.specs.declared.Place.{Place as AnyPlace};
-ghost use Rattle.hm_history.specs.Places.{with_place};
+ghost use Rattle.hm_history.specs.Memory.Places.{with_place};
 ghost use Rattle.hm_race_keys.specs.Sparse.{rising_from, mixed_items};
 ghost use Rattle.hm_race_keys.specs.PagePlaces.{places_in, IsPlaced, mixed_place};
 ghost use Rattle.hm_race_keys.specs.Trail.{place_next};

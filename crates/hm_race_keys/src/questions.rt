@@ -2,7 +2,8 @@
 ghost use Rattle.std.specs.Prelude.{◌≡◌, ◌==◌, ◌&&◌, nat_le, count_by, is_some};
 ghost use Rattle.std.specs.List.{list_any};
 ghost use Rattle.hm_base.specs.PlaceWords.{is_frame, names, writable};
-ghost use Rattle.hm_history.specs.Places.{lowest, lowest_direct, lowest_moving, lowest_named, uses, is_used, next_page, places_next};
+ghost use Rattle.hm_history.specs.Memory.Places.{lowest, lowest_direct, lowest_moving, lowest_named, uses, is_used};
+ghost use Rattle.hm_history.specs.Memory.Places.{next_page, places_next};
 ghost use Rattle.hm_reads.specs.Cursors.{page_before};
 ghost use Rattle.hm_history.specs.declared.Kind as kinds;
 ghost use Rattle.hm_race_keys.specs.PagePlaces.{places_in, listed, places_of, first_item};
@@ -171,7 +172,8 @@ impl Places {
     /// Whether some place names the frame once the page has this place.
     pub fn is_named_after(&self, proc: Proc, page: Page, place: &Place, frame: &Frame) -> bool
         ensures { result
-            ≡ is_some (lowest_named (places_next (places_of self.now) (kinds.Kind.Place proc page place.now)) frame.now) }
+            ≡ is_some (lowest_named (places_next (places_of self.now) (kinds.Kind.Place proc page place.now))
+            frame.now) }
     {
         let items = self.items();
         is_frame(names(place), frame) || is_named_beside(items, proc.number(), page.number(), frame)

@@ -1,6 +1,6 @@
 // Answers that states share.
 ghost use Rattle.std.specs.Prelude.{◌≡◌, ◌++◌, [], ◌∷◌, ℕ, true, Some, length, IfOk, OnOk, OnErr};
-ghost use Rattle.hm_races.specs.Outcomes.{answer_of, answers_next};
+ghost use Rattle.hm_race_laws.specs.Outcomes.{answer_of, answers_next};
 ghost use Rattle.hm_race_keys.specs.Answers.{mixed_bytes, mixed_kind, mixed_kinds, mixed_lists};
 ghost use Rattle.hm_race_keys.specs.Trail.{answers_in};
 
@@ -21,7 +21,7 @@ pub struct Answer {
 impl Model for Answer {
     ghost use Rattle.std.specs.Prelude.{◌≡◌, Some};
     ghost use Rattle.hm_history.specs.declared.Kind.{Kind as AnyKind};
-    ghost use Rattle.hm_races.specs.Outcomes.{answer_of};
+    ghost use Rattle.hm_race_laws.specs.Outcomes.{answer_of};
 
     ghost Value = { AnyKind };
 

@@ -1,7 +1,9 @@
 // Functions of two numbers that have a value nearly nowhere.
-ghost use Rattle.std.specs.Prelude.{◌≡◌, ◌==◌, ◌&&◌, ℕ, ◌≤◌, ◌<◌, nat_le, nat_lt, true, [], Some, None, length, slice_get, if◌then◌else◌, IfOk, OnOk, OnErr};
+ghost use Rattle.std.specs.Prelude.{◌≡◌, ◌==◌, ◌&&◌, ℕ, ◌≤◌, ◌<◌, nat_le, nat_lt, true, [], Some, None, length};
+ghost use Rattle.std.specs.Prelude.{slice_get, if◌then◌else◌, IfOk, OnOk, OnErr};
 ghost use Rattle.hm_race_keys.specs.Sparse as sparse;
-ghost use Rattle.hm_race_keys.specs.Sparse.{stands_at, stands_before, rising_from, found, is_found, IsNextIn, mixed, mixed_items};
+ghost use Rattle.hm_race_keys.specs.Sparse.{stands_at, stands_before, rising_from, found, is_found, IsNextIn, mixed};
+ghost use Rattle.hm_race_keys.specs.Sparse.{mixed_items};
 
 use hm_base::NoMemory;
 use std::alloc::Global;

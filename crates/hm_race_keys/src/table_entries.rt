@@ -1,7 +1,7 @@
 // The tables of mirrors, without positions.
 ghost use Rattle.std.specs.Prelude.{◌≡◌, ℕ, true, [], Some, IfOk, OnOk, OnErr};
 ghost use Rattle.hm_base.specs.Pages.{covers};
-ghost use Rattle.hm_history.specs.Places.{with_entry, erased_table};
+ghost use Rattle.hm_history.specs.Memory.Places.{with_entry, erased_table};
 ghost use Rattle.hm_race_keys.specs.Sparse.{rising_from, mixed_items};
 ghost use Rattle.hm_race_keys.specs.TableEntries.{table_in, entry_of, mixed_target, right_number, mixed_mapping};
 ghost use Rattle.hm_race_keys.specs.Trail.{table_next};

@@ -4,9 +4,9 @@ use Rattle.std.specs.Borrow.{Bor}
 use Rattle.std.specs.Prelude.{is_none, is_some, option_copied}
 use Rattle.hm_base.specs.Program.{Program}
 use Rattle.hm_base.specs.declared.ops.Op.{Op}
-use Rattle.hm_history.specs.Going.{State, op_at}
+use Rattle.hm_history.specs.Kernel.Going.{State, op_at}
 use Rattle.hm_machine.proofs.Looks.{all_pass, one_fails}
-use Rattle.hm_races.specs.Outcomes.{ended_in}
+use Rattle.hm_race_laws.specs.Outcomes.{ended_in}
 
 -- what an actor has left
 abbrev has_none : Program → State → ℕ → Bool

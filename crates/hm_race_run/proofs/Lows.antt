@@ -3,10 +3,10 @@ use Rattle.std.proofs.Common.{◌≡◌, ℕ, ◌≤◌, Some, None, List, [], �
 use Rattle.hm_base.specs.Program.{Program}
 use Rattle.hm_base.specs.declared.ops.Op.{Op}
 use Rattle.hm_history.proofs.Updates.{here_at}
-use Rattle.hm_history.specs.After.{After}
-use Rattle.hm_history.specs.Sequences.{Sequences}
-use Rattle.hm_history.specs.Stacks.{stack_after}
-use Rattle.hm_history.specs.Going.{State, Going, op_at, going_on, going_top, going_next, state_next}
+use Rattle.hm_history.specs.Memory.After.{After}
+use Rattle.hm_history.specs.Memory.Sequences.{Sequences}
+use Rattle.hm_history.specs.Kernel.Stacks.{stack_after}
+use Rattle.hm_history.specs.Kernel.Going.{State, Going, op_at, going_on, going_top, going_next, state_next}
 use Rattle.hm_history.specs.declared.Kind.{Kind}
 use Rattle.hm_history.specs.declared.Entry.{Entry}
 use Rattle.hm_history.specs.declared.phases.Migrating.{Migrating}
@@ -16,9 +16,9 @@ use Rattle.hm_laws.specs.Past.{Past}
 use Rattle.hm_laws.specs.Facts.{Knows, HoldsAll, facts_of}
 use Rattle.hm_actors.specs.Actors.{IsSeen}
 use Rattle.hm_world.proofs.Depth.{depth}
-use Rattle.hm_races.specs.Positions.{forget_stack, forget_going}
-use Rattle.hm_races.specs.Numbers.{small_stack, small_going}
-use Rattle.hm_races.specs.Blur.{tidied}
+use Rattle.hm_race_laws.specs.Positions.{forget_stack, forget_going}
+use Rattle.hm_race_laws.specs.Numbers.{small_stack, small_going}
+use Rattle.hm_race_laws.specs.Blur.{tidied}
 use Rattle.hm_race_states.specs.Afters.{StaysLow}
 
 -- an actor in an operation has a low stack

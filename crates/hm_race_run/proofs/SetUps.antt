@@ -2,7 +2,7 @@
 use Rattle.std.proofs.Common.{◌≡◌, ℕ, Bool, None, List, [], ap, ◌∙◌, subst}
 use Rattle.std.specs.Prelude.{Err, fold}
 use Rattle.hm_base.specs.Program.{Program}
-use Rattle.hm_history.specs.Run.{run, line_run, is_entry}
+use Rattle.hm_history.specs.Kernel.Run.{run, line_run, is_entry}
 use Rattle.hm_history.specs.declared.Entry.{Entry}
 use Rattle.hm_history.specs.declared.StepError.{StepError}
 use Rattle.hm_machine.specs.Turning.{CameTo}

@@ -3,36 +3,36 @@ use Rattle.std.proofs.Common.{◌≡◌, ℕ, zero, suc, ◌+◌, append-nil, ap
 use Rattle.std.proofs.lemmas.List.{take_more}
 use Rattle.hm_base.specs.Program.{Program, IsScript}
 use Rattle.hm_history.proofs.RunLemmas.{DueFrom-append}
-use Rattle.hm_history.specs.Due.{due, due_in}
+use Rattle.hm_history.specs.Kernel.Due.{due, due_in}
 use Rattle.std.specs.Prelude.{fold}
 use Rattle.std.proofs.lemmas.List.Sums.{fold-append}
-use Rattle.hm_history.specs.After.{after}
-use Rattle.hm_history.specs.Going.{State, state_next, state_of, state_of-snoc, state_start}
+use Rattle.hm_history.specs.Memory.After.{after}
+use Rattle.hm_history.specs.Kernel.Going.{State, state_next, state_of, state_of-snoc, state_start}
 use Rattle.hm_history.specs.Laws.{DueFrom}
-use Rattle.hm_history.specs.Run.{is_entry}
+use Rattle.hm_history.specs.Kernel.Run.{is_entry}
 use Rattle.hm_history.specs.declared.Kind.{Kind}
 use Rattle.hm_history.specs.declared.Entry.{Entry}
 use Rattle.hm_history.specs.declared.Progress.{Progress}
 use Rattle.hm_laws.specs.Stands as laws
 use Rattle.hm_laws.proofs.Histories.Stands.{history_stands}
-use Rattle.hm_races.specs.Outcomes.{Point, Reached, point_after, point_next, answer_of, with_answer, answers_next, no_answers}
-use Rattle.hm_history.specs.Words.{with_at}
-use Rattle.hm_races.specs.Positions.{forget_kind}
-use Rattle.hm_races.specs.Numbers.{small_kind}
+use Rattle.hm_race_laws.specs.Outcomes.{Point, Reached, point_after, point_next, answer_of, with_answer, answers_next, no_answers}
+use Rattle.hm_history.specs.Memory.Words.{with_at}
+use Rattle.hm_race_laws.specs.Positions.{forget_kind}
+use Rattle.hm_race_laws.specs.Numbers.{small_kind}
 use Rattle.hm_race_keys.specs.Trail.{answers_in}
 use Rattle.hm_race_search.specs.Known.{IsNext}
 use Rattle.hm_race_states.specs.Keyed.{form_in}
 use Rattle.hm_race_states.specs.declared.key.StateKey.{StateKey}
-use Rattle.hm_races.specs.Forms.{ListsPlaces, Adds, AddsAlike, TurnsAlike, opened_form}
-use Rattle.hm_races.specs.Blur.{blurred_entry, tidied, unlisted, form_of}
-use Rattle.hm_races.specs.Laws.{FormsGoOn}
-use Rattle.hm_races.proofs.Turned.{own_actor}
+use Rattle.hm_race_laws.specs.Forms.{ListsPlaces, Adds, AddsAlike, TurnsAlike, opened_form}
+use Rattle.hm_race_laws.specs.Blur.{blurred_entry, tidied, unlisted, form_of}
+use Rattle.hm_race_laws.specs.Laws.{FormsGoOn}
 use Rattle.hm_race_states.specs.Afters.{StaysLow}
 use Rattle.hm_race_states.specs.States.{state_in}
 use Rattle.hm_race_states.specs.declared.state.RaceState.{RaceState}
 use Rattle.hm_race_run.specs.Turns.{Shows, IsTurned}
 use Rattle.hm_race_run.specs.declared.turn.Turned.{Turned}
 use Rattle.hm_race_run.proofs.Lows.{known_short, tidied_short, stays_low}
+use Rattle.hm_history.proofs.Going.{own_actor}
 
 along : (c : Program) (x : Point) (es : List Entry) → (fold (point_next c) x es).state ≡ fold (state_next c) x.state es
 along c x [] = refl

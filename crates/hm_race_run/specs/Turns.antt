@@ -1,13 +1,13 @@
 -- States that a race has come to, and turns there.
 use Rattle.std.specs.Prelude.{◌≡◌, ℕ, false, Option, None, Some, List, [], ◌∷◌, ◌++◌}
 use Rattle.hm_base.specs.Program.{Program}
-use Rattle.hm_history.specs.Due.{due}
-use Rattle.hm_history.specs.Going.{state_of}
+use Rattle.hm_history.specs.Kernel.Due.{due}
+use Rattle.hm_history.specs.Kernel.Going.{state_of}
 use Rattle.hm_history.specs.Laws.{DueFrom}
-use Rattle.hm_history.specs.Run.{is_entry}
+use Rattle.hm_history.specs.Kernel.Run.{is_entry}
 use Rattle.hm_history.specs.declared.Entry.{Entry}
 use Rattle.hm_history.specs.declared.Progress.{Progress}
-use Rattle.hm_races.specs.Blur.{blurred_entry, tidied, unlisted}
+use Rattle.hm_race_laws.specs.Blur.{blurred_entry, tidied, unlisted}
 use Rattle.hm_race_states.specs.States.{state_in}
 use Rattle.hm_race_states.specs.declared.state.RaceState.{RaceState}
 use Rattle.hm_race_run.specs.declared.turn.Turned.{Turned}

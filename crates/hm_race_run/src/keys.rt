@@ -2,8 +2,8 @@
 ghost use Rattle.std.specs.Prelude.{◌≡◌, ◌≤◌, [], List, length, IfOk};
 ghost use Rattle.hm_history.specs.Laws.{DueFrom};
 ghost use Rattle.hm_history.specs.declared.Entry.{Entry as AnyEntry};
-ghost use Rattle.hm_races.specs.Blur.{form_of};
-ghost use Rattle.hm_races.specs.Outcomes.{Point, Reached, ended_in, point_from};
+ghost use Rattle.hm_race_laws.specs.Blur.{form_of};
+ghost use Rattle.hm_race_laws.specs.Outcomes.{Point, Reached, ended_in, point_from};
 ghost use Rattle.hm_race_search.specs.Known.{IsNext};
 ghost use Rattle.hm_race_states.specs.Keyed.{form_in};
 ghost use Rattle.hm_race_states.specs.States.{state_in};

@@ -2,8 +2,8 @@
 #![tactic(auto)]
 
 ghost use Rattle.std.specs.Prelude.{◌≡◌, ◌≤◌, length, IfOk, IfErr};
-ghost use Rattle.hm_history.specs.Run.{run};
-ghost use Rattle.hm_races.specs.Closed.{AreDistinct};
+ghost use Rattle.hm_history.specs.Kernel.Run.{run};
+ghost use Rattle.hm_race_laws.specs.Closed.{AreDistinct};
 ghost use Rattle.hm_race_search.specs.Goals.{AreMissed, IsSoon, Reaches};
 ghost use Rattle.hm_race_search.specs.Values.{all_known};
 ghost use Rattle.hm_race_search.specs.Known.{forms, AreFewest, AreKnown, AreReal, AreRising, HaveForms, IsComplete};

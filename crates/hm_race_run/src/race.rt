@@ -1,10 +1,10 @@
 // The race of a script, for the search.
 ghost use Rattle.std.specs.Prelude.{◌≡◌, ◌≤◌, length, IfOk, IfErr};
 ghost use Rattle.hm_base.specs.declared.limits.TheConstants.{MOST_ACTORS, MOST_ENTRIES};
-ghost use Rattle.hm_history.specs.Run.{run};
-ghost use Rattle.hm_races.specs.Blur.{form_of};
-ghost use Rattle.hm_races.specs.Closed.{Stands};
-ghost use Rattle.hm_races.specs.Outcomes.{Point, Reached, point_from};
+ghost use Rattle.hm_history.specs.Kernel.Run.{run};
+ghost use Rattle.hm_race_laws.specs.Blur.{form_of};
+ghost use Rattle.hm_race_laws.specs.Closed.{Stands};
+ghost use Rattle.hm_race_laws.specs.Outcomes.{Point, Reached, point_from};
 ghost use Rattle.hm_race_search.specs.Known.{IsNext, MayFail};
 ghost use Rattle.hm_race_states.specs.Keyed.{form_in};
 ghost use Rattle.hm_world.specs.WorldValue.{opening};

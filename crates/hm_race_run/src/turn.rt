@@ -1,9 +1,9 @@
 // A turn of an actor at a state of a race.
 ghost use Rattle.std.specs.Prelude.{◌≡◌, List, IfOk};
 ghost use Rattle.hm_history.specs.declared.Entry.{Entry as AnyEntry};
-ghost use Rattle.hm_races.specs.Blur.{blurred_entry};
-ghost use Rattle.hm_races.specs.Positions.{forget_kind};
-ghost use Rattle.hm_races.specs.Numbers.{small_kind};
+ghost use Rattle.hm_race_laws.specs.Blur.{blurred_entry};
+ghost use Rattle.hm_race_laws.specs.Positions.{forget_kind};
+ghost use Rattle.hm_race_laws.specs.Numbers.{small_kind};
 ghost use Rattle.hm_race_run.specs.Turns.{IsShown, IsTurned, Shows};
 
 use hm_base::{Actor, NoMemory, Script};
@@ -89,7 +89,7 @@ pub fn turn<R: SkipRule>(
 {
     script.facts();
     state.facts();
-    hm_races::forms_go_on();
+    hm_race_laws::forms_go_on();
     match hm_steps::due(&Here { script, state }, rule, alloc, actor)? {
         Progress::Did(entry) => {
             let entry = blurred_entry(entry);

@@ -5,9 +5,9 @@ use Rattle.std.proofs.lemmas.Bool.{and_parts, false≢true, or_parts}
 use Rattle.std.specs.Prelude.{◌&&◌, ◌||◌}
 use Rattle.std.specs.List.{list_any}
 use Rattle.hm_base.specs.Program.{Program}
-use Rattle.hm_races.specs.Outcomes.{Point}
-use Rattle.hm_races.specs.Closed.{IsListed}
-use Rattle.hm_races.proofs.Searching.{listed_cases, listed_right}
+use Rattle.hm_race_laws.specs.Outcomes.{Point}
+use Rattle.hm_race_laws.specs.Closed.{IsListed}
+use Rattle.hm_race_laws.proofs.Searching.{listed_cases, listed_right}
 use Rattle.hm_race_search.specs.Goals.{AreMissed, IsSoon, Reaches}
 use Rattle.hm_race_search.specs.Known.{KnownValue}
 use Rattle.hm_race_search.specs.Values.{all_known, at_goal, HasGrown}

@@ -7,19 +7,19 @@ use Rattle.std.proofs.lemmas.List.{length-append, length-map, map-append, get_or
 use Rattle.std.specs.List.{list_all, list_any}
 use Rattle.std.specs.Prelude.{nat_lt, ◌&&◌, ◌||◌}
 use Rattle.hm_base.specs.Program.{Program, IsScript}
-use Rattle.hm_history.specs.Due.{due_in}
+use Rattle.hm_history.specs.Kernel.Due.{due_in}
 use Rattle.hm_history.specs.Laws.{DueFrom}
 use Rattle.hm_history.specs.declared.Kind.{Kind}
 use Rattle.hm_history.specs.declared.Entry.{Entry}
 use Rattle.hm_history.specs.declared.Progress.{Progress}
-use Rattle.hm_races.specs.Outcomes.{Point, Reached, point_next, point_from, point_turned, point_turn, point_at, outcome}
-use Rattle.hm_races.specs.Closed.{IsListed, AreDistinct, Onward, Told, Done, Outcome, Searched}
-use Rattle.hm_races.specs.Blur.{form_of}
-use Rattle.hm_races.specs.Forms.{Adds}
-use Rattle.hm_races.specs.Laws.{FormsAreComplete, FormsAreAll, FormsGoAlike}
-use Rattle.hm_races.proofs.Searching.{listed_left, listed_cases, is_actor}
-use Rattle.hm_races.proofs.Closed.{from_reached}
-use Rattle.hm_races.proofs.Turned.{at_reached, turned_reached}
+use Rattle.hm_race_laws.specs.Outcomes.{Point, Reached, point_next, point_from, point_turned, point_turn, point_at, outcome}
+use Rattle.hm_race_laws.specs.Closed.{IsListed, AreDistinct, Onward, Told, Done, Outcome, Searched}
+use Rattle.hm_race_laws.specs.Blur.{form_of}
+use Rattle.hm_race_laws.specs.Forms.{Adds}
+use Rattle.hm_race_laws.specs.Laws.{FormsAreComplete, FormsAreAll, FormsGoAlike}
+use Rattle.hm_race_laws.proofs.Searching.{listed_left, listed_cases, is_actor}
+use Rattle.hm_race_laws.proofs.Closed.{from_reached}
+use Rattle.hm_race_laws.proofs.Turned.{at_reached, turned_reached}
 use Rattle.hm_race_search.specs.declared.known.Known.{Known}
 use Rattle.hm_race_search.specs.Values.{known_of, with_known, all_known, at_goal, key_forms}
 use Rattle.hm_race_search.specs.Known.{KnownValue, AreActors, IsKnown, forms, outcomes_of, turns_at, Within, GoesOn, GoneOnBelow, GoneOn, AreRising, Explores, IsComplete, HaveForms, AreReal, AreKnown, AreFewest}

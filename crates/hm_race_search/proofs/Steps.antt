@@ -5,26 +5,27 @@ use Rattle.std.proofs.lemmas.Bool.{cases_lt}
 use Rattle.std.proofs.lemmas.List.Sums.{fold-append}
 use Rattle.std.proofs.lemmas.List.{length-append, length-map, map-append, get_or_append_left, get_or_at, get_or-map}
 use Rattle.hm_base.specs.Program.{Program, IsScript}
-use Rattle.hm_history.specs.Due.{due_in}
-use Rattle.hm_history.specs.Going.{state_start}
+use Rattle.hm_history.specs.Kernel.Due.{due_in}
+use Rattle.hm_history.specs.Kernel.Going.{state_start}
 use Rattle.hm_history.specs.Laws.{DueFrom}
-use Rattle.hm_history.specs.Run.{is_entry}
+use Rattle.hm_history.specs.Kernel.Run.{is_entry}
 use Rattle.hm_history.specs.declared.Entry.{Entry}
 use Rattle.hm_history.specs.declared.Progress.{Progress}
 use Rattle.hm_history.specs.declared.StepError.{StepError}
-use Rattle.hm_races.specs.Outcomes.{Point, Reached, point_next, point_from, point_turned, point_turn, point_at, ended_in}
-use Rattle.hm_races.specs.Closed.{IsListed, AreDistinct, Stands}
-use Rattle.hm_races.specs.Laws.{FormsAreComplete, FormsAreAll, FormsGoAlike}
-use Rattle.hm_races.specs.Blur.{form_of}
-use Rattle.hm_races.proofs.Closed.{from_reached}
-use Rattle.hm_races.proofs.Searching.{listed_right}
-use Rattle.hm_races.proofs.Turned.{at_reached, lengths}
+use Rattle.hm_race_laws.specs.Outcomes.{Point, Reached, point_next, point_from, point_turned, point_turn, point_at, ended_in}
+use Rattle.hm_race_laws.specs.Closed.{IsListed, AreDistinct, Stands}
+use Rattle.hm_race_laws.specs.Laws.{FormsAreComplete, FormsAreAll, FormsGoAlike}
+use Rattle.hm_race_laws.specs.Blur.{form_of}
+use Rattle.hm_race_laws.proofs.Closed.{from_reached}
+use Rattle.hm_race_laws.proofs.Searching.{listed_right}
+use Rattle.hm_race_laws.proofs.Turned.{at_reached}
 use Rattle.hm_race_search.specs.declared.known.Known.{Known}
 use Rattle.hm_race_search.specs.Buckets.{BucketsValue}
 use Rattle.hm_race_search.specs.Values.{known_of, all_known, key_forms, Fits, AreDeep, Searching, HasGrown, HasSearched}
 use Rattle.hm_race_search.specs.Known.{KnownValue, AreActors, IsKnown, MayFail, forms, turns_at, Within, GoesOn, GoneOnBelow, Explores, IsNext, LeadsOn, IsComplete, HaveForms, AreReal, AreKnown, AreRising, AreFewest, IsCut}
 use Rattle.hm_race_search.proofs.Table.{form_at}
 use Rattle.hm_race_search.proofs.Exploring.{place_of, From, from_map, known_length, known_forms, known_more, known_push, turns_last, turns_kept, goes_more, explores_more, explores_on, below_more, more_actors, complete, have_forms, real, fewest}
+use Rattle.hm_history.proofs.Going.{lengths}
 
 -- ---- a known state
 

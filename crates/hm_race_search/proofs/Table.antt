@@ -1,9 +1,9 @@
 -- The table of the states that a search knows.
 use Rattle.std.proofs.Common.{◌≡◌, ℕ, ◌<◌, ◌≤◌, ◌⊎◌, inl, inr, suc, zero, Bool, true, false, Option, Some, List, [], ◌∷◌, ◌++◌, refl, sym, ap, ◌∙◌, subst, length, map, get_or, arith}
 use Rattle.std.proofs.lemmas.List.{map-append, length-map}
-use Rattle.hm_races.specs.Outcomes.{Point}
-use Rattle.hm_races.specs.Closed.{IsListed, AreDistinct}
-use Rattle.hm_races.proofs.Searching.{listed_cases, distinct_more}
+use Rattle.hm_race_laws.specs.Outcomes.{Point}
+use Rattle.hm_race_laws.specs.Closed.{IsListed, AreDistinct}
+use Rattle.hm_race_laws.proofs.Searching.{listed_cases, distinct_more}
 use Rattle.hm_race_search.specs.declared.known.Known.{Known}
 use Rattle.hm_race_search.specs.Buckets.{BucketsValue, slot_in, slot_at, IsLast}
 use Rattle.hm_race_search.specs.Values.{key_forms, Fits}

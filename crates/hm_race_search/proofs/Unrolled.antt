@@ -1,7 +1,7 @@
 -- What is known of the state at a place, and the turns that lead to it from the last to the first.
 use Rattle.std.proofs.Common.{◌≡◌, ℕ, ◌+◌, ◌<◌, ◌≤◌, suc, zero, Some, None, List, [], ◌∷◌, ◌++◌, sym, ap, ◌∙◌, length, map, fold, take, drop, reverse, get_or, append_assoc, arith}
 use Rattle.std.proofs.lemmas.List.{length-append, length-map, get_or_past, take-append-drop, length-take-le, reverse-append, get_or_append_left, get_or_at}
-use Rattle.hm_races.specs.Outcomes.{Point}
+use Rattle.hm_race_laws.specs.Outcomes.{Point}
 use Rattle.hm_race_search.specs.declared.known.Known.{Known}
 use Rattle.hm_race_search.specs.declared.known.Turn.{Turn}
 use Rattle.hm_race_search.specs.Known.{KnownValue, turns_at}

@@ -1,8 +1,8 @@
 -- What a search says of its goal.
 use Rattle.std.specs.Prelude.{◌≡◌, ◌≤◌, ◌⊎◌, Bool, true, false, List, ◌++◌, length}
 use Rattle.hm_base.specs.Program.{Program}
-use Rattle.hm_races.specs.Outcomes.{Point}
-use Rattle.hm_races.specs.Closed.{IsListed}
+use Rattle.hm_race_laws.specs.Outcomes.{Point}
+use Rattle.hm_race_laws.specs.Closed.{IsListed}
 use Rattle.hm_race_search.specs.Known.{KnownValue}
 
 -- the goal holds of the form of a known state at which all operations have ended

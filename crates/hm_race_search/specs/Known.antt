@@ -3,17 +3,17 @@ use Rattle.std.specs.Prelude.{◌≡◌, ℕ, ◌+◌, ◌<◌, ◌≤◌, ◌�
 use Rattle.std.specs.Prelude.{List, [], ◌∷◌, ◌++◌, length, map, nat_lt, get_or}
 use Rattle.std.specs.List.{list_all}
 use Rattle.hm_base.specs.Program.{Program}
-use Rattle.hm_history.specs.Due.{due_in}
+use Rattle.hm_history.specs.Kernel.Due.{due_in}
 use Rattle.hm_history.specs.Laws.{DueFrom}
-use Rattle.hm_history.specs.Run.{is_entry}
+use Rattle.hm_history.specs.Kernel.Run.{is_entry}
 use Rattle.hm_history.specs.declared.Kind.{Kind}
 use Rattle.hm_history.specs.declared.Entry.{Entry}
 use Rattle.hm_history.specs.declared.Progress.{Progress}
 use Rattle.hm_history.specs.declared.StepError.{StepError}
-use Rattle.hm_races.specs.Outcomes.{Point, Reached, point_next, point_from, point_at}
-use Rattle.hm_races.specs.Outcomes.{outcome, ended_in, ended, answers_of}
-use Rattle.hm_races.specs.Closed.{IsListed, Outcome}
-use Rattle.hm_races.specs.Blur.{form_of}
+use Rattle.hm_race_laws.specs.Outcomes.{Point, Reached, point_next, point_from, point_at}
+use Rattle.hm_race_laws.specs.Outcomes.{outcome, ended_in, ended, answers_of}
+use Rattle.hm_race_laws.specs.Closed.{IsListed, Outcome}
+use Rattle.hm_race_laws.specs.Blur.{form_of}
 
 -- a state that is known: its form, turns that lead to it, and whether all operations have ended
 pub record KnownValue : Type 0 where

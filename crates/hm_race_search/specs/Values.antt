@@ -3,8 +3,8 @@ use Rattle.std.specs.Prelude.{◌≡◌, ℕ, ◌<◌, ◌≤◌, Bool, false, �
 use Rattle.std.specs.Prelude.{map, fold, length, get_or, slice_get}
 use Rattle.hm_base.specs.Program.{Program}
 use Rattle.hm_history.specs.declared.Entry.{Entry}
-use Rattle.hm_races.specs.Outcomes.{Point}
-use Rattle.hm_races.specs.Closed.{IsListed, AreDistinct}
+use Rattle.hm_race_laws.specs.Outcomes.{Point}
+use Rattle.hm_race_laws.specs.Closed.{IsListed, AreDistinct}
 use Rattle.hm_race_search.specs.Buckets.{BucketsValue}
 use Rattle.hm_race_search.specs.Known.{KnownValue, turns_at, Explores, IsNear}
 use Rattle.hm_race_search.specs.declared.known.Turn.{Turn}

@@ -1,7 +1,7 @@
 // What a search may stop at.
 ghost use Rattle.std.specs.Prelude.{◌≡◌, ◌≤◌, Bool, false, drop, length, IfOk};
 ghost use Rattle.std.specs.List.{list_any};
-ghost use Rattle.hm_races.specs.Outcomes.{Point};
+ghost use Rattle.hm_race_laws.specs.Outcomes.{Point};
 ghost use Rattle.hm_race_search.specs.Values.{at_goal};
 
 use crate::known::Known;

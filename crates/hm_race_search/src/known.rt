@@ -1,6 +1,6 @@
 // The states that a search knows, in the order in which it came to them.
 ghost use Rattle.std.specs.Prelude.{◌≡◌, ◌∷◌, ◌++◌, [], true, false, IfOk, OnOk};
-ghost use Rattle.hm_races.specs.Closed.{IsListed};
+ghost use Rattle.hm_race_laws.specs.Closed.{IsListed};
 ghost use Rattle.hm_race_search.specs.Known.{turns_at};
 ghost use Rattle.hm_race_search.specs.Values.{all_known, from_of, key_forms, Fits};
 

@@ -4,9 +4,9 @@ ghost use Rattle.hm_base.specs.Program.{Program, IsScript};
 ghost use Rattle.hm_history.specs.Laws.{DueFrom};
 ghost use Rattle.hm_history.specs.declared.Entry.{Entry as AnyEntry};
 ghost use Rattle.hm_history.specs.declared.StepError.{StepError as AnyError};
-ghost use Rattle.hm_races.specs.Outcomes.{Point, Reached, point_from, ended_in};
-ghost use Rattle.hm_races.specs.Closed.{Stands};
-ghost use Rattle.hm_races.specs.Blur.{form_of};
+ghost use Rattle.hm_race_laws.specs.Outcomes.{Point, Reached, point_from, ended_in};
+ghost use Rattle.hm_race_laws.specs.Closed.{Stands};
+ghost use Rattle.hm_race_laws.specs.Blur.{form_of};
 ghost use Rattle.hm_race_search.specs.Known.{IsNext};
 
 use hm_base::Actor;

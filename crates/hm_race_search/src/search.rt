@@ -2,8 +2,8 @@
 ghost use Rattle.std.specs.Prelude.{◌≡◌, ◌+◌, ◌<◌, ◌≤◌, true, false, drop, length, IfOk, IfErr, OnOk};
 ghost use Rattle.std.specs.List.{list_any};
 ghost use Rattle.hm_history.specs.declared.StepError.{StepError as AnyError};
-ghost use Rattle.hm_races.specs.Closed.{AreDistinct};
-ghost use Rattle.hm_races.specs.Outcomes.{point_at};
+ghost use Rattle.hm_race_laws.specs.Closed.{AreDistinct};
+ghost use Rattle.hm_race_laws.specs.Outcomes.{point_at};
 ghost use Rattle.hm_race_search.specs.Goals.{AreMissed, IsSoon, Reaches};
 ghost use Rattle.hm_race_search.specs.Values.{all_known, at_goal, HasGrown, HasSearched, Searching};
 ghost use Rattle.hm_race_search.specs.Known.{forms, turns_at, Within, LeadsOn, GoesOn};
@@ -281,9 +281,9 @@ pub fn explore<R: Race, G: Goal<R::Key>>(
     ensures fails { IfErr result (λ e. MayFail (R.script race.now) (R.set_up race.now) e) }
 {
     race.facts();
-    hm_races::forms_are_complete();
-    hm_races::forms_are_all();
-    hm_races::forms_go_alike();
+    hm_race_laws::forms_are_complete();
+    hm_race_laws::forms_are_all();
+    hm_race_laws::forms_go_alike();
     let stopped = run_search(race, alloc, goal, most)?;
     let end = end_of(stopped.reached, stopped.states.known.len() as u64 <= most);
     let states = stopped.states;

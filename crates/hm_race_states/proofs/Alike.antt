@@ -3,8 +3,8 @@ use Rattle.std.proofs.Common.{◌≡◌, ℕ, Bool, true, false, Option, List, [
 use Rattle.std.specs.Rc.{rc_value}
 use Rattle.hm_base.specs.declared.area.Area.{Area}
 use Rattle.hm_folds.specs.Kept.{interval_at}
-use Rattle.hm_history.specs.Plain.{Plain}
-use Rattle.hm_history.specs.Sequences.{Sequences, Interval}
+use Rattle.hm_history.specs.Memory.Plain.{Plain}
+use Rattle.hm_history.specs.Memory.Sequences.{Sequences, Interval}
 use Rattle.hm_race_states.specs.SeqBy.{seq_by}
 use Rattle.hm_race_states.specs.Small.{kept_seqs}
 use Rattle.hm_race_states.specs.Spaces.{spaces_in}

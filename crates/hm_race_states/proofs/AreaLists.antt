@@ -4,8 +4,8 @@ use Rattle.std.proofs.lemmas.List.{map-set, length-map, get_or-map}
 use Rattle.std.proofs.lemmas.Bool.Decides.{nat_tests}
 use Rattle.std.proofs.Math.Path.{fun_ext}
 use Rattle.hm_base.specs.declared.area.Area.{Area}
-use Rattle.hm_history.specs.Words.{with_at}
-use Rattle.hm_history.specs.Plain.{Plain, plain_start}
+use Rattle.hm_history.specs.Memory.Words.{with_at}
+use Rattle.hm_history.specs.Memory.Plain.{Plain, plain_start}
 use Rattle.hm_folds.proofs.Writes.{shown, set_at}
 use Rattle.hm_folds.proofs.SeqSteps.{all_alike}
 use Rattle.hm_race_states.specs.Spaces.{bare}

@@ -1,10 +1,10 @@
 -- What is asked of places by parts of them.
 use Rattle.std.proofs.Common.{◌≡◌, ℕ, zero, suc, ◌+◌, [], ◌∷◌, ◌++◌, refl, ap, ◌∙◌, arith}
-use Rattle.hm_history.specs.Words.{bytes_from}
+use Rattle.hm_history.specs.Memory.Words.{bytes_from}
 use Rattle.hm_base.specs.Program.{Program}
 use Rattle.hm_base.specs.declared.PoolId.{PoolId}
 use Rattle.hm_base.specs.declared.PoolId.TheVariants.{System, Device}
-use Rattle.hm_history.specs.Places.{Places, places_start, lowest_free}
+use Rattle.hm_history.specs.Memory.Places.{Places, places_start, lowest_free}
 
 -- the lowest free frame depends on held frames and withdrawn devices alone
 pub free_same : (c : Program) (s : Places) (pool : PoolId) → lowest_free c (record places_start { held = s.held; withdrawn = s.withdrawn }) pool ≡ lowest_free c s pool

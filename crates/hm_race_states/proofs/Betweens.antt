@@ -1,7 +1,7 @@
 -- What entries write of small sequences.
 use Rattle.std.proofs.Common.{◌≡◌, ℕ, ◌<◌, Option, None, List, length, slice_set, refl, ap, ◌∙◌}
-use Rattle.hm_history.specs.Words.{with_at}
-use Rattle.hm_history.specs.Sequences.{Sequences, Interval}
+use Rattle.hm_history.specs.Memory.Words.{with_at}
+use Rattle.hm_history.specs.Memory.Sequences.{Sequences, Interval}
 use Rattle.hm_folds.specs.declared.intervals.KeptInterval.{KeptInterval}
 use Rattle.hm_folds.specs.Kept.{interval_of, interval_at}
 use Rattle.hm_folds.proofs.SeqSteps.{same_state}

@@ -1,13 +1,13 @@
 -- How far actors are, without positions and absolute sequences.
 use Rattle.std.proofs.Common.{◌≡◌, ℕ, Option, Some, None, List, [], ◌∷◌, map, refl, sym, ap, ◌∙◌, subst}
 use Rattle.hm_base.specs.Program.{Program}
-use Rattle.hm_history.specs.Sequences.{Sequences, interval_seq}
-use Rattle.hm_history.specs.Going.{Going, op_at}
+use Rattle.hm_history.specs.Memory.Sequences.{Sequences, interval_seq}
+use Rattle.hm_history.specs.Kernel.Going.{Going, op_at}
 use Rattle.hm_history.specs.declared.phases.Touch.{Touch}
 use Rattle.hm_history.specs.declared.phases.Touch.TheVariants.{Cpu, Walk, Sole}
 use Rattle.hm_history.specs.declared.phases.Phase.{Phase}
-use Rattle.hm_races.specs.Positions.{forget_touch, forget_option, forget_phase, forget_stack, forget_going}
-use Rattle.hm_races.specs.Numbers.{small_sequences, small_touch, small_option, small_phase, small_stack, small_going, mirror_of}
+use Rattle.hm_race_laws.specs.Positions.{forget_touch, forget_option, forget_phase, forget_stack, forget_going}
+use Rattle.hm_race_laws.specs.Numbers.{small_sequences, small_touch, small_option, small_phase, small_stack, small_going, mirror_of}
 use Rattle.hm_race_states.specs.Blurs.{blurred_touch, blurred_option, blurred_phase}
 use Rattle.hm_race_states.specs.Small.{unguarded}
 use Rattle.hm_race_states.specs.Tasks.{going_in}

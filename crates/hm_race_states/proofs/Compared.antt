@@ -1,13 +1,13 @@
 -- What keys of one form have alike.
 use Rattle.std.proofs.Common.{◌≡◌, ℕ, Bool, false, List, Option, ap}
 use Rattle.hm_base.specs.declared.Place.{Place}
-use Rattle.hm_history.specs.Going.{Going}
-use Rattle.hm_history.specs.Places.{TableEntry}
-use Rattle.hm_history.specs.Plain.{Plain, MirrorState, plain_start}
-use Rattle.hm_history.specs.Sequences.{Sequences}
+use Rattle.hm_history.specs.Kernel.Going.{Going}
+use Rattle.hm_history.specs.Memory.Places.{TableEntry}
+use Rattle.hm_history.specs.Memory.Plain.{Plain, MirrorState, plain_start}
+use Rattle.hm_history.specs.Memory.Sequences.{Sequences}
 use Rattle.hm_history.specs.declared.Kind.{Kind}
 use Rattle.hm_history.specs.declared.locks.MapLock.{MapLock}
-use Rattle.hm_races.specs.Outcomes.{Point}
+use Rattle.hm_race_laws.specs.Outcomes.{Point}
 use Rattle.hm_race_states.specs.Alike.{SamePlaces, SameProcesses, SameActors, SameAnswers}
 use Rattle.hm_race_states.specs.Keyed.{form_in}
 use Rattle.hm_race_states.specs.declared.key.StateKey.{StateKey}

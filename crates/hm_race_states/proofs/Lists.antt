@@ -10,9 +10,9 @@ use Rattle.std.specs.declared.rc.Rc.{Rc}
 use Rattle.hm_base.specs.Program.{Program}
 use Rattle.hm_base.specs.declared.ops.Op.{Op}
 use Rattle.hm_actors.proofs.ActorsKept.{op_below}
-use Rattle.hm_history.specs.Words.{with_at}
-use Rattle.hm_history.specs.Sequences.{Sequences}
-use Rattle.hm_history.specs.Going.{Going, first_stack, going_from, op_at}
+use Rattle.hm_history.specs.Memory.Words.{with_at}
+use Rattle.hm_history.specs.Memory.Sequences.{Sequences}
+use Rattle.hm_history.specs.Kernel.Going.{Going, first_stack, going_from, op_at}
 use Rattle.hm_race_states.specs.Tasks.{going_in}
 use Rattle.hm_race_states.specs.States.{going_at, goings_in}
 use Rattle.hm_race_states.specs.Goings.{blurred_goings, goings_with}

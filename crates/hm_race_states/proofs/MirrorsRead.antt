@@ -1,7 +1,7 @@
 -- Mirrors that are read alike have the same items.
 use Rattle.std.proofs.Common.{◌≡◌, ℕ, zero, suc, List, Option, Some, None, refl, sym, ap, ◌∙◌}
-use Rattle.hm_history.specs.Plain.{MirrorState, Attachment}
-use Rattle.hm_history.specs.Plain as stage
+use Rattle.hm_history.specs.Memory.Plain.{MirrorState, Attachment}
+use Rattle.hm_history.specs.Memory.Plain as stage
 use Rattle.hm_race_keys.specs.Sparse.{found}
 use Rattle.hm_race_keys.specs.declared.sparse.Item.{Item}
 use Rattle.hm_race_states.specs.Mirrors.{attachment_of, mirror_of, mirrors_in, AreMirrors}

@@ -6,21 +6,21 @@ use Rattle.hm_base.specs.Pages.{covers}
 use Rattle.hm_base.specs.Program.{Program}
 use Rattle.hm_base.specs.declared.Frame.{Frame}
 use Rattle.hm_base.specs.declared.Place.{Place}
-use Rattle.hm_history.specs.Contents.{zeros}
-use Rattle.hm_history.specs.Plain.{Plain, MirrorState, plain_start, plain_next, owner, written_for}
-use Rattle.hm_history.specs.Places.{Places, TableEntry, places_next}
-use Rattle.hm_history.specs.Sequences.{Sequences, sequences_start, sequences_next}
-use Rattle.hm_history.specs.Locks.{Locks, locks_start, map_next, frame_next, frame_placed, left_behind, orphan, with_lock}
-use Rattle.hm_history.specs.Words.{names}
+use Rattle.hm_history.specs.Memory.Contents.{zeros}
+use Rattle.hm_history.specs.Memory.Plain.{Plain, MirrorState, plain_start, plain_next, owner, written_for}
+use Rattle.hm_history.specs.Memory.Places.{Places, TableEntry, places_next}
+use Rattle.hm_history.specs.Memory.Sequences.{Sequences, sequences_start, sequences_next}
+use Rattle.hm_history.specs.Memory.Locks.{Locks, locks_start, map_next, frame_next, frame_placed, left_behind, orphan, with_lock}
+use Rattle.hm_history.specs.Memory.Words.{names}
 use Rattle.hm_base.specs.declared.ops.Op.{Op}
-use Rattle.hm_history.specs.Going.{State, Going, first_stack, op_at, going_from, going_next, state_start, state_next}
+use Rattle.hm_history.specs.Kernel.Going.{State, Going, first_stack, op_at, going_from, going_next, state_start, state_next}
 use Rattle.hm_history.specs.declared.Who.{Who}
 use Rattle.hm_history.specs.declared.Kind.{Kind}
 use Rattle.hm_history.specs.declared.Entry.{Entry}
 use Rattle.hm_history.specs.declared.locks.MapLock.{MapLock}
-use Rattle.hm_races.specs.Positions.{placeless, forget_going, forget_stack}
-use Rattle.hm_races.specs.Numbers.{mirror_of, small_going, small_stack}
-use Rattle.hm_races.specs.Blur.{tidied, unlisted}
+use Rattle.hm_race_laws.specs.Positions.{placeless, forget_going, forget_stack}
+use Rattle.hm_race_laws.specs.Numbers.{mirror_of, small_going, small_stack}
+use Rattle.hm_race_laws.specs.Blur.{tidied, unlisted}
 use Rattle.hm_race_keys.specs.Arrays.{flag_in, lock_in}
 use Rattle.hm_race_keys.specs.FrameTables.{held_in, lockers_in}
 use Rattle.hm_race_keys.specs.PagePlaces.{places_in, places_of}

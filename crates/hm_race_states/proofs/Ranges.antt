@@ -4,7 +4,7 @@ use Rattle.std.specs.Prelude.{IsTrue}
 use Rattle.std.proofs.lemmas.Bool.{and_parts}
 use Rattle.hm_base.specs.Program.{Program, IsScript, op_in_range, op_fits}
 use Rattle.hm_base.specs.declared.ops.Op.{Op}
-use Rattle.hm_history.specs.Going.{op_at}
+use Rattle.hm_history.specs.Kernel.Going.{op_at}
 use Rattle.hm_laws.proofs.Histories.Sound.{small}
 
 in_range : (n : ℕ) (o : Op) → op_fits n o ≡ true → IsTrue (op_in_range o)

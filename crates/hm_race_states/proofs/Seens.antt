@@ -4,9 +4,9 @@ use Rattle.hm_base.specs.Program.{Program}
 use Rattle.hm_base.specs.declared.Frame.{Frame}
 use Rattle.hm_base.specs.declared.Place.{Place}
 use Rattle.hm_base.specs.declared.ops.Op.{Op}
-use Rattle.hm_history.specs.After.{After}
-use Rattle.hm_history.specs.Locks.{locks_start, orphan}
-use Rattle.hm_history.specs.Going.{Going, State, op_at, going_seen, going_top, going_next, seen_at, seen_overlap, seen_place, coming, coming_page}
+use Rattle.hm_history.specs.Memory.After.{After}
+use Rattle.hm_history.specs.Memory.Locks.{locks_start, orphan}
+use Rattle.hm_history.specs.Kernel.Going.{Going, State, op_at, going_seen, going_top, going_next, seen_at, seen_overlap, seen_place, coming, coming_page}
 use Rattle.hm_history.specs.declared.Kind.{Kind}
 use Rattle.hm_history.specs.declared.Entry.{Entry}
 use Rattle.hm_history.specs.declared.phases.Migrating.{Migrating}

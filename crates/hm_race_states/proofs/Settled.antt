@@ -3,13 +3,13 @@ use Rattle.std.proofs.Common.{◌≡◌, ℕ, Bool, false, Option, None, List, [
 use Rattle.std.proofs.lemmas.Bool.Decides.{nat_tests}
 use Rattle.hm_base.specs.Pages.{Pages}
 use Rattle.std.proofs.Math.Path.{fun_ext}
-use Rattle.hm_history.specs.Sequences.{Sequences, is_above, seq_started, some_overlap, sequences_start}
+use Rattle.hm_history.specs.Memory.Sequences.{Sequences, is_above, seq_started, some_overlap, sequences_start}
 use Rattle.hm_folds.specs.declared.intervals.KeptInterval.{KeptInterval}
 use Rattle.hm_folds.proofs.SeqSteps.{same_state, all_alike}
 use Rattle.hm_race_states.specs.SeqBy.{seq_by}
 use Rattle.hm_race_states.specs.Small.{kept_seqs, settled}
 use Rattle.hm_race_states.specs.declared.small.SmallSeqs.{SmallSeqs}
-use Rattle.hm_races.specs.Numbers.{small, small_interval}
+use Rattle.hm_race_laws.specs.Numbers.{small, small_interval}
 use Rattle.hm_folds.specs.Kept.{interval_at}
 use Rattle.std.specs.Prelude.{slice_index_or}
 

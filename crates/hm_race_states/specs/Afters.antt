@@ -2,9 +2,9 @@
 use Rattle.std.specs.Prelude.{◌≡◌, ℕ, ◌≤◌, Option, Some, List, ◌∷◌, length}
 use Rattle.hm_base.specs.Program.{Program}
 use Rattle.hm_base.specs.declared.ops.Op.{Op}
-use Rattle.hm_history.specs.Plain.{MirrorState, plain_start, plain_next}
-use Rattle.hm_history.specs.Stacks.{stack_after}
-use Rattle.hm_history.specs.Going.{Going, State, op_at}
+use Rattle.hm_history.specs.Memory.Plain.{MirrorState, plain_start, plain_next}
+use Rattle.hm_history.specs.Kernel.Stacks.{stack_after}
+use Rattle.hm_history.specs.Kernel.Going.{Going, State, op_at}
 use Rattle.hm_history.specs.declared.Kind.{Kind}
 use Rattle.hm_history.specs.declared.Entry.{Entry}
 use Rattle.hm_history.specs.declared.phases.Seen.{Seen}

@@ -1,11 +1,11 @@
 -- How far actors are after an entry.
 use Rattle.std.specs.Prelude.{ℕ, List}
 use Rattle.hm_base.specs.Program.{Program}
-use Rattle.hm_history.specs.Words.{with_at}
-use Rattle.hm_history.specs.Sequences.{Sequences}
-use Rattle.hm_history.specs.Going.{Going}
-use Rattle.hm_races.specs.Positions.{forget_going}
-use Rattle.hm_races.specs.Numbers.{small_going}
+use Rattle.hm_history.specs.Memory.Words.{with_at}
+use Rattle.hm_history.specs.Memory.Sequences.{Sequences}
+use Rattle.hm_history.specs.Kernel.Going.{Going}
+use Rattle.hm_race_laws.specs.Positions.{forget_going}
+use Rattle.hm_race_laws.specs.Numbers.{small_going}
 use Rattle.hm_race_states.specs.States.{goings_in}
 use Rattle.hm_race_states.specs.declared.tasks.RaceTask.{RaceTask}
 

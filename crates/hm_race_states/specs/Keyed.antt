@@ -1,6 +1,6 @@
 -- The form that a key stands for.
-use Rattle.hm_races.specs.Outcomes.{Point}
-use Rattle.hm_races.specs.Blur.{unlisted}
+use Rattle.hm_race_laws.specs.Outcomes.{Point}
+use Rattle.hm_race_laws.specs.Blur.{unlisted}
 use Rattle.hm_race_keys.specs.Trail.{answers_in}
 use Rattle.hm_race_states.specs.States.{state_in}
 use Rattle.hm_race_states.specs.declared.key.StateKey.{StateKey}

@@ -1,7 +1,7 @@
 -- The mirrors of a state, as contracts see them.
 use Rattle.std.specs.Prelude.{◌≡◌, ℕ, suc, Option, Some, None, List}
-use Rattle.hm_history.specs.Plain.{Plain, MirrorState, Attachment, plain_start}
-use Rattle.hm_history.specs.Plain as stage
+use Rattle.hm_history.specs.Memory.Plain.{Plain, MirrorState, Attachment, plain_start}
+use Rattle.hm_history.specs.Memory.Plain as stage
 use Rattle.hm_race_keys.specs.Sparse.{found, mixed}
 use Rattle.hm_race_keys.specs.declared.sparse.Item.{Item}
 use Rattle.hm_race_states.specs.declared.mirrors.RaceMirror.{RaceMirror}

@@ -3,10 +3,10 @@ use Rattle.std.proofs.Common.{◌≡◌, ℕ, List, Option, [], map, sym, ap, �
 use Rattle.std.proofs.lemmas.List.{ext_get_or}
 use Rattle.std.specs.Rc.{rc_value}
 use Rattle.hm_base.specs.declared.Place.{Place}
-use Rattle.hm_history.specs.Going.{Going}
-use Rattle.hm_history.specs.Places.{TableEntry}
+use Rattle.hm_history.specs.Kernel.Going.{Going}
+use Rattle.hm_history.specs.Memory.Places.{TableEntry}
 use Rattle.hm_history.specs.declared.Kind.{Kind}
-use Rattle.hm_races.specs.Outcomes.{Point}
+use Rattle.hm_race_laws.specs.Outcomes.{Point}
 use Rattle.hm_race_keys.specs.Answers.{mixed_lists}
 use Rattle.hm_race_keys.specs.PagePlaces.{mixed_place}
 use Rattle.hm_race_keys.specs.Sparse.{mixed_items}

@@ -1,7 +1,7 @@
 -- The small sequences that a state keeps, as contracts see them.
 use Rattle.std.specs.Prelude.{false, None, slice_index_or}
-use Rattle.hm_history.specs.Sequences.{Sequences}
-use Rattle.hm_races.specs.Numbers.{small_sequences}
+use Rattle.hm_history.specs.Memory.Sequences.{Sequences}
+use Rattle.hm_race_laws.specs.Numbers.{small_sequences}
 use Rattle.hm_folds.specs.Kept.{interval_at}
 use Rattle.hm_race_states.specs.SeqBy.{seq_by}
 use Rattle.hm_race_states.specs.declared.small.SmallSeqs.{SmallSeqs}

@@ -1,7 +1,7 @@
 -- The processes of a state, and their areas, as contracts see them.
 use Rattle.std.specs.Prelude.{false, [], map, slice_index_or}
 use Rattle.std.specs.Rc.{rc_value}
-use Rattle.hm_history.specs.Plain.{Plain, plain_start}
+use Rattle.hm_history.specs.Memory.Plain.{Plain, plain_start}
 use Rattle.hm_race_states.specs.declared.spaces.RaceSpaces.{RaceSpaces}
 
 -- the plain state that they give, for definitions that read no more of it

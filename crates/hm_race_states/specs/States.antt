@@ -1,8 +1,8 @@
 -- A state of a race, as contracts see it.
 use Rattle.std.specs.Prelude.{ℕ, false, Option, None, Some, List, [], map, slice_get}
 use Rattle.std.specs.Rc.{rc_value}
-use Rattle.hm_history.specs.Contents.{zeros}
-use Rattle.hm_history.specs.Going.{Going, State}
+use Rattle.hm_history.specs.Memory.Contents.{zeros}
+use Rattle.hm_history.specs.Kernel.Going.{Going, State}
 use Rattle.hm_race_keys.specs.Arrays.{flag_in, lock_in}
 use Rattle.hm_race_keys.specs.PagePlaces.{places_in, listed}
 use Rattle.hm_race_keys.specs.FrameTables.{held_in, lockers_in}

@@ -1,8 +1,8 @@
 // The parts of a state after an entry. What the entry does not change is shared.
 ghost use Rattle.std.specs.Prelude.{◌≡◌, is_some, IfOk};
-ghost use Rattle.hm_history.specs.Locks.{locks_start, map_next, orphan};
-ghost use Rattle.hm_history.specs.Plain.{owner, plain_next, written_for};
-ghost use Rattle.hm_races.specs.Outcomes.{answer_of, answers_next};
+ghost use Rattle.hm_history.specs.Memory.Locks.{locks_start, map_next, orphan};
+ghost use Rattle.hm_history.specs.Memory.Plain.{owner, plain_next, written_for};
+ghost use Rattle.hm_race_laws.specs.Outcomes.{answer_of, answers_next};
 ghost use Rattle.hm_race_keys.specs.Arrays.{flag_in, lock_in};
 ghost use Rattle.hm_race_keys.specs.FrameTables.{held_in, lockers_in};
 ghost use Rattle.hm_race_keys.specs.PagePlaces.{places_in, places_of};

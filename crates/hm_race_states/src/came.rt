@@ -1,6 +1,6 @@
 // Sequences just after an entry.
 ghost use Rattle.std.specs.Prelude.{◌≡◌, ℕ, true};
-ghost use Rattle.hm_history.specs.Sequences.{Sequences, interval_seq, sequences_next};
+ghost use Rattle.hm_history.specs.Memory.Sequences.{Sequences, interval_seq, sequences_next};
 ghost use Rattle.hm_race_states.specs.Small.{between_seqs, kept_seqs};
 
 use crate::small::{Between, SmallSeqs};

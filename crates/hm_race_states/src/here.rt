@@ -2,9 +2,9 @@
 ghost use Rattle.std.specs.Prelude.{◌≡◌, ◌==◌, ◌+◌, ◌<◌, ◌≤◌, ◌&&◌, ℕ, if◌then◌else◌, true, None, Some, length, map};
 ghost use Rattle.std.specs.Prelude.{slice_get, option_copied, IfOk};
 ghost use Rattle.std.specs.Rc.{rc_value};
-ghost use Rattle.hm_history.specs.Places.{is_exclusive_by, may_read, may_write};
-ghost use Rattle.hm_history.specs.Words.{bytes_from};
-ghost use Rattle.hm_history.specs.Going.{is_direct, sets_now, concerns};
+ghost use Rattle.hm_history.specs.Memory.Places.{is_exclusive_by, may_read, may_write};
+ghost use Rattle.hm_history.specs.Memory.Words.{bytes_from};
+ghost use Rattle.hm_history.specs.Kernel.Going.{is_direct, sets_now, concerns};
 ghost use Rattle.hm_race_states.specs.Bytes.{bytes_in};
 ghost use Rattle.hm_race_states.specs.Tasks.{going_in};
 ghost use Rattle.hm_race_states.specs.States.{state_in};

@@ -1,5 +1,5 @@
 // The pages with a place that a state lists.
-ghost use Rattle.hm_races.specs.Forms.{ListsPlaces};
+ghost use Rattle.hm_race_laws.specs.Forms.{ListsPlaces};
 
 use crate::state::RaceState;
 

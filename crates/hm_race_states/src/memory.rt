@@ -1,8 +1,8 @@
 // The bytes of the processes.
 ghost use Rattle.std.specs.Prelude.{◌≡◌, ◌==◌, ◌&&◌, ◌*◌, ◌+◌, ◌-◌, ℕ, true, [], nat_le, nat_lt, length, slice_index};
 ghost use Rattle.std.specs.Prelude.{is_some, if◌then◌else◌, IfOk, OnOk};
-ghost use Rattle.hm_history.specs.Words.{with_at};
-ghost use Rattle.hm_history.specs.Plain.{with_bytes, with_zeros};
+ghost use Rattle.hm_history.specs.Memory.Words.{with_at};
+ghost use Rattle.hm_history.specs.Memory.Plain.{with_bytes, with_zeros};
 ghost use Rattle.hm_race_keys.specs.Sparse.{found, mixed_items};
 ghost use Rattle.hm_race_states.specs.Bytes.{bytes_in, mixed_byte};
 

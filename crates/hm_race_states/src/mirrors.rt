@@ -1,9 +1,10 @@
 // The mirrors: each with its device, process and window, and how far it is.
 ghost use Rattle.std.specs.Prelude.{◌≡◌, ℕ, true, [], is_some, IfOk, OnOk, OnErr};
 ghost use Rattle.hm_base.specs.Pages.{Pages, lies_in};
-ghost use Rattle.hm_history.specs.Words.{with_at};
-ghost use Rattle.hm_history.specs.Plain.{Attachment, is_attached, in_window, mirror_proc, mirror_owner, mirror_dev};
-ghost use Rattle.hm_history.specs.Plain.{with_attachment};
+ghost use Rattle.hm_history.specs.Memory.Words.{with_at};
+ghost use Rattle.hm_history.specs.Memory.Plain.{Attachment, is_attached, in_window, mirror_proc, mirror_owner};
+ghost use Rattle.hm_history.specs.Memory.Plain.{mirror_dev};
+ghost use Rattle.hm_history.specs.Memory.Plain.{with_attachment};
 ghost use Rattle.hm_race_keys.specs.Sparse.{mixed_items};
 ghost use Rattle.hm_race_keys.specs.Trail.{mirrors_next};
 ghost use Rattle.hm_race_states.specs.Mirrors.{mirror_of, attachment_of, stage_number, mixed_mirror, mirrors_in};

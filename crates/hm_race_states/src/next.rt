@@ -1,14 +1,14 @@
 // A state after an entry.
 ghost use Rattle.std.specs.Prelude.{◌≡◌, ◌<◌, ◌≤◌, ℕ, length, map, IfOk};
 ghost use Rattle.std.specs.Rc.{rc_value};
-ghost use Rattle.hm_history.specs.Words.{with_at};
-ghost use Rattle.hm_history.specs.Going.{going_next, op_at, state_next};
-ghost use Rattle.hm_races.specs.Blur.{tidied, unlisted};
-ghost use Rattle.hm_races.specs.Positions.{forget_going};
-ghost use Rattle.hm_races.specs.Numbers.{mirror_of, small_going};
+ghost use Rattle.hm_history.specs.Memory.Words.{with_at};
+ghost use Rattle.hm_history.specs.Kernel.Going.{going_next, op_at, state_next};
+ghost use Rattle.hm_race_laws.specs.Blur.{tidied, unlisted};
+ghost use Rattle.hm_race_laws.specs.Positions.{forget_going};
+ghost use Rattle.hm_race_laws.specs.Numbers.{mirror_of, small_going};
 ghost use Rattle.hm_race_states.specs.Afters.{StaysLow};
 ghost use Rattle.hm_race_states.specs.Goings.{blurred_goings, goings_with};
-ghost use Rattle.hm_history.specs.Sequences.{sequences_next};
+ghost use Rattle.hm_history.specs.Memory.Sequences.{sequences_next};
 ghost use Rattle.hm_race_states.specs.Small.{kept_seqs, settled};
 ghost use Rattle.hm_race_states.specs.States.{goings_in, state_in};
 ghost use Rattle.hm_race_states.specs.Tasks.{going_in};

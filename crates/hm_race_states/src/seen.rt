@@ -1,6 +1,7 @@
 // What an actor sees at its entry, just before it.
 ghost use Rattle.std.specs.Prelude.{◌≡◌, Some};
-ghost use Rattle.hm_history.specs.Going.{seen_overlap, seen_place, coming, coming_page, op_at, touch_page, touch_proc};
+ghost use Rattle.hm_history.specs.Kernel.Going.{seen_overlap, seen_place, coming, coming_page, op_at, touch_page};
+ghost use Rattle.hm_history.specs.Kernel.Going.{touch_proc};
 ghost use Rattle.hm_actors.specs.Actors.{IsSeen};
 ghost use Rattle.hm_base.specs.declared.ops.Op.{Op as AnyOp};
 ghost use Rattle.hm_history.specs.declared.phases.Phase.{Phase as AnyPhase};

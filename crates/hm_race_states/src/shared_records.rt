@@ -1,6 +1,6 @@
 // The records of an actor's migration, which states share.
 ghost use Rattle.std.specs.Prelude.{◌≡◌, false, List, Option, [], IfOk};
-ghost use Rattle.hm_history.specs.Going.{recorded, steps_from};
+ghost use Rattle.hm_history.specs.Kernel.Going.{recorded, steps_from};
 ghost use Rattle.hm_history.specs.declared.Kind.{Kind as AnyKind};
 ghost use Rattle.hm_history.specs.declared.phases.Migrating.{Migrating as Record};
 ghost use Rattle.hm_actors.specs.Coming.{come_by};

@@ -3,12 +3,13 @@
 ghost use Rattle.std.specs.Prelude.{◌≡◌, ◌≤◌, ◌+◌, ℕ, true, false, None, nat_le, length, filter, find, slice_index_or};
 ghost use Rattle.std.specs.Prelude.{IfOk};
 ghost use Rattle.hm_base.specs.Pages.{Pages};
-ghost use Rattle.hm_history.specs.Words.{numbers};
-ghost use Rattle.hm_history.specs.Sequences.{is_above, sequences_start, sequences_next, interval_seq, interval_proc};
-ghost use Rattle.hm_history.specs.Sequences.{in_tree, insert_deferred, next_told, seq_started, seq_ended};
-ghost use Rattle.hm_history.specs.Sequences.{interval_inserted, seq_inserted, is_last_end, some_overlap, is_odd};
+ghost use Rattle.hm_history.specs.Memory.Words.{numbers};
+ghost use Rattle.hm_history.specs.Memory.Sequences.{is_above, sequences_start, sequences_next, interval_seq};
+ghost use Rattle.hm_history.specs.Memory.Sequences.{interval_proc};
+ghost use Rattle.hm_history.specs.Memory.Sequences.{in_tree, insert_deferred, next_told, seq_started, seq_ended};
+ghost use Rattle.hm_history.specs.Memory.Sequences.{interval_inserted, seq_inserted, is_last_end, some_overlap, is_odd};
 ghost use Rattle.hm_history.specs.declared.Kind.{Kind as AnyKind};
-ghost use Rattle.hm_races.specs.Numbers.{small_of, small_interval};
+ghost use Rattle.hm_race_laws.specs.Numbers.{small_of, small_interval};
 ghost use Rattle.hm_race_states.specs.SeqBy.{seq_by};
 ghost use Rattle.hm_folds.specs.Kept.{interval_of, interval_at, overlaps_at, stage_of, standing};
 

@@ -1,8 +1,8 @@
 // The state before the first entry.
 ghost use Rattle.std.specs.Prelude.{◌≡◌, ◌≤◌, ℕ, length, map, IfOk};
 ghost use Rattle.std.specs.Rc.{rc_value};
-ghost use Rattle.hm_history.specs.Going.{going_from, state_start};
-ghost use Rattle.hm_races.specs.Blur.{tidied, unlisted};
+ghost use Rattle.hm_history.specs.Kernel.Going.{going_from, state_start};
+ghost use Rattle.hm_race_laws.specs.Blur.{tidied, unlisted};
 ghost use Rattle.hm_race_states.specs.States.{goings_in, state_in};
 
 use crate::memory::RaceBytes;

@@ -1,7 +1,7 @@
 // How far an actor is, and how it goes on.
 ghost use Rattle.std.specs.Prelude.{◌≡◌, ◌+◌, ◌<◌, ◌^◌, ℕ, [], true, map, slice_get, count_by, option_copied, is_none};
 ghost use Rattle.std.specs.Prelude.{IfOk, OnOk};
-ghost use Rattle.hm_history.specs.Going.{going_from, going_seen, op_at, first_stack};
+ghost use Rattle.hm_history.specs.Kernel.Going.{going_from, going_seen, op_at, first_stack};
 ghost use Rattle.hm_actors.specs.Actors.{task_next, task_top, StackFits};
 ghost use Rattle.hm_phases.specs.Items.{phases_of, below_takes_count};
 ghost use Rattle.hm_race_states.specs.Afters.{IsLow};

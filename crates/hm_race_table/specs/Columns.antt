@@ -2,7 +2,7 @@
 use Rattle.std.specs.Prelude.{ℕ, Bool, not, max, List, [], ◌∷◌, length, map, filter, fold}
 use Rattle.std.specs.List.{list_all}
 use Rattle.std.specs.Str.{bytes_eq}
-use Rattle.hm_history.specs.Words.{numbers}
+use Rattle.hm_history.specs.Memory.Words.{numbers}
 use Rattle.hm_race_table.specs.declared.columns.Column.{Column}
 use Rattle.hm_race_table.specs.Answers.{Row, answer_at}
 

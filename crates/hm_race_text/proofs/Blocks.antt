@@ -5,8 +5,8 @@ use Rattle.std.specs.Str.{bytes_eq}
 use Rattle.std.proofs.lemmas.Bool.Decides.{not_from_Decides}
 use Rattle.std.proofs.lemmas.List.{map-append}
 use Rattle.std.proofs.lemmas.Slice.Eq.{bytes_eq-Decides}
-use Rattle.hm_races.specs.Closed.{IsListed, AreDistinct}
-use Rattle.hm_races.proofs.Searching.{listed_left, listed_right, listed_cases, distinct_more}
+use Rattle.hm_race_laws.specs.Closed.{IsListed, AreDistinct}
+use Rattle.hm_race_laws.proofs.Searching.{listed_left, listed_right, listed_cases, distinct_more}
 use Rattle.hm_race_text.specs.Answers.{answer_lines}
 use Rattle.hm_race_text.specs.Text.{Way, block_of, has_lines, with_block}
 use Rattle.hm_race_text.specs.Laws.{IsFound, BlocksAreFound, lines_of, WaysAreShown, NoneTwice}

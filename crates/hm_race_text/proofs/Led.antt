@@ -3,16 +3,16 @@ use Rattle.std.proofs.Common.{◌≡◌, ℕ, ◌<◌, ◌≤◌, Bool, true, fa
 use Rattle.std.proofs.lemmas.Bool.Decides.{nat_tests}
 use Rattle.std.proofs.lemmas.List.Sums.{fold-append}
 use Rattle.hm_base.specs.Program.{Program}
-use Rattle.hm_history.specs.Due.{due, due_in}
-use Rattle.hm_history.specs.Going.{State, state_of, state_next, state_of-snoc}
+use Rattle.hm_history.specs.Kernel.Due.{due, due_in}
+use Rattle.hm_history.specs.Kernel.Going.{State, state_of, state_next, state_of-snoc}
 use Rattle.hm_history.specs.Laws.{DueFrom}
-use Rattle.hm_history.specs.Run.{has_room, added}
+use Rattle.hm_history.specs.Kernel.Run.{has_room, added}
 use Rattle.hm_history.specs.declared.Entry.{Entry}
 use Rattle.hm_history.specs.declared.Progress.{Progress}
 use Rattle.hm_history.proofs.RunLemmas.{due_own, DueFrom-append}
-use Rattle.hm_races.specs.Outcomes.{Point, point_next, point_from, point_turned, point_turn, answers_of, answers_next, no_answers, raced}
-use Rattle.hm_races.proofs.Turned.{lengths}
+use Rattle.hm_race_laws.specs.Outcomes.{Point, point_next, point_from, point_turned, point_turn, answers_of, answers_next, no_answers, raced}
 use Rattle.hm_race_text.specs.Laws.{PointsAreLed}
+use Rattle.hm_history.proofs.Going.{lengths}
 
 -- a point's history has so many entries
 abbrev size : Point → ℕ

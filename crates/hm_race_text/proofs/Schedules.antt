@@ -7,10 +7,10 @@ use Rattle.std.proofs.lemmas.Bool.{and_parts, eqb-true}
 use Rattle.std.proofs.lemmas.Bool.Decides.{nat_tests}
 use Rattle.hm_base.specs.Program.{Program, schedule_fits}
 use Rattle.hm_base.specs.declared.ops.ScheduleLine.{ScheduleLine}
-use Rattle.hm_history.specs.Legal.{MayFollow, LegalFrom}
-use Rattle.hm_history.specs.Run.{turn, turns, line_run, run}
+use Rattle.hm_history.specs.Kernel.Legal.{MayFollow, LegalFrom}
+use Rattle.hm_history.specs.Kernel.Run.{turn, turns, line_run, run}
 use Rattle.hm_history.specs.declared.Entry.{Entry}
-use Rattle.hm_races.specs.Outcomes.{raced}
+use Rattle.hm_race_laws.specs.Outcomes.{raced}
 use Rattle.hm_script.specs.Built.{has_drain}
 use Rattle.hm_race_text.specs.Schedule.{packed_from, packed, with_turns}
 use Rattle.hm_race_text.specs.Laws.{TurnsLead, TurnsStand, SameLegal}
@@ -106,24 +106,28 @@ turns_stand c bs s m = record {
 follows_one : (c : Program) (bs : List ℕ) (h : List Entry) (e : Entry) → MayFollow (with_turns c bs) h e → MayFollow c h e
 follows_one c bs h e f = record {
   is_due = f.is_due;
-  answers = f.answers;
-  places = f.places;
-  frames = f.frames;
-  sequences = f.sequences;
-  untold = f.untold;
-  guarded = f.guarded;
+  rules = record {
+    answers = f.rules.answers;
+    places = f.rules.places;
+    frames = f.rules.frames;
+    sequences = f.rules.sequences;
+    untold = f.rules.untold;
+    guarded = f.rules.guarded;
+  };
   kept = f.kept;
 }
 
 follows_two : (c : Program) (bs : List ℕ) (h : List Entry) (e : Entry) → MayFollow c h e → MayFollow (with_turns c bs) h e
 follows_two c bs h e f = record {
   is_due = f.is_due;
-  answers = f.answers;
-  places = f.places;
-  frames = f.frames;
-  sequences = f.sequences;
-  untold = f.untold;
-  guarded = f.guarded;
+  rules = record {
+    answers = f.rules.answers;
+    places = f.rules.places;
+    frames = f.rules.frames;
+    sequences = f.rules.sequences;
+    untold = f.rules.untold;
+    guarded = f.rules.guarded;
+  };
   kept = f.kept;
 }
 

@@ -1,7 +1,7 @@
 -- Texts that grow by one block, or by one actor's lines.
 use Rattle.std.proofs.Common.{◌≡◌, ℕ, zero, suc, ◌+◌, ◌<◌, ◌≤◌, List, [], ◌∷◌, ◌++◌, map, length, get_or, take, refl, sym, ap, ◌∙◌, arith, append_assoc, append-nil, add-zero}
 use Rattle.std.proofs.lemmas.List.{take_more, length-take-le, map-append, length-map}
-use Rattle.hm_history.specs.Words.{numbers}
+use Rattle.hm_history.specs.Memory.Words.{numbers}
 use Rattle.hm_history.specs.declared.Kind.{Kind}
 use Rattle.hm_history.proofs.Numbers.{numbers_append}
 use Rattle.hm_race_text.specs.Answers.{actor_lines, lines_from, answer_lines}

@@ -2,14 +2,14 @@
 use Rattle.std.specs.Prelude.{◌≡◌, ◌≤◌, ℕ, ◌↔◌, true, false, length, nat_lt, List, ◌++◌, map}
 use Rattle.std.specs.List.{list_all}
 use Rattle.hm_base.specs.Program.{Program, IsScript, run_lines}
-use Rattle.hm_history.specs.Due.{due}
-use Rattle.hm_history.specs.Going.{state_of}
+use Rattle.hm_history.specs.Kernel.Due.{due}
+use Rattle.hm_history.specs.Kernel.Going.{state_of}
 use Rattle.hm_history.specs.Laws.{DueFrom}
-use Rattle.hm_history.specs.Legal.{Legal}
-use Rattle.hm_history.specs.Run.{run}
+use Rattle.hm_history.specs.Kernel.Legal.{Legal}
+use Rattle.hm_history.specs.Kernel.Run.{run}
 use Rattle.hm_history.specs.declared.Entry.{Entry}
-use Rattle.hm_races.specs.Outcomes.{Point, point_at, answers_of, raced}
-use Rattle.hm_races.specs.Closed.{IsListed, AreDistinct}
+use Rattle.hm_race_laws.specs.Outcomes.{Point, point_at, answers_of, raced}
+use Rattle.hm_race_laws.specs.Closed.{IsListed, AreDistinct}
 use Rattle.hm_script.specs.Built.{has_drain}
 use Rattle.hm_script.specs.Spelling.{text}
 use Rattle.hm_race_text.specs.Answers.{answer_lines}

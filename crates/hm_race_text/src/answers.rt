@@ -1,6 +1,6 @@
 // The lines of an outcome's answers.
 ghost use Rattle.std.specs.Prelude.{◌≡◌, ◌+◌, ◌≤◌, ◌∷◌, ◌++◌, length, map, IfOk, OnOk};
-ghost use Rattle.hm_history.specs.Words.{numbers};
+ghost use Rattle.hm_history.specs.Memory.Words.{numbers};
 ghost use Rattle.hm_report.specs.Line.{spaced};
 ghost use Rattle.hm_race_keys.specs.Trail.{answers_in};
 ghost use Rattle.hm_race_text.specs.Answers.{answer_words, answer_line, actor_lines, answer_lines};

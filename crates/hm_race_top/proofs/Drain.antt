@@ -6,19 +6,19 @@ use Rattle.std.proofs.lemmas.Bool.{and_parts, cases_eq}
 use Rattle.hm_base.specs.Program.{Program, IsScript, schedule_fits}
 use Rattle.hm_base.specs.declared.ops.Op.{Op}
 use Rattle.hm_base.specs.declared.ops.ScheduleLine.{ScheduleLine}
-use Rattle.hm_history.specs.After.{After}
-use Rattle.hm_history.specs.Due.{due, due_top}
-use Rattle.hm_history.specs.Going.{state_of}
+use Rattle.hm_history.specs.Memory.After.{After}
+use Rattle.hm_history.specs.Kernel.Due.{due, due_top}
+use Rattle.hm_history.specs.Kernel.Going.{state_of}
 use Rattle.hm_history.specs.Laws.{DueFrom}
-use Rattle.hm_history.specs.Run.{added, turn, is_idle, line_run, run}
-use Rattle.hm_history.specs.Words.{numbers}
+use Rattle.hm_history.specs.Kernel.Run.{added, turn, is_idle, line_run, run}
+use Rattle.hm_history.specs.Memory.Words.{numbers}
 use Rattle.hm_history.specs.declared.Entry.{Entry}
 use Rattle.hm_history.specs.declared.Progress.{Progress}
 use Rattle.hm_history.specs.declared.phases.Migrating.{Migrating}
 use Rattle.hm_history.specs.declared.phases.Phase.{Phase}
 use Rattle.hm_history.proofs.RunLemmas.{line_due}
 use Rattle.hm_laws.specs.NeverStuck.{NeverStuck}
-use Rattle.hm_races.specs.Outcomes.{raced}
+use Rattle.hm_race_laws.specs.Outcomes.{raced}
 use Rattle.hm_script.specs.Built.{has_drain}
 use Rattle.hm_laws.proofs.Rounds.{Ends, below, drains_end}
 use Rattle.hm_race_top.specs.Laws.{DrainIsLast}

@@ -2,10 +2,10 @@
 use Rattle.std.proofs.Common.{◌≡◌, ℕ, ◌≤◌, true, false, List, [], ◌∷◌, ◌++◌, length, refl, sym, ap, ◌∙◌, subst, append_assoc, append-nil}
 use Rattle.hm_base.specs.Program.{Program, IsScript, run_lines}
 use Rattle.hm_history.specs.Laws.{DueFrom, RunsAreDue}
-use Rattle.hm_history.specs.Run.{run}
+use Rattle.hm_history.specs.Kernel.Run.{run}
 use Rattle.hm_history.specs.declared.Entry.{Entry}
 use Rattle.hm_laws.specs.Laws.{HistoryIsLegal}
-use Rattle.hm_races.specs.Outcomes.{Point, point_at, outcome, ended_in, raced}
+use Rattle.hm_race_laws.specs.Outcomes.{Point, point_at, outcome, ended_in, raced}
 use Rattle.hm_race_search.specs.Known.{KnownValue, IsKnown}
 use Rattle.hm_race_text.specs.Laws.{TurnsLead, TurnsStand, SameLegal, LeadsTo, PointsAreLed, BlocksAreFound}
 use Rattle.hm_race_text.specs.Schedule.{with_turns}

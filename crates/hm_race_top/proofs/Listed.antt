@@ -1,8 +1,8 @@
 -- The outcomes of a race, as conditions see them.
 use Rattle.std.proofs.Common.{◌≡◌, ℕ, ◌++◌, inl, inr, List, [], ◌∷◌, refl, sym, ap, ◌∙◌}
 use Rattle.hm_base.specs.Program.{Program}
-use Rattle.hm_history.specs.Run.{run}
-use Rattle.hm_races.specs.Closed.{IsListed}
+use Rattle.hm_history.specs.Kernel.Run.{run}
+use Rattle.hm_race_laws.specs.Closed.{IsListed}
 use Rattle.hm_conditions.specs.Laws.{IsReal, SameEnd}
 use Rattle.hm_race_text.specs.Answers.{answer_lines}
 use Rattle.hm_race_text.specs.Laws.{lines_of}

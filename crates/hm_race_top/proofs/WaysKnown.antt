@@ -4,8 +4,8 @@ use Rattle.std.specs.Prelude.{if◌then◌else◌}
 use Rattle.std.proofs.lemmas.List.{take_more}
 use Rattle.std.proofs.lemmas.List.Sums.{fold-append}
 use Rattle.hm_history.specs.declared.Kind.{Kind}
-use Rattle.hm_races.specs.Closed.{IsListed}
-use Rattle.hm_races.specs.Outcomes.{outcome, answers_of}
+use Rattle.hm_race_laws.specs.Closed.{IsListed}
+use Rattle.hm_race_laws.specs.Outcomes.{outcome, answers_of}
 use Rattle.hm_race_search.specs.Known.{KnownValue, outcomes_of}
 use Rattle.hm_race_text.specs.Answers.{answer_lines}
 use Rattle.hm_race_text.specs.Laws.{lines_of, WaysAreShown}

@@ -2,8 +2,8 @@
 use Rattle.std.specs.Prelude.{ℕ, ◌≤◌, Bool, List, map}
 use Rattle.hm_conditions.specs.Rulings.{settles}
 use Rattle.hm_conditions.specs.declared.question.Question.{Question}
-use Rattle.hm_history.specs.Words.{numbers}
-use Rattle.hm_races.specs.Outcomes.{Point}
+use Rattle.hm_history.specs.Memory.Words.{numbers}
+use Rattle.hm_race_laws.specs.Outcomes.{Point}
 use Rattle.hm_race_text.specs.Answers.{answer_lines}
 
 -- the outcome of a state of a race with this many actors settles the conditions

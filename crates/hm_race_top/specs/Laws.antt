@@ -1,8 +1,8 @@
 -- The laws, as statements.
 use Rattle.std.specs.Prelude.{◌≡◌, ℕ, true, false, List, map}
 use Rattle.hm_base.specs.Program.{Program, IsScript}
-use Rattle.hm_history.specs.Run.{run}
-use Rattle.hm_races.specs.Outcomes.{raced}
+use Rattle.hm_history.specs.Kernel.Run.{run}
+use Rattle.hm_race_laws.specs.Outcomes.{raced}
 use Rattle.hm_race_search.specs.Known.{KnownValue, IsComplete, AreKnown, outcomes_of}
 use Rattle.hm_conditions.specs.Laws.{AllListed, AllReal}
 use Rattle.hm_race_text.specs.Laws.{lines_of}

@@ -2,12 +2,12 @@
 use Rattle.std.specs.Prelude.{◌≡◌, ◌≤◌, ℕ, true, if◌then◌else◌, length, List, [], ◌∷◌, ◌++◌, map}
 use Rattle.hm_base.specs.Program.{Program, IsScript, run_lines}
 use Rattle.hm_history.specs.Laws.{DueFrom}
-use Rattle.hm_history.specs.Legal.{Legal}
-use Rattle.hm_history.specs.Run.{run}
-use Rattle.hm_history.specs.Words.{numbers}
+use Rattle.hm_history.specs.Kernel.Legal.{Legal}
+use Rattle.hm_history.specs.Kernel.Run.{run}
+use Rattle.hm_history.specs.Memory.Words.{numbers}
 use Rattle.hm_history.specs.declared.Entry.{Entry}
-use Rattle.hm_races.specs.Closed.{IsListed}
-use Rattle.hm_races.specs.Outcomes.{Point, outcome, answers_of, ended}
+use Rattle.hm_race_laws.specs.Closed.{IsListed}
+use Rattle.hm_race_laws.specs.Outcomes.{Point, outcome, answers_of, ended}
 use Rattle.hm_race_search.specs.Known.{KnownValue, turns_at}
 use Rattle.hm_race_text.specs.Answers.{answer_lines}
 use Rattle.hm_race_text.specs.Laws.{lines_of}

@@ -3,7 +3,7 @@ use Rattle.std.proofs.Common.{◌≡◌, ℕ, ◌+◌, Bool, true, false, ltb, c
 use Rattle.std.proofs.lemmas.Option.{same_Some}
 use Rattle.hm_base.specs.Pages.{Pages}
 use Rattle.hm_history.specs.declared.Kind.{Kind}
-use Rattle.hm_history.specs.Due.{within}
+use Rattle.hm_history.specs.Kernel.Due.{within}
 use Rattle.hm_reads.specs.Cursors.{page_before}
 
 pub within_none : (r : Pages) (x : Option ℕ) (f : ℕ → Kind) (end : ℕ) → end ≡ r.first + r.count → None ≡ page_before end x → None ≡ within r x f

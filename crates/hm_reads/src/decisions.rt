@@ -2,9 +2,9 @@
 ghost use Rattle.std.specs.Prelude.{◌≡◌, IsTrue, IfOk};
 ghost use Rattle.hm_base.specs.Pages.{one_page, all_pages};
 ghost use Rattle.hm_base.specs.Program.{op_in_range};
-ghost use Rattle.hm_history.specs.Plain.{mirror_proc};
-ghost use Rattle.hm_history.specs.Operation.{op_who, op_piece, op_bytes};
-ghost use Rattle.hm_history.specs.Due as spec;
+ghost use Rattle.hm_history.specs.Memory.Plain.{mirror_proc};
+ghost use Rattle.hm_history.specs.Kernel.Operation.{op_who, op_piece, op_bytes};
+ghost use Rattle.hm_history.specs.Kernel.Due as spec;
 ghost use Rattle.hm_history.specs.declared.Kind.{Kind};
 ghost use Rattle.hm_history.specs.declared.phases.Next.TheVariants.{Do};
 

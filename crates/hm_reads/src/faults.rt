@@ -2,7 +2,7 @@
 // mm/memory.c).
 ghost use Rattle.std.specs.Prelude.{◌≡◌, IsTrue};
 ghost use Rattle.hm_base.specs.Program.{op_in_range};
-ghost use Rattle.hm_history.specs.Due as spec;
+ghost use Rattle.hm_history.specs.Kernel.Due as spec;
 
 use crate::Reads;
 use crate::decisions::{fails, start_page, take_or};

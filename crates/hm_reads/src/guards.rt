@@ -1,6 +1,6 @@
 // A guard after its start: mirrors are told, the body is done, the guard ends.
 ghost use Rattle.std.specs.Prelude.{◌≡◌, ◌+◌, nat_lt};
-ghost use Rattle.hm_history.specs.Due as spec;
+ghost use Rattle.hm_history.specs.Kernel.Due as spec;
 
 use crate::Reads;
 use hm_base::{MirrorId, Proc, Span};

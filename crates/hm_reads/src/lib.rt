@@ -1,16 +1,20 @@
 // What a step asks of a world, before it is known how the world keeps its state.
 #![tactic(auto)]
 
-ghost use Rattle.std.specs.Prelude.{◌≡◌, ℕ, ◌+◌, ◌%◌, ◌≤◌, true, false, count_by, is_some, option_copied, slice_get, IfOk, IsTrue};
+ghost use Rattle.std.specs.Prelude.{◌≡◌, ℕ, ◌+◌, ◌%◌, ◌≤◌, true, false, count_by, is_some, option_copied, slice_get};
+ghost use Rattle.std.specs.Prelude.{IfOk, IsTrue};
 ghost use Rattle.hm_base.specs.Areas.{meets};
 ghost use Rattle.hm_base.specs.Program.{Program};
-ghost use Rattle.hm_history.specs.Words.{page_of, writable};
-ghost use Rattle.hm_history.specs.Plain.{rights_of, area_refusal, is_attached, in_window, mirror_proc, mirror_dev, plain_bytes};
-ghost use Rattle.hm_history.specs.Places.{uses, is_used, next_page, lowest_direct, lowest_moving, lowest_named, lowest_free, held_from, cpu_reads};
-ghost use Rattle.hm_history.specs.Sequences.{interval_seq, in_tree, insert_deferred, next_told, seq_started, seq_ended, interval_inserted};
-ghost use Rattle.hm_history.specs.Locks.{writer, lowest_other, other_locker};
-ghost use Rattle.hm_history.specs.Going.{State, op_at, coming};
-ghost use Rattle.hm_history.specs.Due.{is_usable, has_exclusive};
+ghost use Rattle.hm_history.specs.Memory.Words.{page_of, writable};
+ghost use Rattle.hm_history.specs.Memory.Plain.{rights_of, area_refusal, is_attached, in_window, mirror_proc};
+ghost use Rattle.hm_history.specs.Memory.Plain.{mirror_dev, plain_bytes};
+ghost use Rattle.hm_history.specs.Memory.Places.{uses, is_used, next_page, lowest_direct, lowest_moving, lowest_named};
+ghost use Rattle.hm_history.specs.Memory.Places.{lowest_free, held_from, cpu_reads};
+ghost use Rattle.hm_history.specs.Memory.Sequences.{interval_seq, in_tree, insert_deferred, next_told, seq_started};
+ghost use Rattle.hm_history.specs.Memory.Sequences.{seq_ended, interval_inserted};
+ghost use Rattle.hm_history.specs.Memory.Locks.{writer, lowest_other, other_locker};
+ghost use Rattle.hm_history.specs.Kernel.Going.{State, op_at, coming};
+ghost use Rattle.hm_history.specs.Kernel.Due.{is_usable, has_exclusive};
 ghost use Rattle.hm_reads.specs.Cursors.{page_before};
 ghost use Rattle.hm_reads.specs.Ranges.{top_in_range};
 ghost use Rattle.hm_history.specs.declared.Who as who;

@@ -1,11 +1,11 @@
 // What an operation is about: whose access, its pieces, its bytes.
 ghost use Rattle.std.specs.Prelude.{◌≡◌, ℕ, ◌+◌, ◌%◌, ◌^◌, ◌<◌, ◌≤◌, IsTrue, IfOk, length};
 ghost use Rattle.hm_base.specs.Program.{op_in_range, access_in_range};
-ghost use Rattle.hm_history.specs.Words.{pieces, first_len, page_of};
-ghost use Rattle.hm_history.specs.Operation as spec;
-ghost use Rattle.hm_history.specs.Going.{touch_page, touch_proc};
-ghost use Rattle.hm_history.specs.Stacks.{piece_of};
-ghost use Rattle.hm_history.specs.Due.{proc_of_op, child_of};
+ghost use Rattle.hm_history.specs.Memory.Words.{pieces, first_len, page_of};
+ghost use Rattle.hm_history.specs.Kernel.Operation as spec;
+ghost use Rattle.hm_history.specs.Kernel.Going.{touch_page, touch_proc};
+ghost use Rattle.hm_history.specs.Kernel.Stacks.{piece_of};
+ghost use Rattle.hm_history.specs.Kernel.Due.{proc_of_op, child_of};
 
 use crate::Reads;
 use hm_base::{Bytes, MirrorId, NoMemory, Op, Page, Proc};

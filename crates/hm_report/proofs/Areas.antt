@@ -6,13 +6,13 @@ use Rattle.hm_base.specs.declared.cause.Cause.{Cause}
 use Rattle.hm_base.specs.Pages.{Pages}
 use Rattle.hm_base.specs.declared.ops.Op.{Op}
 use Rattle.hm_base.specs.declared.ops.Rights.{Rights}
-use Rattle.hm_history.specs.After.{After}
-use Rattle.hm_history.specs.Plain.{meets, without, with_rights, all_mapped}
+use Rattle.hm_history.specs.Memory.After.{After}
+use Rattle.hm_history.specs.Memory.Plain.{meets, without, with_rights, all_mapped}
 use Rattle.hm_history.specs.declared.Kind.{Kind}
 use Rattle.hm_history.specs.declared.phases.Seen.{Seen}
 use Rattle.hm_history.specs.declared.phases.Phase.{Phase}
-use Rattle.hm_history.specs.Stacks.{after_begin, after_locked, after_ready, after_answer, after_pages, after_piece, after_fetched, first_touch}
-use Rattle.hm_history.specs.Due.{rlock, under_wlock, in_window_rlock, due_begin, due_attach, due_detach, due_locked, due_areas, due_ready, due_answer, due_detaching, due_pages, due_piece, due_cpu, due_mirror, due_add, due_fetched, answer_of_piece, failed, begin_look_up}
+use Rattle.hm_history.specs.Kernel.Stacks.{after_begin, after_locked, after_ready, after_answer, after_pages, after_piece, after_fetched, first_touch}
+use Rattle.hm_history.specs.Kernel.Due.{rlock, under_wlock, in_window_rlock, due_begin, due_attach, due_detach, due_locked, due_areas, due_ready, due_answer, due_detaching, due_pages, due_piece, due_cpu, due_mirror, due_add, due_fetched, answer_of_piece, failed, begin_look_up}
 use Rattle.hm_report.proofs.Fits.{base_fits, goes, NextIs, does, waits, either, either_if, perhaps, piece_goes, sole_piece}
 
 -- the entries that begin with a lock

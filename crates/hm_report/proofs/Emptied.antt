@@ -8,11 +8,11 @@ use Rattle.hm_base.specs.Program.{Program}
 use Rattle.hm_base.specs.declared.Frame.{Frame}
 use Rattle.hm_base.specs.declared.Place.{Place}
 use Rattle.hm_base.specs.declared.ops.Op.{Op}
-use Rattle.hm_history.specs.After.{After}
-use Rattle.hm_history.specs.Operation.{op_mirror, is_to_device, is_evicting, is_migration}
-use Rattle.hm_history.specs.Plain.{rights_of, mirror_dev}
-use Rattle.hm_history.specs.Places.{lowest_named}
-use Rattle.hm_history.specs.Locks.{other_locker}
+use Rattle.hm_history.specs.Memory.After.{After}
+use Rattle.hm_history.specs.Kernel.Operation.{op_mirror, is_to_device, is_evicting, is_migration}
+use Rattle.hm_history.specs.Memory.Plain.{rights_of, mirror_dev}
+use Rattle.hm_history.specs.Memory.Places.{lowest_named}
+use Rattle.hm_history.specs.Memory.Locks.{other_locker}
 use Rattle.hm_history.specs.declared.KeptAt.{KeptAt}
 use Rattle.hm_history.specs.declared.KeptWhy.{KeptWhy}
 use Rattle.hm_history.specs.declared.TableRight.{TableRight}
@@ -20,12 +20,12 @@ use Rattle.hm_history.specs.declared.Kind.{Kind}
 use Rattle.hm_history.specs.declared.phases.Body.{Body}
 use Rattle.hm_history.specs.declared.phases.Migrating.{Migrating}
 use Rattle.hm_history.specs.declared.phases.MoveStep.{MoveStep}
-use Rattle.hm_history.specs.Going.{coming_page}
+use Rattle.hm_history.specs.Kernel.Going.{coming_page}
 use Rattle.hm_history.specs.declared.phases.Seen.{Seen}
 use Rattle.hm_history.specs.declared.phases.Phase.{Phase}
 use Rattle.hm_history.specs.declared.phases.Next.TheVariants.{Do}
-use Rattle.hm_history.specs.Stacks.{body_next, below_next, caught_next, frames_past, dropping, after_body, guard_goes_on, after_guard, gives_up, after_emptying, with_one_more, after_copy, after_finish, after_frames, after_moves, after_migration, next_cursor, copying, dropping_lost, kept_step, freezing}
-use Rattle.hm_history.specs.Due.{due_guard, body_or_end, due_body, due_emptying, due_finish, finish_frames, settle, due_frames, due_frames_of, frames_end, frame_at, locked_frame, due_moves, due_step, others_of, fetch_page, commit_page, finish_page, within, if_so, restore_at, select_page, select_to_device, select_to_system, kept_or_frozen, not_here, fork_page, child_of, start_entry}
+use Rattle.hm_history.specs.Kernel.Stacks.{body_next, below_next, caught_next, frames_past, dropping, after_body, guard_goes_on, after_guard, gives_up, after_emptying, with_one_more, after_copy, after_finish, after_frames, after_moves, after_migration, next_cursor, copying, dropping_lost, kept_step, freezing}
+use Rattle.hm_history.specs.Kernel.Due.{due_guard, body_or_end, due_body, due_emptying, due_finish, finish_frames, settle, due_frames, due_frames_of, frames_end, frame_at, locked_frame, due_moves, due_step, others_of, fetch_page, commit_page, finish_page, within, if_so, restore_at, select_page, select_to_device, select_to_system, kept_or_frozen, not_here, fork_page, child_of, start_entry}
 use Rattle.hm_report.proofs.Fits.{base_fits, fits, goes, NextIs, does, waits, either, either_if, perhaps, fits_push}
 
 -- changes of the stack below

@@ -6,12 +6,12 @@ use Rattle.std.proofs.lemmas.List.Sums.{fold-append}
 use Rattle.hm_base.specs.Program.{Program}
 use Rattle.hm_base.specs.declared.ops.Op.{Op}
 use Rattle.hm_base.specs.declared.Frame.{Frame}
-use Rattle.hm_history.specs.Words.{with_at}
-use Rattle.hm_history.specs.After.{After}
-use Rattle.hm_history.specs.Operation.{op_pieces, op_mirror}
-use Rattle.hm_history.specs.Stacks.{after_top}
-use Rattle.hm_history.specs.Going.{Going, op_at, ops_of, first_stack, going_from, seen_at, coming, coming_page, recorded, going_on, going_top, going_next, state_of, state_of-snoc, touch_page, touch_proc}
-use Rattle.hm_history.specs.Due.{due, due_top, due_phase, progress}
+use Rattle.hm_history.specs.Memory.Words.{with_at}
+use Rattle.hm_history.specs.Memory.After.{After}
+use Rattle.hm_history.specs.Kernel.Operation.{op_pieces, op_mirror}
+use Rattle.hm_history.specs.Kernel.Stacks.{after_top}
+use Rattle.hm_history.specs.Kernel.Going.{Going, op_at, ops_of, first_stack, going_from, seen_at, coming, coming_page, recorded, going_on, going_top, going_next, state_of, state_of-snoc, touch_page, touch_proc}
+use Rattle.hm_history.specs.Kernel.Due.{due, due_top, due_phase, progress}
 use Rattle.hm_history.specs.Laws.{DueFrom}
 use Rattle.hm_history.specs.declared.Kind.{Kind}
 use Rattle.hm_history.specs.declared.Entry.{Entry}

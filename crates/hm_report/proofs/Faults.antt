@@ -8,17 +8,17 @@ use Rattle.hm_base.specs.Program.{Program}
 use Rattle.hm_base.specs.declared.Frame.{Frame}
 use Rattle.hm_base.specs.declared.Place.{Place}
 use Rattle.hm_base.specs.declared.ops.Op.{Op}
-use Rattle.hm_history.specs.After.{After}
-use Rattle.hm_history.specs.Operation.{op_mirror, op_writes}
-use Rattle.hm_history.specs.Plain.{rights_of, is_read_only, mirror_dev}
+use Rattle.hm_history.specs.Memory.After.{After}
+use Rattle.hm_history.specs.Kernel.Operation.{op_mirror, op_writes}
+use Rattle.hm_history.specs.Memory.Plain.{rights_of, is_read_only, mirror_dev}
 use Rattle.hm_history.specs.declared.TableRight.{TableRight}
 use Rattle.hm_history.specs.declared.Kind.{Kind}
 use Rattle.hm_history.specs.declared.phases.Seen.{Seen}
 use Rattle.hm_history.specs.declared.phases.Touch.{Touch}
 use Rattle.hm_history.specs.declared.phases.Phase.{Phase}
 use Rattle.hm_history.specs.declared.phases.Next.TheVariants.{Do}
-use Rattle.hm_history.specs.Stacks.{piece_of, after_walk, with_frame_taken, after_decide, after_taken, after_give_up}
-use Rattle.hm_history.specs.Due.{fails, failed, fault, fault_at, fault_sys, take_or, bring_home, suits, suits_walk, due_decide, due_sole, due_noted, due_taken, due_give_up}
+use Rattle.hm_history.specs.Kernel.Stacks.{piece_of, after_walk, with_frame_taken, after_decide, after_taken, after_give_up}
+use Rattle.hm_history.specs.Kernel.Due.{fails, failed, fault, fault_at, fault_sys, take_or, bring_home, suits, suits_walk, due_decide, due_sole, due_noted, due_taken, due_give_up}
 use Rattle.hm_report.specs.Kinds.{is_snap}
 use Rattle.hm_report.proofs.Fits.{base_fits, touch_fits, fits, is_over, goes, is_alone_op, has_answer, NextIs, does, waits, either, perhaps, piece_goes, touch_piece, piece_no_snap}
 

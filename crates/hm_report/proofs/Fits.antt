@@ -9,8 +9,8 @@ use Rattle.hm_history.specs.declared.phases.Touch.{Touch}
 use Rattle.hm_history.specs.declared.phases.Phase.{Phase}
 use Rattle.hm_history.specs.declared.phases.Next.{Next}
 use Rattle.hm_history.specs.declared.phases.Next.TheVariants.{Do, Wait}
-use Rattle.hm_history.specs.Operation.{op_pieces, is_remove, is_evicting, is_migration}
-use Rattle.hm_history.specs.Stacks.{first_phase, piece_ends, piece_of}
+use Rattle.hm_history.specs.Kernel.Operation.{op_pieces, is_remove, is_evicting, is_migration}
+use Rattle.hm_history.specs.Kernel.Stacks.{first_phase, piece_ends, piece_of}
 use Rattle.hm_report.specs.Kinds.{is_answer, is_snap, finishes}
 
 -- classes of operations

@@ -7,8 +7,8 @@ use Rattle.std.proofs.lemmas.List.{append_assoc, append-nil, take-append-drop, t
 use Rattle.std.proofs.lemmas.Grind.{flat_map-append}
 use Rattle.hm_base.specs.Program.{Program}
 use Rattle.hm_history.proofs.Numbers.{numbers_append}
-use Rattle.hm_history.specs.Words.{numbers}
-use Rattle.hm_history.specs.Going.{ops_of}
+use Rattle.hm_history.specs.Memory.Words.{numbers}
+use Rattle.hm_history.specs.Kernel.Going.{ops_of}
 use Rattle.hm_history.specs.declared.Kind.{Kind}
 use Rattle.hm_history.specs.declared.Entry.{Entry}
 use Rattle.hm_script.specs.Spelling.{hex_text, text}

@@ -4,8 +4,8 @@ use Rattle.std.specs.Prelude.{ℕ, ◌+◌, ◌==◌, if◌then◌else◌, List,
 use Rattle.std.specs.List.{flat_map}
 use Rattle.std.specs.Fmt.{decimal}
 use Rattle.hm_base.specs.Program.{Program}
-use Rattle.hm_history.specs.Words.{numbers}
-use Rattle.hm_history.specs.Going.{ops_of, state_of}
+use Rattle.hm_history.specs.Memory.Words.{numbers}
+use Rattle.hm_history.specs.Kernel.Going.{ops_of, state_of}
 use Rattle.hm_history.specs.declared.Entry.{Entry}
 use Rattle.hm_script.specs.Spelling.{line, text}
 use Rattle.hm_report.specs.Words.{actor_text, kind_words}

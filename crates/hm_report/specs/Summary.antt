@@ -2,8 +2,8 @@
 use Rattle.std.specs.Prelude.{ℕ, Bool, true, false, not, ◌==◌, List, [], ◌∷◌, ◌++◌, length, codes, count_by, sum_by}
 use Rattle.std.specs.Fmt.{decimal}
 use Rattle.hm_base.specs.Program.{Program}
-use Rattle.hm_history.specs.Words.{numbers}
-use Rattle.hm_history.specs.Going.{ops_of}
+use Rattle.hm_history.specs.Memory.Words.{numbers}
+use Rattle.hm_history.specs.Kernel.Going.{ops_of}
 use Rattle.hm_history.specs.declared.Kind.{Kind}
 use Rattle.hm_history.specs.declared.Entry.{Entry}
 use Rattle.hm_script.specs.Spelling.{line}

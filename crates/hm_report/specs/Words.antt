@@ -1,5 +1,6 @@
 -- The words of the lines of entries.
-use Rattle.std.specs.Prelude.{ℕ, ◌+◌, ◌/◌, ◌%◌, Bool, false, if◌then◌else◌, Option, Some, None, List, [], ◌∷◌, ◌++◌, codes}
+use Rattle.std.specs.Prelude.{ℕ, ◌+◌, ◌/◌, ◌%◌, Bool, false, if◌then◌else◌, Option, Some, None, List, [], ◌∷◌, ◌++◌}
+use Rattle.std.specs.Prelude.{codes}
 use Rattle.std.specs.Fmt.{decimal, digit_glyph}
 use Rattle.hm_base.specs.PlaceWords.{sys_frame, dev_frame}
 use Rattle.hm_base.specs.declared.PoolId.{PoolId}

@@ -1,8 +1,8 @@
 // Which operations have ended, from the entries alone.
 ghost use Rattle.std.specs.Prelude.{◌≡◌, ℕ, ◌+◌, ◌≤◌, ◌<◌, ◌^◌, [], false, length, slice_index};
-ghost use Rattle.hm_history.specs.Words.{pieces};
-ghost use Rattle.hm_history.specs.Operation.{op_pieces};
-ghost use Rattle.hm_history.specs.Going.{ops_of};
+ghost use Rattle.hm_history.specs.Memory.Words.{pieces};
+ghost use Rattle.hm_history.specs.Kernel.Operation.{op_pieces};
+ghost use Rattle.hm_history.specs.Kernel.Going.{ops_of};
 ghost use Rattle.hm_report.specs.Kinds.{is_answer, is_snap, finishes, TellsNothing};
 
 use hm_base::{Cause, Op, Script};

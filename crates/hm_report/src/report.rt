@@ -1,10 +1,11 @@
 // The report of a script and a history.
 ghost use Rattle.std.specs.Prelude.{◌≡◌, ◌+◌, ◌≤◌, ◌<◌, ◌++◌, [], false, length, slice_index, OnOk, IfErr};
-ghost use Rattle.hm_history.specs.Legal.{Legal};
+ghost use Rattle.hm_history.specs.Kernel.Legal.{Legal};
 ghost use Rattle.hm_report.specs.Counted.{counted};
 ghost use Rattle.hm_script.specs.Spelling.{text as script_text};
 ghost use Rattle.hm_report.specs.Words.{tail_text};
-ghost use Rattle.hm_report.specs.Report.{entry_line, entry_lines, history_line, unfinished_line, unfinished_lines, end_line, report_by, report};
+ghost use Rattle.hm_report.specs.Report.{entry_line, entry_lines, history_line, unfinished_line, unfinished_lines};
+ghost use Rattle.hm_report.specs.Report.{end_line, report_by, report};
 ghost use Rattle.hm_report.specs.Sends.{Sends, GoesOn, Stops};
 ghost use Rattle.hm_report.specs.Written.{Writes, SentOn, FaultCause, TextWants, ReportWants};
 
@@ -237,7 +238,8 @@ pub fn write_report<K: Sink>(
     sink: &mut K,
 ) -> Written
     requires { Legal script.now history.now.entries }
-    ensures text { Writes (K.state sink.old).held (K.state sink.new).held (report script.now history.now.entries) result }
+    ensures text { Writes (K.state sink.old).held (K.state sink.new).held (report script.now history.now.entries)
+        result }
     ensures sent { SentOn (K.state sink.new).pending result }
     ensures faults { FaultCause (K.state sink.old).faults (K.state sink.new).faults result }
     ensures wants { ReportWants (K.state sink.old)

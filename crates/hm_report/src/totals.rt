@@ -1,7 +1,8 @@
 // The summary of a generated script's history.
 ghost use Rattle.std.specs.Prelude.{◌≡◌, ◌+◌, ◌*◌, ◌≤◌, ◌++◌, ◌<◌, ◌^◌, length, slice_index, OnOk, IfOk};
-ghost use Rattle.hm_report.specs.Summary.{summary_line, answer_lines, move_lines, unfinished_count, summary_by, summary};
-ghost use Rattle.hm_history.specs.Legal.{Legal};
+ghost use Rattle.hm_report.specs.Summary.{summary_line, answer_lines, move_lines, unfinished_count, summary_by};
+ghost use Rattle.hm_report.specs.Summary.{summary};
+ghost use Rattle.hm_history.specs.Kernel.Legal.{Legal};
 ghost use Rattle.hm_report.specs.Counted.{counted};
 
 use crate::ended::{op_count, operations_ended};

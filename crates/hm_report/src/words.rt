@@ -2,7 +2,9 @@
 ghost use Rattle.std.specs.Prelude.{◌≡◌, ◌+◌, ◌≤◌, ◌∷◌, ◌++◌, [], length};
 ghost use Rattle.std.specs.Fmt.{decimal};
 ghost use Rattle.hm_script.specs.Spelling.{right_text};
-ghost use Rattle.hm_report.specs.Words.{proc_text, mirror_text, device_text, actor_text, who_text, byte_text, frame_text, write_text, target_text, table_right_text, part_text, kept_text, cause_number};
+ghost use Rattle.hm_report.specs.Words.{proc_text, mirror_text, device_text, actor_text, who_text, byte_text};
+ghost use Rattle.hm_report.specs.Words.{frame_text, write_text, target_text, table_right_text, part_text, kept_text};
+ghost use Rattle.hm_report.specs.Words.{cause_number};
 ghost use Rattle.hm_report.specs.Line.{spaced};
 
 use crate::buffer::{Buffer, ROOM};

@@ -3,16 +3,16 @@ use Rattle.std.proofs.Common.{◌≡◌, ℕ, suc, ◌+◌, ◌^◌, ◌<◌, �
 use Rattle.std.specs.List.{All}
 use Rattle.hm_base.specs.Program.{Program}
 use Rattle.hm_history.specs.declared.Entry.{Entry}
-use Rattle.hm_reading.specs.Entries.{BeginsNone, FitsUnfinished, unfinished_text}
-use Rattle.hm_reading.specs.Fits.{FitsEntry}
-use Rattle.hm_reading.specs.declared.reader.Unfinished.{Unfinished}
-use Rattle.hm_reading.proofs.LineAgain.{one_entry, one_unfinished}
+use Rattle.hm_entry_reading.specs.Entries.{BeginsNone, FitsUnfinished, unfinished_text}
+use Rattle.hm_entry_reading.specs.Fits.{FitsEntry}
+use Rattle.hm_entry_reading.specs.declared.reader.Unfinished.{Unfinished}
+use Rattle.hm_entry_reading.proofs.LineAgain.{one_entry, one_unfinished}
 use Rattle.hm_report.specs.Report.{end_line, entry_line, history_line}
-use Rattle.hm_report_lines.specs.Heads.{lines_behind}
-use Rattle.hm_report_lines.specs.Parts.{entry_list, Differ}
-use Rattle.hm_report_lines.proofs.Scripts.{OneText, same_script, cons_take}
-use Rattle.hm_report_lines.proofs.Shared.{one_lines, shares_behind, cancel}
-use Rattle.hm_report_lines.proofs.TextLines.{entry_list_length}
+use Rattle.hm_report_front.specs.Heads.{lines_behind}
+use Rattle.hm_report_front.specs.Parts.{entry_list, Differ}
+use Rattle.hm_report_front.proofs.Scripts.{OneText, same_script, cons_take}
+use Rattle.hm_report_front.proofs.Shared.{one_lines, shares_behind, cancel}
+use Rattle.hm_report_front.proofs.TextLines.{entry_list_length}
 use Rattle.hm_report_reading.specs.Reports.{BeginsNoUnfinished, IsFirstBad, unfinished_list}
 use Rattle.hm_report_reading.specs.Texts.{HasText, text_of}
 use Rattle.hm_report_reading.proofs.Following.{first_passes, rest_pass, follow}

@@ -4,17 +4,17 @@ use Rattle.std.specs.Prelude.{Result, Ok, Err, IfOk}
 use Rattle.std.specs.List.{flat_map}
 use Rattle.std.proofs.lemmas.List.Elements.{All-nil}
 use Rattle.hm_base.specs.Program.{Program, IsScript}
-use Rattle.hm_history.specs.Going.{ops_of}
-use Rattle.hm_history.specs.Words.{numbers}
+use Rattle.hm_history.specs.Kernel.Going.{ops_of}
+use Rattle.hm_history.specs.Memory.Words.{numbers}
 use Rattle.hm_history.specs.declared.Entry.{Entry}
-use Rattle.hm_reading.specs.Entries.{BeginsNone, ReadsAll, unfinished_text}
-use Rattle.hm_reading.specs.declared.reader.Unfinished.{Unfinished}
+use Rattle.hm_entry_reading.specs.Entries.{BeginsNone, ReadsAll, unfinished_text}
+use Rattle.hm_entry_reading.specs.declared.reader.Unfinished.{Unfinished}
 use Rattle.hm_report.specs.Report.{end_line, entry_lines, first_unended, history_line, report, unfinished_line}
-use Rattle.hm_report_lines.specs.Heads.{IsBadHead, IsHead, lines_behind}
-use Rattle.hm_report_lines.specs.Parts.{entry_list, Differ}
-use Rattle.hm_report_lines.specs.declared.head.BadLine.{BadLine}
-use Rattle.hm_report_lines.proofs.Scripts.{OneText}
-use Rattle.hm_report_lines.proofs.TextLines.{lines_entries}
+use Rattle.hm_report_front.specs.Heads.{IsBadHead, IsHead, lines_behind}
+use Rattle.hm_report_front.specs.Parts.{entry_list, Differ}
+use Rattle.hm_report_front.specs.declared.head.BadLine.{BadLine}
+use Rattle.hm_report_front.proofs.Scripts.{OneText}
+use Rattle.hm_report_front.proofs.TextLines.{lines_entries}
 use Rattle.hm_report_reading.specs.Reports.{IsFirstBad, IsReadBehind, IsReadOf, IsThis, ReadsUnfinished, unfinished_list}
 use Rattle.hm_report_reading.specs.Texts.{HasText, text_of, unended, unended_of, unfinished_texts}
 use Rattle.hm_report_reading.specs.declared.reading.WholeReport.{WholeReport}

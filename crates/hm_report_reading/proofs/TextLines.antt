@@ -4,15 +4,15 @@ use Rattle.std.specs.Prelude.{codes}
 use Rattle.std.specs.Fmt.{decimal}
 use Rattle.hm_base.specs.Program.{Program}
 use Rattle.hm_history.specs.declared.Entry.{Entry}
-use Rattle.hm_reading.specs.Entries.{unfinished_text}
-use Rattle.hm_reading.specs.declared.reader.Unfinished.{Unfinished}
+use Rattle.hm_entry_reading.specs.Entries.{unfinished_text}
+use Rattle.hm_entry_reading.specs.declared.reader.Unfinished.{Unfinished}
 use Rattle.hm_report.specs.Report.{end_line, entry_line, entry_lines, history_line}
 use Rattle.hm_report.specs.Words.{actor_text}
-use Rattle.hm_report_lines.specs.Heads.{lines_behind}
-use Rattle.hm_report_lines.specs.Parts.{entry_list}
-use Rattle.hm_report_lines.proofs.FirstByte.{entry_first}
-use Rattle.hm_report_lines.proofs.TextLines.{lines_line, lines_text, lines_entries}
-use Rattle.hm_report_lines.proofs.Words.{are_whole, digits_whole}
+use Rattle.hm_report_front.specs.Heads.{lines_behind}
+use Rattle.hm_report_front.specs.Parts.{entry_list}
+use Rattle.hm_report_front.proofs.FirstByte.{entry_first}
+use Rattle.hm_report_front.proofs.TextLines.{lines_line, lines_text, lines_entries}
+use Rattle.hm_report_front.proofs.Words.{are_whole, digits_whole}
 use Rattle.hm_report_reading.specs.Reports.{unfinished_list}
 use Rattle.hm_report_reading.specs.Texts.{text_of, unfinished_texts}
 use Rattle.hm_script.specs.Automaton.{lines}

@@ -2,7 +2,7 @@
 ghost use Rattle.std.specs.Prelude.{◌≡◌, List};
 ghost use Rattle.hm_base.specs.Program.{Program};
 ghost use Rattle.hm_history.specs.declared.Entry.{Entry};
-ghost use Rattle.hm_reading.specs.declared.reader.Unfinished.{Unfinished};
+ghost use Rattle.hm_entry_reading.specs.declared.reader.Unfinished.{Unfinished};
 ghost use Rattle.hm_report.specs.Report.{report};
 ghost use Rattle.hm_report_reading.specs.Texts.{HasText, text_of, unended};
 

@@ -6,7 +6,8 @@ use Rattle.hm_base.specs.declared.ops.Version.TheVariants.{One}
 use Rattle.hm_base.specs.declared.ops.Rights.{Rights}
 use Rattle.hm_base.specs.declared.ops.Rights.TheVariants.{Read, ReadWrite}
 use Rattle.hm_base.specs.declared.ops.Op.{Op}
-use Rattle.hm_base.specs.declared.ops.Op.TheVariants.{Map, Unmap, Protect, Load, Store, Fork, Attach, DeviceLoad, DeviceStore, ToDevice, ToSystem, Snap, Evict}
+use Rattle.hm_base.specs.declared.ops.Op.TheVariants.{Map, Unmap, Protect, Load, Store, Fork, Attach, DeviceLoad}
+use Rattle.hm_base.specs.declared.ops.Op.TheVariants.{DeviceStore, ToDevice, ToSystem, Snap, Evict}
 use Rattle.hm_base.specs.declared.ops.ScheduleLine.{ScheduleLine}
 use Rattle.hm_base.specs.declared.ops.ScheduleLine.TheVariants.{Run}
 

@@ -4,7 +4,9 @@ use Rattle.std.specs.Option.{option_map}
 use Rattle.std.specs.List.{find}
 use Rattle.std.specs.Str.{bytes_eq}
 use Rattle.hm_script.specs.declared.keyword.OpWord.{OpWord}
-use Rattle.hm_script.specs.declared.keyword.OpWord.TheVariants.{Map, Unmap, Protect, Load, Store, Fork, Exit, Attach, Detach, DeviceLoad, DeviceStore, ToDevice, ToSystem, Snap, Evict, Remove, Exclusive, Add}
+use Rattle.hm_script.specs.declared.keyword.OpWord.TheVariants.{Map, Unmap, Protect, Load, Store, Fork, Exit, Attach}
+use Rattle.hm_script.specs.declared.keyword.OpWord.TheVariants.{Detach, DeviceLoad, DeviceStore, ToDevice, ToSystem}
+use Rattle.hm_script.specs.declared.keyword.OpWord.TheVariants.{Snap, Evict, Remove, Exclusive, Add}
 use Rattle.hm_script.specs.declared.keyword.Keyword.{Keyword}
 use Rattle.hm_script.specs.declared.keyword.Keyword.TheVariants.{Frames, Device, Skip, Actor, Turns, Drain, Op}
 

@@ -4,7 +4,9 @@ use Rattle.std.specs.List.{list_all}
 use Rattle.hm_base.specs.Pages.{span}
 use Rattle.hm_base.specs.Program.{op_in_range, op_declared}
 use Rattle.hm_base.specs.declared.ops.Op.{Op}
-use Rattle.hm_base.specs.declared.ops.Op.TheVariants.{Map, Unmap, Protect, Load, Store, Fork, Exit, Attach, Detach, DeviceLoad, DeviceStore, ToDevice, ToSystem, Snap, Evict, Remove, Exclusive, Add}
+use Rattle.hm_base.specs.declared.ops.Op.TheVariants.{Map, Unmap, Protect, Load, Store, Fork, Exit, Attach, Detach}
+use Rattle.hm_base.specs.declared.ops.Op.TheVariants.{DeviceLoad, DeviceStore, ToDevice, ToSystem, Snap, Evict, Remove}
+use Rattle.hm_base.specs.declared.ops.Op.TheVariants.{Exclusive, Add}
 use Rattle.hm_script.specs.declared.keyword.OpWord.{OpWord}
 use Rattle.hm_script.specs.declared.keyword.OpWord.TheVariants as word_of
 use Rattle.hm_script.specs.declared.reason.Reason.{Reason}

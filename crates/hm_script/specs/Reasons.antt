@@ -4,7 +4,8 @@ use Rattle.std.specs.Fmt.{decimal}
 use Rattle.hm_script.specs.declared.reason.Reason.{Reason}
 use Rattle.hm_script.specs.declared.reason.Refused.{Refused}
 use Rattle.hm_script.specs.declared.reason.ScriptError.{ScriptError}
-use Rattle.hm_script.specs.declared.reason.Reason.TheVariants.{LineEnd, Header, Word, Shape, Number, Range, Undeclared, Limit}
+use Rattle.hm_script.specs.declared.reason.Reason.TheVariants.{LineEnd, Header, Word, Shape, Number, Range, Undeclared}
+use Rattle.hm_script.specs.declared.reason.Reason.TheVariants.{Limit}
 
 -- an order of the reasons, so that two of them can be compared
 abbrev pub reason_number : Reason → ℕ

@@ -6,7 +6,9 @@ use Rattle.hm_base.specs.Program.{Program}
 use Rattle.hm_base.specs.declared.ops.Rights.{Rights}
 use Rattle.hm_base.specs.declared.ops.Rights.TheVariants.{Read, ReadWrite}
 use Rattle.hm_base.specs.declared.ops.Op.{Op}
-use Rattle.hm_base.specs.declared.ops.Op.TheVariants.{Map, Unmap, Protect, Load, Store, Fork, Exit, Attach, Detach, DeviceLoad, DeviceStore, ToDevice, ToSystem, Snap, Evict, Remove, Exclusive, Add}
+use Rattle.hm_base.specs.declared.ops.Op.TheVariants.{Map, Unmap, Protect, Load, Store, Fork, Exit, Attach, Detach}
+use Rattle.hm_base.specs.declared.ops.Op.TheVariants.{DeviceLoad, DeviceStore, ToDevice, ToSystem, Snap, Evict, Remove}
+use Rattle.hm_base.specs.declared.ops.Op.TheVariants.{Exclusive, Add}
 use Rattle.hm_base.specs.declared.ops.ScheduleLine.{ScheduleLine}
 use Rattle.hm_base.specs.declared.ops.ScheduleLine.TheVariants.{Run, Drain}
 use Rattle.hm_base.specs.declared.ops.Version.{Version}

@@ -2,7 +2,9 @@
 
 ghost use Rattle.std.specs.Prelude.{◌≡◌, ◌+◌, ◌<◌, ◌≤◌, ◌++◌, ◌∷◌, [], OnOk, IfOk};
 ghost use Rattle.hm_base.specs.Pages.{span};
-ghost use Rattle.hm_script.specs.Generator.{drawn_on, draw, drawn, drawn_list, drawn_access, drawn_byte, drawn_load, drawn_store, drawn_span, drawn_protect, drawn_evict, drawn_rare, drawn_by, drawn_op, drawn_actor, drawn_line, drawn_right, first_ops, generated};
+ghost use Rattle.hm_script.specs.Generator.{drawn_on, draw, drawn, drawn_list, drawn_access, drawn_byte, drawn_load};
+ghost use Rattle.hm_script.specs.Generator.{drawn_store, drawn_span, drawn_protect, drawn_evict, drawn_rare, drawn_by};
+ghost use Rattle.hm_script.specs.Generator.{drawn_op, drawn_actor, drawn_line, drawn_right, first_ops, generated};
 
 use hm_base::{
     Actor, ActorLists, Bytes, Dev, DeviceList, MirrorId, NoMemory, Op, OpList, Page, Proc, Rights,

@@ -1,6 +1,7 @@
 // The words of a line, and what they spell.
 
-ghost use Rattle.std.specs.Prelude.{◌≡◌, ◌==◌, ◌+◌, ◌∷◌, ◌<◌, ◌≤◌, ◌^◌, List, [], slice_index_or, length, position, count_by, take, drop, IfSome, IfNone, IfOk, IfErr, MatchResult};
+ghost use Rattle.std.specs.Prelude.{◌≡◌, ◌==◌, ◌+◌, ◌∷◌, ◌<◌, ◌≤◌, ◌^◌, List, [], slice_index_or, length, position};
+ghost use Rattle.std.specs.Prelude.{count_by, take, drop, IfSome, IfNone, IfOk, IfErr, MatchResult};
 ghost use Rattle.std.specs.List.{list_all, slice_split};
 ghost use Rattle.hm_script.specs.Splitting.{split, word};
 ghost use Rattle.hm_script.specs.Reading.{is_some_word, shape};

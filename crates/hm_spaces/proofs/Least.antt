@@ -1,7 +1,7 @@
 -- The least number that passes a test.
 use Rattle.std.proofs.Common.{◌≡◌, ℕ, zero, suc, ◌+◌, ◌<◌, ◌≤◌, Bool, true, false, Some, None, ◌⊎◌, inl, inr, refl, sym, arith}
 use Rattle.std.proofs.lemmas.Bool.{cases_eq}
-use Rattle.hm_history.specs.Words.{least}
+use Rattle.hm_history.specs.Memory.Words.{least}
 
 step_true : (t : ℕ → Bool) (from n : ℕ) (b : Bool) → t from ≡ b → b ≡ true → least t from (suc n) ≡ Some from
 step_true t from n true p q = rw (p, least) refl

@@ -7,10 +7,10 @@ use Rattle.std.proofs.lemmas.List.{length-replicate, get_or-replicate}
 use Rattle.std.proofs.lemmas.Grind.{elements}
 use Rattle.hm_base.specs.declared.area.Area.{Area}
 use Rattle.hm_base.specs.declared.ops.Op.{Op}
-use Rattle.hm_history.specs.Words.{with_at}
-use Rattle.hm_history.specs.Plain.{Plain, plain_start, plain_next, plain_accepts, area_refusal, without, with_rights, with_area}
-use Rattle.hm_history.specs.Locks.{Locks, locks_start, map_next, releases}
-use Rattle.hm_history.specs.After.{After, after_entry}
+use Rattle.hm_history.specs.Memory.Words.{with_at}
+use Rattle.hm_history.specs.Memory.Plain.{Plain, plain_start, plain_next, plain_accepts, area_refusal, without, with_rights, with_area}
+use Rattle.hm_history.specs.Memory.Locks.{Locks, locks_start, map_next, releases}
+use Rattle.hm_history.specs.Memory.After.{After, after_entry}
 use Rattle.hm_history.specs.declared.locks.MapLock.{MapLock}
 use Rattle.hm_history.specs.declared.Kind.{Kind}
 use Rattle.hm_spaces.specs.Spaces.{SpacesValue, SpacesShown, SpacesFit, plain_of, spaces_start, spaces_next, there_next, named_next, areas_next, map_locks_next, HasParent}

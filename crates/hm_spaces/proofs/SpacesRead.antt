@@ -1,7 +1,7 @@
 -- What is read of the processes and locks is what the state has.
 use Rattle.std.proofs.Common.{◌≡◌, ℕ, ◌&&◌, ◌==◌, not, Bool, List, ap, arith}
 use Rattle.hm_base.specs.declared.area.Area.{Area}
-use Rattle.hm_history.specs.Locks.{Locks, writer, lowest_other, lock_passes}
+use Rattle.hm_history.specs.Memory.Locks.{Locks, writer, lowest_other, lock_passes}
 use Rattle.hm_spaces.specs.Spaces.{SpacesValue, SpacesShown, locks_of}
 use Rattle.hm_spaces.specs.Holders.{is_writer, is_other}
 use Rattle.hm_spaces.proofs.Least.{least_same}

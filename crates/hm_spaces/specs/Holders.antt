@@ -1,6 +1,6 @@
 -- Who has a process's mmap lock, by the list of locks.
 use Rattle.std.specs.Prelude.{ℕ, Bool, not, ◌&&◌, ◌==◌, Option, None, List, slice_index_or}
-use Rattle.hm_history.specs.Locks.{lock_passes}
+use Rattle.hm_history.specs.Memory.Locks.{lock_passes}
 use Rattle.hm_history.specs.declared.locks.MapLock.{MapLock}
 
 -- the actor has the process's lock for writing

@@ -2,7 +2,7 @@
 use Rattle.std.specs.Prelude.{List, [], slice_index_or}
 use Rattle.hm_base.specs.declared.area.Area.{Area}
 use Rattle.hm_base.specs.declared.cause.Cause.{Cause}
-use Rattle.hm_history.specs.Plain.{Plain, plain_start}
+use Rattle.hm_history.specs.Memory.Plain.{Plain, plain_start}
 use Rattle.vm_areas.specs.declared.AreaRefusal.{AreaRefusal}
 use Rattle.vm_areas.specs.declared.AreaRefusal.TheVariants.{Overlap, TooMany, Unmapped}
 

@@ -1,10 +1,11 @@
 -- Which processes are there, their areas, and who has their mmap locks: by number, as lists.
-use Rattle.std.specs.Prelude.{◌≡◌, ℕ, ◌<◌, Bool, true, false, if◌then◌else◌, Option, Some, None, List, [], length, replicate, slice_set, slice_index_or}
+use Rattle.std.specs.Prelude.{◌≡◌, ℕ, ◌<◌, Bool, true, false, if◌then◌else◌, Option, Some, None, List, [], length}
+use Rattle.std.specs.Prelude.{replicate, slice_set, slice_index_or}
 use Rattle.hm_base.specs.Areas.{without, with_rights, with_area}
 use Rattle.hm_base.specs.declared.area.Area.{Area}
 use Rattle.hm_base.specs.declared.ops.Op.{Op}
-use Rattle.hm_history.specs.Plain.{Plain, plain_start, area_refusal}
-use Rattle.hm_history.specs.Locks.{Locks, locks_start, releases}
+use Rattle.hm_history.specs.Memory.Plain.{Plain, plain_start, area_refusal}
+use Rattle.hm_history.specs.Memory.Locks.{Locks, locks_start, releases}
 use Rattle.hm_history.specs.declared.locks.MapLock.{MapLock}
 use Rattle.hm_history.specs.declared.Kind.{Kind}
 

@@ -3,9 +3,9 @@
 #![tactic(auto)]
 
 ghost use Rattle.std.specs.Prelude.{◌≡◌, ◌<◌, IfOk};
-ghost use Rattle.hm_history.specs.Plain.{rights_of, meets, area_refusal};
-ghost use Rattle.hm_history.specs.Locks.{writer, lowest_other};
-ghost use Rattle.hm_history.specs.Due.{proc_of_op};
+ghost use Rattle.hm_history.specs.Memory.Plain.{rights_of, meets, area_refusal};
+ghost use Rattle.hm_history.specs.Memory.Locks.{writer, lowest_other};
+ghost use Rattle.hm_history.specs.Kernel.Due.{proc_of_op};
 ghost use Rattle.hm_spaces.specs.Spaces.{spaces_start, spaces_next, SpacesFit, HasParent, plain_of, locks_of};
 
 use hm_base::{Actor, Area, Cause, NoMemory, Op, Page, Proc, Rights, Span};

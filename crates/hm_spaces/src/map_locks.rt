@@ -1,7 +1,7 @@
 // The mmap locks, by actor.
 ghost use Rattle.std.specs.Prelude.{◌≡◌, ◌==◌, ◌&&◌};
-ghost use Rattle.hm_history.specs.Locks.{releases, lock_passes};
-ghost use Rattle.hm_history.specs.Words.{least};
+ghost use Rattle.hm_history.specs.Memory.Locks.{releases, lock_passes};
+ghost use Rattle.hm_history.specs.Memory.Words.{least};
 ghost use Rattle.hm_history.specs.declared.locks.MapLock.{MapLock as Lock};
 ghost use Rattle.hm_spaces.specs.Spaces.{map_locks_next};
 ghost use Rattle.hm_spaces.specs.Holders.{is_writer, is_other};

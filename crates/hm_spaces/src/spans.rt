@@ -1,8 +1,8 @@
 // The areas of each process.
 ghost use Rattle.std.specs.Prelude.{◌≡◌, ◌<◌, ◌≤◌, [], length, replicate, IfOk};
 ghost use Rattle.std.specs.Option.{option_map};
-ghost use Rattle.hm_history.specs.Plain.{area_refusal};
-ghost use Rattle.hm_history.specs.Due.{proc_of_op};
+ghost use Rattle.hm_history.specs.Memory.Plain.{area_refusal};
+ghost use Rattle.hm_history.specs.Kernel.Due.{proc_of_op};
 ghost use Rattle.hm_spaces.specs.Spaces.{areas_next, SpacesFit, HasParent};
 ghost use Rattle.hm_spaces.specs.Refusals.{plain_with, refusal_cause};
 

@@ -4,7 +4,7 @@ use Rattle.std.specs.Prelude.{slice_get}
 use Rattle.std.specs.List.{list_all}
 use Rattle.hm_base.specs.Program.{Program, IsScript, op_fits, op_in_range}
 use Rattle.hm_base.specs.declared.ops.Op.{Op}
-use Rattle.hm_history.specs.Going.{op_at}
+use Rattle.hm_history.specs.Kernel.Going.{op_at}
 
 each_passes : {X : Type 0} (t : X → Bool) (xs : List X) (i : ℕ) (x : X) → list_all t xs ≡ true → slice_get xs i ≡ Some x → t x ≡ true
 each_passes t [] i x h e = cc

@@ -1,6 +1,6 @@
 // What is due in a guard.
 ghost use Rattle.std.specs.Prelude.{◌≡◌, IsTrue};
-ghost use Rattle.hm_history.specs.Due as spec;
+ghost use Rattle.hm_history.specs.Kernel.Due as spec;
 ghost use Rattle.hm_reads.specs.Ranges.{body_in_range};
 
 use anon_fault::replace;

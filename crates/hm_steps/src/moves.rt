@@ -1,9 +1,9 @@
 // What is due in the steps of a migration after its setup.
 ghost use Rattle.std.specs.Prelude.{◌≡◌};
-ghost use Rattle.hm_history.specs.Plain.{mirror_proc};
-ghost use Rattle.hm_history.specs.Operation.{op_mirror};
-ghost use Rattle.hm_history.specs.Going.{coming};
-ghost use Rattle.hm_history.specs.Due as spec;
+ghost use Rattle.hm_history.specs.Memory.Plain.{mirror_proc};
+ghost use Rattle.hm_history.specs.Kernel.Operation.{op_mirror};
+ghost use Rattle.hm_history.specs.Kernel.Going.{coming};
+ghost use Rattle.hm_history.specs.Kernel.Due as spec;
 ghost use Rattle.hm_history.specs.declared.phases.Phase as phase;
 
 use hm_base::{Actor, Op, Proc};

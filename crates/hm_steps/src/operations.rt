@@ -1,7 +1,7 @@
 // What is due at the phases that an operation has of its own.
 ghost use Rattle.std.specs.Prelude.{◌≡◌, IsTrue, IfOk};
 ghost use Rattle.hm_base.specs.Program.{op_in_range};
-ghost use Rattle.hm_history.specs.Due as spec;
+ghost use Rattle.hm_history.specs.Kernel.Due as spec;
 
 use anon_fault::step_anon;
 use cow_fork::step_fork;

@@ -7,7 +7,7 @@ use Rattle.std.proofs.lemmas.Bool.{not-true, and_parts}
 use Rattle.rev_maps.specs.declared.uses.Use.{Use}
 use Rattle.rev_maps.specs.Uses.{is_rising, without_use}
 use Rattle.rev_maps.proofs.Rising.{rising_without}
-use Rattle.hm_history.specs.Places.{is_page}
+use Rattle.hm_history.specs.Memory.Places.{is_page}
 use Rattle.hm_tables.specs.Values.{mark_by}
 use Rattle.hm_tables.specs.Shown.{is_once}
 use Rattle.hm_tables.proofs.Marks.{has_is, mark_cons, mark_without, length_without}

@@ -2,7 +2,7 @@
 use Rattle.std.proofs.Common.{◌≡◌, ℕ, ◌⊎◌, inl, inr, Bool, true, false, ◌&&◌, ◌||◌, eqb, ltb, leb, cond, Option, Some, None, List, [], ◌∷◌, refl, sym, ap, ◌∙◌, subst, arith}
 use Rattle.std.specs.List.{list_any}
 use Rattle.std.proofs.lemmas.Bool.Decides.{nat_tests}
-use Rattle.hm_history.specs.Places.{is_page, lowest, lower}
+use Rattle.hm_history.specs.Memory.Places.{is_page, lowest, lower}
 use Rattle.hm_history.proofs.Tests.{true_false}
 
 -- the first page is the second, or before it

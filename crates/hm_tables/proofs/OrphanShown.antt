@@ -5,8 +5,8 @@ use Rattle.hm_base.specs.Program.{Program}
 use Rattle.hm_base.specs.declared.Frame.{Frame}
 use Rattle.hm_base.specs.declared.Place.{Place}
 use Rattle.hm_base.specs.PlaceWords.{names, is_frame}
-use Rattle.hm_history.specs.Places.{Places, with_page, with_place, places_next, lowest_named}
-use Rattle.hm_history.specs.Locks.{Locks, left_behind, orphan}
+use Rattle.hm_history.specs.Memory.Places.{Places, with_page, with_place, places_next, lowest_named}
+use Rattle.hm_history.specs.Memory.Locks.{Locks, left_behind, orphan}
 use Rattle.hm_history.specs.declared.Kind.{Kind}
 use Rattle.rev_maps.specs.declared.uses.Use.{Use}
 use Rattle.rev_maps.specs.Uses.{without_use}

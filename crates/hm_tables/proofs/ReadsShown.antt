@@ -8,7 +8,7 @@ use Rattle.hm_base.specs.declared.Frame.{Frame}
 use Rattle.hm_base.specs.declared.Place.{Place}
 use Rattle.hm_base.specs.declared.Place.TheVariants.{Empty, Zero, Sys, Own, Moving, Exclusive}
 use Rattle.hm_base.specs.PlaceWords.{names, names_directly, moving_frame, is_frame, is_empty_place}
-use Rattle.hm_history.specs.Places.{Places, is_page, lowest, lowest_direct, lowest_moving, lowest_named, uses, next_page}
+use Rattle.hm_history.specs.Memory.Places.{Places, is_page, lowest, lowest_direct, lowest_moving, lowest_named, uses, next_page}
 use Rattle.hm_tables.specs.declared.places.PageTest.{PageTest}
 use Rattle.hm_tables.specs.declared.places.PageTest.TheVariants.{Used, Writable}
 use Rattle.hm_tables.specs.Values.{Tables, table_of, place_of, place_of_word, uses_in, is_moving, mark_by, mark_of}

@@ -11,7 +11,7 @@ use Rattle.hm_base.specs.declared.Place.TheVariants.{Empty}
 use Rattle.entry_words.specs.Word.{pool_field}
 use Rattle.radix_tables.specs.Maps.{Map}
 use Rattle.rev_maps.specs.Uses.{Uses, unused, uses_of, is_rising}
-use Rattle.hm_history.specs.Places.{pool_size}
+use Rattle.hm_history.specs.Memory.Places.{pool_size}
 use Rattle.hm_tables.specs.Values.{Tables, no_words, table_of, place_in_table, place_of, size_in, uses_in, mark_by, mark_of}
 use Rattle.hm_tables.specs.Sound.{IsOrdered, IsTables}
 use Rattle.hm_tables.specs.Shown.{TablesShown}

@@ -10,7 +10,7 @@ use Rattle.hm_base.specs.declared.PoolId.{PoolId}
 use Rattle.hm_base.specs.declared.Frame.{Frame}
 use Rattle.hm_base.specs.declared.Place.{Place}
 use Rattle.hm_base.specs.PlaceWords.{names, is_empty_place}
-use Rattle.hm_history.specs.Places.{Places, is_page, with_page, with_place, places_next, pool_size}
+use Rattle.hm_history.specs.Memory.Places.{Places, is_page, with_page, with_place, places_next, pool_size}
 use Rattle.hm_history.specs.declared.Kind.{Kind}
 use Rattle.radix_tables.specs.Maps.{Map, given_back}
 use Rattle.rev_maps.specs.Uses.{is_rising}

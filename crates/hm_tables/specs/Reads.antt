@@ -1,9 +1,10 @@
 -- What is read of the tables.
-use Rattle.std.specs.Prelude.{ℕ, Bool, true, not, ◌&&◌, ◌==◌, nat_le, Option, Some, None, length, option_map, find, if◌then◌else◌}
+use Rattle.std.specs.Prelude.{ℕ, Bool, true, not, ◌&&◌, ◌==◌, nat_le, Option, Some, None, length, option_map, find}
+use Rattle.std.specs.Prelude.{if◌then◌else◌}
 use Rattle.hm_base.specs.declared.Frame.{Frame}
 use Rattle.hm_base.specs.declared.Place.{Place}
 use Rattle.hm_base.specs.PlaceWords.{names, is_frame, writable}
-use Rattle.hm_history.specs.Places.{is_used}
+use Rattle.hm_history.specs.Memory.Places.{is_used}
 use Rattle.radix_tables.specs.Maps.{Map, before, is_marked}
 use Rattle.rev_maps.specs.Uses.{first_use}
 use Rattle.hm_tables.specs.Values.{Tables, table_of, uses_in, place_of_word}

@@ -4,8 +4,8 @@ use Rattle.std.specs.List.{list_any}
 use Rattle.hm_base.specs.Program.{Program}
 use Rattle.hm_base.specs.declared.PoolId.{PoolId}
 use Rattle.hm_base.specs.declared.Place.{Place}
-use Rattle.hm_history.specs.Words.{is_empty_place}
-use Rattle.hm_history.specs.Places.{is_page, pool_size}
+use Rattle.hm_history.specs.Memory.Words.{is_empty_place}
+use Rattle.hm_history.specs.Memory.Places.{is_page, pool_size}
 use Rattle.hm_tables.specs.Values.{Tables, size_in, place_of}
 use Rattle.hm_tables.specs.Sound.{IsTables}
 

@@ -1,5 +1,7 @@
 -- What each kind of entry makes of the tables, and what it needs.
-use Rattle.std.specs.Prelude.{◌≡◌, ℕ, zero, suc, ◌-◌, ◌^◌, ◌<◌, ◌≤◌, Bool, true, false, not, ◌&&◌, ◌==◌, if◌then◌else◌, Option, Some, None, IsTrue, List, [], ◌∷◌, ◌++◌, length, slice_index, slice_set, replicate}
+use Rattle.std.specs.Prelude.{◌≡◌, ℕ, zero, suc, ◌-◌, ◌^◌, ◌<◌, ◌≤◌, Bool, true, false, not, ◌&&◌, ◌==◌, if◌then◌else◌}
+use Rattle.std.specs.Prelude.{Option, Some, None, IsTrue, List, [], ◌∷◌, ◌++◌, length, slice_index, slice_set}
+use Rattle.std.specs.Prelude.{replicate}
 use Rattle.hm_base.specs.Program.{Program}
 use Rattle.hm_base.specs.declared.PoolId.{PoolId}
 use Rattle.hm_base.specs.declared.Frame.{Frame}
@@ -9,7 +11,8 @@ use Rattle.entry_words.specs.Word.{pool_field, has_word}
 use Rattle.radix_tables.specs.Maps.{is_reserved, given_back}
 use Rattle.rev_maps.specs.Uses.{Uses, unused, has_use, with_moving, added, removed}
 use Rattle.hm_history.specs.declared.Kind.{Kind}
-use Rattle.hm_tables.specs.Values.{Tables, no_words, table_of, pool_in, size_in, uses_in, place_of, table_with, is_moving, mark_by, mark_of}
+use Rattle.hm_tables.specs.Values.{Tables, no_words, table_of, pool_in, size_in, uses_in, place_of, table_with}
+use Rattle.hm_tables.specs.Values.{is_moving, mark_by, mark_of}
 
 -- the pools of a script: the system's, and those of devices 0 to 3
 abbrev pub frames_of : Program → ℕ → ℕ

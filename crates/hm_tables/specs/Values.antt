@@ -1,5 +1,6 @@
 -- The page tables of the processes, and the reverse maps of the pools.
-use Rattle.std.specs.Prelude.{ℕ, Bool, Option, Some, None, is_some, List, [], length, unwrap_or, option_map, find, slice_index_or, if◌then◌else◌}
+use Rattle.std.specs.Prelude.{ℕ, Bool, Option, Some, None, is_some, List, [], length, unwrap_or, option_map, find}
+use Rattle.std.specs.Prelude.{slice_index_or, if◌then◌else◌}
 use Rattle.hm_base.specs.declared.PoolId.{PoolId}
 use Rattle.hm_base.specs.declared.Frame.{Frame}
 use Rattle.hm_base.specs.declared.Place.{Place}

@@ -1,7 +1,7 @@
 // Places, and the words that stand for them.
 ghost use Rattle.std.specs.Prelude.{◌≡◌};
 ghost use Rattle.hm_base.specs.PlaceWords.{is_frame, names, writable};
-ghost use Rattle.hm_history.specs.Places.{is_used};
+ghost use Rattle.hm_history.specs.Memory.Places.{is_used};
 ghost use Rattle.hm_tables.specs.Values.{is_moving, place_of_word};
 ghost use Rattle.hm_tables.specs.Reads.{page_test};
 

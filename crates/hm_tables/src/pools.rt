@@ -3,7 +3,9 @@ ghost use Rattle.std.specs.Prelude.{◌≡◌, ◌<◌, length, OnOk, IfOk};
 ghost use Rattle.hm_base.specs.PlaceWords.{names};
 ghost use Rattle.entry_words.specs.Word.{pool_field};
 ghost use Rattle.hm_tables.specs.Values.{size_in};
-ghost use Rattle.hm_tables.specs.Steps.{frames_of, first_pools, without_use_of, with_use_of, with_mark_of, keeps_frame, freezes, keeps_use, uses_next, FrameFits, HasUseRoom, SaysOf, LosesUse, GainsUse, SamePools};
+ghost use Rattle.hm_tables.specs.Steps.{frames_of, first_pools, without_use_of, with_use_of, with_mark_of, keeps_frame};
+ghost use Rattle.hm_tables.specs.Steps.{freezes, keeps_use, uses_next, FrameFits, HasUseRoom, SaysOf, LosesUse};
+ghost use Rattle.hm_tables.specs.Steps.{GainsUse, SamePools};
 
 use crate::places::{is_moving, is_named_by};
 use hm_base::frames::names;

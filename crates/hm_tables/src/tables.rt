@@ -1,12 +1,14 @@
 // The page tables of the processes, and the reverse maps of the pools.
-ghost use Rattle.std.specs.Prelude.{◌≡◌, ℕ, not, true, is_some, length, replicate, slice_index_or, slice_set, OnOk, IfOk};
+ghost use Rattle.std.specs.Prelude.{◌≡◌, ℕ, not, true, is_some, length, replicate, slice_index_or, slice_set, OnOk};
+ghost use Rattle.std.specs.Prelude.{IfOk};
 ghost use Rattle.radix_tables.specs.Maps.{before, is_reserved, given_back};
 ghost use Rattle.hm_history.specs.declared.Kind.{Kind as AnyKind};
 ghost use Rattle.hm_base.specs.PlaceWords.{names};
 ghost use Rattle.hm_tables.specs.Values.{no_words, size_in, place_in_table, place_of, table_with};
 ghost use Rattle.hm_tables.specs.Sound.{IsOrdered};
 ghost use Rattle.hm_tables.specs.Steps.{tables_start, tables_next, TablesFit, TablesRoom, TablesRange, SameTables};
-ghost use Rattle.hm_tables.specs.Reads.{page_test, next_in_span, next_likely, next_page_before, lowest_of, use_count, orphaned};
+ghost use Rattle.hm_tables.specs.Reads.{page_test, next_in_span, next_likely, next_page_before, lowest_of, use_count};
+ghost use Rattle.hm_tables.specs.Reads.{orphaned};
 
 use crate::places::{PageTest, is_named_by, place_of_word};
 use crate::pools::{change_use, new_pools, pool_index, reserve_use};

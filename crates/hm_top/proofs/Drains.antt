@@ -6,16 +6,16 @@ use Rattle.std.proofs.lemmas.Bool.{and_parts, cases_eq}
 use Rattle.hm_base.specs.Program.{Program, IsScript, schedule_fits}
 use Rattle.hm_base.specs.declared.ops.Op.{Op}
 use Rattle.hm_base.specs.declared.ops.ScheduleLine.{ScheduleLine}
-use Rattle.hm_history.specs.Due.{due, due_top}
-use Rattle.hm_history.specs.Going.{op_at, state_of}
+use Rattle.hm_history.specs.Kernel.Due.{due, due_top}
+use Rattle.hm_history.specs.Kernel.Going.{op_at, state_of}
 use Rattle.hm_history.specs.Laws.{DueFrom}
-use Rattle.hm_history.specs.Run.{enough, has_room, is_entry, is_idle, actors_of, drained, line_run, run}
-use Rattle.hm_history.specs.Words.{numbers}
+use Rattle.hm_history.specs.Kernel.Run.{enough, has_room, is_entry, is_idle, actors_of, drained, line_run, run}
+use Rattle.hm_history.specs.Memory.Words.{numbers}
 use Rattle.hm_history.specs.declared.Entry.{Entry}
 use Rattle.hm_history.specs.declared.Progress.{Progress}
 use Rattle.hm_history.proofs.RunLemmas.{line_due}
 use Rattle.hm_laws.specs.NeverStuck.{NeverStuck}
-use Rattle.hm_history.specs.Overrun.{overruns_turn, some_overruns, overruns_line, overruns_lines, overruns}
+use Rattle.hm_history.specs.Kernel.Overrun.{overruns_turn, some_overruns, overruns_line, overruns_lines, overruns}
 use Rattle.hm_script.specs.Built.{has_drain}
 use Rattle.hm_top.specs.Drained.{IsDone, IsDrained}
 use Rattle.hm_laws.proofs.Rounds.{Ends, below, drains_end}

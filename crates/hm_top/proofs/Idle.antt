@@ -5,13 +5,13 @@ use Rattle.std.proofs.lemmas.Bool.{cases_eq}
 use Rattle.std.proofs.lemmas.Bool.Decides.{nat_tests}
 use Rattle.hm_base.specs.Program.{Program, IsScript}
 use Rattle.hm_base.specs.declared.ops.Op.{Op}
-use Rattle.hm_history.specs.After.{After}
-use Rattle.hm_history.specs.Due.{due, due_phase, due_top, progress}
-use Rattle.hm_history.specs.Going.{Going, going_next, op_at, state_of, state_of-snoc}
+use Rattle.hm_history.specs.Memory.After.{After}
+use Rattle.hm_history.specs.Kernel.Due.{due, due_phase, due_top, progress}
+use Rattle.hm_history.specs.Kernel.Going.{Going, going_next, op_at, state_of, state_of-snoc}
 use Rattle.hm_history.specs.Laws.{DueFrom}
-use Rattle.hm_history.specs.Legal.{Legal}
-use Rattle.hm_history.specs.Run.{is_entry}
-use Rattle.hm_history.specs.Words.{with_at}
+use Rattle.hm_history.specs.Kernel.Legal.{Legal}
+use Rattle.hm_history.specs.Kernel.Run.{is_entry}
+use Rattle.hm_history.specs.Memory.Words.{with_at}
 use Rattle.hm_history.specs.declared.Entry.{Entry}
 use Rattle.hm_history.specs.declared.Progress.{Progress}
 use Rattle.hm_history.specs.declared.StepError.{StepError}

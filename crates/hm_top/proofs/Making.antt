@@ -1,8 +1,8 @@
 -- What the calls with `generate N` and `trial N` come to.
 use Rattle.std.proofs.Common.{◌≡◌, ℕ, inl, Bool, true, false, Some, None, Option, List, refl, sym, ◌∙◌, ap, subst}
 use Rattle.hm_base.specs.Program.{Program}
-use Rattle.hm_history.specs.Overrun.{overruns}
-use Rattle.hm_history.specs.Run.{run}
+use Rattle.hm_history.specs.Kernel.Overrun.{overruns}
+use Rattle.hm_history.specs.Kernel.Run.{run}
 use Rattle.hm_history.specs.declared.Entry.{Entry}
 use Rattle.hm_io.specs.Streams.{SinkState}
 use Rattle.hm_report.specs.Summary.{summary}

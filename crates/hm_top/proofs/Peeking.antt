@@ -1,9 +1,9 @@
 -- What a call with the word `peek` comes to.
 use Rattle.std.proofs.Common.{◌≡◌, ◌∙◌, inl, inr, Bool, true, false, Option, Some, None, ℕ, List, [], ◌++◌, length, refl, sym, ap, subst, append_assoc}
 use Rattle.hm_base.specs.Program.{Program, IsScript}
-use Rattle.hm_history.specs.After.{after}
+use Rattle.hm_history.specs.Memory.After.{after}
 use Rattle.hm_history.specs.Laws.{DueFrom}
-use Rattle.hm_history.specs.Locks.{writer}
+use Rattle.hm_history.specs.Memory.Locks.{writer}
 use Rattle.hm_history.specs.declared.Entry.{Entry}
 use Rattle.hm_io.specs.Streams.{Adds, AddsFront, SinkState, SourceState}
 use Rattle.hm_machine.proofs.Unlocked.{nobody_writes}

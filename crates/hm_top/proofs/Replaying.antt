@@ -2,10 +2,10 @@
 use Rattle.std.proofs.Common.{◌≡◌, ℕ, inl, inr, Bool, true, false, Some, None, Option, List, refl, sym, ◌∙◌, ap, subst}
 use Rattle.std.specs.Prelude.{IfSome}
 use Rattle.hm_base.specs.Program.{Program, IsScript}
-use Rattle.hm_history.specs.Overrun.{overruns}
+use Rattle.hm_history.specs.Kernel.Overrun.{overruns}
 use Rattle.hm_history.specs.declared.Entry.{Entry}
 use Rattle.hm_io.specs.Streams.{Adds, AddsFront, SinkState, SourceState}
-use Rattle.hm_quiet.specs.Quiet.{DrainAloneHasRoom}
+use Rattle.hm_quiet_laws.specs.Quiet.{DrainAloneHasRoom}
 use Rattle.hm_script.specs.Spelling.{text}
 use Rattle.hm_top.specs.Complete.{IsComplete}
 use Rattle.hm_edge.specs.Traffic.{NoFault, Traffic}

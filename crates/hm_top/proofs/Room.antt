@@ -4,12 +4,12 @@ use Rattle.std.specs.Prelude.{not, ◌&&◌, ◌||◌}
 use Rattle.std.proofs.lemmas.Bool.Decides.{nat_tests}
 use Rattle.hm_base.specs.Program.{Program, IsScript}
 use Rattle.hm_base.specs.declared.ops.ScheduleLine.{ScheduleLine}
-use Rattle.hm_history.specs.Due.{due}
-use Rattle.hm_history.specs.Overrun.{overruns, overruns_lines, overruns_turn, overruns_turns}
-use Rattle.hm_history.specs.Run.{added, has_room, is_entry, turn, turns}
+use Rattle.hm_history.specs.Kernel.Due.{due}
+use Rattle.hm_history.specs.Kernel.Overrun.{overruns, overruns_lines, overruns_turn, overruns_turns}
+use Rattle.hm_history.specs.Kernel.Run.{added, has_room, is_entry, turn, turns}
 use Rattle.hm_history.specs.declared.Entry.{Entry}
 use Rattle.hm_history.specs.declared.Progress.{Progress}
-use Rattle.hm_quiet.specs.Quiet.{DrainAloneHasRoom}
+use Rattle.hm_quiet_laws.specs.Quiet.{DrainAloneHasRoom}
 use Rattle.hm_script.specs.Built.{has_drain}
 use Rattle.hm_top.specs.Complete.{HasFewTurns, HasRoom, turn_count}
 

@@ -1,6 +1,6 @@
 -- The schedule of a trial has few turns, so its history is never full.
 use Rattle.std.proofs.Common.{◌≡◌, ℕ, zero, suc, ◌*◌, ◌≤◌, false, refl, arith}
-use Rattle.hm_history.specs.Overrun.{overruns}
+use Rattle.hm_history.specs.Kernel.Overrun.{overruns}
 use Rattle.hm_script.specs.Built.{has_drain}
 use Rattle.hm_script.specs.Generator.{drawn_on, drawn_list, drawn_line, drawn_op, drawn_actor, generated}
 use Rattle.hm_script.proofs.Drawing.{draw_below}

@@ -3,9 +3,9 @@ use Rattle.std.specs.Prelude.{◌≡◌, ◌⊎◌, ℕ, ◌+◌, ◌≤◌, fal
 use Rattle.hm_base.specs.declared.limits.TheConstants.{MOST_SCRIPT_BYTES}
 use Rattle.hm_base.specs.Program.{Program}
 use Rattle.hm_base.specs.declared.ops.ScheduleLine.{ScheduleLine}
-use Rattle.hm_history.specs.Overrun.{overruns}
+use Rattle.hm_history.specs.Kernel.Overrun.{overruns}
 use Rattle.hm_io.specs.Streams.{Rose}
-use Rattle.hm_quiet.specs.Quiet.{IsDrainAlone}
+use Rattle.hm_quiet_laws.specs.Quiet.{IsDrainAlone}
 use Rattle.hm_script.specs.Built.{has_drain}
 use Rattle.hm_edge.specs.Reading.{IsTextOf}
 use Rattle.hm_edge.specs.Traffic.{Traffic}

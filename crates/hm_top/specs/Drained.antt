@@ -1,8 +1,8 @@
 -- What a `drain` leaves: no actor has an operation left.
 use Rattle.std.specs.Prelude.{◌≡◌, ℕ, true, None, List}
 use Rattle.hm_base.specs.Program.{Program}
-use Rattle.hm_history.specs.Due.{due}
-use Rattle.hm_history.specs.Going.{op_at, state_of}
+use Rattle.hm_history.specs.Kernel.Due.{due}
+use Rattle.hm_history.specs.Kernel.Going.{op_at, state_of}
 use Rattle.hm_history.specs.declared.Entry.{Entry}
 use Rattle.hm_history.specs.declared.Progress.{Progress}
 use Rattle.hm_script.specs.Built.{has_drain}

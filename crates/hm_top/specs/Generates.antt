@@ -1,7 +1,7 @@
 -- The calls that read nothing: `generate N` writes the text of a generated script, `trial N` runs it and writes the
 -- summary.
 use Rattle.std.specs.Prelude.{◌≡◌, ℕ, List, [], Option, None}
-use Rattle.hm_history.specs.Run.{run}
+use Rattle.hm_history.specs.Kernel.Run.{run}
 use Rattle.hm_report.specs.Summary.{summary}
 use Rattle.hm_script.specs.Generator.{generated}
 use Rattle.hm_script.specs.Spelling.{text}

@@ -4,7 +4,7 @@ use Rattle.std.specs.Prelude.{◌≡◌, ◌⊎◌, ◌↔◌, ℕ, true, false,
 use Rattle.std.specs.Fmt.{decimal, digits}
 use Rattle.std.specs.List.{flat_map}
 use Rattle.hm_base.specs.Program.{Program}
-use Rattle.hm_history.specs.After.{after}
+use Rattle.hm_history.specs.Memory.After.{after}
 use Rattle.hm_history.specs.declared.Entry.{Entry}
 use Rattle.hm_report.specs.Report.{report}
 use Rattle.hm_script.specs.Spelling.{hex_text}

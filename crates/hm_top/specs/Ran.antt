@@ -1,8 +1,8 @@
 -- What a machine's replay comes to, and how a call ends that shows a run.
 use Rattle.std.specs.Prelude.{◌≡◌, Bool, true, false, List, Some, None}
 use Rattle.hm_base.specs.Program.{Program}
-use Rattle.hm_history.specs.Overrun.{overruns}
-use Rattle.hm_history.specs.Run.{run}
+use Rattle.hm_history.specs.Kernel.Overrun.{overruns}
+use Rattle.hm_history.specs.Kernel.Run.{run}
 use Rattle.hm_history.specs.declared.Entry.{Entry}
 use Rattle.hm_history.specs.declared.StepError.{StepError}
 use Rattle.hm_report.specs.declared.written.Written.{Written}

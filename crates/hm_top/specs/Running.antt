@@ -1,9 +1,9 @@
 -- What a call has run, by how it ended.
 use Rattle.std.specs.Prelude.{◌≡◌, ◌⊎◌, ℕ, true, false, List, [], length, Option, Some, None}
 use Rattle.hm_base.specs.Program.{Program}
-use Rattle.hm_history.specs.Legal.{Legal}
-use Rattle.hm_history.specs.Overrun.{overruns}
-use Rattle.hm_history.specs.Run.{run}
+use Rattle.hm_history.specs.Kernel.Legal.{Legal}
+use Rattle.hm_history.specs.Kernel.Overrun.{overruns}
+use Rattle.hm_history.specs.Kernel.Run.{run}
 use Rattle.hm_history.specs.declared.Entry.{Entry}
 use Rattle.hm_report.specs.Report.{report}
 use Rattle.hm_world.specs.WorldValue.{HasDue}

@@ -2,7 +2,7 @@
 -- report goes out. The schedule is not used.
 use Rattle.std.specs.Prelude.{◌≡◌, ◌⊎◌, ℕ, List, length, Option, Some, None, IfSome}
 use Rattle.hm_base.specs.Program.{Program}
-use Rattle.hm_history.specs.Legal.{Legal}
+use Rattle.hm_history.specs.Kernel.Legal.{Legal}
 use Rattle.hm_history.specs.declared.Entry.{Entry}
 use Rattle.hm_report.specs.Report.{report}
 use Rattle.hm_world.specs.WorldValue.{HasDue}

@@ -1,6 +1,6 @@
 // Writing what a call has made.
 ghost use Rattle.std.specs.Prelude.{◌≡◌, [], None};
-ghost use Rattle.hm_history.specs.Legal.{Legal};
+ghost use Rattle.hm_history.specs.Kernel.Legal.{Legal};
 ghost use Rattle.hm_report.specs.Report.{report};
 ghost use Rattle.hm_report.specs.Summary.{summary};
 ghost use Rattle.hm_script.specs.Spelling.{text};

@@ -1,7 +1,7 @@
 // The word `peek`.
 ghost use Rattle.std.specs.Prelude.{◌≡◌, [], ◌++◌, IfOk, OnOk, Some, true, false};
 ghost use Rattle.std.specs.List.{flat_map};
-ghost use Rattle.hm_history.specs.Legal.{Legal};
+ghost use Rattle.hm_history.specs.Kernel.Legal.{Legal};
 ghost use Rattle.hm_report.specs.Report.{report};
 ghost use Rattle.hm_report.specs.Written.{FaultCause, ReportWants, SentOn, Writes};
 ghost use Rattle.hm_turns.specs.Looking.{IsLook};

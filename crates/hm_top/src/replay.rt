@@ -19,7 +19,7 @@ pub fn replay<S: Source, K: Sink>(alloc: Global, source: &mut S, sink: &mut K, s
     ensures peeks { result.peeks ≡ [] }
 {
     one_text();
-    hm_quiet::drain_alone_has_room();
+    hm_quiet_laws::drain_alone_has_room();
     let script = match read_script(alloc, source) {
         Ok(script) => script,
         Err(status) => return Ended::stopped(alloc, status),

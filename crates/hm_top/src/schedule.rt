@@ -1,11 +1,11 @@
 // A script's run by its schedule.
 ghost use Rattle.std.specs.Prelude.{◌≡◌, IfOk, None, true, false};
 ghost use Rattle.hm_base.specs.Program.{IsScript};
-ghost use Rattle.hm_history.specs.Legal.{Legal};
+ghost use Rattle.hm_history.specs.Kernel.Legal.{Legal};
 ghost use Rattle.hm_world.specs.WorldValue.{opening};
 ghost use Rattle.hm_machine.specs.Turning.{CameTo};
-ghost use Rattle.hm_history.specs.Run as runs;
-ghost use Rattle.hm_history.specs.Overrun.{overruns};
+ghost use Rattle.hm_history.specs.Kernel.Run as runs;
+ghost use Rattle.hm_history.specs.Kernel.Overrun.{overruns};
 ghost use Rattle.hm_top.specs.Ran.{Replayed};
 ghost use Rattle.hm_top.specs.Running.{RanFull, RanWhole};
 

@@ -1,7 +1,7 @@
 // The words `threads` and `race`.
 ghost use Rattle.std.specs.Prelude.{◌≡◌, [], IfOk, Some, true, false};
 ghost use Rattle.hm_base.specs.Program.{IsScript};
-ghost use Rattle.hm_history.specs.Legal.{Legal};
+ghost use Rattle.hm_history.specs.Kernel.Legal.{Legal};
 ghost use Rattle.hm_top.specs.RunsThreads.{AllEnded, RunsThreads, StoppedFull};
 ghost use Rattle.hm_edge.specs.Traffic.{traffic};
 

@@ -46,9 +46,9 @@ fn do_alone<S: Source, K: Sink>(
     }
 }
 
-/// Does what the words after the program's name ask for, if that is none of `threads`, `race` and `peek`, which are none of its
-/// forms: reads from the source, runs, and writes to the sink. It waits for nobody. The rules are the caller's: which
-/// pages a migration skips, and where a page should live.
+/// Does what the words after the program's name ask for, if that is none of `threads`, `race` and `peek`, which are none
+/// of its forms: reads from the source, runs, and writes to the sink. It waits for nobody. The rules are the caller's:
+/// which pages a migration skips, and where a page should live.
 pub fn run_alone<S: Source, K: Sink>(
     alloc: Global,
     words: Vec<String>,
@@ -69,8 +69,8 @@ pub fn run_alone<S: Source, K: Sink>(
 }
 
 /// Does what the words after the program's name ask for: reads from the source, runs, and writes to the sink. With
-/// `threads`, `race` and `peek` each actor goes from a thread of its own, when the gate admits it. Other words wait for nobody.
-/// The rules are the caller's: which pages a migration skips, and where a page should live.
+/// `threads`, `race` and `peek` each actor goes from a thread of its own, when the gate admits it. Other words wait for
+/// nobody. The rules are the caller's: which pages a migration skips, and where a page should live.
 pub fn run<R: Threads + Wait + Sync, S: Source, K: Sink, G: Gate + Sync>(
     rt: &R,
     alloc: Global,

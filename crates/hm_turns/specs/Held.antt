@@ -5,7 +5,8 @@ use Rattle.hm_base.specs.Program.{Program}
 use Rattle.hm_history.specs.declared.Entry.{Entry}
 use Rattle.hm_history.specs.declared.StepError.{StepError}
 use Rattle.hm_turns.specs.declared.known.Known.{Known}
-use Rattle.hm_turns.specs.Ruled.{took, noted, published_as, gave, raised_as, counted_as, marked_as, compared_as, left_of, right_of, both_of}
+use Rattle.hm_turns.specs.Ruled.{took, noted, published_as, gave, raised_as, counted_as, marked_as, compared_as}
+use Rattle.hm_turns.specs.Ruled.{left_of, right_of, both_of}
 
 module _ {S : Type 0} (script : S → Program) (history : S → List Entry) (halt : S → Option StepError) where
   abbrev Tells : Type 1

@@ -2,10 +2,10 @@
 use Rattle.std.specs.Prelude.{◌≡◌, ◌≢◌, ℕ, ◌+◌, ◌^◌, ◌≤◌, Bool, if◌then◌else◌, List, length, Some, None, is_some}
 use Rattle.std.specs.List.{list_all}
 use Rattle.hm_base.specs.Program.{Program}
-use Rattle.hm_history.specs.After.{after}
-use Rattle.hm_history.specs.Locks.{writer}
-use Rattle.hm_history.specs.Plain.{Plain, rights_of}
-use Rattle.hm_history.specs.Words.{bytes_from, numbers, page_of}
+use Rattle.hm_history.specs.Memory.After.{after}
+use Rattle.hm_history.specs.Memory.Locks.{writer}
+use Rattle.hm_history.specs.Memory.Plain.{Plain, rights_of}
+use Rattle.hm_history.specs.Memory.Words.{bytes_from, numbers, page_of}
 use Rattle.hm_history.specs.declared.Entry.{Entry}
 use Rattle.hm_turns.specs.Sights.{Sight, IsShown, Halts, all_shares}
 use Rattle.hm_turns.specs.declared.looks.Look.{Look}

@@ -1,7 +1,8 @@
 -- The rule of the table, and what each step tells.
 -- Word 0 is COUNT, the published length of the history, and word 1 is TURN, 1 while a seat has the value.
 -- Word p + 2 is the mark of the process p: the length of the history just after the last entry that touches it.
-use Rattle.std.specs.Prelude.{◌≡◌, ◌≢◌, ◌⊎◌, ℕ, ◌+◌, ◌-◌, ◌<◌, ◌≤◌, true, false, List, [], ◌∷◌, ◌++◌, length, slice_index, sum_by, max, Option, Some, None, is_none}
+use Rattle.std.specs.Prelude.{◌≡◌, ◌≢◌, ◌⊎◌, ℕ, ◌+◌, ◌-◌, ◌<◌, ◌≤◌, true, false, List, [], ◌∷◌, ◌++◌, length}
+use Rattle.std.specs.Prelude.{slice_index, sum_by, max, Option, Some, None, is_none}
 use mathlib.Core.Option.{some}
 use mathlib.Core.Option as maybe
 use mathlib.Core.List.{IsPrefix}
@@ -14,7 +15,8 @@ use Rattle.hm_base.specs.declared.ops.Version.TheVariants.{One}
 use Rattle.hm_history.specs.declared.StepError.{StepError}
 use Rattle.hm_turns.specs.Touching.{last_touched}
 use Rattle.hm_turns.specs.declared.known.Known.{Known}
-use Rattle.hm_turns.specs.Sights.{Sight, OwnsOnce, IsQuiet, Follows, AreMarks, AreThere, times, longer, shorter, either_told, all_shares}
+use Rattle.hm_turns.specs.Sights.{Sight, OwnsOnce, IsQuiet, Follows, AreMarks, AreThere, times, longer, shorter}
+use Rattle.hm_turns.specs.Sights.{either_told, all_shares}
 
 -- the published length of the history
 abbrev pub count_word : List ℕ → ℕ

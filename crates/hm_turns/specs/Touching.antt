@@ -1,8 +1,8 @@
 -- The process that an entry of a history touches.
 use Rattle.std.specs.Prelude.{ℕ, ◌-◌, Option, Some, None, List, length, slice_get, take}
 use Rattle.hm_history.specs.declared.Entry.{Entry}
-use Rattle.hm_history.specs.After.{after}
-use Rattle.hm_history.specs.Plain.{touched}
+use Rattle.hm_history.specs.Memory.After.{after}
+use Rattle.hm_history.specs.Memory.Plain.{touched}
 
 -- what an entry touches, in the plain state after those before it
 unfoldable pub touched_after : List Entry → Option Entry → Option ℕ

@@ -1,5 +1,6 @@
 // What each step on the table tells.
-ghost use Rattle.hm_turns.specs.Ruled.{took, noted, published_as, gave, raised_as, counted_as, marked_as, compared_as, left_of, right_of, both_of, spent};
+ghost use Rattle.hm_turns.specs.Ruled.{took, noted, published_as, gave, raised_as, counted_as, marked_as, compared_as};
+ghost use Rattle.hm_turns.specs.Ruled.{left_of, right_of, both_of, spent};
 
 use crate::known::Known;
 use crate::stepped::Stepped;

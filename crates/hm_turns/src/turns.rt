@@ -1,11 +1,14 @@
 // The value and its turn. Steps are made on a table of words and one slot, which holds the value.
-ghost use Rattle.std.specs.Prelude.{◌≡◌, ◌≢◌, ℕ, ◌+◌, ◌-◌, ◌<◌, ◌≤◌, [], ◌∷◌, ◌++◌, length, true, false, Some, None, IfOk, IfSome, length as size};
+ghost use Rattle.std.specs.Prelude.{◌≡◌, ◌≢◌, ℕ, ◌+◌, ◌-◌, ◌<◌, ◌≤◌, [], ◌∷◌, ◌++◌, length, true, false, Some, None};
+ghost use Rattle.std.specs.Prelude.{IfOk, IfSome, length as size};
 ghost use mathlib.Core.List.{IsPrefix};
 ghost use Rattle.hm_base.specs.Program.{IsScript};
 ghost use Rattle.hm_turns.specs.Touching.{last_touched};
-ghost use Rattle.hm_turns.specs.Sights.{Desk, Sight, TurnsTo, GoesOn, half_of, whole_of, joined, all_shares, OwnsOnce, AreMarks};
+ghost use Rattle.hm_turns.specs.Sights.{Desk, Sight, TurnsTo, GoesOn, half_of, whole_of, joined, all_shares, OwnsOnce};
+ghost use Rattle.hm_turns.specs.Sights.{AreMarks};
 ghost use Rattle.hm_history.specs.declared.StepError.{StepError};
-ghost use Rattle.hm_turns.specs.Ruled.{grown, raised, even, freed, told_count, told_mark, IsAhead, sight_of, AreResting};
+ghost use Rattle.hm_turns.specs.Ruled.{grown, raised, even, freed, told_count, told_mark, IsAhead, sight_of};
+ghost use Rattle.hm_turns.specs.Ruled.{AreResting};
 ghost use Rattle.hm_turns.specs.Seats.{IsSized, IsIdle, Becomes, Takes, IsGivable, OwnsItsOwn, sight};
 
 use crate::known::Known;

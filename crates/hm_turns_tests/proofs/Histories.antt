@@ -2,8 +2,8 @@
 use Rattle.std.proofs.Common.{◌≡◌, ℕ, zero, suc, ◌-◌, ◌<◌, Bool, true, false, List, [], ◌∷◌, ◌++◌, length, slice_get, take, Option, Some, None, if◌then◌else◌, ◌==◌, sym, refl, ap, ◌∙◌, subst, arith, append_assoc, length-append}
 use mathlib.Core.List.{append-nil}
 use Rattle.hm_base.specs.Program.{Program}
-use Rattle.hm_history.specs.Plain.{Plain, touched}
-use Rattle.hm_history.specs.After.{after}
+use Rattle.hm_history.specs.Memory.Plain.{Plain, touched}
+use Rattle.hm_history.specs.Memory.After.{after}
 use Rattle.hm_history.specs.declared.Entry.{Entry}
 use Rattle.hm_history.specs.declared.Kind.{Kind}
 use Rattle.hm_history.specs.declared.Progress.TheVariants.{Did}

@@ -5,7 +5,7 @@ use Rattle.std.specs.List.{flat_map}
 use Rattle.std.proofs.lemmas.Grind.{flat_map-append}
 use Rattle.std.proofs.lemmas.Option.{slice_get-get_or}
 use Rattle.hm_base.specs.Program.{Program}
-use Rattle.hm_history.specs.Words.{numbers}
+use Rattle.hm_history.specs.Memory.Words.{numbers}
 use Rattle.hm_history.specs.declared.Entry.{Entry}
 use Rattle.hm_history.proofs.Numbers.{numbers_append}
 use Rattle.hm_view.specs.Rows.{row, row_at, rows, finding, finding_at, findings}

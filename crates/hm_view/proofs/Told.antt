@@ -7,11 +7,11 @@ use Rattle.std.proofs.lemmas.List.Folds.{list_any-append}
 use Rattle.std.proofs.lemmas.Bool.Decides.{nat_tests}
 use Rattle.hm_base.specs.declared.Frame.{Frame}
 use Rattle.hm_base.specs.declared.Place.{Place}
-use Rattle.hm_history.specs.Words.{with_at, with_frame, same_frame, sys_frame, names}
-use Rattle.hm_history.specs.Places.{Places, lowest_named, places_next}
-use Rattle.hm_history.specs.Sequences.{Sequences, Stage, Interval, applied, applied_stage, with_stage, is_last_end, interval_seq, sequences_next}
-use Rattle.hm_history.specs.Locks.{Locks, releases, map_next, left_behind, with_lock, is_locker, frame_placed, frame_next}
-use Rattle.hm_history.specs.After.{After, after_entry}
+use Rattle.hm_history.specs.Memory.Words.{with_at, with_frame, same_frame, sys_frame, names}
+use Rattle.hm_history.specs.Memory.Places.{Places, lowest_named, places_next}
+use Rattle.hm_history.specs.Memory.Sequences.{Sequences, Stage, Interval, applied, applied_stage, with_stage, is_last_end, interval_seq, sequences_next}
+use Rattle.hm_history.specs.Memory.Locks.{Locks, releases, map_next, left_behind, with_lock, is_locker, frame_placed, frame_next}
+use Rattle.hm_history.specs.Memory.After.{After, after_entry}
 use Rattle.hm_history.specs.declared.locks.MapLock.{MapLock}
 use Rattle.hm_history.specs.declared.Kind.{Kind}
 use Rattle.hm_history.specs.declared.Entry.{Entry}

@@ -5,11 +5,11 @@ use Rattle.std.specs.Fmt.{decimal}
 use Rattle.hm_base.specs.Program.{Program}
 use Rattle.hm_base.specs.declared.Frame.{Frame}
 use Rattle.hm_base.specs.declared.Place.{Place}
-use Rattle.hm_history.specs.Words.{names}
-use Rattle.hm_history.specs.Sequences.{Sequences, interval_seq}
-use Rattle.hm_history.specs.Locks.{Locks, releases}
-use Rattle.hm_history.specs.After.{After}
-use Rattle.hm_history.specs.Going.{state_of}
+use Rattle.hm_history.specs.Memory.Words.{names}
+use Rattle.hm_history.specs.Memory.Sequences.{Sequences, interval_seq}
+use Rattle.hm_history.specs.Memory.Locks.{Locks, releases}
+use Rattle.hm_history.specs.Memory.After.{After}
+use Rattle.hm_history.specs.Kernel.Going.{state_of}
 use Rattle.hm_history.specs.declared.Kind.{Kind}
 use Rattle.hm_history.specs.declared.Entry.{Entry}
 use Rattle.hm_report.specs.Words.{proc_text, mirror_text, actor_text, frame_text}

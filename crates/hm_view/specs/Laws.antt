@@ -4,10 +4,10 @@ use Rattle.std.specs.List.{list_any}
 use Rattle.hm_base.specs.declared.Frame.{Frame}
 use Rattle.hm_base.specs.Program.{Program}
 use Rattle.hm_history.specs.Laws.{DueFrom}
-use Rattle.hm_history.specs.Legal.{Legal}
-use Rattle.hm_history.specs.Words.{same_frame}
-use Rattle.hm_history.specs.Sequences.{interval_seq}
-use Rattle.hm_history.specs.After.{After, after_entry}
+use Rattle.hm_history.specs.Kernel.Legal.{Legal}
+use Rattle.hm_history.specs.Memory.Words.{same_frame}
+use Rattle.hm_history.specs.Memory.Sequences.{interval_seq}
+use Rattle.hm_history.specs.Memory.After.{After, after_entry}
 use Rattle.hm_history.specs.declared.locks.MapLock.{MapLock}
 use Rattle.hm_history.specs.declared.Kind.{Kind}
 use Rattle.hm_history.specs.declared.Entry.{Entry}

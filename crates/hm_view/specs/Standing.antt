@@ -2,8 +2,8 @@
 use Rattle.std.specs.Prelude.{ℕ, List, [], ◌∷◌, ◌++◌, codes}
 use Rattle.std.specs.List.{flat_map}
 use Rattle.hm_base.specs.Program.{Program}
-use Rattle.hm_history.specs.Due.{due}
-use Rattle.hm_history.specs.Run.{actors_of}
+use Rattle.hm_history.specs.Kernel.Due.{due}
+use Rattle.hm_history.specs.Kernel.Run.{actors_of}
 use Rattle.hm_history.specs.declared.Entry.{Entry}
 use Rattle.hm_history.specs.declared.Progress.{Progress}
 use Rattle.hm_check.specs.Waiting.{why_text}

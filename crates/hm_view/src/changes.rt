@@ -1,8 +1,8 @@
 // What an entry changes beside what its own words tell: locks and sequences.
 ghost use Rattle.std.specs.Prelude.{◌≡◌, ◌+◌, ◌≤◌, ◌∷◌, ◌++◌, [], length, OnOk};
 ghost use Rattle.std.specs.List.{flat_map};
-ghost use Rattle.hm_history.specs.Words.{names};
-ghost use Rattle.hm_history.specs.Locks.{releases};
+ghost use Rattle.hm_history.specs.Memory.Words.{names};
+ghost use Rattle.hm_history.specs.Memory.Locks.{releases};
 ghost use Rattle.hm_world.specs.WorldValue.{now};
 ghost use Rattle.hm_view.specs.Changes.{map_change, place_before, listed, frames_about, locker_text, frame_change};
 ghost use Rattle.hm_view.specs.Changes.{proc_change, mirror_change, seq_change};

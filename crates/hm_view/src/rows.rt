@@ -1,7 +1,7 @@
 // The rows, one after the other, in a world that goes on with them.
 ghost use Rattle.std.specs.Prelude.{◌≡◌, ◌<◌, ◌≤◌, ◌∷◌, ◌++◌, [], None, length, take, OnOk};
 ghost use Rattle.hm_base.specs.declared.limits.TheConstants.{MOST_ENTRIES};
-ghost use Rattle.hm_history.specs.Due.{due};
+ghost use Rattle.hm_history.specs.Kernel.Due.{due};
 ghost use Rattle.hm_history.specs.Laws.{DueFrom};
 ghost use Rattle.hm_history.specs.declared.Progress.{Progress};
 ghost use Rattle.hm_world.specs.WorldValue.{opening, grown};

@@ -1,8 +1,8 @@
 // How actors stand: whether each could go on, waits, or is done.
 ghost use Rattle.std.specs.Prelude.{◌≡◌, ◌+◌, ◌≤◌, ◌<◌, ◌∷◌, ◌++◌, length, OnOk};
 ghost use Rattle.std.specs.List.{flat_map};
-ghost use Rattle.hm_history.specs.Due.{due};
-ghost use Rattle.hm_history.specs.Run.{actors_of};
+ghost use Rattle.hm_history.specs.Kernel.Due.{due};
+ghost use Rattle.hm_history.specs.Kernel.Run.{actors_of};
 ghost use Rattle.hm_view.specs.Standing.{standing_text, standing_of, standing_line};
 
 use hm_base::{Actor, NoMemory, Text};

@@ -3,9 +3,9 @@ use Rattle.std.proofs.Common.{◌≡◌, ℕ, suc, ◌<◌, ◌^◌, ◌==◌, B
 use Rattle.std.specs.Prelude.{option_map}
 use Rattle.std.proofs.Math.Path.{fun_ext}
 use Rattle.std.proofs.lemmas.Bool.Decides.{nat_tests}
-use Rattle.hm_history.specs.Words.{with_at}
-use Rattle.hm_history.specs.Plain.{Plain, MirrorState, Attachment, Attached, Detaching, Gone, plain_next, mirror_owner, mirror_proc, with_attachment}
-use Rattle.hm_history.specs.After.{after}
+use Rattle.hm_history.specs.Memory.Words.{with_at}
+use Rattle.hm_history.specs.Memory.Plain.{Plain, MirrorState, Attachment, Attached, Detaching, Gone, plain_next, mirror_owner, mirror_proc, with_attachment}
+use Rattle.hm_history.specs.Memory.After.{after}
 use Rattle.hm_history.specs.declared.Who.{Who}
 use Rattle.hm_history.specs.declared.Kind.{Kind}
 use Rattle.hm_history.specs.declared.Entry.{Entry}

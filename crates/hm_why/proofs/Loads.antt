@@ -4,12 +4,12 @@ use Rattle.std.specs.Prelude.{option_map}
 use Rattle.std.proofs.lemmas.Bool.Decides.{nat_tests}
 use Rattle.std.proofs.lemmas.Option.{slice_get_within}
 use Rattle.hm_base.specs.Program.{Program}
-use Rattle.hm_history.specs.Words.{page_of, same_bytes, bytes_from}
-use Rattle.hm_history.specs.Plain.{Plain, plain_accepts, rights_of, proc_of, plain_bytes, cause_at}
-use Rattle.hm_history.specs.After.{After, after}
-use Rattle.hm_history.specs.Going.{state_of, going_next}
+use Rattle.hm_history.specs.Memory.Words.{page_of, same_bytes, bytes_from}
+use Rattle.hm_history.specs.Memory.Plain.{Plain, plain_accepts, rights_of, proc_of, plain_bytes, cause_at}
+use Rattle.hm_history.specs.Memory.After.{After, after}
+use Rattle.hm_history.specs.Kernel.Going.{state_of, going_next}
 use Rattle.hm_history.specs.Laws.{DueFrom}
-use Rattle.hm_history.specs.Legal.{MayFollow, LegalFrom}
+use Rattle.hm_history.specs.Kernel.Legal.{MayFollow, LegalFrom}
 use Rattle.hm_history.specs.declared.Who.{Who}
 use Rattle.hm_history.specs.declared.Kind.{Kind}
 use Rattle.hm_history.specs.declared.Entry.{Entry}
@@ -54,8 +54,8 @@ record At (h : List Entry) (i at : ℕ) (x : Who) (bs : List ℕ) : Type 0 where
 at_entry : (h : List Entry) → IsLegal h → (i at : ℕ) (x : Who) (bs : List ℕ) (e : Entry) → slice_get h i ≡ Some e → e.kind ≡ Kind.Loaded x at bs → At h i at x bs
 at_entry h l i at x bs e is k = record {
   long = omega (arith, slice_get_within h i e is);
-  answers = record { passes = λ j y below at_j. (may_follow l.script [] h j y l.legal at_j).answers };
-  accepted = subst (λ y. plain_accepts (after (take i h)).plain y ≡ true) k may.answers;
+  answers = record { passes = λ j y below at_j. (may_follow l.script [] h j y l.legal at_j).rules.answers };
+  accepted = subst (λ y. plain_accepts (after (take i h)).plain y ≡ true) k may.rules.answers;
   in_page = subst Reads k (next_is _ _ turn.is_due (reads_due l.script u e.actor turn.op _ turn.top (length l.script.devices) ((small l.script l.is_script).ops e.actor _ turn.op turn.is_op)));
   low = λ p v. subst (λ (s : After). is_some (rights_of s.plain p v) ≡ true → v < 2 ^ 36) (after_is l.script g) (st.1.sound.processes.area_below p v);
 }

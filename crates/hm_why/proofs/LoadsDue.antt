@@ -10,15 +10,15 @@ use Rattle.hm_base.specs.declared.Frame.{Frame}
 use Rattle.hm_base.specs.declared.Place.{Place}
 use Rattle.hm_base.specs.declared.ops.Op.{Op}
 use Rattle.hm_history.specs.declared.phases.MoveStep.{MoveStep}
-use Rattle.hm_history.specs.Words.{page_of, sys_frame, dev_frame, is_frame, names, names_directly, same_place, writable}
-use Rattle.hm_history.specs.Plain.{rights_of, is_read_only, is_attached, in_window, mirror_proc, mirror_dev, area_refusal, meets, proc_of}
-use Rattle.hm_history.specs.Places.{lowest_free, lowest_named, lowest_direct, lowest_moving, held_from, next_page, is_used}
-use Rattle.hm_history.specs.Sequences.{is_odd, insert_deferred, in_tree}
-use Rattle.hm_history.specs.Locks.{writer, lowest_other, other_locker}
-use Rattle.hm_history.specs.After.{After}
-use Rattle.hm_history.specs.Operation.{op_piece, op_mirror, op_who, op_writes, is_exclusive_op, is_to_device}
-use Rattle.hm_history.specs.Going.{touch_page, touch_proc, coming}
-use Rattle.hm_history.specs.Due.{rlock, wlock, is_invalidating, process_seq, is_usable, has_exclusive, answer_of_piece, fails, repeats, is_used_once, suits, suits_walk, take_or, fault_at, fault, due_cpu, due_mirror, due_add, due_fetched, due_piece, due_sole, due_decide, due_taken, within, fork_page, child_of, kept_or_frozen, select_to_device, select_to_system, select_page, if_so, restore_at, has_no_frame, due_body, body_or_end, to_tell, due_guard, due_emptying, settle, due_finish, due_give_up, due_frames_of, due_frames, skips, pool_of, others_of, fetch_page, commit_page, finish_page, due_step, due_moves, under_wlock, in_window_rlock, due_begin, due_areas, due_locked, proc_of_op, due_ready, due_answer, due_pages, due_phase}
+use Rattle.hm_history.specs.Memory.Words.{page_of, sys_frame, dev_frame, is_frame, names, names_directly, same_place, writable}
+use Rattle.hm_history.specs.Memory.Plain.{rights_of, is_read_only, is_attached, in_window, mirror_proc, mirror_dev, area_refusal, meets, proc_of}
+use Rattle.hm_history.specs.Memory.Places.{lowest_free, lowest_named, lowest_direct, lowest_moving, held_from, next_page, is_used}
+use Rattle.hm_history.specs.Memory.Sequences.{is_odd, insert_deferred, in_tree}
+use Rattle.hm_history.specs.Memory.Locks.{writer, lowest_other, other_locker}
+use Rattle.hm_history.specs.Memory.After.{After}
+use Rattle.hm_history.specs.Kernel.Operation.{op_piece, op_mirror, op_who, op_writes, is_exclusive_op, is_to_device}
+use Rattle.hm_history.specs.Kernel.Going.{touch_page, touch_proc, coming}
+use Rattle.hm_history.specs.Kernel.Due.{rlock, wlock, is_invalidating, process_seq, is_usable, has_exclusive, answer_of_piece, fails, repeats, is_used_once, suits, suits_walk, take_or, fault_at, fault, due_cpu, due_mirror, due_add, due_fetched, due_piece, due_sole, due_decide, due_taken, within, fork_page, child_of, kept_or_frozen, select_to_device, select_to_system, select_page, if_so, restore_at, has_no_frame, due_body, body_or_end, to_tell, due_guard, due_emptying, settle, due_finish, due_give_up, due_frames_of, due_frames, skips, pool_of, others_of, fetch_page, commit_page, finish_page, due_step, due_moves, under_wlock, in_window_rlock, due_begin, due_areas, due_locked, proc_of_op, due_ready, due_answer, due_pages, due_phase}
 use Rattle.hm_history.specs.declared.Kind.{Kind}
 use Rattle.hm_history.specs.declared.phases.Migrating.{Migrating}
 use Rattle.hm_history.specs.declared.phases.Touch.{Touch}

@@ -5,7 +5,7 @@ use Rattle.std.proofs.lemmas.Bool.{cases_eq}
 use Rattle.std.proofs.lemmas.Bool.Decides.{nat_tests}
 use Rattle.std.proofs.lemmas.Grind.{common_steps}
 use Rattle.std.proofs.lemmas.Option.{same_Some, slice_get_within}
-use Rattle.hm_history.specs.Plain.{owned}
+use Rattle.hm_history.specs.Memory.Plain.{owned}
 use Rattle.hm_why.specs.Sources.{is_among}
 use Rattle.hm_why.specs.Changes.{entry_for, IsSet}
 use Rattle.hm_why.specs.Writers.{entry_among, changes_at, IsAlone, IsFree, IsPut}

@@ -6,9 +6,9 @@ use Rattle.std.proofs.lemmas.List.Sums.{fold_more}
 use Rattle.std.proofs.lemmas.Option.{get_or_from_slice_get, slice_get_within, slice_get-get_or}
 use Rattle.hm_base.specs.Pages.{covers}
 use Rattle.hm_base.specs.Areas.{without, with_rights, with_area, rights_at}
-use Rattle.hm_history.specs.Words.{page_of, with_at}
-use Rattle.hm_history.specs.Plain.{Plain, plain_start, plain_next, plain_accepts, rights_of, mirror_owner, owned, with_zeros, with_bytes, written_for}
-use Rattle.hm_history.specs.After.{after, after_entry, after_nothing}
+use Rattle.hm_history.specs.Memory.Words.{page_of, with_at}
+use Rattle.hm_history.specs.Memory.Plain.{Plain, plain_start, plain_next, plain_accepts, rights_of, mirror_owner, owned, with_zeros, with_bytes, written_for}
+use Rattle.hm_history.specs.Memory.After.{after, after_entry, after_nothing}
 use Rattle.hm_history.specs.declared.Who.{Who}
 use Rattle.hm_history.specs.declared.Kind.{Kind}
 use Rattle.hm_history.specs.declared.Entry.{Entry}

@@ -1,5 +1,6 @@
 -- Which entry stands for each address, where a few addresses tell from where on another one does.
-use Rattle.std.specs.Prelude.{◌≡◌, ℕ, zero, suc, ◌+◌, ◌≤◌, ◌<◌, ◌&&◌, nat_le, nat_lt, if◌then◌else◌, Option, Some, None, unwrap_or, List, [], ◌∷◌}
+use Rattle.std.specs.Prelude.{◌≡◌, ℕ, zero, suc, ◌+◌, ◌≤◌, ◌<◌, ◌&&◌, nat_le, nat_lt, if◌then◌else◌, Option, Some, None}
+use Rattle.std.specs.Prelude.{unwrap_or, List, [], ◌∷◌}
 use Rattle.std.specs.Ordering.{nat_cmp}
 use Rattle.std.specs.BTreeMap as tree
 use Rattle.hm_why.specs.declared.changes.Changes.{Changes}
@@ -44,7 +45,8 @@ pub record IsCleared (before after : Changes) (from to : ℕ) : Type 0 where
 abbrev pub IsAhead : (ℕ → Option (Option ℕ)) → List (ℕ × Option ℕ) → ℕ → ℕ → Type 0
 IsAhead f [] from end = (k : ℕ) → from ≤ k → k < end → f k ≡ None
 IsAhead f (e ∷ es) from end =
-    (from ≤ e.0) × (e.0 < end) × (f e.0 ≡ Some e.1) × ((k : ℕ) → from ≤ k → k < e.0 → f k ≡ None) × IsAhead f es (e.0 + 1) end
+    (from ≤ e.0) × (e.0 < end) × (f e.0 ≡ Some e.1) × ((k : ℕ) → from ≤ k → k < e.0 → f k ≡ None)
+    × IsAhead f es (e.0 + 1) end
 
 -- one that was taken and those left; none, if none was left to take
 abbrev pub pending : Option (ℕ × Option ℕ) → List (ℕ × Option ℕ) → List (ℕ × Option ℕ)

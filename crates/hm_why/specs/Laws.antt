@@ -1,10 +1,10 @@
 -- The law of sources: each byte of a load came from an entry that gave it the value that was read.
 use Rattle.std.specs.Prelude.{◌≡◌, ℕ, ◌+◌, ◌<◌, ◌≤◌, ◌^◌, Some, List, length, slice_index, take}
 use Rattle.hm_base.specs.Program.{Program, IsScript}
-use Rattle.hm_history.specs.Words.{page_of}
-use Rattle.hm_history.specs.Plain.{proc_of}
-use Rattle.hm_history.specs.After.{after}
-use Rattle.hm_history.specs.Legal.{Legal}
+use Rattle.hm_history.specs.Memory.Words.{page_of}
+use Rattle.hm_history.specs.Memory.Plain.{proc_of}
+use Rattle.hm_history.specs.Memory.After.{after}
+use Rattle.hm_history.specs.Kernel.Legal.{Legal}
 use Rattle.hm_history.specs.declared.Who.{Who}
 use Rattle.hm_history.specs.declared.Kind.{Kind}
 use Rattle.hm_history.specs.declared.Entry.{Entry}

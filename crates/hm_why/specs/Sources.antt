@@ -1,9 +1,10 @@
 -- Where each byte of a process came from: the entry that gave it the value that it has.
-use Rattle.std.specs.Prelude.{◌≡◌, ℕ, zero, suc, ◌+◌, ◌-◌, ◌<◌, Bool, true, false, ◌&&◌, nat_lt, nat_le, ◌==◌, Option, Some, None, List, length, slice_index, slice_get, take, option_map}
+use Rattle.std.specs.Prelude.{◌≡◌, ℕ, zero, suc, ◌+◌, ◌-◌, ◌<◌, Bool, true, false, ◌&&◌, nat_lt, nat_le, ◌==◌, Option}
+use Rattle.std.specs.Prelude.{Some, None, List, length, slice_index, slice_get, take, option_map}
 use Rattle.hm_base.specs.Pages.{covers}
-use Rattle.hm_history.specs.Words.{page_of}
-use Rattle.hm_history.specs.Plain.{mirror_owner, owned}
-use Rattle.hm_history.specs.After.{after}
+use Rattle.hm_history.specs.Memory.Words.{page_of}
+use Rattle.hm_history.specs.Memory.Plain.{mirror_owner, owned}
+use Rattle.hm_history.specs.Memory.After.{after}
 use Rattle.hm_history.specs.declared.Who.{Who}
 use Rattle.hm_history.specs.declared.Kind.{Kind}
 use Rattle.hm_history.specs.declared.Entry.{Entry}

@@ -1,6 +1,7 @@
 // Which entry stands for each address of a process.
 ghost use Rattle.std.specs.Prelude.{◌≡◌, ◌==◌, ℕ, ◌+◌, ◌<◌, ◌≤◌, if◌then◌else◌, Option, None, Some, IfOk, OnOk};
-ghost use Rattle.hm_why.specs.Changes.{entry_for, change_at, last_change, pending, IsSet, IsLast, IsFirst, IsCleared, IsAhead};
+ghost use Rattle.hm_why.specs.Changes.{entry_for, change_at, last_change, pending, IsSet, IsLast, IsFirst, IsCleared};
+ghost use Rattle.hm_why.specs.Changes.{IsAhead};
 
 use hm_base::NoMemory;
 use std::alloc::Global;
@@ -123,7 +124,8 @@ pub fn entry_on(
     addr: u64,
     before: Option<u64>,
 ) -> Option<u64>
-    ensures entry { (f : ℕ → Option (Option ℕ)) (end : ℕ) → IsAhead f (pending next.old points.old) addr end → addr < end
+    ensures entry { (f : ℕ → Option (Option ℕ)) (end : ℕ)
+        → IsAhead f (pending next.old points.old) addr end → addr < end
         → (f addr ≡ None → last_change f addr ≡ before) → last_change f addr ≡ result }
     ensures ahead { (f : ℕ → Option (Option ℕ)) (end : ℕ) → IsAhead f (pending next.old points.old) addr end
         → IsAhead f (pending next.new points.new) (addr + 1) end }

@@ -1,6 +1,6 @@
 // The sources of the bytes of one load.
 ghost use Rattle.std.specs.Prelude.{◌≡◌, ℕ, ◌+◌, ◌≤◌, ◌^◌, length, map, Some, IfOk};
-ghost use Rattle.hm_history.specs.Words.{numbers};
+ghost use Rattle.hm_history.specs.Memory.Words.{numbers};
 ghost use Rattle.hm_why.specs.Laws.{IsLegal};
 ghost use Rattle.hm_why.specs.Writers.{source_in, IsSized};
 ghost use Rattle.hm_why.specs.Follows.{Follows};

@@ -1,6 +1,6 @@
 // The text that tells where the bytes of all loads came from.
 ghost use Rattle.std.specs.Prelude.{◌≡◌, ℕ, ◌+◌, ◌≤◌, ◌^◌, ◌∷◌, ◌++◌, length, map, IfOk, OnOk};
-ghost use Rattle.hm_history.specs.Words.{numbers};
+ghost use Rattle.hm_history.specs.Memory.Words.{numbers};
 ghost use Rattle.hm_report.specs.Line.{spaced};
 ghost use Rattle.hm_report.specs.Written.{Writes, SentOn, FaultCause, ReportWants};
 ghost use Rattle.hm_why.specs.Laws.{IsLegal};

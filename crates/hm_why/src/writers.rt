@@ -2,7 +2,8 @@
 ghost use Rattle.std.specs.Prelude.{◌≡◌, ℕ, ◌<◌, ◌≤◌, true, false, Some, length, slice_get, IfOk, OnOk};
 ghost use Rattle.hm_why.specs.Sources.{process_of};
 ghost use Rattle.hm_why.specs.Changes.{entry_for};
-ghost use Rattle.hm_why.specs.Writers.{owner_in, source_in, process_in, IsSized, IsFresh, IsWritten, IsCopied, IsNoted, IsAlone, IsFree, IsPut, IsOwn};
+ghost use Rattle.hm_why.specs.Writers.{owner_in, source_in, process_in, IsSized, IsFresh, IsWritten, IsCopied, IsNoted};
+ghost use Rattle.hm_why.specs.Writers.{IsAlone, IsFree, IsPut, IsOwn};
 
 use crate::changes::Changes;
 use hm_base::{MOST_MIRRORS, MOST_PROCESSES, NoMemory, PAGE_BYTES, Proc};

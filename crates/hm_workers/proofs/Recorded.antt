@@ -6,8 +6,8 @@ use Rattle.std.proofs.lemmas.Bool.Decides.{nat_tests}
 use Rattle.std.proofs.lemmas.Option.{slice_get_within, slice_get-get_or}
 use Rattle.std.proofs.Math.Seq.{take-length}
 use Rattle.hm_base.specs.Program.{Program}
-use Rattle.hm_history.specs.After.{after}
-use Rattle.hm_history.specs.Locks.{writer}
+use Rattle.hm_history.specs.Memory.After.{after}
+use Rattle.hm_history.specs.Memory.Locks.{writer}
 use Rattle.hm_history.specs.declared.Entry.{Entry}
 use Rattle.hm_turns.proofs.Sums.{get_last}
 use Rattle.hm_turns.specs.Looking.{all_have_areas, looked_after}

@@ -1,6 +1,7 @@
 -- Peeks: bytes of a process that were checked to be current.
-use Rattle.std.specs.Prelude.{◌≡◌, ℕ, ◌-◌, ◌<◌, ◌≤◌, Bool, true, List, length, take, slice_get, nat_lt, Option, Some, None, option_map}
-use Rattle.hm_history.specs.After.{after}
+use Rattle.std.specs.Prelude.{◌≡◌, ℕ, ◌-◌, ◌<◌, ◌≤◌, Bool, true, List, length, take, slice_get, nat_lt, Option, Some}
+use Rattle.std.specs.Prelude.{None, option_map}
+use Rattle.hm_history.specs.Memory.After.{after}
 use Rattle.hm_history.specs.declared.Entry.{Entry}
 use Rattle.hm_turns.specs.Looking.{all_have_areas, looked_after, plain_after}
 use Rattle.hm_turns.specs.Sights.{Sight, IsShown}

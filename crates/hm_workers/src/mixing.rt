@@ -196,8 +196,8 @@ impl<'a, R> Mixing<'a, R> {
         }
     }
 
-    // The actor is held by the one in the place `holder`, or by one that is not told. If that one sleeps, it goes, or is
-    // called where another looks.
+    // The actor is held by the one in the place `holder`, or by one that is not known. If that one sleeps, it goes, or
+    // is called where another looks.
     fn is_held(&self, place: u64, bit: u64, holder: u64) {
         let number = self.burst.draw();
         self.places.fetch_or(held_bit(bit), Ordering::SeqCst);

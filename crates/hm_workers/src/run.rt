@@ -1,6 +1,6 @@
 // A run of all actors of a value, each in a thread.
 ghost use Rattle.std.specs.Prelude.{◌≡◌, ◌+◌, ◌<◌, ◌≤◌, [], length, false, true, None, Some, IfOk};
-ghost use Rattle.hm_history.specs.After.{after};
+ghost use Rattle.hm_history.specs.Memory.After.{after};
 ghost use Rattle.hm_turns.specs.Looking.{IsLook, all_have_areas};
 ghost use Rattle.hm_turns.specs.Sights.{all_shares};
 ghost use Rattle.hm_turns.specs.Stepping.{is_halted};

@@ -1,7 +1,7 @@
 -- The world before the first entry.
 use Rattle.std.proofs.Common.{◌≡◌, None, List, [], sym, arith, subst}
 use Rattle.hm_base.specs.Program.{Program, IsScript}
-use Rattle.hm_history.specs.Going.{state_start}
+use Rattle.hm_history.specs.Kernel.Going.{state_start}
 use Rattle.hm_history.specs.declared.Entry.{Entry}
 use Rattle.hm_frames.specs.Pools.{fresh_pools}
 use Rattle.hm_frames.proofs.Kept.{frames_start}

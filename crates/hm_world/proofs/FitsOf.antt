@@ -5,12 +5,12 @@ use Rattle.hm_base.specs.Program.{Program}
 use Rattle.hm_base.specs.declared.Frame.{Frame}
 use Rattle.hm_base.specs.declared.Place.{Place}
 use Rattle.hm_base.specs.declared.ops.Op.{Op}
-use Rattle.hm_history.specs.Words.{names, page_of}
-use Rattle.hm_history.specs.Plain.{MirrorState, Attachment, owner, mirror_owner, area_refusal, is_attached_state, mirror_passes}
-use Rattle.hm_history.specs.Places.{pool_size}
-use Rattle.hm_history.specs.Sequences.{Interval, Stage}
-use Rattle.hm_history.specs.Contents.{backing, place_for}
-use Rattle.hm_history.specs.After.{After}
+use Rattle.hm_history.specs.Memory.Words.{names, page_of}
+use Rattle.hm_history.specs.Memory.Plain.{MirrorState, Attachment, owner, mirror_owner, area_refusal, is_attached_state, mirror_passes}
+use Rattle.hm_history.specs.Memory.Places.{pool_size}
+use Rattle.hm_history.specs.Memory.Sequences.{Interval, Stage}
+use Rattle.hm_history.specs.Memory.Contents.{backing, place_for}
+use Rattle.hm_history.specs.Memory.After.{After}
 use Rattle.hm_history.specs.declared.Kind.{Kind}
 use Rattle.hm_history.specs.declared.TableRight.{TableRight}
 use Rattle.hm_laws.specs.Past.{Past}

@@ -3,9 +3,9 @@ use Rattle.std.proofs.Common.{List, ◌≡◌, ℕ, ◌<◌, Option, None, [], �
 use Rattle.hm_base.specs.Program.{Program}
 use Rattle.hm_base.specs.declared.Frame.{Frame}
 use Rattle.hm_base.specs.declared.Place.{Place}
-use Rattle.hm_history.specs.Locks.{orphan}
-use Rattle.hm_history.specs.Due.{due}
-use Rattle.hm_history.specs.Going.{State, state_next, state_of-snoc}
+use Rattle.hm_history.specs.Memory.Locks.{orphan}
+use Rattle.hm_history.specs.Kernel.Due.{due}
+use Rattle.hm_history.specs.Kernel.Going.{State, state_next, state_of-snoc}
 use Rattle.hm_history.specs.declared.Kind.{Kind}
 use Rattle.hm_history.specs.declared.Progress.{Progress}
 use Rattle.hm_history.specs.declared.phases.Seen.{Seen}

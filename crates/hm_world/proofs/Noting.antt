@@ -6,9 +6,9 @@ use Rattle.hm_base.specs.Program.{Program, op_in_range, op_fits}
 use Rattle.hm_base.specs.declared.Frame.{Frame}
 use Rattle.hm_base.specs.declared.Place.{Place}
 use Rattle.hm_base.specs.declared.ops.Op.{Op}
-use Rattle.hm_history.specs.Locks.{orphan}
-use Rattle.hm_history.specs.After.{After}
-use Rattle.hm_history.specs.Going.{Going, op_at, seen_overlap}
+use Rattle.hm_history.specs.Memory.Locks.{orphan}
+use Rattle.hm_history.specs.Memory.After.{After}
+use Rattle.hm_history.specs.Kernel.Going.{Going, op_at, seen_overlap}
 use Rattle.hm_history.specs.declared.Kind.{Kind}
 use Rattle.hm_history.specs.declared.phases.Migrating.{Migrating}
 use Rattle.hm_laws.proofs.Histories.Sound.{small}

@@ -4,12 +4,12 @@ use Rattle.std.proofs.lemmas.Bool.{and_parts}
 use Rattle.hm_base.specs.Program.{Program}
 use Rattle.hm_base.specs.declared.Frame.{Frame}
 use Rattle.hm_base.specs.declared.Place.{Place}
-use Rattle.hm_history.specs.Words.{page_of, bytes_from, is_empty_place}
-use Rattle.hm_history.specs.Plain.{MirrorState, mirror_proc, mirror_passes, is_attached_state}
-use Rattle.hm_history.specs.Places.{Places, TableEntry, cpu_reads, is_exclusive_by, is_sole, may_read, entry_passes}
-use Rattle.hm_history.specs.Contents.{backing, contents_of, shown_by}
-use Rattle.hm_history.specs.After.{After}
-use Rattle.hm_history.specs.Due.{is_usable, has_exclusive}
+use Rattle.hm_history.specs.Memory.Words.{page_of, bytes_from, is_empty_place}
+use Rattle.hm_history.specs.Memory.Plain.{MirrorState, mirror_proc, mirror_passes, is_attached_state}
+use Rattle.hm_history.specs.Memory.Places.{Places, TableEntry, cpu_reads, is_exclusive_by, is_sole, may_read, entry_passes}
+use Rattle.hm_history.specs.Memory.Contents.{backing, contents_of, shown_by}
+use Rattle.hm_history.specs.Memory.After.{After}
+use Rattle.hm_history.specs.Kernel.Due.{is_usable, has_exclusive}
 use Rattle.hm_history.specs.declared.TableRight.{TableRight}
 use Rattle.hm_laws.specs.Past.{Past}
 use Rattle.hm_laws.specs.Stood.{stood, Fits, FitsSole, Matches}

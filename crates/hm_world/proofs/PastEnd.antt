@@ -5,7 +5,7 @@ use Rattle.std.specs.Prelude.{find, option_map}
 use Rattle.std.specs.List.{list_all}
 use Rattle.std.proofs.lemmas.Bool.{and_parts}
 use Rattle.hm_base.specs.Program.{Program}
-use Rattle.hm_history.specs.Places.{Places, next_page}
+use Rattle.hm_history.specs.Memory.Places.{Places, next_page}
 use Rattle.radix_tables.specs.Maps.{before}
 use Rattle.hm_reads.specs.Cursors.{page_before}
 use Rattle.hm_tables.specs.Values.{Tables, table_of, place_of_word}

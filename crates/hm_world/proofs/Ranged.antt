@@ -5,10 +5,10 @@ use Rattle.std.proofs.lemmas.Bool.{cases_eq}
 use Rattle.std.proofs.lemmas.Bool.Decides.{nat_tests}
 use Rattle.hm_base.specs.Program.{Program}
 use Rattle.hm_base.specs.declared.ops.Op.{Op}
-use Rattle.hm_history.specs.Words.{with_at}
-use Rattle.hm_history.specs.After.{After}
-use Rattle.hm_history.specs.Going.{State, Going, state_start, state_next, op_at, going_from, going_on, going_top, going_next}
-use Rattle.hm_history.specs.Due.{proc_of_op}
+use Rattle.hm_history.specs.Memory.Words.{with_at}
+use Rattle.hm_history.specs.Memory.After.{After}
+use Rattle.hm_history.specs.Kernel.Going.{State, Going, state_start, state_next, op_at, going_from, going_on, going_top, going_next}
+use Rattle.hm_history.specs.Kernel.Due.{proc_of_op}
 use Rattle.hm_history.specs.declared.Kind.{Kind}
 use Rattle.hm_history.specs.declared.Entry.{Entry}
 use Rattle.hm_history.specs.declared.phases.Migrating.{Migrating}

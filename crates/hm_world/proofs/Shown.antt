@@ -5,9 +5,9 @@ use Rattle.std.proofs.lemmas.Bool.Decides.{nat_tests}
 use Rattle.std.specs.Prelude.{fold}
 use Rattle.hm_base.specs.Program.{Program}
 use Rattle.hm_base.specs.declared.ops.Op.{Op}
-use Rattle.hm_history.specs.Words.{with_at}
-use Rattle.hm_history.specs.After.{After}
-use Rattle.hm_history.specs.Going.{State, Going, state_start, state_next, going_next, going_from, op_at}
+use Rattle.hm_history.specs.Memory.Words.{with_at}
+use Rattle.hm_history.specs.Memory.After.{After}
+use Rattle.hm_history.specs.Kernel.Going.{State, Going, state_start, state_next, going_next, going_from, op_at}
 use Rattle.hm_history.specs.declared.Kind.{Kind}
 use Rattle.hm_history.specs.declared.Entry.{Entry}
 use Rattle.hm_actors.specs.Actors.{TaskValue, ActorsShown, going_of, nobody}

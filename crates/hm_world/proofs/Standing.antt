@@ -3,12 +3,12 @@ use Rattle.std.proofs.Common.{◌≡◌, ℕ, ◌<◌, ◌≤◌, Some, None, Li
 use Rattle.std.specs.Prelude.{IsTrue}
 use Rattle.hm_base.specs.Program.{Program, IsScript}
 use Rattle.hm_base.specs.declared.ops.Op.{Op}
-use Rattle.hm_history.specs.After.{After, after}
-use Rattle.hm_history.specs.Going.{State, Going, going_on, going_top, going_next, op_at, state_of, state_of-snoc}
-use Rattle.hm_history.specs.Stacks.{stack_after}
+use Rattle.hm_history.specs.Memory.After.{After, after}
+use Rattle.hm_history.specs.Kernel.Going.{State, Going, going_on, going_top, going_next, op_at, state_of, state_of-snoc}
+use Rattle.hm_history.specs.Kernel.Stacks.{stack_after}
 use Rattle.hm_history.specs.Laws.{DueFrom}
 use Rattle.hm_history.proofs.RunLemmas.{DueFrom-append}
-use Rattle.hm_history.specs.Due.{due}
+use Rattle.hm_history.specs.Kernel.Due.{due}
 use Rattle.hm_history.specs.declared.Kind.{Kind}
 use Rattle.hm_history.specs.declared.Entry.{Entry}
 use Rattle.hm_history.specs.declared.Progress.{Progress}

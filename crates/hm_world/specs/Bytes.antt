@@ -1,9 +1,9 @@
 -- The byte that an address of a process shows.
 use Rattle.std.specs.Prelude.{ℕ, ◌%◌, if◌then◌else◌, Option, Some, None, is_some}
-use Rattle.hm_history.specs.After.{After}
-use Rattle.hm_history.specs.Contents.{contents_of}
-use Rattle.hm_history.specs.Plain.{rights_of}
-use Rattle.hm_history.specs.Words.{page_of}
+use Rattle.hm_history.specs.Memory.After.{After}
+use Rattle.hm_history.specs.Memory.Contents.{contents_of}
+use Rattle.hm_history.specs.Memory.Plain.{rights_of}
+use Rattle.hm_history.specs.Memory.Words.{page_of}
 
 -- from the frame that the page's place stands for, where the page has an area
 abbrev pub byte_shown : After → ℕ → ℕ → Option ℕ

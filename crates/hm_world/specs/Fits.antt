@@ -1,8 +1,8 @@
 -- What the structures ask of the state at an entry.
 use Rattle.std.specs.Prelude.{ℕ}
 use Rattle.hm_base.specs.Program.{Program}
-use Rattle.hm_history.specs.Places.{pool_size}
-use Rattle.hm_history.specs.Going.{State}
+use Rattle.hm_history.specs.Memory.Places.{pool_size}
+use Rattle.hm_history.specs.Kernel.Going.{State}
 use Rattle.hm_history.specs.declared.Kind.{Kind}
 use Rattle.hm_history.specs.declared.phases.Seen.{Seen}
 use Rattle.hm_frames.specs.Shown.{FramesFit}

@@ -1,8 +1,8 @@
 -- What a page is read through, where a mirror's table has an entry for it.
 use Rattle.std.specs.Prelude.{◌≡◌, Option, Some, None}
 use Rattle.hm_base.specs.declared.Place.{Place}
-use Rattle.hm_history.specs.Places.{Places, TableEntry}
-use Rattle.hm_history.specs.Contents.{backing}
+use Rattle.hm_history.specs.Memory.Places.{Places, TableEntry}
+use Rattle.hm_history.specs.Memory.Contents.{backing}
 
 -- the place stands for the entry's frame, whatever was committed
 abbrev pub MirroredBy : Option TableEntry → Place → Type 0

@@ -3,8 +3,8 @@ use Rattle.std.specs.Prelude.{◌≡◌, ℕ, Option, Some, List, ◌∷◌}
 use Rattle.hm_base.specs.Program.{Program}
 use Rattle.hm_base.specs.declared.Place.{Place}
 use Rattle.hm_base.specs.declared.ops.Op.{Op}
-use Rattle.hm_history.specs.After.{After}
-use Rattle.hm_history.specs.Going.{Going, op_at, seen_place, coming, coming_page}
+use Rattle.hm_history.specs.Memory.After.{After}
+use Rattle.hm_history.specs.Kernel.Going.{Going, op_at, seen_place, coming, coming_page}
 use Rattle.hm_history.specs.declared.Kind.{Kind}
 use Rattle.hm_history.specs.declared.phases.Migrating.{Migrating}
 use Rattle.hm_history.specs.declared.phases.Phase.{Phase}

@@ -1,7 +1,7 @@
 -- What a world keeps: each structure holds what the history gives.
 use Rattle.std.specs.Prelude.{◌≤◌, Option, List, [], length}
 use Rattle.hm_base.specs.Program.{Program, IsScript}
-use Rattle.hm_history.specs.Going.{State}
+use Rattle.hm_history.specs.Kernel.Going.{State}
 use Rattle.hm_history.specs.Laws.{DueFrom}
 use Rattle.hm_frames.specs.Pools.{PoolsState}
 use Rattle.hm_frames.specs.Shown.{FramesShown}

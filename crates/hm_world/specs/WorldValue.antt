@@ -2,8 +2,8 @@
 -- these.
 use Rattle.std.specs.Prelude.{◌≡◌, ℕ, Option, None, Some, List, [], ◌∷◌, ◌++◌, length, ⊤}
 use Rattle.hm_base.specs.Program.{Program}
-use Rattle.hm_history.specs.Due.{due}
-use Rattle.hm_history.specs.Going.{State, state_of}
+use Rattle.hm_history.specs.Kernel.Due.{due}
+use Rattle.hm_history.specs.Kernel.Going.{State, state_of}
 use Rattle.hm_history.specs.declared.Kind.{Kind}
 use Rattle.hm_history.specs.declared.Entry.{Entry}
 use Rattle.hm_history.specs.declared.Progress.{Progress}

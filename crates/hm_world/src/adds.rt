@@ -1,7 +1,7 @@
 // How a world goes on by an entry.
 ghost use Rattle.std.specs.Prelude.{◌≡◌, ℕ, ◌<◌, ◌∷◌, List, None, Some, length, OnOk, OnErr};
 ghost use Rattle.hm_base.specs.declared.limits.TheConstants.{MOST_ENTRIES};
-ghost use Rattle.hm_history.specs.Due.{due};
+ghost use Rattle.hm_history.specs.Kernel.Due.{due};
 ghost use Rattle.hm_history.specs.declared.Progress.{Progress};
 ghost use Rattle.hm_world.specs.WorldValue.{grown, now};
 ghost use Rattle.hm_world.specs.Fits.{Fits};

@@ -1,11 +1,12 @@
 // What pages show: the bytes of frames.
-ghost use Rattle.std.specs.Prelude.{◌≡◌, ◌+◌, ◌%◌, ◌≤◌, ◌^◌, ◌<◌, if◌then◌else◌, true, Some, None, is_some, length, replicate, IfOk};
+ghost use Rattle.std.specs.Prelude.{◌≡◌, ◌+◌, ◌%◌, ◌≤◌, ◌^◌, ◌<◌, if◌then◌else◌, true, Some, None, is_some, length};
+ghost use Rattle.std.specs.Prelude.{replicate, IfOk};
 ghost use Rattle.hm_base.specs.declared.Frame.{Frame as AnyFrame};
 ghost use Rattle.hm_base.specs.declared.limits.TheConstants.{PAGE_BYTES};
-ghost use Rattle.hm_history.specs.Words.{bytes_from, page_of};
-ghost use Rattle.hm_history.specs.Plain.{rights_of};
-ghost use Rattle.hm_history.specs.Places.{Places as AnyPlaces, is_exclusive_by};
-ghost use Rattle.hm_history.specs.Contents.{backing, contents_of};
+ghost use Rattle.hm_history.specs.Memory.Words.{bytes_from, page_of};
+ghost use Rattle.hm_history.specs.Memory.Plain.{rights_of};
+ghost use Rattle.hm_history.specs.Memory.Places.{Places as AnyPlaces, is_exclusive_by};
+ghost use Rattle.hm_history.specs.Memory.Contents.{backing, contents_of};
 ghost use Rattle.hm_mirrors.specs.Entries.{frame_of};
 ghost use Rattle.hm_world.specs.Bytes.{byte_shown};
 ghost use Rattle.hm_world.specs.WorldValue.{now};

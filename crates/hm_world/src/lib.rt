@@ -5,7 +5,7 @@ ghost use Rattle.std.specs.Prelude.{◌≡◌, ◌≤◌, [], length, IfOk, None
 ghost use Rattle.hm_base.specs.Program.{IsScript};
 ghost use Rattle.hm_base.specs.declared.limits.TheConstants.{MOST_ENTRIES};
 ghost use Rattle.hm_history.specs.Laws.{DueFrom};
-ghost use Rattle.hm_history.specs.Going.{state_of};
+ghost use Rattle.hm_history.specs.Kernel.Going.{state_of};
 ghost use Rattle.hm_world.specs.WorldValue.{opening, halted_first, now, MayHalt, HaltsRightly};
 
 mod adds;

@@ -1,6 +1,6 @@
 // Where a migration has come to: the page that its step is about.
 ghost use Rattle.std.specs.Prelude.{◌≡◌};
-ghost use Rattle.hm_history.specs.Going.{is_direct, sets_now, concerns, coming};
+ghost use Rattle.hm_history.specs.Kernel.Going.{is_direct, sets_now, concerns, coming};
 ghost use Rattle.hm_history.specs.declared.phases.Phase as phase;
 ghost use Rattle.hm_world.specs.WorldValue.{now};
 

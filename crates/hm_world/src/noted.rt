@@ -1,12 +1,13 @@
 // What is read of a world before an entry changes it: the place that the entry is about, the frame that it leaves
 // unnamed, and what the stack of phases notes.
 ghost use Rattle.std.specs.Prelude.{◌≡◌, Some, is_some};
-ghost use Rattle.hm_history.specs.Words.{page_of};
-ghost use Rattle.hm_history.specs.Plain.{owner};
-ghost use Rattle.hm_history.specs.Contents.{place_for};
-ghost use Rattle.hm_history.specs.Locks.{orphan};
-ghost use Rattle.hm_history.specs.Sequences.{some_overlap};
-ghost use Rattle.hm_history.specs.Going.{seen_overlap, seen_place, coming, coming_page, op_at, touch_page, touch_proc};
+ghost use Rattle.hm_history.specs.Memory.Words.{page_of};
+ghost use Rattle.hm_history.specs.Memory.Plain.{owner};
+ghost use Rattle.hm_history.specs.Memory.Contents.{place_for};
+ghost use Rattle.hm_history.specs.Memory.Locks.{orphan};
+ghost use Rattle.hm_history.specs.Memory.Sequences.{some_overlap};
+ghost use Rattle.hm_history.specs.Kernel.Going.{seen_overlap, seen_place, coming, coming_page, op_at, touch_page};
+ghost use Rattle.hm_history.specs.Kernel.Going.{touch_proc};
 ghost use Rattle.hm_frames.specs.Shown.{entry_place};
 ghost use Rattle.hm_base.specs.PlaceWords.{names};
 ghost use Rattle.hm_base.specs.declared.Frame.{Frame as AnyFrame};

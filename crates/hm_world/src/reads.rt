@@ -1,6 +1,6 @@
 // What steps ask of a world: each call reads one structure.
 ghost use Rattle.std.specs.Prelude.{◌≡◌};
-ghost use Rattle.hm_history.specs.Places.{next_page};
+ghost use Rattle.hm_history.specs.Memory.Places.{next_page};
 ghost use Rattle.hm_reads.specs.Cursors.{page_before};
 ghost use Rattle.hm_tables.specs.Reads.{page_test};
 ghost use Rattle.hm_world.specs.WorldValue.{now};

@@ -1,5 +1,6 @@
 -- Intervals by their numbers, below 32, the room for more, and the least number of those that overlap a span.
-use Rattle.std.specs.Prelude.{◌≡◌, ℕ, zero, suc, ◌+◌, ◌<◌, ◌≤◌, Bool, true, false, ◌||◌, nat_lt, ◌==◌, Option, Some, None, is_some, List, [], ◌∷◌, length, filter, find, count_by, slice_index_or}
+use Rattle.std.specs.Prelude.{◌≡◌, ℕ, zero, suc, ◌+◌, ◌<◌, ◌≤◌, Bool, true, false, ◌||◌, nat_lt, ◌==◌, Option, Some}
+use Rattle.std.specs.Prelude.{None, is_some, List, [], ◌∷◌, length, filter, find, count_by, slice_index_or}
 use Rattle.hm_base.specs.Pages.{Pages, overlap}
 use Rattle.interval_tree.specs.declared.node.Interval.{Interval}
 

@@ -1,5 +1,6 @@
 -- Intervals in the order of the tree: by first page, then by number.
-use Rattle.std.specs.Prelude.{◌≢◌, ℕ, ◌+◌, ◌*◌, ◌<◌, max, min, nat_lt, nat_le, ◌==◌, Bool, true, false, ◌&&◌, if◌then◌else◌, Option, Some, None, List, [], ◌∷◌}
+use Rattle.std.specs.Prelude.{◌≢◌, ℕ, ◌+◌, ◌*◌, ◌<◌, max, min, nat_lt, nat_le, ◌==◌, Bool, true, false, ◌&&◌}
+use Rattle.std.specs.Prelude.{if◌then◌else◌, Option, Some, None, List, [], ◌∷◌}
 use Rattle.hm_base.specs.Pages.{Pages, overlap}
 use Rattle.interval_tree.specs.declared.node.Interval.{Interval}
 

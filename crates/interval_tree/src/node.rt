@@ -1,7 +1,9 @@
 // A balanced search tree of intervals, in the order of their first pages, each node with the greatest
 // end below it (the interval tree of include/linux/interval_tree_generic.h, balanced by height).
-ghost use Rattle.std.specs.Prelude.{◌≡◌, ◌+◌, ◌*◌, ◌^◌, ◌<◌, ◌≤◌, max, length, List, [], ◌∷◌, ◌++◌, MatchOption, None, Some};
-ghost use Rattle.interval_tree.specs.Items.{key, upto, IsSorted, LacksKey, with_interval, without_key, top_of, lesser, id_if, is_wanted, least_id};
+ghost use Rattle.std.specs.Prelude.{◌≡◌, ◌+◌, ◌*◌, ◌^◌, ◌<◌, ◌≤◌, max, length, List, [], ◌∷◌, ◌++◌, MatchOption, None};
+ghost use Rattle.std.specs.Prelude.{Some};
+ghost use Rattle.interval_tree.specs.Items.{key, upto, IsSorted, LacksKey, with_interval, without_key, top_of, lesser};
+ghost use Rattle.interval_tree.specs.Items.{id_if, is_wanted, least_id};
 ghost use Rattle.interval_tree.specs.Shape.{nothing, DifferByAtMost, IsHeightOver};
 ghost use Rattle.interval_tree.specs.Avl.{shape_of, items_of, IsAvl};
 

@@ -3,7 +3,7 @@
 #![tactic(auto)]
 
 ghost use Rattle.std.specs.Prelude.{◌≡◌};
-ghost use Rattle.hm_history.specs.Due as spec;
+ghost use Rattle.hm_history.specs.Kernel.Due as spec;
 
 use hm_base::{Op, Page, PoolId};
 use hm_history::{KeptAt, KeptWhy, Kind};

@@ -3,8 +3,8 @@
 #![tactic(auto)]
 
 ghost use Rattle.std.specs.Prelude.{◌≡◌, if◌then◌else◌, None};
-ghost use Rattle.hm_history.specs.Words.{place_in, writable};
-ghost use Rattle.hm_history.specs.Due as spec;
+ghost use Rattle.hm_history.specs.Memory.Words.{place_in, writable};
+ghost use Rattle.hm_history.specs.Kernel.Due as spec;
 ghost use Rattle.hm_history.specs.declared.Kind as kind;
 
 use hm_base::frames::place_in;

@@ -3,9 +3,9 @@
 #![tactic(auto)]
 
 ghost use Rattle.std.specs.Prelude.{◌≡◌};
-ghost use Rattle.hm_history.specs.Words.{place_in, writable};
-ghost use Rattle.hm_history.specs.Plain.{rights_of, is_read_write};
-ghost use Rattle.hm_history.specs.Due as spec;
+ghost use Rattle.hm_history.specs.Memory.Words.{place_in, writable};
+ghost use Rattle.hm_history.specs.Memory.Plain.{rights_of, is_read_write};
+ghost use Rattle.hm_history.specs.Kernel.Due as spec;
 ghost use Rattle.hm_history.specs.declared.Kind as kind;
 
 use hm_base::frames::place_in;

@@ -4,10 +4,10 @@
 
 ghost use Rattle.std.specs.Prelude.{◌≡◌, ◌||◌, not};
 ghost use Rattle.hm_base.specs.declared.ops.Op as op;
-ghost use Rattle.hm_history.specs.Plain.{mirror_proc, mirror_dev};
-ghost use Rattle.hm_history.specs.Words.{snap_code};
-ghost use Rattle.hm_history.specs.Sequences.{is_odd, insert_deferred};
-ghost use Rattle.hm_history.specs.Due as spec;
+ghost use Rattle.hm_history.specs.Memory.Plain.{mirror_proc, mirror_dev};
+ghost use Rattle.hm_history.specs.Memory.Words.{snap_code};
+ghost use Rattle.hm_history.specs.Memory.Sequences.{is_odd, insert_deferred};
+ghost use Rattle.hm_history.specs.Kernel.Due as spec;
 ghost use Rattle.hm_history.specs.declared.Kind as kind;
 
 use hm_base::{Cause, Dev, MirrorId, Page, Proc, Span, snap_code};

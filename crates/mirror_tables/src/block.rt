@@ -1,5 +1,6 @@
 // The entries of a block of pages, in rising order of the pages.
-ghost use Rattle.std.specs.Prelude.{◌≡◌, ℕ, ◌+◌, ◌-◌, ◌<◌, ◌≤◌, [], true, length, take, drop, ◌++◌, slice_index, nat_lt, ◌==◌, ◌&&◌, vec_len, vec_capacity, OnOk, OnErr};
+ghost use Rattle.std.specs.Prelude.{◌≡◌, ℕ, ◌+◌, ◌-◌, ◌<◌, ◌≤◌, [], true, length, take, drop, ◌++◌, slice_index};
+ghost use Rattle.std.specs.Prelude.{nat_lt, ◌==◌, ◌&&◌, vec_len, vec_capacity, OnOk, OnErr};
 ghost use Rattle.mirror_tables.specs.Blocks.{IsBlock, empty_block, entry_at, with_entry, without_span, changed, keys};
 ghost use Rattle.mirror_tables.specs.Places.{IsPlace};
 

@@ -1,5 +1,6 @@
 // The entries of the pages that a mirror may use, in blocks of 256 pages that come as they are needed.
-ghost use Rattle.std.specs.Prelude.{◌≡◌, ℕ, ◌+◌, ◌-◌, ◌^◌, ◌<◌, ◌≤◌, [], true, length, replicate, ◌++◌, slice_set, if◌then◌else◌, ◌&&◌, nat_le, nat_lt, OnOk, OnErr, MatchResult};
+ghost use Rattle.std.specs.Prelude.{◌≡◌, ℕ, ◌+◌, ◌-◌, ◌^◌, ◌<◌, ◌≤◌, [], true, length, replicate, ◌++◌, slice_set};
+ghost use Rattle.std.specs.Prelude.{if◌then◌else◌, ◌&&◌, nat_le, nat_lt, OnOk, OnErr, MatchResult};
 ghost use Rattle.hm_base.specs.Pages.{covers};
 ghost use Rattle.mirror_tables.specs.Blocks.{empty_block};
 ghost use Rattle.mirror_tables.specs.Entries.{IsTable, entry_at, with_entry, without_span, changed, block_of, room_at};

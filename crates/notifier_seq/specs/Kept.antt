@@ -1,5 +1,6 @@
 -- How the tree and its room stand to the intervals, and what a process has before its first mirror.
-use Rattle.std.specs.Prelude.{◌≡◌, ℕ, ◌+◌, ◌≤◌, Bool, false, if◌then◌else◌, Option, Some, None, List, Box, length, map, count_by, replicate, slice_index_or, slice_set}
+use Rattle.std.specs.Prelude.{◌≡◌, ℕ, ◌+◌, ◌≤◌, Bool, false, if◌then◌else◌, Option, Some, None, List, Box, length, map}
+use Rattle.std.specs.Prelude.{count_by, replicate, slice_index_or, slice_set}
 use Rattle.std.specs.declared.alloc.Global.{Global}
 use Rattle.hm_base.specs.Pages.{Pages}
 use Rattle.notifier_seq.specs.declared.interval.Due.{Due}

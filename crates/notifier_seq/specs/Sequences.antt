@@ -1,6 +1,7 @@
 -- The invalidations, intervals and sequences of one process: mm/mmu_notifier.c, with its deferred inserts and removes.
 -- That mirrors are told in rising number is this project's rule.
-use Rattle.std.specs.Prelude.{ℕ, ◌+◌, ◌-◌, ◌%◌, Bool, true, false, not, ◌&&◌, ◌||◌, nat_lt, ◌==◌, if◌then◌else◌, Option, Some, None, List, length, map, filter, find, replicate, slice_index_or, slice_set}
+use Rattle.std.specs.Prelude.{ℕ, ◌+◌, ◌-◌, ◌%◌, Bool, true, false, not, ◌&&◌, ◌||◌, nat_lt, ◌==◌, if◌then◌else◌, Option}
+use Rattle.std.specs.Prelude.{Some, None, List, length, map, filter, find, replicate, slice_index_or, slice_set}
 use Rattle.hm_base.specs.Pages.{Pages, overlap}
 use Rattle.interval_tree.specs.Intervals.{all_ids, is_above}
 use Rattle.notifier_seq.specs.declared.Begin.{Begin}

@@ -21,8 +21,12 @@
 // an entry is set only by a look-up that was compared. hm_laws proves from these rules that no told entry is ever used.
 #![tactic(auto)]
 
-ghost use Rattle.std.specs.Prelude.{◌≡◌, ◌==◌, ◌&&◌, ◌+◌, ◌^◌, ◌<◌, ◌≤◌, ◌-◌, nat_lt, not, OnOk, OnErr, IsTrue, IsSome, None, true, false, option_map, if◌then◌else◌};
-ghost use Rattle.notifier_seq.specs.Sequences.{sequences_start, reserved, is_odd, in_tree, insert_deferred, is_leaving, is_present, interval_at, interval_seq, next_told, some_overlap, seq_started, started, seq_ended, ended, interval_inserted, inserted, told, removal_of, removed, begin_of};
+ghost use Rattle.std.specs.Prelude.{◌≡◌, ◌==◌, ◌&&◌, ◌+◌, ◌^◌, ◌<◌, ◌≤◌, ◌-◌, nat_lt, not, OnOk, OnErr, IsTrue, IsSome};
+ghost use Rattle.std.specs.Prelude.{None, true, false, option_map, if◌then◌else◌};
+ghost use Rattle.notifier_seq.specs.Sequences.{sequences_start, reserved, is_odd, in_tree, insert_deferred, is_leaving};
+ghost use Rattle.notifier_seq.specs.Sequences.{is_present, interval_at, interval_seq, next_told, some_overlap};
+ghost use Rattle.notifier_seq.specs.Sequences.{seq_started, started, seq_ended, ended, interval_inserted, inserted};
+ghost use Rattle.notifier_seq.specs.Sequences.{told, removal_of, removed, begin_of};
 ghost use Rattle.notifier_seq.specs.declared.interval.Interval.{Interval as AnyInterval};
 
 use hm_base::{MirrorId, NoMemory, Span};

@@ -1,5 +1,6 @@
 -- The six levels of a radix table.
-use Rattle.std.specs.Prelude.{◌≡◌, ◌≢◌, ℕ, ◌*◌, ◌/◌, ◌<◌, ◌≤◌, Bool, not, ◌==◌, Option, List, [], ◌∷◌, length, slice_index}
+use Rattle.std.specs.Prelude.{◌≡◌, ◌≢◌, ℕ, ◌*◌, ◌/◌, ◌<◌, ◌≤◌, Bool, not, ◌==◌, Option, List, [], ◌∷◌, length}
+use Rattle.std.specs.Prelude.{slice_index}
 use Rattle.std.specs.Option.{MatchOption}
 use Rattle.frame_pool.specs.Bits.{bit}
 use Rattle.radix_tables.specs.Maps.{is_marked, marked}

@@ -10,7 +10,10 @@ over f rows = map f (range_with_len 0 (8 * length rows))
 
 -- the words of rows and their room
 abbrev pub words_of : Inside → Words
-words_of a = record { items = over (word_in a.rows.items a.words.items) a.rows.items; room = over (row_at a.rows.items) a.rows.items }
+words_of a = record {
+  items = over (word_in a.rows.items a.words.items) a.rows.items;
+  room = over (row_at a.rows.items) a.rows.items;
+}
 
 -- what always holds of rows
 abbrev pub AreSound : Inside → Type 0

@@ -1,5 +1,6 @@
 -- Tables of 64 entries in a row, a level at a time: an entry names a table of the level below, or is a word.
-use Rattle.std.specs.Prelude.{⊤, ◌≡◌, ◌≢◌, ℕ, ◌+◌, ◌*◌, ◌/◌, ◌%◌, ◌<◌, ◌≤◌, ◌==◌, if◌then◌else◌, List, [], ◌∷◌, length, slice_index, slice_set, replicate, ◌++◌, ◌⊎◌}
+use Rattle.std.specs.Prelude.{⊤, ◌≡◌, ◌≢◌, ℕ, ◌+◌, ◌*◌, ◌/◌, ◌%◌, ◌<◌, ◌≤◌, ◌==◌, if◌then◌else◌, List, [], ◌∷◌, length}
+use Rattle.std.specs.Prelude.{slice_index, slice_set, replicate, ◌++◌, ◌⊎◌}
 
 -- the table that these levels, the lowest first, name for a number, 0 for none. That of number 0 is table 1, which no
 -- entry names; table 0 of each level is empty and stands for every table that is not there
@@ -52,7 +53,8 @@ pub record IsAdded (entries now : List ℕ) (table : ℕ) : Type 0 where
 pub record IsChild (entries now below below_now : List ℕ) (at : ℕ) : Type 0 where
   pub some : slice_index now at ≢ 0
   pub step : ((slice_index entries at ≢ 0) × (now ≡ entries) × (below_now ≡ below)) ⊎
-      ((slice_index entries at ≡ 0) × (now ≡ slice_set entries at (slice_index now at)) × (2 ≤ slice_index now at) × (length below ≤ slice_index now at * 64)
+      ((slice_index entries at ≡ 0) × (now ≡ slice_set entries at (slice_index now at)) × (2 ≤ slice_index now at)
+      × (length below ≤ slice_index now at * 64)
       × (length below_now ≡ slice_index now at * 64 + 64) × IsLonger below below_now)
 
 -- the table for a number is there, of a level below these

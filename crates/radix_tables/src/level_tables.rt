@@ -1,5 +1,6 @@
 // The tables of one level, 64 entries each, in a row.
-ghost use Rattle.std.specs.Prelude.{◌≡◌, ◌≢◌, ℕ, ◌+◌, ◌*◌, ◌/◌, ◌%◌, ◌^◌, ◌<◌, ◌≤◌, List, length, slice_index, MatchResult, OnOk, OnErr, IfOk, ◌∷◌};
+ghost use Rattle.std.specs.Prelude.{◌≡◌, ◌≢◌, ℕ, ◌+◌, ◌*◌, ◌/◌, ◌%◌, ◌^◌, ◌<◌, ◌≤◌, List, length, slice_index};
+ghost use Rattle.std.specs.Prelude.{MatchResult, OnOk, OnErr, IfOk, ◌∷◌};
 ghost use Rattle.radix_tables.specs.Walks.{IsWhole, IsLonger, IsFirst, IsAdded, IsChild};
 ghost use Rattle.radix_tables.specs.Levels.{IsStepIn};
 

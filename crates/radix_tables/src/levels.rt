@@ -1,11 +1,14 @@
 // Six levels of tables of 64 entries. The kernel has five, of 512 entries each, a page of memory a table, since a
 // processor reads them. Here a table is small, because a process of a history uses few pages, and because one word of
 // bits can say which entries of a table are used.
-ghost use Rattle.std.specs.Prelude.{◌≡◌, ◌≢◌, ℕ, ◌+◌, ◌*◌, ◌/◌, ◌%◌, ◌^◌, ◌<◌, ◌≤◌, ◌==◌, if◌then◌else◌, length, not, slice_index, MatchOption, Some, MatchResult, OnOk, true, false};
+ghost use Rattle.std.specs.Prelude.{◌≡◌, ◌≢◌, ℕ, ◌+◌, ◌*◌, ◌/◌, ◌%◌, ◌^◌, ◌<◌, ◌≤◌, ◌==◌, if◌then◌else◌, length, not};
+ghost use Rattle.std.specs.Prelude.{slice_index, MatchOption, Some, MatchResult, OnOk, true, false};
 ghost use Rattle.frame_pool.specs.Bits.{bit};
 ghost use Rattle.radix_tables.specs.Maps.{before, is_marked};
 ghost use Rattle.radix_tables.specs.Walks.{HasTable, table_in};
-ghost use Rattle.radix_tables.specs.Levels.{IsLevels, IsStep, IsStepIn, IsLeast, IsSame, IsMade, is_used, room_of, word_of, marked_of, from_second, from_third, from_fourth, from_fifth, from_sixth};
+ghost use Rattle.radix_tables.specs.Levels.{IsLevels, IsStep, IsStepIn, IsLeast, IsSame, IsMade, is_used, room_of};
+ghost use Rattle.radix_tables.specs.Levels.{word_of, marked_of, from_second, from_third, from_fourth, from_fifth};
+ghost use Rattle.radix_tables.specs.Levels.{from_sixth};
 
 use crate::level_tables::{
     FIRST, Step, child, child_words, entry, first_table, first_words, place, step_down,

@@ -1,6 +1,7 @@
 // What a page has is read, set, cleared, and found from a page on.
 ghost use Rattle.std.specs.Prelude.{◌≡◌, ◌≢◌, ℕ, ◌^◌, ◌<◌, ◌≤◌, [], true, OnOk, OnErr};
-ghost use Rattle.radix_tables.specs.Maps.{word_at, with_word, without_word, given_back, next_word, next_marked, is_reserved};
+ghost use Rattle.radix_tables.specs.Maps.{word_at, with_word, without_word, given_back, next_word, next_marked};
+ghost use Rattle.radix_tables.specs.Maps.{is_reserved};
 
 use crate::levels::{Levels, PAGES};
 use hm_base::{NoMemory, Page};

@@ -1,6 +1,7 @@
 // The words of the tables of the first level. A table is for 64 words, of which eight have memory at a time, so that a
 // page that is alone in its table takes that of eight words.
-ghost use Rattle.std.specs.Prelude.{◌≡◌, ◌≢◌, ℕ, ◌*◌, ◌/◌, ◌+◌, ◌%◌, ◌^◌, ◌<◌, ◌≤◌, [], length, slice_index, slice_set, MatchResult, OnErr, IfOk};
+ghost use Rattle.std.specs.Prelude.{◌≡◌, ◌≢◌, ℕ, ◌*◌, ◌/◌, ◌+◌, ◌%◌, ◌^◌, ◌<◌, ◌≤◌, [], length, slice_index, slice_set};
+ghost use Rattle.std.specs.Prelude.{MatchResult, OnErr, IfOk};
 ghost use Rattle.radix_tables.specs.Walks.{IsLonger};
 ghost use Rattle.radix_tables.specs.Rows.{AreRows, IsRoomMade, IsRowAdded};
 

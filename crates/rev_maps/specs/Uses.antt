@@ -1,5 +1,6 @@
 -- The uses of a frame in rising order, and the room for more.
-use Rattle.std.specs.Prelude.{ℕ, ◌+◌, ◌-◌, Bool, true, not, ◌==◌, ◌&&◌, ◌||◌, nat_lt, Option, List, [], ◌∷◌, map, find, option_map, slice_index_or, if◌then◌else◌}
+use Rattle.std.specs.Prelude.{ℕ, ◌+◌, ◌-◌, Bool, true, not, ◌==◌, ◌&&◌, ◌||◌, nat_lt, Option, List, [], ◌∷◌, map, find}
+use Rattle.std.specs.Prelude.{option_map, slice_index_or, if◌then◌else◌}
 use Rattle.std.specs.List.{filter, list_any}
 use Rattle.rev_maps.specs.declared.uses.Use.{Use}
 

@@ -1,5 +1,6 @@
 // The uses of each frame of a pool.
-ghost use Rattle.std.specs.Prelude.{◌≡◌, ◌≢◌, ℕ, ◌<◌, ◌≤◌, not, true, false, length, replicate, slice_set, OnOk, OnErr, IfOk};
+ghost use Rattle.std.specs.Prelude.{◌≡◌, ◌≢◌, ℕ, ◌<◌, ◌≤◌, not, true, false, length, replicate, slice_set, OnOk, OnErr};
+ghost use Rattle.std.specs.Prelude.{IfOk};
 ghost use Rattle.rev_maps.specs.Uses.{uses_of, unused, has_use, with_moving, added, removed, first_use, is_rising};
 
 use crate::uses::{Use, UseList};

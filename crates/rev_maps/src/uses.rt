@@ -1,7 +1,8 @@
 // The uses of one frame.
 ghost use Rattle.std.specs.Prelude.{◌≡◌, ℕ, ◌+◌, ◌-◌, ◌<◌, ◌≤◌, [], not, true, false, length, OnOk, OnErr};
 ghost use Rattle.std.specs.List.{position_or_len};
-ghost use Rattle.rev_maps.specs.Uses.{precedes, is_by, has_use, with_moving, added, removed, first_use, unused, is_rising};
+ghost use Rattle.rev_maps.specs.Uses.{precedes, is_by, has_use, with_moving, added, removed, first_use, unused};
+ghost use Rattle.rev_maps.specs.Uses.{is_rising};
 
 use hm_base::{NoMemory, Page, Proc};
 use std::alloc::Global;

@@ -12,14 +12,15 @@ use Rattle.hm_history.specs.declared.TableRight.{TableRight}
 use Rattle.hm_history.specs.declared.KeptAt.{KeptAt}
 use Rattle.hm_history.specs.declared.KeptWhy.{KeptWhy}
 use Rattle.hm_history.specs.declared.Kind.{Kind}
-use Rattle.hm_history.specs.Words.{sys_frame}
+use Rattle.hm_history.specs.Memory.Words.{sys_frame}
 use Rattle.hm_history.specs.declared.Entry.{Entry}
-use Rattle.hm_history.specs.Run.{run}
-use Rattle.hm_history.specs.After.{after}
-use Rattle.hm_history.specs.Plain.{mirror_owner, plain_accepts}
-use Rattle.hm_history.specs.Places.{places_accept}
-use Rattle.hm_history.specs.Lookups.{narrows_guarded}
-use Rattle.hm_history.specs.Legal.{Legal, fails_rightly}
+use Rattle.hm_history.specs.Kernel.Run.{run}
+use Rattle.hm_history.specs.Memory.After.{after}
+use Rattle.hm_history.specs.Memory.Plain.{mirror_owner, plain_accepts}
+use Rattle.hm_history.specs.Memory.Places.{places_accept}
+use Rattle.hm_history.specs.Memory.Lookups.{narrows_guarded}
+use Rattle.hm_history.specs.Memory.Rules.{fails_rightly}
+use Rattle.hm_history.specs.Kernel.Legal.{Legal}
 
 abbrev script : Program
 script = record {

@@ -9,10 +9,10 @@ use Rattle.hm_base.specs.declared.Place.{Place}
 use Rattle.hm_history.specs.declared.Who.{Who}
 use Rattle.hm_history.specs.declared.TableRight.{TableRight}
 use Rattle.hm_history.specs.declared.Kind.{Kind}
-use Rattle.hm_history.specs.Words.{sys_frame}
+use Rattle.hm_history.specs.Memory.Words.{sys_frame}
 use Rattle.hm_history.specs.declared.Entry.{Entry}
-use Rattle.hm_history.specs.Run.{run}
-use Rattle.hm_history.specs.Legal.{Legal}
+use Rattle.hm_history.specs.Kernel.Run.{run}
+use Rattle.hm_history.specs.Kernel.Legal.{Legal}
 
 abbrev script : Program
 script = record {

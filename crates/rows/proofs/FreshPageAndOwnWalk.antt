@@ -11,12 +11,12 @@ use Rattle.hm_history.specs.declared.TableRight.{TableRight}
 use Rattle.hm_history.specs.declared.KeptAt.{KeptAt}
 use Rattle.hm_history.specs.declared.KeptWhy.{KeptWhy}
 use Rattle.hm_history.specs.declared.Kind.{Kind}
-use Rattle.hm_history.specs.Words.{sys_frame, dev_frame}
+use Rattle.hm_history.specs.Memory.Words.{sys_frame, dev_frame}
 use Rattle.hm_history.specs.declared.Entry.{Entry}
-use Rattle.hm_history.specs.Run.{run}
-use Rattle.hm_history.specs.Lookups.{uses_untold}
-use Rattle.hm_history.specs.Legal.{Legal, kept_rightly}
-use Rattle.hm_history.specs.Going.{state_of}
+use Rattle.hm_history.specs.Kernel.Run.{run}
+use Rattle.hm_history.specs.Memory.Lookups.{uses_untold}
+use Rattle.hm_history.specs.Kernel.Legal.{Legal, kept_rightly}
+use Rattle.hm_history.specs.Kernel.Going.{state_of}
 
 abbrev script : Program
 script = record {

@@ -11,10 +11,10 @@ use Rattle.hm_history.specs.declared.TableRight.{TableRight}
 use Rattle.hm_history.specs.declared.KeptAt.{KeptAt}
 use Rattle.hm_history.specs.declared.KeptWhy.{KeptWhy}
 use Rattle.hm_history.specs.declared.Kind.{Kind}
-use Rattle.hm_history.specs.Words.{sys_frame, dev_frame}
+use Rattle.hm_history.specs.Memory.Words.{sys_frame, dev_frame}
 use Rattle.hm_history.specs.declared.Entry.{Entry}
-use Rattle.hm_history.specs.Run.{run}
-use Rattle.hm_history.specs.Legal.{Legal}
+use Rattle.hm_history.specs.Kernel.Run.{run}
+use Rattle.hm_history.specs.Kernel.Legal.{Legal}
 
 abbrev script : Program
 script = record {

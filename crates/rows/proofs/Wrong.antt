@@ -12,15 +12,16 @@ use Rattle.hm_history.specs.declared.TableRight.{TableRight}
 use Rattle.hm_history.specs.declared.KeptAt.{KeptAt}
 use Rattle.hm_history.specs.declared.KeptWhy.{KeptWhy}
 use Rattle.hm_history.specs.declared.Kind.{Kind}
-use Rattle.hm_history.specs.Words.{sys_frame, dev_frame}
+use Rattle.hm_history.specs.Memory.Words.{sys_frame, dev_frame}
 use Rattle.hm_history.specs.declared.Entry.{Entry}
-use Rattle.hm_history.specs.After.{after}
-use Rattle.hm_history.specs.Plain.{mirror_owner, plain_accepts}
-use Rattle.hm_history.specs.Places.{places_accept}
-use Rattle.hm_history.specs.Sequences.{sequences_accept}
-use Rattle.hm_history.specs.Lookups.{uses_untold, narrows_guarded}
-use Rattle.hm_history.specs.Legal.{fails_rightly, kept_rightly}
-use Rattle.hm_history.specs.Going.{state_of}
+use Rattle.hm_history.specs.Memory.After.{after}
+use Rattle.hm_history.specs.Memory.Plain.{mirror_owner, plain_accepts}
+use Rattle.hm_history.specs.Memory.Places.{places_accept}
+use Rattle.hm_history.specs.Memory.Sequences.{sequences_accept}
+use Rattle.hm_history.specs.Memory.Lookups.{uses_untold, narrows_guarded}
+use Rattle.hm_history.specs.Memory.Rules.{fails_rightly}
+use Rattle.hm_history.specs.Kernel.Legal.{kept_rightly}
+use Rattle.hm_history.specs.Kernel.Going.{state_of}
 
 abbrev script : Program
 script = record {

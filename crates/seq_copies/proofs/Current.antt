@@ -5,10 +5,10 @@ use Rattle.std.specs.List.{list_all}
 use Rattle.std.proofs.lemmas.List.{take-append-le}
 use Rattle.hm_base.specs.Areas.{rights_at}
 use Rattle.hm_base.specs.declared.area.Area.{Area}
-use Rattle.hm_history.specs.After.{after}
-use Rattle.hm_history.specs.Locks.{writer}
-use Rattle.hm_history.specs.Plain.{Plain, plain_next, touched}
-use Rattle.hm_history.specs.Words.{bytes_from, numbers, page_of}
+use Rattle.hm_history.specs.Memory.After.{after}
+use Rattle.hm_history.specs.Memory.Locks.{writer}
+use Rattle.hm_history.specs.Memory.Plain.{Plain, plain_next, touched}
+use Rattle.hm_history.specs.Memory.Words.{bytes_from, numbers, page_of}
 use Rattle.hm_history.specs.declared.Entry.{Entry}
 use Rattle.hm_history.specs.declared.Kind.{Kind}
 use Rattle.hm_turns.specs.Looking.{all_have_areas, looked_after, plain_after}

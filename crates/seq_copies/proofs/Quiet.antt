@@ -4,9 +4,9 @@ use Rattle.std.specs.Prelude.{slice_get}
 use Rattle.std.proofs.lemmas.List.{take_more}
 use Rattle.std.proofs.lemmas.Option.{slice_get-get_or}
 use Rattle.std.proofs.lemmas.List.Sums.{fold-append}
-use Rattle.hm_history.specs.After.{after, after_nothing, after_entry}
-use Rattle.hm_history.specs.Plain.{Plain, plain_next, touched, owner, mirror_owner, with_bytes, written_for}
-use Rattle.hm_history.specs.Words.{with_at}
+use Rattle.hm_history.specs.Memory.After.{after, after_nothing, after_entry}
+use Rattle.hm_history.specs.Memory.Plain.{Plain, plain_next, touched, owner, mirror_owner, with_bytes, written_for}
+use Rattle.hm_history.specs.Memory.Words.{with_at}
 use Rattle.hm_history.specs.declared.Entry.{Entry}
 use Rattle.hm_history.specs.declared.Kind.{Kind}
 use Rattle.hm_turns.specs.Touching.{touch_at, touched_after}

@@ -1,7 +1,7 @@
 -- What a copy of a process's bytes is, and when it is current.
 use Rattle.std.specs.Prelude.{◌≡◌, ◌≢◌, ℕ, ◌+◌, ◌≤◌, true, List, [], ◌∷◌, ◌++◌, length, take}
 use Rattle.hm_base.specs.Program.{Program}
-use Rattle.hm_history.specs.After.{after}
+use Rattle.hm_history.specs.Memory.After.{after}
 use Rattle.hm_history.specs.declared.Entry.{Entry}
 use Rattle.hm_turns.specs.Looking.{Sees, all_have_areas, looked_after, plain_after}
 use Rattle.hm_turns.specs.Sights.{Sight, IsShown, Halts, all_shares}

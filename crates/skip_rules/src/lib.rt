@@ -10,7 +10,8 @@ ghost use Rattle.skip_rules.specs.Rules.{divides, outweighs, AnswersBy, MayBeAsk
 pub trait SkipRule: Drop {
     ghost use Rattle.skip_rules.specs.Rules.{divides};
 
-    /// Whether a migration that skips each page whose number `every` divides passes over this one. At 0 it passes over none.
+    /// Whether a migration that skips each page whose number `every` divides passes over this one. At 0 it passes over
+    /// none.
     fn skips(&self, every: u64, page: u64) -> bool
         ensures { result ≡ divides every page };
 }

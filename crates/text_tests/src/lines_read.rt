@@ -1,7 +1,7 @@
 // Lines of a report, read.
 use hm_base::Actor;
+use hm_entry_reading::{LineReader, Unfinished, read_entries};
 use hm_history::{KeptWhy, Kind};
-use hm_reading::{LineReader, Unfinished, read_entries};
 use std::test::Fail;
 
 #[test]

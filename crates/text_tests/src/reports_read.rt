@@ -1,8 +1,8 @@
 // Whole reports, read.
 use hm_base::{Actor, NoMemory};
+use hm_entry_reading::Unfinished;
 use hm_history::Kind;
-use hm_reading::Unfinished;
-use hm_report_lines::BadLine;
+use hm_report_front::BadLine;
 use hm_report_reading::{WholeReport, read_report};
 use hm_script::print;
 use std::alloc::Global;

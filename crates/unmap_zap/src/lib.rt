@@ -3,9 +3,9 @@
 #![tactic(auto)]
 
 ghost use Rattle.std.specs.Prelude.{◌≡◌, false};
-ghost use Rattle.hm_history.specs.Words.{writable, narrowed};
-ghost use Rattle.hm_history.specs.Places.{is_used, next_page};
-ghost use Rattle.hm_history.specs.Due as spec;
+ghost use Rattle.hm_history.specs.Memory.Words.{writable, narrowed};
+ghost use Rattle.hm_history.specs.Memory.Places.{is_used, next_page};
+ghost use Rattle.hm_history.specs.Kernel.Due as spec;
 ghost use Rattle.hm_history.specs.declared.Kind as kind;
 ghost use Rattle.hm_base.specs.declared.Place as place;
 ghost use Rattle.hm_base.specs.declared.ops.Op as op;

@@ -2,7 +2,8 @@
 // vm_area_struct`, cut as `__split_vma` of mm/mmap.c and mm/mprotect.c cut it).
 #![tactic(auto)]
 
-ghost use Rattle.std.specs.Prelude.{◌≡◌, ◌+◌, ◌-◌, ◌^◌, ◌≤◌, ◌<◌, ◌++◌, [], ◌∷◌, length, vec_len, vec_capacity, nat_le, min, max, sum_by, flat_map, is_ok, slice_get, if◌then◌else◌, None, IfOk, IsTrue};
+ghost use Rattle.std.specs.Prelude.{◌≡◌, ◌+◌, ◌-◌, ◌^◌, ◌≤◌, ◌<◌, ◌++◌, [], ◌∷◌, length, vec_len, vec_capacity, nat_le};
+ghost use Rattle.std.specs.Prelude.{min, max, sum_by, flat_map, is_ok, slice_get, if◌then◌else◌, None, IfOk, IsTrue};
 ghost use Rattle.std.specs.Result.{result_err};
 ghost use Rattle.hm_base.specs.Areas.{last_of, part, with_area, without, with_rights, meets, rights_at};
 ghost use Rattle.hm_base.specs.declared.ops.Rights.{Rights as AnyRights};

@@ -1,9 +1,10 @@
 // Which entries may follow.
 ghost use Rattle.std.specs.Prelude.{◌≡◌, true, if◌then◌else◌};
 ghost use Rattle.hm_base.specs.PlaceWords.{names, is_frame};
-ghost use Rattle.hm_history.specs.Words.{page_of};
-ghost use Rattle.hm_history.specs.Plain.{owned};
-ghost use Rattle.hm_history.specs.Places.{places_accept, holds_target, table_reads, table_writes, table_sole, is_for_device, stands_for, is_target, lowest_free};
+ghost use Rattle.hm_history.specs.Memory.Words.{page_of};
+ghost use Rattle.hm_history.specs.Memory.Plain.{owned};
+ghost use Rattle.hm_history.specs.Memory.Places.{places_accept, holds_target, table_reads, table_writes, table_sole};
+ghost use Rattle.hm_history.specs.Memory.Places.{is_for_device, stands_for, is_target, lowest_free};
 ghost use Rattle.hm_history.specs.declared.Kind.{Kind as AnyKind};
 ghost use Rattle.hm_folds.specs.TableMap.{entry_of};
 ghost use Rattle.hm_folds.specs.HeldFrames.{held_at};

@@ -1,7 +1,7 @@
 // What each kind of entry changes.
 ghost use Rattle.std.specs.Prelude.{◌≡◌, true, false, is_ok, OnOk, OnErr};
 ghost use Rattle.hm_base.specs.PlaceWords.{names};
-ghost use Rattle.hm_history.specs.Places.{places_next};
+ghost use Rattle.hm_history.specs.Memory.Places.{places_next};
 ghost use Rattle.hm_history.specs.declared.Kind.{Kind as AnyKind};
 ghost use Rattle.hm_folds.specs.Applied.{takes_room};
 ghost use Rattle.hm_folds.specs.MirrorTables.{owner_next};

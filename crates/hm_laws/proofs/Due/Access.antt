@@ -6,26 +6,27 @@ use Rattle.hm_base.specs.Program.{Program}
 use Rattle.hm_base.specs.declared.cause.Cause.{Cause}
 use Rattle.hm_base.specs.declared.Place.{Place}
 use Rattle.hm_base.specs.declared.ops.Op.{Op}
-use Rattle.hm_history.specs.Words.{writable, is_empty_place, page_of}
-use Rattle.hm_history.specs.Plain.{Plain, rights_of, is_read_write, plain_accepts}
-use Rattle.hm_history.specs.Places.{cpu_reads, cpu_writes}
-use Rattle.hm_history.specs.After.{After}
+use Rattle.hm_history.specs.Memory.Words.{writable, is_empty_place, page_of}
+use Rattle.hm_history.specs.Memory.Plain.{Plain, rights_of, is_read_write, plain_accepts}
+use Rattle.hm_history.specs.Memory.Places.{cpu_reads, cpu_writes}
+use Rattle.hm_history.specs.Memory.After.{After}
 use Rattle.hm_history.specs.declared.Who.{Who}
 use Rattle.hm_history.specs.declared.Kind.{Kind}
 use Rattle.hm_laws.specs.Past.{Past}
 use Rattle.hm_laws.specs.Sound.{Sound}
 use Rattle.hm_laws.specs.Allowed.{next}
 use Rattle.hm_laws.specs.Facts.{Is, at_page, has_piece, nothing_held, HoldsAll}
-use Rattle.hm_history.specs.Words.{bytes_from, same_bytes}
-use Rattle.hm_history.specs.Plain.{plain_bytes, cause_at}
-use Rattle.hm_history.specs.Operation.{op_piece}
-use Rattle.hm_history.specs.Due.{due_cpu, failed, answer_of_piece}
+use Rattle.hm_history.specs.Memory.Words.{bytes_from, same_bytes}
+use Rattle.hm_history.specs.Memory.Plain.{plain_bytes, cause_at}
+use Rattle.hm_history.specs.Kernel.Operation.{op_piece}
+use Rattle.hm_history.specs.Kernel.Due.{due_cpu, failed, answer_of_piece}
 use Rattle.hm_history.specs.declared.phases.Migrating.{Migrating}
 use Rattle.hm_history.specs.declared.phases.Phase.{Phase}
 use Rattle.hm_history.specs.declared.phases.Next.{Next}
 use Rattle.hm_laws.proofs.Due.Good.{Good, either, release_none, rlock_ok, ends_ok, not_there, not_short}
 use Rattle.hm_laws.proofs.State.Pieces.{store_in_page}
 use Rattle.hm_history.proofs.Updates.{here_at}
+use Rattle.hm_history.proofs.Pages.{reads_not_empty}
 
 -- answers are by plain bytes
 pub bytes_length : (f : ℕ → ℕ) (a n : ℕ) → length (bytes_from f a n) ≡ n
@@ -41,9 +42,6 @@ read_cause s p v t r = grind (arith, nat_tests)
 
 write_cause : (s : Plain) (p v : ℕ) → s.there p ≡ true → is_read_write (rights_of s p v) ≡ true → cause_at s (Who.Cpu p) v true ≡ None
 write_cause s p v t r = grind (arith, nat_tests)
-
-reads_not_empty : (x : Place) → cpu_reads x ≡ true → is_empty_place x ≡ false
-reads_not_empty x h = grind arith
 
 writes_writable : (x : Place) → cpu_writes x ≡ true → writable x ≡ true
 writes_writable x h = grind arith

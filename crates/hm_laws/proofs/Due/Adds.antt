@@ -8,12 +8,12 @@ use Rattle.hm_base.specs.declared.cause.Cause.{Cause}
 use Rattle.hm_base.specs.declared.Frame.{Frame}
 use Rattle.hm_base.specs.declared.Place.{Place}
 use Rattle.hm_base.specs.declared.ops.Op.{Op}
-use Rattle.hm_history.specs.Words.{sys_frame, writable, page_of}
-use Rattle.hm_history.specs.Plain.{MirrorState, rights_of, is_read_write, is_attached_state, mirror_passes, is_attached, in_window, mirror_proc, mirror_owner, owned, cause_at, plain_bytes}
+use Rattle.hm_history.specs.Memory.Words.{sys_frame, writable, page_of}
+use Rattle.hm_history.specs.Memory.Plain.{MirrorState, rights_of, is_read_write, is_attached_state, mirror_passes, is_attached, in_window, mirror_proc, mirror_owner, owned, cause_at, plain_bytes}
 use Rattle.hm_history.proofs.Owners.{owned_from}
-use Rattle.hm_history.specs.Places.{TableEntry, entry_passes, table_sole, is_sole, is_exclusive_by, is_exclusive_of, same_target}
-use Rattle.hm_history.specs.After.{After}
-use Rattle.hm_history.specs.Due.{has_exclusive, due_add, due_fetched, failed}
+use Rattle.hm_history.specs.Memory.Places.{TableEntry, entry_passes, table_sole, is_sole, is_exclusive_by, is_exclusive_of, same_target}
+use Rattle.hm_history.specs.Memory.After.{After}
+use Rattle.hm_history.specs.Kernel.Due.{has_exclusive, due_add, due_fetched, failed}
 use Rattle.hm_history.specs.declared.Who.{Who}
 use Rattle.hm_history.specs.declared.Kind.{Kind}
 use Rattle.hm_history.specs.declared.TableRight.{TableRight}

@@ -8,20 +8,20 @@ use Rattle.hm_base.specs.Program.{Program}
 use Rattle.hm_base.specs.declared.cause.Cause.{Cause}
 use Rattle.hm_base.specs.declared.ops.Rights.{Rights}
 use Rattle.hm_base.specs.declared.ops.Op.{Op}
-use Rattle.hm_history.specs.Words.{is_empty_place}
-use Rattle.hm_history.specs.Plain.{Plain, area_refusal}
-use Rattle.hm_history.specs.Legal.{wants_frame}
-use Rattle.hm_history.specs.Sequences.{seq_started}
-use Rattle.hm_history.specs.After.{After}
+use Rattle.hm_history.specs.Memory.Words.{is_empty_place}
+use Rattle.hm_history.specs.Memory.Plain.{Plain, area_refusal}
+use Rattle.hm_history.specs.Memory.Rules.{wants_frame}
+use Rattle.hm_history.specs.Memory.Sequences.{seq_started}
+use Rattle.hm_history.specs.Memory.After.{After}
 use Rattle.hm_history.specs.declared.Kind.{Kind}
 use Rattle.hm_laws.specs.Past.{Past}
 use Rattle.hm_laws.specs.Sound.{Sound}
 use Rattle.hm_laws.specs.Allowed.{Clean, WritesThere, SequencesOk}
 use Rattle.hm_laws.specs.Facts.{Fact, Is, Writes, No_guard, Locks_only, EmptyBelow, NarrowBelow, takes_lock, nothing_held, HoldsAll}
-use Rattle.hm_history.specs.Due.{proc_of_op}
+use Rattle.hm_history.specs.Kernel.Due.{proc_of_op}
 use Rattle.hm_base.specs.Pages.{all_pages}
-use Rattle.hm_history.specs.Plain.{all_mapped}
-use Rattle.hm_history.specs.Due.{start_entry, under_wlock, due_locked, due_areas}
+use Rattle.hm_history.specs.Memory.Plain.{all_mapped}
+use Rattle.hm_history.specs.Kernel.Due.{start_entry, under_wlock, due_locked, due_areas}
 use Rattle.hm_history.specs.declared.phases.Migrating.{Migrating}
 use Rattle.hm_history.specs.declared.phases.Phase.{Phase}
 use Rattle.hm_history.specs.declared.phases.Next.TheVariants.{Do}

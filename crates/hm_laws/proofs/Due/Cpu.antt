@@ -2,8 +2,8 @@
 use Rattle.std.proofs.Common.{ℕ, ◌<◌, false, true, None, List, [], refl}
 use Rattle.hm_base.specs.Program.{Program}
 use Rattle.hm_base.specs.declared.ops.Op.{Op}
-use Rattle.hm_history.specs.After.{After}
-use Rattle.hm_history.specs.Due.{suits, failed, fault}
+use Rattle.hm_history.specs.Memory.After.{After}
+use Rattle.hm_history.specs.Kernel.Due.{suits, failed, fault}
 use Rattle.hm_history.specs.declared.phases.Migrating.{Migrating}
 use Rattle.hm_history.specs.declared.phases.Touch.{Touch}
 use Rattle.hm_history.specs.declared.phases.Phase.{Phase}

@@ -10,19 +10,19 @@ use Rattle.hm_base.specs.declared.PoolId.{PoolId}
 use Rattle.hm_base.specs.declared.Frame.{Frame}
 use Rattle.hm_base.specs.declared.Place.{Place}
 use Rattle.hm_base.specs.declared.ops.Op.{Op}
-use Rattle.hm_history.specs.Words.{same_pool, same_frame, sys_frame, dev_frame, with_frame, names, moving_frame, writable, is_empty_place}
-use Rattle.hm_history.specs.Plain.{rights_of, is_read_write, is_read_only, may_fail, outside_cause, proc_of}
-use Rattle.hm_history.specs.Places.{lowest_free, is_exclusive}
-use Rattle.hm_history.specs.Locks.{frame_placed}
-use Rattle.hm_history.specs.Contents.{zeros}
-use Rattle.hm_history.specs.After.{After}
-use Rattle.hm_history.specs.Operation.{op_who, op_writes}
-use Rattle.hm_history.specs.Stacks.{with_frame_taken, piece_of, body_of_fault}
-use Rattle.hm_history.specs.Going.{touch_page}
-use Rattle.hm_history.specs.Due.{suits, fails, fault, fault_at, start_entry, is_used_once, take_or}
+use Rattle.hm_history.specs.Memory.Words.{same_pool, same_frame, sys_frame, dev_frame, with_frame, names, moving_frame, writable, is_empty_place}
+use Rattle.hm_history.specs.Memory.Plain.{rights_of, is_read_write, is_read_only, may_fail, outside_cause, proc_of}
+use Rattle.hm_history.specs.Memory.Places.{lowest_free, is_exclusive}
+use Rattle.hm_history.specs.Memory.Locks.{frame_placed}
+use Rattle.hm_history.specs.Memory.Contents.{zeros}
+use Rattle.hm_history.specs.Memory.After.{After}
+use Rattle.hm_history.specs.Kernel.Operation.{op_who, op_writes}
+use Rattle.hm_history.specs.Kernel.Stacks.{with_frame_taken, piece_of, body_of_fault}
+use Rattle.hm_history.specs.Kernel.Going.{touch_page}
+use Rattle.hm_history.specs.Kernel.Due.{suits, fails, fault, fault_at, start_entry, is_used_once, take_or}
 use Rattle.hm_base.specs.Pages.{one_page}
-use Rattle.hm_history.specs.Sequences.{some_overlap, seq_started}
-use Rattle.hm_history.specs.Locks.{other_locker}
+use Rattle.hm_history.specs.Memory.Sequences.{some_overlap, seq_started}
+use Rattle.hm_history.specs.Memory.Locks.{other_locker}
 use Rattle.hm_laws.proofs.Due.Guards.{started, start_takes}
 use Rattle.hm_history.specs.declared.Kind.{Kind}
 use Rattle.hm_history.specs.declared.phases.Migrating.{Migrating}

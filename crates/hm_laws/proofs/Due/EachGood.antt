@@ -8,28 +8,28 @@ use Rattle.hm_base.specs.Program.{Program}
 use Rattle.hm_base.specs.declared.Place.{Place}
 use Rattle.hm_base.specs.declared.ops.Rights.{Rights}
 use Rattle.hm_base.specs.declared.ops.Op.{Op}
-use Rattle.hm_history.specs.Words.{writable, is_empty_place}
-use Rattle.hm_history.specs.Plain.{area_refusal}
-use Rattle.hm_history.specs.After.{After}
+use Rattle.hm_history.specs.Memory.Words.{writable, is_empty_place}
+use Rattle.hm_history.specs.Memory.Plain.{area_refusal}
+use Rattle.hm_history.specs.Memory.After.{After}
 use Rattle.hm_laws.specs.Past.{Past}
 use Rattle.hm_laws.specs.Sound.{Sound}
 use Rattle.hm_laws.specs.Allowed.{HasChild, Alike}
-use Rattle.hm_history.specs.Operation.{op_mirror}
+use Rattle.hm_history.specs.Kernel.Operation.{op_mirror}
 use Rattle.hm_history.specs.declared.Who.{Who}
 use Rattle.hm_laws.proofs.Due.Mirrors.{attach_ok, detach_ok, detaching_ok, snap_begin_ok, snap_ok}
 use Rattle.hm_laws.specs.Records.{starts_empty}
 use Rattle.hm_laws.specs.Facts.{Fact, Is, Read_locked, Leaving, begins, is_detach, is_snap, Writes, Emptying, Narrowing, Forking, No_guard, Over, Locks_only, EmptyBelow, Holds, op_span, Touching, Noted, at_page, has_piece, nothing_held, deciding, readying, answering, facts, HoldsAll}
-use Rattle.hm_history.specs.Due.{proc_of_op}
+use Rattle.hm_history.specs.Kernel.Due.{proc_of_op}
 use Rattle.hm_base.specs.Program.{op_fits}
 use Rattle.hm_base.specs.Pages.{all_pages}
-use Rattle.hm_history.specs.Due.{due_phase, due_guard}
+use Rattle.hm_history.specs.Kernel.Due.{due_phase, due_guard}
 use Rattle.hm_history.specs.declared.phases.Migrating.{Migrating}
 use Rattle.hm_history.specs.declared.phases.Touch.{Touch}
 use Rattle.hm_history.specs.declared.phases.Body.{Body}
 use Rattle.hm_history.specs.declared.phases.Phase.{Phase}
 use Rattle.hm_history.specs.declared.phases.Next.TheVariants.{Do}
 use Rattle.hm_laws.proofs.Due.Good.{Good}
-use Rattle.hm_laws.proofs.State.Pieces.{few_bytes, few_device_bytes, device_store_in_page}
+use Rattle.hm_laws.proofs.State.Pieces.{device_store_in_page}
 use Rattle.hm_laws.proofs.Due.Access.{load_piece_ok, store_piece_ok}
 use Rattle.hm_laws.proofs.Due.Cpu.{load_fault_ok, store_fault_ok}
 use Rattle.hm_laws.proofs.Due.MirrorPieces.{load_mirror_ok, store_mirror_ok}
@@ -38,7 +38,7 @@ use Rattle.hm_laws.proofs.Due.Empties.{alone_ok, copy_ok, copied_ok}
 use Rattle.hm_laws.proofs.Due.Returns.{settle_ok, return_to_ok, give_back_ok}
 use Rattle.hm_laws.proofs.Due.Frames.{give_up_ok, refuse_ok, evict_ok, remove_ok}
 use Rattle.hm_laws.specs.Facts.{Clearing, Emptied, under, is_cpu, is_device_access}
-use Rattle.hm_history.specs.Operation.{is_evicting, is_remove, is_to_device}
+use Rattle.hm_history.specs.Kernel.Operation.{is_evicting, is_remove, is_to_device}
 use Rattle.hm_laws.proofs.Due.Lookups.{begun_ok, load_walk_ok, store_walk_ok, noted_ok}
 use Rattle.hm_laws.proofs.Due.Areas.{begin_ok, locked, locked_ok, map_ok, unmap_ok, protect_ok, exit_ok}
 use Rattle.hm_laws.proofs.Due.Spans.{zap_guard, zap_ok, zap_drop, narrow_guard, narrow_ok, widen_ok}
@@ -55,13 +55,11 @@ use Rattle.hm_laws.proofs.Due.Restores.{restore_ok, seize_ok}
 use Rattle.hm_laws.proofs.Due.Exclusive.{exclusive_begin_ok, exclusive_ok, add_touch_ok, excluded_ok, taken_alone_ok, give_up_exclusive}
 use Rattle.hm_laws.proofs.Due.Adds.{add_piece_ok, add_fetched_ok}
 use Rattle.hm_laws.specs.Facts.{Fetched_at, takes_exclusive, is_add}
-use Rattle.hm_history.specs.Operation.{op_piece}
+use Rattle.hm_history.specs.Kernel.Operation.{op_piece}
 use Rattle.hm_history.proofs.Updates.{here_at}
-use Rattle.hm_history.proofs.Tests.{some_none, true_false}
+use Rattle.hm_history.proofs.Tests.{some_none, true_false, no_test}
 use Rattle.hm_laws.proofs.State.AllowedAccepts.{is_none_of}
-
-no_test : {X : Type 0} → false ≡ true → X
-no_test h = absurd (true_false true refl (sym h))
+use Rattle.hm_base.proofs.Shared.{few_device_bytes, few_bytes}
 
 -- the operation's numbers are in range
 abbrev pub OpOk : Program → Op → Type 0

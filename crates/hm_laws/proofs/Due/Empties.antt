@@ -9,15 +9,15 @@ use Rattle.hm_base.specs.declared.PoolId.{PoolId}
 use Rattle.hm_base.specs.declared.Frame.{Frame}
 use Rattle.hm_base.specs.declared.Place.{Place}
 use Rattle.hm_base.specs.declared.ops.Op.{Op}
-use Rattle.hm_history.specs.Words.{same_pool, same_frame, is_frame, with_frame, names, names_directly, moving_frame}
-use Rattle.hm_history.specs.Plain.{mirror_proc, mirror_dev}
-use Rattle.hm_history.specs.Places.{lowest_free, lowest_direct}
-use Rattle.hm_history.specs.Sequences.{seq_started}
-use Rattle.hm_history.specs.Contents.{with_part_copied}
-use Rattle.hm_history.specs.After.{After}
-use Rattle.hm_history.specs.Legal.{kept_for}
-use Rattle.hm_history.specs.Operation.{op_mirror, is_to_device, is_migration}
-use Rattle.hm_history.specs.Due.{start_entry, due_emptying}
+use Rattle.hm_history.specs.Memory.Words.{same_pool, same_frame, is_frame, with_frame, names, names_directly, moving_frame}
+use Rattle.hm_history.specs.Memory.Plain.{mirror_proc, mirror_dev}
+use Rattle.hm_history.specs.Memory.Places.{lowest_free, lowest_direct}
+use Rattle.hm_history.specs.Memory.Sequences.{seq_started}
+use Rattle.hm_history.specs.Memory.Contents.{with_part_copied}
+use Rattle.hm_history.specs.Memory.After.{After}
+use Rattle.hm_history.specs.Kernel.Legal.{kept_for}
+use Rattle.hm_history.specs.Kernel.Operation.{op_mirror, is_to_device, is_migration}
+use Rattle.hm_history.specs.Kernel.Due.{start_entry, due_emptying}
 use Rattle.hm_history.specs.declared.KeptAt.{KeptAt}
 use Rattle.hm_history.specs.declared.KeptWhy.{KeptWhy}
 use Rattle.hm_history.specs.declared.Kind.{Kind}
@@ -29,7 +29,7 @@ use Rattle.hm_laws.specs.Past.{Past}
 use Rattle.hm_laws.specs.Sound.{Sound}
 use Rattle.hm_laws.specs.Allowed.{next, AllMoving, IsSource, IsFrozen, Allowed}
 use Rattle.hm_laws.specs.Moves.{IsReturning}
-use Rattle.hm_history.specs.Stacks.{with_one_more, gives_up}
+use Rattle.hm_history.specs.Kernel.Stacks.{with_one_more, gives_up}
 use Rattle.hm_laws.specs.Facts.{Is, of_system, No_guard, Locks_only, Sourced, Copying, Holds, under, facts, HoldsAll}
 use Rattle.hm_laws.proofs.State.Search.{lowest_none}
 use Rattle.hm_laws.proofs.Kept.Pools.{free_says}

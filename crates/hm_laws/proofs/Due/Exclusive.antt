@@ -7,14 +7,14 @@ use Rattle.hm_base.specs.Program.{Program}
 use Rattle.hm_base.specs.declared.cause.Cause.{Cause}
 use Rattle.hm_base.specs.declared.Place.{Place}
 use Rattle.hm_base.specs.declared.ops.Op.{Op}
-use Rattle.hm_history.specs.Words.{sys_frame}
-use Rattle.hm_history.specs.Plain.{MirrorState, Plain, is_attached_state, mirror_passes, is_attached, in_window, mirror_proc, may_fail, outside_cause, proc_of}
-use Rattle.hm_history.specs.Sequences.{Interval, interval_seq, some_overlap, seq_started}
-use Rattle.hm_history.specs.After.{After}
-use Rattle.hm_history.specs.Operation.{op_who, op_mirror, op_writes}
-use Rattle.hm_history.specs.Stacks.{body_of_fault}
-use Rattle.hm_history.specs.Going.{touch_page}
-use Rattle.hm_history.specs.Due.{process_seq, is_invalidating, suits, failed, fails, fault, start_entry, due_sole, due_decide, in_window_rlock}
+use Rattle.hm_history.specs.Memory.Words.{sys_frame}
+use Rattle.hm_history.specs.Memory.Plain.{MirrorState, Plain, is_attached_state, mirror_passes, is_attached, in_window, mirror_proc, may_fail, outside_cause, proc_of}
+use Rattle.hm_history.specs.Memory.Sequences.{Interval, interval_seq, some_overlap, seq_started}
+use Rattle.hm_history.specs.Memory.After.{After}
+use Rattle.hm_history.specs.Kernel.Operation.{op_who, op_mirror, op_writes}
+use Rattle.hm_history.specs.Kernel.Stacks.{body_of_fault}
+use Rattle.hm_history.specs.Kernel.Going.{touch_page}
+use Rattle.hm_history.specs.Kernel.Due.{process_seq, is_invalidating, suits, failed, fails, fault, start_entry, due_sole, due_decide, in_window_rlock}
 use Rattle.hm_history.specs.declared.Who.{Who}
 use Rattle.hm_history.specs.declared.Kind.{Kind}
 use Rattle.hm_history.specs.declared.TableRight.{TableRight}

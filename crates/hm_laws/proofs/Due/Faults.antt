@@ -10,16 +10,16 @@ use Rattle.hm_base.specs.declared.PoolId.{PoolId}
 use Rattle.hm_base.specs.declared.Frame.{Frame}
 use Rattle.hm_base.specs.declared.Place.{Place}
 use Rattle.hm_base.specs.declared.ops.Op.{Op}
-use Rattle.hm_history.specs.Places.{is_exclusive}
+use Rattle.hm_history.specs.Memory.Places.{is_exclusive}
 use Rattle.hm_laws.specs.Facts.{of_system}
 use Rattle.hm_laws.proofs.Due.LeftFrames.{unfrozen}
-use Rattle.hm_history.specs.Words.{same_pool, same_frame, sys_frame, with_frame, names, moving_frame, writable, place_in, same_place}
-use Rattle.hm_history.specs.Plain.{rights_of, is_read_write}
-use Rattle.hm_history.specs.Locks.{frame_placed}
-use Rattle.hm_history.specs.Sequences.{seq_started, all_told}
-use Rattle.hm_history.specs.Lookups.{loses, is_guarded}
-use Rattle.hm_history.specs.Contents.{shown_by}
-use Rattle.hm_history.specs.After.{After}
+use Rattle.hm_history.specs.Memory.Words.{same_pool, same_frame, sys_frame, with_frame, names, moving_frame, writable, place_in, same_place}
+use Rattle.hm_history.specs.Memory.Plain.{rights_of, is_read_write}
+use Rattle.hm_history.specs.Memory.Locks.{frame_placed}
+use Rattle.hm_history.specs.Memory.Sequences.{seq_started, all_told}
+use Rattle.hm_history.specs.Memory.Lookups.{loses, is_guarded}
+use Rattle.hm_history.specs.Memory.Contents.{shown_by}
+use Rattle.hm_history.specs.Memory.After.{After}
 use Rattle.hm_history.specs.declared.Kind.{Kind}
 use Rattle.hm_laws.specs.Stood.{stood, is_moving}
 use Rattle.hm_laws.specs.Past.{Past}
@@ -27,14 +27,14 @@ use Rattle.hm_laws.specs.Sound.{Sound}
 use Rattle.hm_laws.specs.Allowed.{next, ReadsThere, OwnsFrame, PlaceOk, Allowed}
 use Rattle.hm_laws.proofs.Other.Frames.{frame_else, frame_here}
 use Rattle.hm_laws.specs.Facts.{Fact, Is, Read_locked, May_store, No_guard, In_guard, Over_page, Locks_only, Owns, Zeroed, Copy_of, Touching, ShownIn, Holds, is_zero_place, facts, HoldsAll}
-use Rattle.hm_history.specs.Plain.{proc_of}
-use Rattle.hm_history.specs.Operation.{op_who}
-use Rattle.hm_history.specs.Going.{touch_page}
-use Rattle.hm_history.specs.Sequences.{seq_ended}
+use Rattle.hm_history.specs.Memory.Plain.{proc_of}
+use Rattle.hm_history.specs.Kernel.Operation.{op_who}
+use Rattle.hm_history.specs.Kernel.Going.{touch_page}
+use Rattle.hm_history.specs.Memory.Sequences.{seq_ended}
 use Rattle.hm_laws.proofs.Other.Lookups.{touches_own}
-use Rattle.hm_history.specs.Sequences.{all_told}
-use Rattle.hm_history.specs.Stacks.{dropping}
-use Rattle.hm_history.specs.Due.{start_entry, due_taken, due_guard, body_or_end}
+use Rattle.hm_history.specs.Memory.Sequences.{all_told}
+use Rattle.hm_history.specs.Kernel.Stacks.{dropping}
+use Rattle.hm_history.specs.Kernel.Due.{start_entry, due_taken, due_guard, body_or_end}
 use Rattle.hm_history.specs.declared.phases.Migrating.{Migrating}
 use Rattle.hm_history.specs.declared.phases.Touch.{Touch}
 use Rattle.hm_history.specs.declared.phases.Body.{Body}

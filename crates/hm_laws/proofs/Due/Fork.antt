@@ -9,23 +9,23 @@ use Rattle.hm_base.specs.declared.cause.Cause.{Cause}
 use Rattle.hm_base.specs.declared.Frame.{Frame}
 use Rattle.hm_base.specs.declared.Place.{Place}
 use Rattle.hm_base.specs.declared.ops.Op.{Op}
-use Rattle.hm_history.specs.Words.{names, writable, is_empty_place, page_of}
-use Rattle.hm_history.specs.Places.{with_place, is_exclusive}
-use Rattle.hm_history.specs.Sequences.{seq_started, seq_ended, all_told}
-use Rattle.hm_history.specs.Contents.{shown_by}
-use Rattle.hm_history.specs.After.{After}
+use Rattle.hm_history.specs.Memory.Words.{names, writable, is_empty_place, page_of}
+use Rattle.hm_history.specs.Memory.Places.{with_place, is_exclusive}
+use Rattle.hm_history.specs.Memory.Sequences.{seq_started, seq_ended, all_told}
+use Rattle.hm_history.specs.Memory.Contents.{shown_by}
+use Rattle.hm_history.specs.Memory.After.{After}
 use Rattle.hm_history.specs.declared.Kind.{Kind}
 use Rattle.hm_laws.specs.Stood.{stood}
 use Rattle.hm_laws.specs.Past.{Past}
 use Rattle.hm_laws.specs.Sound.{Sound}
 use Rattle.hm_laws.specs.Allowed.{next, Clean, HasChild, Alike, PlaceOk}
 use Rattle.hm_laws.specs.Facts.{Fact, Forking, No_guard, In_guard, Over, Locks_only, Guarding, Holds, op_span, forking, answering, facts, HoldsAll}
-use Rattle.hm_history.specs.Due.{proc_of_op}
+use Rattle.hm_history.specs.Kernel.Due.{proc_of_op}
 use Rattle.hm_base.specs.Pages.{all_pages}
-use Rattle.hm_history.specs.Words.{narrowed}
-use Rattle.hm_history.specs.Places.{next_page, is_used}
-use Rattle.hm_history.specs.Sequences.{all_told}
-use Rattle.hm_history.specs.Due.{start_entry, due_guard, within, fork_page, body_or_end, due_areas}
+use Rattle.hm_history.specs.Memory.Words.{narrowed}
+use Rattle.hm_history.specs.Memory.Places.{next_page, is_used}
+use Rattle.hm_history.specs.Memory.Sequences.{all_told}
+use Rattle.hm_history.specs.Kernel.Due.{start_entry, due_guard, within, fork_page, body_or_end, due_areas}
 use Rattle.hm_history.specs.declared.phases.Migrating.{Migrating}
 use Rattle.hm_history.specs.declared.phases.Body.{Body}
 use Rattle.hm_history.specs.declared.phases.Phase.{Phase}

@@ -9,17 +9,17 @@ use Rattle.hm_base.specs.declared.Frame.{Frame}
 use Rattle.hm_base.specs.declared.ops.Op.{Op}
 use Rattle.hm_history.specs.declared.Why.{Why}
 use Rattle.hm_laws.proofs.Other.Cleared.{gone_for}
-use Rattle.hm_history.specs.Words.{least, dev_frame, is_frame, names}
-use Rattle.hm_history.specs.Plain.{proc_of, rights_of}
-use Rattle.hm_history.specs.Places.{held_from, lowest_named, pool_size}
+use Rattle.hm_history.specs.Memory.Words.{least, dev_frame, is_frame, names}
+use Rattle.hm_history.specs.Memory.Plain.{proc_of, rights_of}
+use Rattle.hm_history.specs.Memory.Places.{held_from, lowest_named, pool_size}
 use Rattle.hm_base.specs.declared.PoolId.{PoolId}
-use Rattle.hm_history.specs.Sequences.{some_overlap, seq_started}
-use Rattle.hm_history.specs.Locks.{other_locker, is_locker}
-use Rattle.hm_history.specs.After.{After}
-use Rattle.hm_history.specs.Operation.{op_who, is_evicting}
-use Rattle.hm_history.specs.Stacks.{piece_of, catching, number_of}
-use Rattle.hm_history.specs.Going.{touch_page}
-use Rattle.hm_history.specs.Due.{start_entry, failed, due_frames_of, frame_at}
+use Rattle.hm_history.specs.Memory.Sequences.{some_overlap, seq_started}
+use Rattle.hm_history.specs.Memory.Locks.{other_locker, is_locker}
+use Rattle.hm_history.specs.Memory.After.{After}
+use Rattle.hm_history.specs.Kernel.Operation.{op_who, is_evicting}
+use Rattle.hm_history.specs.Kernel.Stacks.{piece_of, catching, number_of}
+use Rattle.hm_history.specs.Kernel.Going.{touch_page}
+use Rattle.hm_history.specs.Kernel.Due.{start_entry, failed, due_frames_of, frame_at}
 use Rattle.hm_history.specs.declared.KeptAt.{KeptAt}
 use Rattle.hm_history.specs.declared.KeptWhy.{KeptWhy}
 use Rattle.hm_history.specs.declared.Kind.{Kind}
@@ -44,6 +44,7 @@ use Rattle.hm_history.proofs.Updates.{here_at}
 use Rattle.hm_history.proofs.Tests.{true_false}
 use Rattle.hm_history.proofs.Frames.{is_frame_from, is_frame_of, frame_itself}
 use Rattle.hm_laws.proofs.Own.WhileEmptying.{one_more}
+use Rattle.hm_history.proofs.Least.{none_least}
 
 -- an access fails for want of a frame
 pub give_up_ok : (c : Program) (s : After) (t : Past) (a : ℕ) (o : Op) (xs : List Migrating) (touch : Touch) → touch_page o touch ≡ at_page o (piece_of touch) → HoldsAll s t a (No_guard ∷ Locks_only [] ∷ under o (Phase.GiveUp (Some touch) ∷ [])) → Good c s t a o xs (Phase.GiveUp (Some touch)) [] (Do (failed o (piece_of touch) Cause.NoFrame))
@@ -58,10 +59,6 @@ within k v n h l = grind (arith, nat_tests)
 
 beyond : (k n : ℕ) → nat_lt k n ≡ false → k < n → ⊥
 beyond k n h l = grind (arith, nat_tests)
-
-none_least : (t : ℕ → Bool) → ((k : ℕ) → t k ≡ false) → (from n : ℕ) → least t from n ≡ None
-none_least t h from zero = refl
-none_least t h from (suc n) = rw (h from, least) (none_least t h (from + 1) n)
 
 abbrev pub other_lock : Option ℕ → ℕ → Option ℕ
 other_lock None a = None

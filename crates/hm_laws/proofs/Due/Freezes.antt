@@ -9,14 +9,14 @@ use Rattle.hm_base.specs.Program.{Program}
 use Rattle.hm_base.specs.declared.Frame.{Frame}
 use Rattle.hm_base.specs.declared.Place.{Place}
 use Rattle.hm_base.specs.declared.ops.Op.{Op}
-use Rattle.hm_history.specs.Words.{same_frame, is_frame, names, names_directly, writable}
-use Rattle.hm_history.specs.Places.{with_place}
-use Rattle.hm_history.specs.Sequences.{seq_ended, all_told}
-use Rattle.hm_history.specs.Lookups.{is_guarded}
-use Rattle.hm_history.specs.After.{After}
-use Rattle.hm_history.specs.Operation.{is_evicting}
-use Rattle.hm_history.specs.Stacks.{frames_past}
-use Rattle.hm_history.specs.Due.{due_guard, body_or_end}
+use Rattle.hm_history.specs.Memory.Words.{same_frame, is_frame, names, names_directly, writable}
+use Rattle.hm_history.specs.Memory.Places.{with_place}
+use Rattle.hm_history.specs.Memory.Sequences.{seq_ended, all_told}
+use Rattle.hm_history.specs.Memory.Lookups.{is_guarded}
+use Rattle.hm_history.specs.Memory.After.{After}
+use Rattle.hm_history.specs.Kernel.Operation.{is_evicting}
+use Rattle.hm_history.specs.Kernel.Stacks.{frames_past}
+use Rattle.hm_history.specs.Kernel.Due.{due_guard, body_or_end}
 use Rattle.hm_history.specs.declared.KeptAt.{KeptAt}
 use Rattle.hm_history.specs.declared.Kind.{Kind}
 use Rattle.hm_history.specs.declared.phases.Migrating.{Migrating}

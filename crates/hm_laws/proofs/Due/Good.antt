@@ -9,11 +9,11 @@ use Rattle.hm_base.specs.declared.PoolId.{PoolId}
 use Rattle.hm_base.specs.declared.Place.{Place}
 use Rattle.hm_base.specs.declared.ops.Rights.{Rights}
 use Rattle.hm_base.specs.declared.ops.Op.{Op}
-use Rattle.hm_history.specs.Words.{is_empty_place, same_place, page_of}
-use Rattle.hm_history.specs.Plain.{Plain, rights_of, is_read_write, is_read_only}
-use Rattle.hm_history.specs.Places.{lowest_free, is_exclusive}
-use Rattle.hm_history.specs.Locks.{lock_passes}
-use Rattle.hm_history.specs.After.{After}
+use Rattle.hm_history.specs.Memory.Words.{is_empty_place, same_place, page_of}
+use Rattle.hm_history.specs.Memory.Plain.{Plain, rights_of, is_read_write, is_read_only}
+use Rattle.hm_history.specs.Memory.Places.{lowest_free, is_exclusive}
+use Rattle.hm_history.specs.Memory.Locks.{lock_passes}
+use Rattle.hm_history.specs.Memory.After.{After}
 use Rattle.hm_history.specs.declared.locks.MapLock.{MapLock}
 use Rattle.hm_history.specs.declared.Who.{Who}
 use Rattle.hm_history.specs.declared.Kind.{Kind}
@@ -25,15 +25,16 @@ use Rattle.std.specs.Prelude.{⊤}
 use Rattle.hm_laws.proofs.State.Search.{least_none}
 use Rattle.hm_history.proofs.Owners.{owned_from}
 use Rattle.hm_laws.specs.Facts.{HasProc, Is, takes_lock, has_piece, nothing_held, facts, HoldsAll}
-use Rattle.hm_history.specs.Due.{proc_of_op}
-use Rattle.hm_history.specs.Plain.{may_fail, in_window, outside_cause, proc_of, mirror_proc}
+use Rattle.hm_history.specs.Kernel.Due.{proc_of_op}
+use Rattle.hm_history.specs.Memory.Plain.{may_fail, in_window, outside_cause, proc_of, mirror_proc}
 use Rattle.hm_base.specs.Pages.{one_page}
-use Rattle.hm_history.specs.Locks.{writer, lowest_other}
-use Rattle.hm_history.specs.Operation.{op_pieces, op_mirror}
-use Rattle.hm_history.specs.Legal.{kept_for, wants_frame}
-use Rattle.hm_history.specs.Stacks.{stack_after, piece_ends}
-use Rattle.hm_history.specs.Going.{seen_at, recorded}
-use Rattle.hm_history.specs.Due.{rlock, wlock}
+use Rattle.hm_history.specs.Memory.Locks.{writer, lowest_other}
+use Rattle.hm_history.specs.Kernel.Operation.{op_pieces, op_mirror}
+use Rattle.hm_history.specs.Memory.Rules.{wants_frame}
+use Rattle.hm_history.specs.Kernel.Legal.{kept_for}
+use Rattle.hm_history.specs.Kernel.Stacks.{stack_after, piece_ends}
+use Rattle.hm_history.specs.Kernel.Going.{seen_at, recorded}
+use Rattle.hm_history.specs.Kernel.Due.{rlock, wlock}
 use Rattle.hm_history.specs.declared.phases.Migrating.{Migrating}
 use Rattle.hm_history.specs.declared.phases.Phase.{Phase}
 use Rattle.hm_history.specs.declared.phases.Next.{Next}

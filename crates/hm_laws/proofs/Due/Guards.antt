@@ -7,26 +7,26 @@ use Rattle.std.proofs.lemmas.Option.{same_Some}
 use Rattle.hm_base.specs.Pages.{Pages, covers}
 use Rattle.hm_base.specs.Program.{Program}
 use Rattle.hm_base.specs.declared.ops.Op.{Op}
-use Rattle.hm_history.specs.Words.{numbers}
-use Rattle.hm_history.specs.Sequences.{overlaps, overlapping, next_told, some_overlap, seq_started, seq_ended, with_told, same_span, guard_passes, all_told, is_next_told}
-use Rattle.hm_history.specs.Lookups.{is_guarded}
-use Rattle.hm_history.specs.After.{After}
+use Rattle.hm_history.specs.Memory.Words.{numbers}
+use Rattle.hm_history.specs.Memory.Sequences.{overlaps, overlapping, next_told, some_overlap, seq_started, seq_ended, with_told, same_span, guard_passes, all_told, is_next_told}
+use Rattle.hm_history.specs.Memory.Lookups.{is_guarded}
+use Rattle.hm_history.specs.Memory.After.{After}
 use Rattle.hm_history.specs.declared.Kind.{Kind}
 use Rattle.hm_laws.specs.Past.{Past, past_next}
 use Rattle.hm_laws.specs.Sound.{Sound}
 use Rattle.hm_laws.specs.Allowed.{next, SequencesOk}
 use Rattle.hm_laws.specs.Facts.{Guarding, facts, HoldsAll}
 use Rattle.std.proofs.Common.{filter, find}
-use Rattle.hm_history.specs.Sequences.{is_above, is_next_told, guard_passes, same_span, all_told, next_told}
-use Rattle.hm_history.specs.Due.{start_entry, due_guard, due_body, body_or_end, to_tell}
-use Rattle.hm_history.specs.Going.{recorded_body}
+use Rattle.hm_history.specs.Memory.Sequences.{is_above, is_next_told, guard_passes, same_span, all_told, next_told}
+use Rattle.hm_history.specs.Kernel.Due.{start_entry, due_guard, due_body, body_or_end, to_tell}
+use Rattle.hm_history.specs.Kernel.Going.{recorded_body}
 use Rattle.hm_history.specs.declared.phases.Migrating.{Migrating}
 use Rattle.hm_history.specs.declared.phases.Body.{Body}
 use Rattle.hm_history.specs.declared.phases.Phase.{Phase}
 use Rattle.hm_history.specs.declared.phases.Next.TheVariants.{Do}
 use Rattle.hm_laws.proofs.Due.Good.{Good}
 use Rattle.std.proofs.lemmas.List.Folds.{list_all-append}
-use Rattle.hm_history.specs.Sequences.{with_told, next_told}
+use Rattle.hm_history.specs.Memory.Sequences.{with_told, next_told}
 use Rattle.hm_history.proofs.Updates.{here_at}
 use Rattle.hm_history.proofs.Tests.{true_false}
 

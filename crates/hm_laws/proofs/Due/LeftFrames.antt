@@ -4,10 +4,10 @@ use Rattle.std.proofs.lemmas.Bool.Decides.{nat_tests}
 use Rattle.hm_base.specs.Program.{Program}
 use Rattle.hm_base.specs.declared.Frame.{Frame}
 use Rattle.hm_base.specs.declared.Place.{Place}
-use Rattle.hm_history.specs.Words.{same_frame, sys_frame, is_frame, names, names_directly, moving_frame}
-use Rattle.hm_history.specs.Places.{with_page, with_place, places_next, lowest_named}
-use Rattle.hm_history.specs.Locks.{Locks, frame_placed, with_lock, orphan}
-use Rattle.hm_history.specs.After.{After}
+use Rattle.hm_history.specs.Memory.Words.{same_frame, sys_frame, is_frame, names, names_directly, moving_frame}
+use Rattle.hm_history.specs.Memory.Places.{with_page, with_place, places_next, lowest_named}
+use Rattle.hm_history.specs.Memory.Locks.{Locks, frame_placed, with_lock, orphan}
+use Rattle.hm_history.specs.Memory.After.{After}
 use Rattle.hm_history.specs.declared.Kind.{Kind}
 use Rattle.hm_laws.specs.Stood.{stood, is_moving}
 use Rattle.hm_laws.specs.Past.{Past}

@@ -7,14 +7,14 @@ use Rattle.hm_base.specs.declared.cause.Cause.{Cause}
 use Rattle.hm_base.specs.declared.Frame.{Frame}
 use Rattle.hm_base.specs.declared.Place.{Place}
 use Rattle.hm_base.specs.declared.ops.Op.{Op}
-use Rattle.hm_history.specs.Words.{sys_frame, dev_frame, names, writable}
-use Rattle.hm_history.specs.Plain.{MirrorState, is_attached_state, mirror_passes, is_attached, mirror_proc, mirror_dev, may_fail, outside_cause, proc_of}
-use Rattle.hm_history.specs.Places.{is_for_device}
-use Rattle.hm_history.specs.Sequences.{interval_seq}
-use Rattle.hm_history.specs.After.{After}
-use Rattle.hm_history.specs.Operation.{op_who, op_mirror, op_writes}
-use Rattle.hm_history.specs.Going.{touch_page}
-use Rattle.hm_history.specs.Due.{process_seq, suits_walk, suits, failed, fails, repeats, right_of, rlock, due_decide, due_noted}
+use Rattle.hm_history.specs.Memory.Words.{sys_frame, dev_frame, names, writable}
+use Rattle.hm_history.specs.Memory.Plain.{MirrorState, is_attached_state, mirror_passes, is_attached, mirror_proc, mirror_dev, may_fail, outside_cause, proc_of}
+use Rattle.hm_history.specs.Memory.Places.{is_for_device}
+use Rattle.hm_history.specs.Memory.Sequences.{interval_seq}
+use Rattle.hm_history.specs.Memory.After.{After}
+use Rattle.hm_history.specs.Kernel.Operation.{op_who, op_mirror, op_writes}
+use Rattle.hm_history.specs.Kernel.Going.{touch_page}
+use Rattle.hm_history.specs.Kernel.Due.{process_seq, suits_walk, suits, failed, fails, repeats, right_of, rlock, due_decide, due_noted}
 use Rattle.hm_history.specs.declared.Who.{Who}
 use Rattle.hm_history.specs.declared.Kind.{Kind}
 use Rattle.hm_history.specs.declared.phases.Migrating.{Migrating}

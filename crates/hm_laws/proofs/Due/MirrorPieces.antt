@@ -6,13 +6,13 @@ use Rattle.hm_base.specs.Pages.{Pages, one_page, covers, lies_in}
 use Rattle.hm_base.specs.Program.{Program}
 use Rattle.hm_base.specs.declared.cause.Cause.{Cause}
 use Rattle.hm_base.specs.declared.ops.Op.{Op}
-use Rattle.hm_history.specs.Plain.{MirrorState, Plain, is_attached_state, mirror_passes, is_attached, in_window, mirror_proc}
+use Rattle.hm_history.specs.Memory.Plain.{MirrorState, Plain, is_attached_state, mirror_passes, is_attached, in_window, mirror_proc}
 use Rattle.hm_history.proofs.Owners.{owned_from}
-use Rattle.hm_history.specs.Places.{TableEntry, may_read, may_write, table_reads, table_writes}
-use Rattle.hm_history.specs.Sequences.{Interval, interval_seq, interval_proc, sequences_accept}
-use Rattle.hm_history.specs.After.{After}
-use Rattle.hm_history.specs.Operation.{op_piece, op_bytes}
-use Rattle.hm_history.specs.Due.{process_seq, is_invalidating, answer_of_piece, failed, is_usable, due_mirror}
+use Rattle.hm_history.specs.Memory.Places.{TableEntry, may_read, may_write, table_reads, table_writes}
+use Rattle.hm_history.specs.Memory.Sequences.{Interval, interval_seq, interval_proc, sequences_accept}
+use Rattle.hm_history.specs.Memory.After.{After}
+use Rattle.hm_history.specs.Kernel.Operation.{op_piece, op_bytes}
+use Rattle.hm_history.specs.Kernel.Due.{process_seq, is_invalidating, answer_of_piece, failed, is_usable, due_mirror}
 use Rattle.hm_history.specs.declared.Kind.{Kind}
 use Rattle.hm_history.specs.declared.phases.Migrating.{Migrating}
 use Rattle.hm_history.specs.declared.phases.Touch.{Touch}

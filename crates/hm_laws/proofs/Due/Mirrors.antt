@@ -7,11 +7,11 @@ use Rattle.hm_base.specs.Areas.{last_of}
 use Rattle.hm_base.specs.Program.{Program, op_fits}
 use Rattle.hm_base.specs.declared.cause.Cause.{Cause}
 use Rattle.hm_base.specs.declared.ops.Op.{Op}
-use Rattle.hm_history.specs.Plain.{MirrorState, Attachment, Attached, Detaching, Gone, is_attached_state, is_detaching_state, mirror_passes, is_attached, in_window, mirror_proc, with_attachment}
-use Rattle.hm_history.specs.Sequences.{Interval, Stage, InTree, InsertDeferred, RemoveDeferred, Removed, Out, is_odd, in_tree, in_tree_state, removed_state, insert_deferred, deferred_state, interval_passes, interval_proc, interval_inserted, sequences_accept}
-use Rattle.hm_history.specs.Locks.{writer}
-use Rattle.hm_history.specs.After.{After}
-use Rattle.hm_history.specs.Due.{process_seq, due_attach, due_detach, due_detaching, due_pages, in_window_rlock}
+use Rattle.hm_history.specs.Memory.Plain.{MirrorState, Attachment, Attached, Detaching, Gone, is_attached_state, is_detaching_state, mirror_passes, is_attached, in_window, mirror_proc, with_attachment}
+use Rattle.hm_history.specs.Memory.Sequences.{Interval, Stage, InTree, InsertDeferred, RemoveDeferred, Removed, Out, is_odd, in_tree, in_tree_state, removed_state, insert_deferred, deferred_state, interval_passes, interval_proc, interval_inserted, sequences_accept}
+use Rattle.hm_history.specs.Memory.Locks.{writer}
+use Rattle.hm_history.specs.Memory.After.{After}
+use Rattle.hm_history.specs.Kernel.Due.{process_seq, due_attach, due_detach, due_detaching, due_pages, in_window_rlock}
 use Rattle.hm_history.specs.declared.Who.{Who}
 use Rattle.hm_history.specs.declared.Kind.{Kind}
 use Rattle.hm_history.specs.declared.phases.Migrating.{Migrating}

@@ -8,12 +8,12 @@ use Rattle.std.specs.List.{list_any}
 use Rattle.hm_base.specs.Program.{Program}
 use Rattle.hm_base.specs.declared.Frame.{Frame}
 use Rattle.hm_base.specs.declared.Place.{Place}
-use Rattle.hm_history.specs.Words.{same_frame, sys_frame, names, names_directly, moving_frame, writable, is_empty_place}
-use Rattle.hm_history.specs.Plain.{rights_of, is_read_write}
-use Rattle.hm_history.specs.Lookups.{loses, is_guarded}
-use Rattle.hm_history.specs.Contents.{shown_by}
-use Rattle.hm_history.specs.After.{After}
-use Rattle.hm_history.specs.Due.{has_no_frame}
+use Rattle.hm_history.specs.Memory.Words.{same_frame, sys_frame, names, names_directly, moving_frame, writable, is_empty_place}
+use Rattle.hm_history.specs.Memory.Plain.{rights_of, is_read_write}
+use Rattle.hm_history.specs.Memory.Lookups.{loses, is_guarded}
+use Rattle.hm_history.specs.Memory.Contents.{shown_by}
+use Rattle.hm_history.specs.Memory.After.{After}
+use Rattle.hm_history.specs.Kernel.Due.{has_no_frame}
 use Rattle.hm_laws.specs.Stood.{stood, is_moving, Unnamed, Unstood}
 use Rattle.hm_laws.specs.Past.{Past}
 use Rattle.hm_laws.specs.Sound.{Sound}
@@ -21,7 +21,7 @@ use Rattle.hm_laws.specs.Allowed.{Owned, shows, ReadsThere, WritesThere, HasChil
 use Rattle.hm_laws.proofs.Kept.Areas.{writable_stays}
 use Rattle.hm_laws.proofs.Kept.Frames.{untouched_unnamed, unnamed_untouched}
 use Rattle.hm_laws.specs.Facts.{Locks_only, ShownIn, Holds}
-use Rattle.hm_history.specs.Words.{narrowed}
+use Rattle.hm_history.specs.Memory.Words.{narrowed}
 use Rattle.hm_laws.proofs.Due.Good.{clean_read, some_write, reads_plain}
 use Rattle.hm_history.proofs.Tests.{some_none, true_false}
 

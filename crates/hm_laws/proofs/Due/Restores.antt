@@ -6,15 +6,15 @@ use Rattle.hm_base.specs.Program.{Program}
 use Rattle.hm_base.specs.declared.Frame.{Frame}
 use Rattle.hm_base.specs.declared.Place.{Place}
 use Rattle.hm_base.specs.declared.ops.Op.{Op}
-use Rattle.hm_history.specs.Words.{sys_frame, names, names_directly, moving_frame, writable, is_empty_place, same_place}
-use Rattle.hm_history.specs.Sequences.{seq_ended, all_told}
-use Rattle.hm_history.specs.Lookups.{is_guarded}
-use Rattle.hm_history.specs.Contents.{shown_by}
-use Rattle.hm_history.specs.After.{After}
-use Rattle.hm_history.specs.Operation.{op_who}
-use Rattle.hm_history.specs.Going.{touch_page}
-use Rattle.hm_history.specs.Stacks.{dropping}
-use Rattle.hm_history.specs.Due.{due_guard, body_or_end, restore_at}
+use Rattle.hm_history.specs.Memory.Words.{sys_frame, names, names_directly, moving_frame, writable, is_empty_place, same_place}
+use Rattle.hm_history.specs.Memory.Sequences.{seq_ended, all_told}
+use Rattle.hm_history.specs.Memory.Lookups.{is_guarded}
+use Rattle.hm_history.specs.Memory.Contents.{shown_by}
+use Rattle.hm_history.specs.Memory.After.{After}
+use Rattle.hm_history.specs.Kernel.Operation.{op_who}
+use Rattle.hm_history.specs.Kernel.Going.{touch_page}
+use Rattle.hm_history.specs.Kernel.Stacks.{dropping}
+use Rattle.hm_history.specs.Kernel.Due.{due_guard, body_or_end, restore_at}
 use Rattle.hm_history.specs.declared.Kind.{Kind}
 use Rattle.hm_history.specs.declared.phases.Migrating.{Migrating}
 use Rattle.hm_history.specs.declared.phases.Touch.{Touch}

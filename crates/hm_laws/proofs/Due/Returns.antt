@@ -6,10 +6,10 @@ use Rattle.hm_base.specs.Program.{Program}
 use Rattle.hm_base.specs.declared.Frame.{Frame}
 use Rattle.hm_base.specs.declared.Place.{Place}
 use Rattle.hm_base.specs.declared.ops.Op.{Op}
-use Rattle.hm_history.specs.Words.{dev_frame, same_frame, is_frame, with_frame, names, names_directly, moving_frame, writable, place_in}
-use Rattle.hm_history.specs.Places.{lowest_moving, lowest_named, with_place, is_exclusive}
-use Rattle.hm_history.specs.After.{After}
-use Rattle.hm_history.specs.Due.{due_finish, settle}
+use Rattle.hm_history.specs.Memory.Words.{dev_frame, same_frame, is_frame, with_frame, names, names_directly, moving_frame, writable, place_in}
+use Rattle.hm_history.specs.Memory.Places.{lowest_moving, lowest_named, with_place, is_exclusive}
+use Rattle.hm_history.specs.Memory.After.{After}
+use Rattle.hm_history.specs.Kernel.Due.{due_finish, settle}
 use Rattle.hm_history.specs.declared.Kind.{Kind}
 use Rattle.hm_history.specs.declared.phases.Migrating.{Migrating}
 use Rattle.hm_history.specs.declared.phases.Phase.{Phase}
@@ -27,7 +27,7 @@ use Rattle.hm_laws.proofs.Kept.Frames.{names_stays, moving_names, names_moving, 
 use Rattle.hm_laws.proofs.Other.Frames.{frame_else}
 use Rattle.hm_laws.proofs.Due.Good.{Good, either_option}
 use Rattle.hm_laws.proofs.Migration.Places.{stood_direct, InFrame, in_frame, return_ok}
-use Rattle.hm_history.specs.Operation.{is_remove}
+use Rattle.hm_history.specs.Kernel.Operation.{is_remove}
 use Rattle.hm_laws.proofs.Other.Cleared.{clear_drop, clear_done}
 use Rattle.hm_laws.specs.Spares.{Apart}
 use Rattle.hm_laws.proofs.Own.WhileEmptying.{not_removing, beneath_less, apart_below, beneath_on, resting_beneath, to_system}

@@ -11,28 +11,28 @@ use Rattle.hm_base.specs.declared.Frame.{Frame}
 use Rattle.hm_base.specs.declared.Place.{Place}
 use Rattle.hm_base.specs.declared.ops.Rights.{Rights}
 use Rattle.hm_base.specs.declared.ops.Op.{Op}
-use Rattle.hm_history.specs.Words.{same_frame, names, moving_frame, writable, is_empty_place, page_of}
-use Rattle.hm_history.specs.Plain.{rights_of}
-use Rattle.hm_history.specs.Places.{with_place}
-use Rattle.hm_history.specs.Locks.{frame_placed}
-use Rattle.hm_history.specs.Sequences.{seq_ended, all_told}
-use Rattle.hm_history.specs.After.{After}
+use Rattle.hm_history.specs.Memory.Words.{same_frame, names, moving_frame, writable, is_empty_place, page_of}
+use Rattle.hm_history.specs.Memory.Plain.{rights_of}
+use Rattle.hm_history.specs.Memory.Places.{with_place}
+use Rattle.hm_history.specs.Memory.Locks.{frame_placed}
+use Rattle.hm_history.specs.Memory.Sequences.{seq_ended, all_told}
+use Rattle.hm_history.specs.Memory.After.{After}
 use Rattle.hm_history.specs.declared.Kind.{Kind}
 use Rattle.hm_laws.specs.Past.{Past}
 use Rattle.hm_laws.specs.Sound.{Sound}
 use Rattle.hm_laws.specs.Allowed.{next, CleanBut, Clean, PlaceOk, Allowed}
 use Rattle.hm_laws.specs.Facts.{Fact, Emptying, Narrowing, In_guard, Over, Locks_only, Owns, Guarding, EmptyBelow, NarrowBelow, Holds, op_span, zapping, narrowing, widening, answering, facts, HoldsAll}
-use Rattle.hm_history.specs.Due.{proc_of_op}
-use Rattle.hm_history.specs.Words.{narrowed}
-use Rattle.hm_history.specs.Places.{next_page, is_used}
-use Rattle.hm_history.specs.Sequences.{all_told}
-use Rattle.hm_history.specs.Stacks.{dropping}
-use Rattle.hm_history.specs.Due.{due_guard, within, body_or_end}
+use Rattle.hm_history.specs.Kernel.Due.{proc_of_op}
+use Rattle.hm_history.specs.Memory.Words.{narrowed}
+use Rattle.hm_history.specs.Memory.Places.{next_page, is_used}
+use Rattle.hm_history.specs.Memory.Sequences.{all_told}
+use Rattle.hm_history.specs.Kernel.Stacks.{dropping}
+use Rattle.hm_history.specs.Kernel.Due.{due_guard, within, body_or_end}
 use Rattle.hm_history.specs.declared.phases.Migrating.{Migrating}
 use Rattle.hm_history.specs.declared.phases.Body.{Body}
 use Rattle.hm_history.specs.declared.phases.Phase.{Phase}
 use Rattle.hm_history.specs.declared.phases.Next.TheVariants.{Do}
-use Rattle.hm_history.specs.Places.{is_exclusive}
+use Rattle.hm_history.specs.Memory.Places.{is_exclusive}
 use Rattle.hm_laws.proofs.Due.LeftFrames.{LocksNothing, unfrozen}
 use Rattle.hm_laws.proofs.Due.Good.{Good, either}
 use Rattle.hm_laws.proofs.Due.LeftFrames.{orphan_at, gains_own, left_owned, none_left}
@@ -44,6 +44,7 @@ use Rattle.hm_laws.proofs.Due.Faults.{dropped_locks}
 use Rattle.hm_history.proofs.Updates.{here_at}
 use Rattle.hm_history.proofs.Tests.{some_none, true_false}
 use Rattle.hm_history.proofs.Frames.{frame_tells}
+use Rattle.hm_history.proofs.Pages.{no_empty_writable}
 
 -- pages emptied
 zapped_answer : (s : After) (t : Past) (a : ℕ) (o : Op) → HoldsAll s t a (zapping o (last_of (op_span o))) → HoldsAll s t a (answering o)
@@ -61,9 +62,6 @@ widened_answer s t a o h = cc
 
 pub no_empty_used : (x : Place) → is_empty_place x ≡ true → is_used x ≡ false
 no_empty_used x e = grind arith
-
-pub no_empty_writable : (x : Place) → is_empty_place x ≡ true → writable x ≡ false
-no_empty_writable x e = grind arith
 
 pub unused_empty : (x : Place) → is_used x ≡ false → is_empty_place x ≡ true
 unused_empty x e = grind arith

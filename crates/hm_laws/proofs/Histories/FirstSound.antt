@@ -3,7 +3,7 @@ use Rattle.std.proofs.Common.{◌≡◌, ℕ, zero, suc, inl, None, refl, sym, a
 use Rattle.std.proofs.lemmas.Bool.{eqb-true}
 use Rattle.hm_base.specs.Program.{Program}
 use Rattle.hm_laws.specs.Sound.{count_guards, Sound}
-use Rattle.hm_history.specs.After.{after_nothing}
+use Rattle.hm_history.specs.Memory.After.{after_nothing}
 use Rattle.hm_laws.specs.Past.{past_start}
 
 no_guards : (p n : ℕ) → count_guards (λ a. None) p n ≡ 0

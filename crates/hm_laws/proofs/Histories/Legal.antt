@@ -3,12 +3,12 @@ use Rattle.std.proofs.Common.{◌≡◌, ℕ, Bool, true, false, ◌||◌, is_no
 use Rattle.std.proofs.lemmas.Bool.{and_parts}
 use Rattle.hm_base.specs.Program.{Program}
 use Rattle.hm_base.specs.declared.PoolId.{PoolId}
-use Rattle.hm_history.specs.Plain.{plain_accepts, mirror_proc, mirror_owner, owned}
-use Rattle.hm_history.specs.Places.{TableEntry, lowest_free, places_accept, entry_passes, table_reads, table_writes, table_sole}
+use Rattle.hm_history.specs.Memory.Plain.{plain_accepts, mirror_proc, mirror_owner, owned}
+use Rattle.hm_history.specs.Memory.Places.{TableEntry, lowest_free, places_accept, entry_passes, table_reads, table_writes, table_sole}
 use Rattle.hm_history.proofs.Owners.{owned_proc}
-use Rattle.hm_history.specs.Sequences.{sequences_accept}
-use Rattle.hm_history.specs.Lookups.{narrows_guarded}
-use Rattle.hm_history.specs.After.{After}
+use Rattle.hm_history.specs.Memory.Sequences.{sequences_accept}
+use Rattle.hm_history.specs.Memory.Lookups.{narrows_guarded}
+use Rattle.hm_history.specs.Memory.After.{After}
 use Rattle.hm_history.specs.declared.Who.{Who}
 use Rattle.hm_history.specs.declared.Kind.{Kind}
 use Rattle.hm_laws.specs.Past.{Past, past_next}
@@ -19,16 +19,17 @@ use Rattle.hm_laws.proofs.Past.Short.{is_given, gives}
 use Rattle.hm_laws.proofs.Histories.Short.{ShortIs, short_start, short_on}
 use Rattle.hm_laws.proofs.Past.Told.{PastIs, past_is_start, past_is_step, untold_entry}
 use Rattle.hm_laws.proofs.Due.Good.{Fair}
-use Rattle.hm_history.specs.After.{after}
-use Rattle.hm_history.specs.Lookups.{is_untold, uses_untold}
-use Rattle.hm_history.specs.Words.{page_of}
+use Rattle.hm_history.specs.Memory.After.{after}
+use Rattle.hm_history.specs.Memory.Lookups.{is_untold, uses_untold}
+use Rattle.hm_history.specs.Memory.Words.{page_of}
 use Rattle.hm_base.specs.declared.ops.Op.{Op}
 use Rattle.hm_history.specs.declared.phases.Migrating.{Migrating}
 use Rattle.hm_history.specs.declared.phases.Phase.{Phase}
-use Rattle.hm_history.specs.Going.{State, op_at, going_next, state_start, state_of, state_of-snoc}
-use Rattle.hm_history.specs.Due.{due}
+use Rattle.hm_history.specs.Kernel.Going.{State, op_at, going_next, state_start, state_of, state_of-snoc}
+use Rattle.hm_history.specs.Kernel.Due.{due}
 use Rattle.hm_history.specs.Laws.{DueFrom}
-use Rattle.hm_history.specs.Legal.{kept_op, MayFollow, LegalFrom, Legal, wants_frame, fails_rightly, kept_rightly, system_is_full, was_short}
+use Rattle.hm_history.specs.Memory.Rules.{wants_frame, fails_rightly, system_is_full, was_short}
+use Rattle.hm_history.specs.Kernel.Legal.{kept_op, MayFollow, LegalFrom, Legal, kept_rightly}
 use Rattle.hm_history.specs.declared.Entry.{Entry}
 use Rattle.hm_history.specs.declared.Progress.{Progress}
 use Rattle.hm_base.specs.Program.{IsScript}
@@ -96,12 +97,14 @@ kept_of c u a o k top e fair = refl
 pub may_follow : (c : Program) (h : List Entry) (e : Entry) (t : Past) → Small c → Standing c (state_of c h) t → Untold h (state_of c h).after t → ShortIs c h (state_of c h) → due c h e.actor ≡ Progress.Did e → MayFollow c h e
 may_follow c h e t sm st pa short d = record {
   is_due = d;
-  answers = subst (λ s. plain_accepts s.plain e.kind ≡ true) (after_is c h) (answers_of c (state_of c h).after t e.actor e.kind ok);
-  places = subst (λ s. places_accept c (mirror_owner s.plain) s.places e.actor e.kind ≡ true) (after_is c h) (places_of c (state_of c h).after t e.actor e.kind st.sound ok);
-  frames = frames_of c h e.actor ok_turn.op (u.going e.actor).pages e.kind ok_turn.top (λ g. (short e.actor (gives_top (state_of c h) e.actor ok_turn.top ok_turn.below ok_turn.is_stack g)).1) (subst (λ s. Fair c s e.actor ok_turn.op (u.going e.actor).pages e.kind ok_turn.top) (after_is c h) ok_turn.fair);
-  sequences = subst (λ s. sequences_accept s.sequences e.actor e.kind ≡ true) (after_is c h) (sequences_of c (state_of c h).after t e.actor e.kind ok);
-  untold = untold_of c h (state_of c h).after t e.actor e.kind st.sound pa ok;
-  guarded = subst (λ s. narrows_guarded s.sequences s.places.place e.actor e.kind ≡ true) (after_is c h) (guarded_of c (state_of c h).after t e.actor e.kind ok);
+  rules = record {
+    answers = subst (λ s. plain_accepts s.plain e.kind ≡ true) (after_is c h) (answers_of c (state_of c h).after t e.actor e.kind ok);
+    places = subst (λ s. places_accept c (mirror_owner s.plain) s.places e.actor e.kind ≡ true) (after_is c h) (places_of c (state_of c h).after t e.actor e.kind st.sound ok);
+    frames = frames_of c h e.actor ok_turn.op (u.going e.actor).pages e.kind ok_turn.top (λ g. (short e.actor (gives_top (state_of c h) e.actor ok_turn.top ok_turn.below ok_turn.is_stack g)).1) (subst (λ s. Fair c s e.actor ok_turn.op (u.going e.actor).pages e.kind ok_turn.top) (after_is c h) ok_turn.fair);
+    sequences = subst (λ s. sequences_accept s.sequences e.actor e.kind ≡ true) (after_is c h) (sequences_of c (state_of c h).after t e.actor e.kind ok);
+    untold = untold_of c h (state_of c h).after t e.actor e.kind st.sound pa ok;
+    guarded = subst (λ s. narrows_guarded s.sequences s.places.place e.actor e.kind ≡ true) (after_is c h) (guarded_of c (state_of c h).after t e.actor e.kind ok);
+  };
   kept = kept_of c (state_of c h) e.actor ok_turn.op e.kind ok_turn.top ok_turn.is_op ok_turn.fair;
 }
   where

@@ -7,14 +7,14 @@ use Rattle.hm_base.specs.declared.PoolId.{PoolId}
 use Rattle.hm_base.specs.declared.Frame.{Frame}
 use Rattle.hm_base.specs.declared.ops.Op.{Op}
 use Rattle.hm_base.specs.Pages.{one_page}
-use Rattle.hm_history.specs.Words.{with_at, place_in, writable}
+use Rattle.hm_history.specs.Memory.Words.{with_at, place_in, writable}
 use Rattle.hm_history.specs.declared.phases.Migrating.{Migrating}
-use Rattle.hm_history.specs.Places.{lowest_free, lowest_direct, lowest_moving, lowest_named}
-use Rattle.hm_history.specs.After.{After, after}
-use Rattle.hm_history.specs.Legal.{is_finishing, was_short}
-use Rattle.hm_history.specs.Stacks.{first_phase, stack_after, after_finish}
-use Rattle.hm_history.specs.Going.{State, Going, op_at, going_on, going_top, going_next, first_stack, recorded, seen_at, state_of, state_start, state_of-snoc}
-use Rattle.hm_history.specs.Due.{due, start_entry, due_emptying, due_finish, due_phase}
+use Rattle.hm_history.specs.Memory.Places.{lowest_free, lowest_direct, lowest_moving, lowest_named}
+use Rattle.hm_history.specs.Memory.After.{After, after}
+use Rattle.hm_history.specs.Memory.Rules.{is_finishing, was_short}
+use Rattle.hm_history.specs.Kernel.Stacks.{first_phase, stack_after, after_finish}
+use Rattle.hm_history.specs.Kernel.Going.{State, Going, op_at, going_on, going_top, going_next, first_stack, recorded, seen_at, state_of, state_start, state_of-snoc}
+use Rattle.hm_history.specs.Kernel.Due.{due, start_entry, due_emptying, due_finish, due_phase}
 use Rattle.hm_history.specs.declared.KeptAt.{KeptAt}
 use Rattle.hm_history.specs.declared.KeptWhy.{KeptWhy}
 use Rattle.hm_history.specs.declared.Entry.{Entry}

@@ -3,8 +3,8 @@ use Rattle.std.proofs.Common.{◌≡◌, ℕ, zero, suc, ◌+◌, ◌-◌, ◌<�
 use Rattle.std.specs.List.{list_all}
 use Rattle.hm_base.specs.Program.{Program}
 use Rattle.hm_base.specs.declared.ops.Op.{Op}
-use Rattle.hm_history.specs.Words.{with_at}
-use Rattle.hm_history.specs.After.{After, after_entry}
+use Rattle.hm_history.specs.Memory.Words.{with_at}
+use Rattle.hm_history.specs.Memory.After.{After, after_entry}
 use Rattle.hm_history.specs.declared.Kind.{Kind}
 use Rattle.hm_laws.specs.Past.{Past, past_next}
 use Rattle.hm_laws.specs.Sound.{Sound}
@@ -12,10 +12,10 @@ use Rattle.hm_laws.specs.Allowed.{next, Allowed}
 use Rattle.std.proofs.lemmas.Bool.{cases_eq}
 use Rattle.hm_laws.specs.Facts.{Fact, nothing_held, facts, facts_of, HoldsAll, Knows}
 use Rattle.hm_base.specs.Program.{op_fits}
-use Rattle.hm_history.specs.Words.{pieces, first_len}
-use Rattle.hm_history.specs.Stacks.{stack_after}
-use Rattle.hm_history.specs.Going.{seen_at}
-use Rattle.hm_history.specs.Due.{due_phase}
+use Rattle.hm_history.specs.Memory.Words.{pieces, first_len}
+use Rattle.hm_history.specs.Kernel.Stacks.{stack_after}
+use Rattle.hm_history.specs.Kernel.Going.{seen_at}
+use Rattle.hm_history.specs.Kernel.Due.{due_phase}
 use Rattle.hm_history.specs.declared.phases.Migrating.{Migrating}
 use Rattle.hm_history.specs.declared.phases.Phase.{Phase}
 use Rattle.hm_history.specs.declared.phases.Next.{Next}
@@ -23,10 +23,10 @@ use Rattle.hm_history.specs.declared.phases.Next.TheVariants.{Do, Wait}
 use Rattle.hm_laws.proofs.Due.Good.{Fair, Led, Good, takes_for_itself}
 use Rattle.std.proofs.Common.{slice_get, fold, append_assoc, append-nil}
 use Rattle.std.proofs.lemmas.Option.{slice_get_within}
-use Rattle.hm_history.specs.After.{after, after_entry, after_nothing}
-use Rattle.hm_history.specs.Stacks.{first_phase}
-use Rattle.hm_history.specs.Going.{State, Going, op_at, first_stack, going_from, going_on, going_next, going_top, recorded, state_next, state_of, state_start, state_of-snoc}
-use Rattle.hm_history.specs.Due.{due, due_in, due_top, progress}
+use Rattle.hm_history.specs.Memory.After.{after, after_entry, after_nothing}
+use Rattle.hm_history.specs.Kernel.Stacks.{first_phase}
+use Rattle.hm_history.specs.Kernel.Going.{State, Going, op_at, first_stack, going_from, going_on, going_next, going_top, recorded, state_next, state_of, state_start, state_of-snoc}
+use Rattle.hm_history.specs.Kernel.Due.{due, due_in, due_top, progress}
 use Rattle.hm_history.specs.Laws.{DueFrom}
 use Rattle.hm_history.specs.declared.Entry.{Entry}
 use Rattle.hm_history.specs.declared.Progress.{Progress}
@@ -41,20 +41,12 @@ use Rattle.hm_laws.proofs.Other.Fetched.{ForItself}
 use Rattle.hm_laws.proofs.Kept.AreaOrder.{order_kept}
 use Rattle.hm_laws.proofs.Due.EachGood.{OpOk, due_ok}
 use Rattle.hm_history.proofs.Updates.{other_at, here_at}
+use Rattle.hm_base.proofs.Shared.{each_passes}
 
 -- the script's operations, one by one
 pub record Small (c : Program) : Type 0 where
   pub ops : (a i : ℕ) (o : Op) → op_at c a i ≡ Some o → OpOk c o
   pub few : (a i : ℕ) (o : Op) → op_at c a i ≡ Some o → a < 16
-
-each_passes : {X : Type 0} (t : X → Bool) (xs : List X) (i : ℕ) (x : X) → list_all t xs ≡ true → slice_get xs i ≡ Some x → t x ≡ true
-each_passes t [] i x h e = cc
-each_passes t (y ∷ xs) zero x h e = grind arith
-each_passes t (y ∷ xs) (suc i) x h e = each_passes t xs i x (rest (t y) h) e
-  where
-    rest : (b : Bool) → (b && list_all t xs) ≡ true → list_all t xs ≡ true
-    rest true k = k
-    rest false k = cc
 
 op_passes : (c : Program) (t : Op → Bool) (a i : ℕ) (o : Op) → list_all (list_all t) c.actors ≡ true → op_at c a i ≡ Some o → (t o ≡ true) × (a < length c.actors)
 op_passes c t a i o h e = by (slice_get c.actors a) refl e

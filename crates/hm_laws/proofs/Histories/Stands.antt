@@ -4,10 +4,10 @@ use Rattle.std.proofs.lemmas.Bool.Decides.{nat_tests}
 use Rattle.hm_base.specs.Program.{Program}
 use Rattle.hm_base.specs.declared.Place.{Place}
 use Rattle.hm_base.specs.declared.ops.Op.{Op}
-use Rattle.hm_history.specs.Words.{least, page_of}
-use Rattle.hm_history.specs.Locks.{lock_passes}
-use Rattle.hm_history.specs.Contents.{contents_of, shown_by}
-use Rattle.hm_history.specs.After.{After}
+use Rattle.hm_history.specs.Memory.Words.{least, page_of}
+use Rattle.hm_history.specs.Memory.Locks.{lock_passes}
+use Rattle.hm_history.specs.Memory.Contents.{contents_of, shown_by}
+use Rattle.hm_history.specs.Memory.After.{After}
 use Rattle.hm_laws.specs.Stood.{lock_on}
 use Rattle.hm_laws.specs.Past.{Past}
 use Rattle.hm_laws.specs.Sound.{Sound}
@@ -17,9 +17,9 @@ use Rattle.hm_laws.proofs.Kept.Contents.{backing_is}
 use Rattle.hm_laws.specs.Facts.{facts_of, HoldsAll, Knows}
 use Rattle.std.proofs.Common.{slice_get, zero, suc}
 use Rattle.std.proofs.lemmas.Option.{slice_get_past}
-use Rattle.hm_history.specs.After.{after}
-use Rattle.hm_history.specs.Run.{run}
-use Rattle.hm_history.specs.Going.{Going, going_next, op_at, state_of}
+use Rattle.hm_history.specs.Memory.After.{after}
+use Rattle.hm_history.specs.Kernel.Run.{run}
+use Rattle.hm_history.specs.Kernel.Going.{Going, going_next, op_at, state_of}
 use Rattle.hm_history.specs.Laws.{DueFrom}
 use Rattle.hm_history.specs.declared.Kind.{Kind}
 use Rattle.hm_history.specs.declared.phases.Migrating.{Migrating}
@@ -36,6 +36,7 @@ use Rattle.hm_laws.specs.Order.{OrderRules}
 use Rattle.hm_laws.proofs.Due.Good.{Fair}
 use Rattle.hm_laws.proofs.Histories.Sound.{Turn, small, turn_of, at_start, after_is, standing_after}
 use Rattle.hm_laws.proofs.Histories.Legal.{every_history}
+use Rattle.hm_history.proofs.Going.{no_op}
 
 pub history_is_legal : HistoryIsLegal
 history_is_legal = every_history
@@ -62,10 +63,6 @@ reads_right c s t so = record {
 
 pub frames_read : FramesRead
 frames_read c sc h d = let st : (t : Past) × Standing c (state_of c h) t = standing_of c sc h d in subst ReadsRight (after_is c h) (reads_right c (state_of c h).after st.0 st.1.sound)
-
--- an actor that the script has not holds nothing
-past_actors : (c : Program) (a i : ℕ) → length c.actors ≤ a → op_at c a i ≡ None
-past_actors c a i h = ap (λ x. slice_get (elim x as (λ y. List Op) [ None ↦ [] | Some os ↦ os ]) i) (slice_get_past c.actors a h)
 
 idle_lock : (c : Program) (s : After) (t : Past) (a : ℕ) (g : Going) → op_at c a g.index ≡ None → Knows c s t a g → s.locks.map a ≡ None
 idle_lock c s t a g e k = by (op_at c a g.index) e k
@@ -118,7 +115,7 @@ history_stands c sc h d = record {
   same_after = after_is c h;
   allows = λ e d. subst (λ s. Allowed c s st.0 e.actor e.kind) (after_is c h) (turn_of c (state_of c h) st.0 e (small c sc) st.1 d).allowed;
   copies = λ e d. subst (λ s. CopiesRightly s e.kind) (after_is c h) (turn_copies e (turn_of c (state_of c h) st.0 e (small c sc) st.1 d));
-  meets_nobody = λ few. meets_nobody (after h) (λ a l. idle_lock c (after h) st.0 a ((state_of c h).going a) (past_actors c a ((state_of c h).going a).index (omega arith)) (known a));
+  meets_nobody = λ few. meets_nobody (after h) (λ a l. idle_lock c (after h) st.0 a ((state_of c h).going a) (no_op c a ((state_of c h).going a).index (omega arith)) (known a));
 }
   where
     st : (t : Past) × Standing c (state_of c h) t

@@ -6,7 +6,7 @@ use Rattle.hm_base.specs.declared.cause.Cause.{Cause}
 use Rattle.hm_base.specs.Areas.{last_of, part, before, inside, behind, without, with_rights, with_area, meets, rights_at}
 use Rattle.hm_base.specs.declared.area.Area.{Area}
 use Rattle.hm_base.specs.declared.ops.Rights.{Rights}
-use Rattle.hm_history.specs.Plain.{Plain, plain_accepts}
+use Rattle.hm_history.specs.Memory.Plain.{Plain, plain_accepts}
 use Rattle.hm_history.specs.declared.Kind.{Kind}
 
 abbrev or_else : Option Rights → Option Rights → Option Rights

@@ -10,19 +10,20 @@ use Rattle.hm_base.specs.Program.{Program}
 use Rattle.hm_base.specs.declared.area.Area.{Area}
 use Rattle.hm_base.specs.declared.ops.Rights.{Rights}
 use Rattle.hm_base.specs.declared.ops.Op.{Op}
-use Rattle.hm_history.specs.Words.{with_at}
-use Rattle.hm_history.specs.Plain.{Plain, area_refusal}
+use Rattle.hm_history.specs.Memory.Words.{with_at}
+use Rattle.hm_history.specs.Memory.Plain.{Plain, area_refusal}
 use Rattle.hm_history.specs.declared.phases.Migrating.{Migrating}
 use Rattle.hm_history.specs.declared.phases.Phase.{Phase}
-use Rattle.hm_history.specs.After.{After}
+use Rattle.hm_history.specs.Memory.After.{After}
 use Rattle.hm_history.specs.declared.Kind.{Kind}
 use Rattle.hm_laws.specs.Past.{Past}
 use Rattle.hm_laws.specs.Allowed.{next, Allowed}
-use Rattle.hm_history.specs.Plain.{all_mapped}
+use Rattle.hm_history.specs.Memory.Plain.{all_mapped}
 use Rattle.hm_laws.proofs.Due.Good.{Fair}
 use Rattle.std.proofs.Common.{min, max, suc}
 use Rattle.hm_laws.specs.Order.{rising, OrderRules}
 use Rattle.hm_laws.proofs.Kept.AreaCuts.{no_meet}
+use Rattle.hm_base.proofs.Shared.{length_with_area}
 
 rising_later : (from later : ℕ) (as_ : List Area) → from ≤ later → rising later as_ ≡ true → rising from as_ ≡ true
 rising_later from later [] l h = refl
@@ -73,14 +74,6 @@ rising_with r w from (a ∷ as_) h = rw (append_assoc, append_assoc) (rising_par
   where
     e : (from ≤ a.span.first) × (last_of a.span ≤ 2 ^ 36) × (rising (last_of a.span) as_ ≡ true)
     e = cut_ends a from as_ h
-
-pub length_with_area : (n : Area) (as_ : List Area) → length (with_area n as_) ≡ length as_ + 1
-length_with_area n [] = refl
-length_with_area n (a ∷ as_) = by (nat_lt n.span.first a.span.first) (length_with_area n as_)
-  where
-    by : (b : Bool) → length (with_area n as_) ≡ length as_ + 1 → length (if b then n ∷ (a ∷ as_) else (a ∷ with_area n as_)) ≡ suc (length as_) + 1
-    by true ih = omega arith
-    by false ih = omega (arith, ih)
 
 pub rising_with_area : (n : Area) (from : ℕ) (as_ : List Area) → from ≤ n.span.first → 1 ≤ n.span.count → last_of n.span ≤ 2 ^ 36 → meets n.span as_ ≡ false → rising from as_ ≡ true → rising from (with_area n as_) ≡ true
 rising_with_area n from [] l c e m r = grind (arith, nat_tests)

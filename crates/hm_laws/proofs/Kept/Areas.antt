@@ -7,10 +7,10 @@ use Rattle.hm_base.specs.Areas.{without, with_rights, with_area, rights_at}
 use Rattle.hm_base.specs.Program.{Program}
 use Rattle.hm_base.specs.declared.Place.{Place}
 use Rattle.hm_base.specs.declared.ops.Rights.{Rights}
-use Rattle.hm_history.specs.Words.{with_at, writable, is_empty_place}
-use Rattle.hm_history.specs.Plain.{is_read_write}
-use Rattle.hm_history.specs.Places.{is_page, with_place}
-use Rattle.hm_history.specs.After.{After}
+use Rattle.hm_history.specs.Memory.Words.{with_at, writable, is_empty_place}
+use Rattle.hm_history.specs.Memory.Plain.{is_read_write}
+use Rattle.hm_history.specs.Memory.Places.{is_page, with_place}
+use Rattle.hm_history.specs.Memory.After.{After}
 use Rattle.hm_history.specs.declared.Kind.{Kind}
 use Rattle.hm_laws.specs.Past.{Past, past_next}
 use Rattle.hm_laws.specs.Sound.{PlaceRules, AreaRules, Sound}

@@ -3,16 +3,16 @@ use Rattle.std.proofs.Common.{◌≡◌, ℕ, ◌+◌, ◌-◌, ◌<◌, ◌≤�
 use Rattle.std.proofs.lemmas.Bool.Decides.{nat_tests}
 use Rattle.hm_base.specs.Pages.{Pages, overlap}
 use Rattle.hm_base.specs.Program.{Program}
-use Rattle.hm_history.specs.Words.{with_at, numbers}
-use Rattle.hm_history.specs.Plain.{MirrorState}
-use Rattle.hm_history.specs.Sequences.{Sequences, Interval, Guarded, Stage, is_odd, in_tree_state, deferred_state, removed_state, interval_passes, in_tree, interval_proc, overlaps, seq_inserted, interval_inserted, with_stage as with_stage, sequences_next, all_told, sequences_accept}
-use Rattle.hm_history.specs.After.{After}
+use Rattle.hm_history.specs.Memory.Words.{with_at, numbers}
+use Rattle.hm_history.specs.Memory.Plain.{MirrorState}
+use Rattle.hm_history.specs.Memory.Sequences.{Sequences, Interval, Guarded, Stage, is_odd, in_tree_state, deferred_state, removed_state, interval_passes, in_tree, interval_proc, overlaps, seq_inserted, interval_inserted, with_stage as with_stage, sequences_next, all_told, sequences_accept}
+use Rattle.hm_history.specs.Memory.After.{After}
 use Rattle.hm_history.specs.declared.Kind.{Kind}
 use Rattle.hm_laws.specs.Past.{Past}
 use Rattle.hm_laws.specs.Sound.{is_leaving, SequenceRules, Sound}
 use Rattle.hm_laws.specs.Allowed.{next, PlainOk, Allowed}
 use Rattle.std.proofs.lemmas.Bool.{cases_eq, and_parts, eqb-true}
-use Rattle.hm_history.specs.Sequences.{InTree, InsertDeferred, RemoveDeferred, Removed, Out}
+use Rattle.hm_history.specs.Memory.Sequences.{InTree, InsertDeferred, RemoveDeferred, Removed, Out}
 use Rattle.hm_laws.proofs.Kept.Mirrors.{no_interval}
 use Rattle.hm_laws.proofs.State.Invalidations.{odd_next, odd_before, filter_same, Changed, stage_changed, start_says, end_says, ToldTo, told_says}
 use Rattle.hm_laws.proofs.Kept.Sequences.{inserted_rises, start_sequences, told_sequences, end_sequences}

@@ -4,12 +4,12 @@ use Rattle.std.proofs.lemmas.Bool.Decides.{nat_tests}
 use Rattle.hm_base.specs.Program.{Program}
 use Rattle.hm_base.specs.declared.Frame.{Frame}
 use Rattle.hm_base.specs.declared.Place.{Place}
-use Rattle.hm_history.specs.Words.{with_at, same_frame, sys_frame, dev_frame, with_frame, names, moving_frame, writable, is_empty_place, page_of}
-use Rattle.hm_history.specs.Plain.{with_bytes, written_for, proc_of, mirror_proc, owner, mirror_owner, owned}
+use Rattle.hm_history.specs.Memory.Words.{with_at, same_frame, sys_frame, dev_frame, with_frame, names, moving_frame, writable, is_empty_place, page_of}
+use Rattle.hm_history.specs.Memory.Plain.{with_bytes, written_for, proc_of, mirror_proc, owner, mirror_owner, owned}
 use Rattle.hm_history.proofs.Owners.{owned_proc, owned_there, owner_is}
-use Rattle.hm_history.specs.Places.{Places, TableEntry, with_place, cpu_writes, entry_passes, table_reads, table_writes, table_sole, may_write, is_sole, is_exclusive_of}
-use Rattle.hm_history.specs.Contents.{zeros, backing, place_for, shown_by, with_piece, stored_in, with_part_copied}
-use Rattle.hm_history.specs.After.{After}
+use Rattle.hm_history.specs.Memory.Places.{Places, TableEntry, with_place, cpu_writes, entry_passes, table_reads, table_writes, table_sole, may_write, is_sole, is_exclusive_of}
+use Rattle.hm_history.specs.Memory.Contents.{zeros, backing, place_for, shown_by, with_piece, stored_in, with_part_copied}
+use Rattle.hm_history.specs.Memory.After.{After}
 use Rattle.hm_history.specs.declared.Who.{Who}
 use Rattle.hm_history.specs.declared.Kind.{Kind}
 use Rattle.hm_laws.specs.Stood.{stood}

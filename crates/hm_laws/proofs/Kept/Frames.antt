@@ -4,11 +4,11 @@ use Rattle.std.proofs.lemmas.Bool.Decides.{nat_tests}
 use Rattle.hm_base.specs.Program.{Program}
 use Rattle.hm_base.specs.declared.Frame.{Frame}
 use Rattle.hm_base.specs.declared.Place.{Place}
-use Rattle.hm_history.specs.Words.{same_frame, is_frame, with_frame, names, names_directly, moving_frame, writable, is_empty_place}
-use Rattle.hm_history.specs.Places.{Places, is_page, with_page, with_place, places_next, lowest_named}
-use Rattle.hm_history.specs.Locks.{Locks, frame_placed, frame_next, with_lock, orphan}
-use Rattle.hm_history.specs.After.{After}
-use Rattle.hm_history.specs.Due.{has_no_frame}
+use Rattle.hm_history.specs.Memory.Words.{same_frame, is_frame, with_frame, names, names_directly, moving_frame, writable, is_empty_place}
+use Rattle.hm_history.specs.Memory.Places.{Places, is_page, with_page, with_place, places_next, lowest_named}
+use Rattle.hm_history.specs.Memory.Locks.{Locks, frame_placed, frame_next, with_lock, orphan}
+use Rattle.hm_history.specs.Memory.After.{After}
+use Rattle.hm_history.specs.Kernel.Due.{has_no_frame}
 use Rattle.hm_history.specs.declared.Kind.{Kind}
 use Rattle.hm_laws.specs.Stood.{stood, is_moving, IsNamed, Unnamed}
 use Rattle.hm_laws.specs.Past.{Past}

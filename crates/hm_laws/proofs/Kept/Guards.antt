@@ -4,17 +4,17 @@ use Rattle.std.specs.List.{list_any}
 use Rattle.std.proofs.lemmas.Bool.Decides.{nat_tests}
 use Rattle.hm_base.specs.Pages.{Pages, covers, overlap}
 use Rattle.hm_base.specs.Program.{Program}
-use Rattle.hm_history.specs.Words.{with_at, numbers}
-use Rattle.hm_history.specs.Plain.{mirror_passes, is_attached_state}
-use Rattle.hm_history.specs.Places.{TableEntry, with_entry, erased_table}
-use Rattle.hm_history.specs.Sequences.{Sequences, Interval, Guarded, Stage, is_odd, in_tree_state, deferred_state, interval_seq, interval_proc, overlaps, overlapping, seq_started, is_last_end, seq_ended, seq_inserted, interval_inserted, applied_stage, with_seq, with_told, with_stage as with_stage, sequences_next, all_told}
-use Rattle.hm_history.specs.After.{After}
+use Rattle.hm_history.specs.Memory.Words.{with_at, numbers}
+use Rattle.hm_history.specs.Memory.Plain.{mirror_passes, is_attached_state}
+use Rattle.hm_history.specs.Memory.Places.{TableEntry, with_entry, erased_table}
+use Rattle.hm_history.specs.Memory.Sequences.{Sequences, Interval, Guarded, Stage, is_odd, in_tree_state, deferred_state, interval_seq, interval_proc, overlaps, overlapping, seq_started, is_last_end, seq_ended, seq_inserted, interval_inserted, applied_stage, with_seq, with_told, with_stage as with_stage, sequences_next, all_told}
+use Rattle.hm_history.specs.Memory.After.{After}
 use Rattle.hm_history.specs.declared.Kind.{Kind}
 use Rattle.hm_laws.specs.Past.{Past}
 use Rattle.hm_laws.specs.Sound.{Pairing, SequenceRules, Pending, Blocked, listens, GuardRules, Sound}
 use Rattle.hm_laws.specs.Allowed.{next, Allowed}
 use Rattle.std.proofs.lemmas.Bool.{cases_eq, eqb-true}
-use Rattle.hm_history.specs.Sequences.{InTree, InsertDeferred, RemoveDeferred, Removed, Out}
+use Rattle.hm_history.specs.Memory.Sequences.{InTree, InsertDeferred, RemoveDeferred, Removed, Out}
 use Rattle.hm_laws.proofs.Kept.Mirrors.{interval_of}
 use Rattle.hm_laws.proofs.State.Invalidations.{odd_next, active_of, in_filter, in_numbers, Changed, seq_changed, stage_changed, ended_changed, end_says, ToldTo, told_says, Overlapping, overlaps_says, overlaps_of}
 use Rattle.hm_laws.proofs.Kept.Sequences.{started_rises, inserted_rises, ended_else, not_last}

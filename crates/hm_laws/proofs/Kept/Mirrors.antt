@@ -3,17 +3,17 @@ use Rattle.std.proofs.Common.{◌≡◌, ℕ, ◌+◌, ◌<◌, ◌≤◌, ◌�
 use Rattle.std.proofs.lemmas.Bool.Decides.{nat_tests}
 use Rattle.std.proofs.lemmas.Bool.{and_parts, eqb-true}
 use Rattle.hm_base.specs.Program.{Program}
-use Rattle.hm_history.specs.Words.{with_at}
-use Rattle.hm_history.specs.Plain.{MirrorState, Attachment, is_attached_state, with_attachment}
-use Rattle.hm_history.specs.Places.{TableEntry}
-use Rattle.hm_history.specs.Sequences.{Interval, Stage, is_odd, interval_proc, is_last_end, interval_inserted, applied_stage, applied, with_seq, with_stage as with_stage}
-use Rattle.hm_history.specs.After.{After}
+use Rattle.hm_history.specs.Memory.Words.{with_at}
+use Rattle.hm_history.specs.Memory.Plain.{MirrorState, Attachment, is_attached_state, with_attachment}
+use Rattle.hm_history.specs.Memory.Places.{TableEntry}
+use Rattle.hm_history.specs.Memory.Sequences.{Interval, Stage, is_odd, interval_proc, is_last_end, interval_inserted, applied_stage, applied, with_seq, with_stage as with_stage}
+use Rattle.hm_history.specs.Memory.After.{After}
 use Rattle.hm_history.specs.declared.Kind.{Kind}
 use Rattle.hm_laws.specs.Past.{Past, past_next}
 use Rattle.hm_laws.specs.Sound.{stands_so, Pairing, Paired, MirrorRules, listens, ArrivalRules, PastRules, UntoldRules, Sound}
 use Rattle.hm_laws.specs.Allowed.{next, Allowed}
-use Rattle.hm_history.specs.Plain.{Attached, Detaching, Gone}
-use Rattle.hm_history.specs.Sequences.{InTree, InsertDeferred, RemoveDeferred, Removed, Out}
+use Rattle.hm_history.specs.Memory.Plain.{Attached, Detaching, Gone}
+use Rattle.hm_history.specs.Memory.Sequences.{InTree, InsertDeferred, RemoveDeferred, Removed, Out}
 use Rattle.hm_history.proofs.Updates.{other_at, here_at, at_cases, with_case}
 
 -- the mirror of an interval, and the interval of a mirror

@@ -3,9 +3,9 @@ use Rattle.std.proofs.Common.{◌≡◌, ◌≢◌, ℕ, ◌⊎◌, inl, inr, Bo
 use Rattle.std.proofs.lemmas.Bool.Decides.{nat_tests}
 use Rattle.hm_base.specs.declared.Frame.{Frame}
 use Rattle.hm_base.specs.declared.Place.{Place}
-use Rattle.hm_history.specs.Words.{same_frame, sys_frame, with_frame, names, moving_frame}
-use Rattle.hm_history.specs.Places.{Places, with_place, lowest, lower, lowest_named}
-use Rattle.hm_history.specs.Locks.{Locks, frame_placed, is_locker, left_behind}
+use Rattle.hm_history.specs.Memory.Words.{same_frame, sys_frame, with_frame, names, moving_frame}
+use Rattle.hm_history.specs.Memory.Places.{Places, with_place, lowest, lower, lowest_named}
+use Rattle.hm_history.specs.Memory.Locks.{Locks, frame_placed, is_locker, left_behind}
 use Rattle.hm_laws.specs.Stood.{is_moving, IsNamed, Unnamed}
 use Rattle.hm_history.proofs.Frames.{frame_tells}
 

@@ -6,9 +6,9 @@ use Rattle.hm_base.specs.Program.{Program}
 use Rattle.hm_base.specs.declared.area.Area.{Area}
 use Rattle.hm_base.specs.declared.PoolId.{PoolId}
 use Rattle.hm_base.specs.declared.Frame.{Frame}
-use Rattle.hm_history.specs.Words.{with_at, least, same_frame, dev_frame, with_frame}
-use Rattle.hm_history.specs.Places.{Places, lowest_free, held_from, is_withdrawn, frame_of, pool_size}
-use Rattle.hm_history.specs.After.{After}
+use Rattle.hm_history.specs.Memory.Words.{with_at, least, same_frame, dev_frame, with_frame}
+use Rattle.hm_history.specs.Memory.Places.{Places, lowest_free, held_from, is_withdrawn, frame_of, pool_size}
+use Rattle.hm_history.specs.Memory.After.{After}
 use Rattle.hm_history.specs.declared.Kind.{Kind}
 use Rattle.hm_laws.specs.Past.{Past, past_next}
 use Rattle.hm_laws.specs.Sound.{PoolRules, ProcessRules, Sound}

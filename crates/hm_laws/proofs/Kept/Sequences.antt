@@ -2,12 +2,12 @@
 use Rattle.std.proofs.Common.{◌≡◌, ℕ, ◌+◌, ◌-◌, ◌<◌, ◌≤◌, ◌⊎◌, inl, inr, Bool, true, false, ◌==◌, ◌&&◌, if◌then◌else◌, not, Option, Some, None, [], ◌∷◌, ◌++◌, refl, sym, ap, ◌∙◌, subst, arith}
 use Rattle.std.proofs.lemmas.Bool.Decides.{nat_tests}
 use Rattle.hm_base.specs.Pages.{Pages, overlap}
-use Rattle.hm_history.specs.Words.{with_at, numbers}
-use Rattle.hm_history.specs.Sequences.{Sequences, Interval, Guarded, Stage, is_odd, in_tree_state, deferred_state, interval_passes, interval_proc, overlaps, overlapping, some_overlap, seq_started, is_last_end, seq_ended, seq_inserted, applied_stage, applied, with_seq, with_told, sequences_next}
+use Rattle.hm_history.specs.Memory.Words.{with_at, numbers}
+use Rattle.hm_history.specs.Memory.Sequences.{Sequences, Interval, Guarded, Stage, is_odd, in_tree_state, deferred_state, interval_passes, interval_proc, overlaps, overlapping, some_overlap, seq_started, is_last_end, seq_ended, seq_inserted, applied_stage, applied, with_seq, with_told, sequences_next}
 use Rattle.hm_history.specs.declared.Kind.{Kind}
 use Rattle.hm_laws.specs.Sound.{guards, count_guards, has_met, is_leaving, SequenceRules}
 use Rattle.std.proofs.lemmas.Bool.{cases_eq, eqb-true}
-use Rattle.hm_history.specs.Sequences.{InTree, InsertDeferred, RemoveDeferred, Removed, Out}
+use Rattle.hm_history.specs.Memory.Sequences.{InTree, InsertDeferred, RemoveDeferred, Removed, Out}
 use Rattle.hm_laws.proofs.State.Invalidations.{odd_next, even_next, number, count_with, guards_at, active_two, filter_same, Changed, seq_changed, ended_changed, ToldTo, Overlapping, overlaps_says}
 use Rattle.hm_history.proofs.Updates.{other_at, here_at, at_cases}
 use Rattle.hm_history.proofs.Tests.{same_some, true_false}

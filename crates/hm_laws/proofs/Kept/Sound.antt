@@ -1,7 +1,7 @@
 -- An entry that is allowed leaves a sound state sound.
 use Rattle.std.proofs.Common.{ℕ}
 use Rattle.hm_base.specs.Program.{Program}
-use Rattle.hm_history.specs.After.{After}
+use Rattle.hm_history.specs.Memory.After.{After}
 use Rattle.hm_history.specs.declared.Kind.{Kind}
 use Rattle.hm_laws.specs.Past.{Past, past_next}
 use Rattle.hm_laws.specs.Sound.{Sound}

@@ -7,19 +7,19 @@ use Rattle.hm_base.specs.Pages.{Pages, covers, overlap}
 use Rattle.hm_base.specs.Program.{Program}
 use Rattle.hm_base.specs.declared.Frame.{Frame}
 use Rattle.hm_base.specs.declared.Place.{Place}
-use Rattle.hm_history.specs.Words.{with_at, same_frame, sys_frame, dev_frame, with_frame, names, moving_frame}
-use Rattle.hm_history.specs.Plain.{MirrorState, mirror_passes, is_attached_state, with_attachment}
-use Rattle.hm_history.specs.Places.{TableEntry, with_place, with_entry, erased_table, is_exclusive}
-use Rattle.hm_history.specs.Sequences.{Sequences, Interval, Guarded, guard_passes, all_told}
-use Rattle.hm_history.specs.Lookups.{loses, is_guarded}
-use Rattle.hm_history.specs.After.{After}
+use Rattle.hm_history.specs.Memory.Words.{with_at, same_frame, sys_frame, dev_frame, with_frame, names, moving_frame}
+use Rattle.hm_history.specs.Memory.Plain.{MirrorState, mirror_passes, is_attached_state, with_attachment}
+use Rattle.hm_history.specs.Memory.Places.{TableEntry, with_place, with_entry, erased_table, is_exclusive}
+use Rattle.hm_history.specs.Memory.Sequences.{Sequences, Interval, Guarded, guard_passes, all_told}
+use Rattle.hm_history.specs.Memory.Lookups.{loses, is_guarded}
+use Rattle.hm_history.specs.Memory.After.{After}
 use Rattle.hm_history.specs.declared.TableRight.{TableRight}
 use Rattle.hm_history.specs.declared.Kind.{Kind}
 use Rattle.hm_laws.specs.Stood.{stood, is_moving, Fits, Matches}
 use Rattle.hm_laws.specs.Past.{Past}
 use Rattle.hm_laws.specs.Sound.{Pairing, Pending, Blocked, listens, Entered, TableRules, Sound}
 use Rattle.hm_laws.specs.Allowed.{next, Allowed}
-use Rattle.hm_history.specs.Plain.{Attached, Detaching, Gone}
+use Rattle.hm_history.specs.Memory.Plain.{Attached, Detaching, Gone}
 use Rattle.hm_laws.proofs.Kept.Pools.{free_says}
 use Rattle.hm_laws.proofs.Kept.Areas.{placed_cases}
 use Rattle.hm_laws.proofs.Kept.Mirrors.{interval_of, listening}

@@ -3,10 +3,10 @@ use Rattle.std.proofs.Common.{◌≡◌, ℕ, ◌⊎◌, inl, inr, true, false, 
 use Rattle.std.proofs.lemmas.Bool.Decides.{nat_tests}
 use Rattle.hm_base.specs.Areas.{without, with_rights, with_area, rights_at}
 use Rattle.hm_base.specs.Program.{Program}
-use Rattle.hm_history.specs.Words.{with_at, writable, is_empty_place, page_of}
-use Rattle.hm_history.specs.Plain.{with_bytes, with_zeros, written_for, proc_of, mirror_proc}
-use Rattle.hm_history.specs.Places.{with_place}
-use Rattle.hm_history.specs.After.{After}
+use Rattle.hm_history.specs.Memory.Words.{with_at, writable, is_empty_place, page_of}
+use Rattle.hm_history.specs.Memory.Plain.{with_bytes, with_zeros, written_for, proc_of, mirror_proc}
+use Rattle.hm_history.specs.Memory.Places.{with_place}
+use Rattle.hm_history.specs.Memory.After.{After}
 use Rattle.hm_history.specs.declared.locks.MapLock.{MapLock}
 use Rattle.hm_history.specs.declared.Kind.{Kind}
 use Rattle.hm_laws.specs.Stood.{lock_on}

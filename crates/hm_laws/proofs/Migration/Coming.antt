@@ -6,11 +6,11 @@ use Rattle.std.proofs.lemmas.Bool.{and_parts, ltb-true, ltb-false}
 use Rattle.hm_base.specs.Program.{Program}
 use Rattle.hm_base.specs.declared.Frame.{Frame}
 use Rattle.hm_base.specs.declared.ops.Op.{Op}
-use Rattle.hm_history.specs.Words.{same_frame}
-use Rattle.hm_history.specs.Places.{lowest_direct}
-use Rattle.hm_history.specs.After.{After}
-use Rattle.hm_history.specs.Operation.{op_mirror, is_to_device}
-use Rattle.hm_history.specs.Going.{is_direct, concerns, steps_from, come_to, coming}
+use Rattle.hm_history.specs.Memory.Words.{same_frame}
+use Rattle.hm_history.specs.Memory.Places.{lowest_direct}
+use Rattle.hm_history.specs.Memory.After.{After}
+use Rattle.hm_history.specs.Kernel.Operation.{op_mirror, is_to_device}
+use Rattle.hm_history.specs.Kernel.Going.{is_direct, concerns, steps_from, come_to, coming}
 use Rattle.hm_history.specs.declared.Who.{Who}
 use Rattle.hm_history.specs.declared.phases.Migrating.{Migrating}
 use Rattle.hm_history.specs.declared.phases.MoveStep.{MoveStep}

@@ -7,14 +7,14 @@ use Rattle.hm_base.specs.Pages.{one_page}
 use Rattle.hm_base.specs.Program.{Program}
 use Rattle.hm_base.specs.declared.Frame.{Frame}
 use Rattle.hm_base.specs.declared.ops.Op.{Op}
-use Rattle.hm_history.specs.Words.{same_frame}
-use Rattle.hm_history.specs.Plain.{mirror_proc}
-use Rattle.hm_history.specs.Sequences.{seq_started, some_overlap}
-use Rattle.hm_history.specs.After.{After}
-use Rattle.hm_history.specs.Operation.{op_mirror}
-use Rattle.hm_history.specs.Stacks.{next_cursor}
-use Rattle.hm_history.specs.Going.{with_record}
-use Rattle.hm_history.specs.Due.{start_entry, commit_page, due_step, has_no_frame}
+use Rattle.hm_history.specs.Memory.Words.{same_frame}
+use Rattle.hm_history.specs.Memory.Plain.{mirror_proc}
+use Rattle.hm_history.specs.Memory.Sequences.{seq_started, some_overlap}
+use Rattle.hm_history.specs.Memory.After.{After}
+use Rattle.hm_history.specs.Kernel.Operation.{op_mirror}
+use Rattle.hm_history.specs.Kernel.Stacks.{next_cursor}
+use Rattle.hm_history.specs.Kernel.Going.{with_record}
+use Rattle.hm_history.specs.Kernel.Due.{start_entry, commit_page, due_step, has_no_frame}
 use Rattle.hm_history.specs.declared.Who.{Who}
 use Rattle.hm_history.specs.declared.KeptAt.{KeptAt}
 use Rattle.hm_history.specs.declared.KeptWhy.{KeptWhy}
@@ -30,7 +30,7 @@ use Rattle.hm_laws.specs.Allowed.{next, Allowed}
 use Rattle.hm_laws.specs.Records.{is_of, staged, apart_from, WellListed}
 use Rattle.hm_laws.specs.Facts.{No_guard, Read_locked, Locks_only, facts_past, frames_of, record_facts, records, held, migrating, Holds, facts, HoldsAll}
 use Rattle.hm_laws.specs.Spares.{Apart}
-use Rattle.hm_history.specs.Legal.{was_fresh}
+use Rattle.hm_history.specs.Kernel.Legal.{was_fresh}
 use Rattle.hm_laws.proofs.Due.Good.{either}
 use Rattle.hm_laws.proofs.Due.Guards.{started, start_takes}
 use Rattle.hm_laws.proofs.Due.Empties.{committed, all_parts}

@@ -5,9 +5,9 @@ use Rattle.std.proofs.lemmas.Bool.{cases_eq, or_right}
 use Rattle.hm_base.specs.Program.{Program}
 use Rattle.hm_base.specs.declared.Frame.{Frame}
 use Rattle.hm_base.specs.declared.ops.Op.{Op}
-use Rattle.hm_history.specs.Words.{is_frame}
-use Rattle.hm_history.specs.After.{After}
-use Rattle.hm_history.specs.Operation.{op_mirror}
+use Rattle.hm_history.specs.Memory.Words.{is_frame}
+use Rattle.hm_history.specs.Memory.After.{After}
+use Rattle.hm_history.specs.Kernel.Operation.{op_mirror}
 use Rattle.hm_history.specs.declared.Who.{Who}
 use Rattle.hm_history.specs.declared.Kind.{Kind}
 use Rattle.hm_history.specs.declared.phases.Migrating.{Migrating}

@@ -5,10 +5,10 @@ use Rattle.std.proofs.lemmas.Bool.Decides.{nat_tests}
 use Rattle.std.proofs.lemmas.Bool.{or_left, or_right}
 use Rattle.hm_base.specs.Program.{Program}
 use Rattle.hm_base.specs.declared.ops.Op.{Op}
-use Rattle.hm_history.specs.After.{After}
-use Rattle.hm_history.specs.Going.{steps_from, come_to, coming, coming_page, concerns}
-use Rattle.hm_history.specs.Stacks.{next_cursor}
-use Rattle.hm_history.specs.Due.{due_moves, due_step}
+use Rattle.hm_history.specs.Memory.After.{After}
+use Rattle.hm_history.specs.Kernel.Going.{steps_from, come_to, coming, coming_page, concerns}
+use Rattle.hm_history.specs.Kernel.Stacks.{next_cursor}
+use Rattle.hm_history.specs.Kernel.Due.{due_moves, due_step}
 use Rattle.hm_history.specs.declared.phases.Migrating.{Migrating}
 use Rattle.hm_history.specs.declared.phases.MoveStep.{MoveStep}
 use Rattle.hm_history.specs.declared.phases.MoveStep.TheVariants.{FreezeOthers, TakeAndCopy, Commit, SetOwnTable, Finish}

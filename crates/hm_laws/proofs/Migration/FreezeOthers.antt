@@ -10,15 +10,15 @@ use Rattle.hm_base.specs.declared.cause.Cause.{Cause}
 use Rattle.hm_base.specs.declared.Frame.{Frame}
 use Rattle.hm_base.specs.declared.Place.{Place}
 use Rattle.hm_base.specs.declared.ops.Op.{Op}
-use Rattle.hm_history.specs.Words.{same_frame, is_frame, names_directly, moving_frame, writable}
-use Rattle.hm_history.specs.Plain.{mirror_proc}
-use Rattle.hm_history.specs.Places.{with_place, lowest_direct}
-use Rattle.hm_history.specs.Sequences.{some_overlap, seq_started, seq_ended, all_told}
-use Rattle.hm_history.specs.After.{After}
-use Rattle.hm_history.specs.Operation.{op_mirror}
-use Rattle.hm_history.specs.Stacks.{freezing}
-use Rattle.hm_history.specs.Going.{is_direct}
-use Rattle.hm_history.specs.Due.{start_entry, others_of, due_step, due_guard, body_or_end}
+use Rattle.hm_history.specs.Memory.Words.{same_frame, is_frame, names_directly, moving_frame, writable}
+use Rattle.hm_history.specs.Memory.Plain.{mirror_proc}
+use Rattle.hm_history.specs.Memory.Places.{with_place, lowest_direct}
+use Rattle.hm_history.specs.Memory.Sequences.{some_overlap, seq_started, seq_ended, all_told}
+use Rattle.hm_history.specs.Memory.After.{After}
+use Rattle.hm_history.specs.Kernel.Operation.{op_mirror}
+use Rattle.hm_history.specs.Kernel.Stacks.{freezing}
+use Rattle.hm_history.specs.Kernel.Going.{is_direct}
+use Rattle.hm_history.specs.Kernel.Due.{start_entry, others_of, due_step, due_guard, body_or_end}
 use Rattle.hm_history.specs.declared.Who.{Who}
 use Rattle.hm_history.specs.declared.Kind.{Kind}
 use Rattle.hm_history.specs.declared.phases.Migrating.{Migrating}

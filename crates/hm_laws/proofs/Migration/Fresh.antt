@@ -5,13 +5,13 @@ use Rattle.hm_base.specs.Program.{Program}
 use Rattle.hm_base.specs.declared.Frame.{Frame}
 use Rattle.hm_base.specs.declared.Place.{Place}
 use Rattle.hm_base.specs.declared.ops.Op.{Op}
-use Rattle.hm_history.specs.Words.{place_in}
-use Rattle.hm_history.specs.Plain.{mirror_proc, rights_of, is_read_write}
-use Rattle.hm_history.specs.Sequences.{seq_ended, all_told}
-use Rattle.hm_history.specs.After.{After}
-use Rattle.hm_history.specs.Operation.{op_mirror}
-use Rattle.hm_history.specs.Going.{with_record}
-use Rattle.hm_history.specs.Due.{has_no_frame, due_guard, body_or_end}
+use Rattle.hm_history.specs.Memory.Words.{place_in}
+use Rattle.hm_history.specs.Memory.Plain.{mirror_proc, rights_of, is_read_write}
+use Rattle.hm_history.specs.Memory.Sequences.{seq_ended, all_told}
+use Rattle.hm_history.specs.Memory.After.{After}
+use Rattle.hm_history.specs.Kernel.Operation.{op_mirror}
+use Rattle.hm_history.specs.Kernel.Going.{with_record}
+use Rattle.hm_history.specs.Kernel.Due.{has_no_frame, due_guard, body_or_end}
 use Rattle.hm_history.specs.declared.Kind.{Kind}
 use Rattle.hm_history.specs.declared.phases.Migrating.{Migrating}
 use Rattle.hm_history.specs.declared.phases.MoveStep.{MoveStep}

@@ -4,13 +4,13 @@ use Rattle.std.proofs.lemmas.Option.{same_Some}
 use Rattle.hm_base.specs.Program.{Program}
 use Rattle.hm_base.specs.declared.Frame.{Frame}
 use Rattle.hm_base.specs.declared.Place.{Place}
-use Rattle.hm_history.specs.Words.{sys_frame, names, names_directly, moving_frame, writable, is_empty_place}
-use Rattle.hm_history.specs.Plain.{rights_of, is_read_write}
-use Rattle.hm_history.specs.Places.{with_place}
-use Rattle.hm_history.specs.Lookups.{is_guarded}
-use Rattle.hm_history.specs.Contents.{shown_by, zeros}
-use Rattle.hm_history.specs.After.{After}
-use Rattle.hm_history.specs.Due.{has_no_frame}
+use Rattle.hm_history.specs.Memory.Words.{sys_frame, names, names_directly, moving_frame, writable, is_empty_place}
+use Rattle.hm_history.specs.Memory.Plain.{rights_of, is_read_write}
+use Rattle.hm_history.specs.Memory.Places.{with_place}
+use Rattle.hm_history.specs.Memory.Lookups.{is_guarded}
+use Rattle.hm_history.specs.Memory.Contents.{shown_by, zeros}
+use Rattle.hm_history.specs.Memory.After.{After}
+use Rattle.hm_history.specs.Kernel.Due.{has_no_frame}
 use Rattle.hm_history.specs.declared.Kind.{Kind}
 use Rattle.hm_laws.specs.Stood.{stood, is_moving, Unnamed, Unstood}
 use Rattle.hm_laws.specs.Past.{Past}

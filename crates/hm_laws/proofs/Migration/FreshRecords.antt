@@ -7,11 +7,11 @@ use Rattle.hm_base.specs.declared.PoolId.{PoolId}
 use Rattle.hm_base.specs.declared.Frame.{Frame}
 use Rattle.hm_base.specs.declared.Place.{Place}
 use Rattle.hm_base.specs.declared.ops.Op.{Op}
-use Rattle.hm_history.specs.Words.{same_pool, same_frame, names, names_directly, moving_frame}
-use Rattle.hm_history.specs.Plain.{mirror_proc, mirror_dev}
-use Rattle.hm_history.specs.After.{After}
-use Rattle.hm_history.specs.Operation.{op_mirror, is_to_device}
-use Rattle.hm_history.specs.Going.{with_record}
+use Rattle.hm_history.specs.Memory.Words.{same_pool, same_frame, names, names_directly, moving_frame}
+use Rattle.hm_history.specs.Memory.Plain.{mirror_proc, mirror_dev}
+use Rattle.hm_history.specs.Memory.After.{After}
+use Rattle.hm_history.specs.Kernel.Operation.{op_mirror, is_to_device}
+use Rattle.hm_history.specs.Kernel.Going.{with_record}
 use Rattle.hm_history.specs.declared.Who.{Who}
 use Rattle.hm_history.specs.declared.Kind.{Kind}
 use Rattle.hm_history.specs.declared.phases.Migrating.{Migrating}

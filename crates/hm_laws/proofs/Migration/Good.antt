@@ -2,10 +2,10 @@
 use Rattle.std.proofs.Common.{ℕ, Option, List}
 use Rattle.hm_base.specs.Program.{Program}
 use Rattle.hm_base.specs.declared.ops.Op.{Op}
-use Rattle.hm_history.specs.Locks.{orphan}
-use Rattle.hm_history.specs.After.{After}
-use Rattle.hm_history.specs.Going.{seen_overlap, seen_place, recorded_at}
-use Rattle.hm_history.specs.Stacks.{after_migration}
+use Rattle.hm_history.specs.Memory.Locks.{orphan}
+use Rattle.hm_history.specs.Memory.After.{After}
+use Rattle.hm_history.specs.Kernel.Going.{seen_overlap, seen_place, recorded_at}
+use Rattle.hm_history.specs.Kernel.Stacks.{after_migration}
 use Rattle.hm_history.specs.declared.Kind.{Kind}
 use Rattle.hm_history.specs.declared.phases.Migrating.{Migrating}
 use Rattle.hm_history.specs.declared.phases.MoveStep.{MoveStep}

@@ -9,14 +9,14 @@ use Rattle.hm_base.specs.declared.PoolId.{PoolId}
 use Rattle.hm_base.specs.declared.Frame.{Frame}
 use Rattle.hm_base.specs.declared.Place.{Place}
 use Rattle.hm_base.specs.declared.ops.Op.{Op}
-use Rattle.hm_history.specs.Words.{sys_frame, names_directly, moving_frame, writable}
-use Rattle.hm_history.specs.Plain.{MirrorState, is_attached_state, mirror_passes, is_attached, mirror_proc, mirror_dev}
-use Rattle.hm_history.specs.Places.{is_for_device}
-use Rattle.hm_history.specs.Sequences.{Interval, interval_seq}
-use Rattle.hm_history.specs.After.{After}
-use Rattle.hm_history.specs.Operation.{op_mirror, is_to_device}
-use Rattle.hm_history.specs.Going.{sets_now}
-use Rattle.hm_history.specs.Due.{right_of, due_step}
+use Rattle.hm_history.specs.Memory.Words.{sys_frame, names_directly, moving_frame, writable}
+use Rattle.hm_history.specs.Memory.Plain.{MirrorState, is_attached_state, mirror_passes, is_attached, mirror_proc, mirror_dev}
+use Rattle.hm_history.specs.Memory.Places.{is_for_device}
+use Rattle.hm_history.specs.Memory.Sequences.{Interval, interval_seq}
+use Rattle.hm_history.specs.Memory.After.{After}
+use Rattle.hm_history.specs.Kernel.Operation.{op_mirror, is_to_device}
+use Rattle.hm_history.specs.Kernel.Going.{sets_now}
+use Rattle.hm_history.specs.Kernel.Due.{right_of, due_step}
 use Rattle.hm_history.specs.declared.Kind.{Kind}
 use Rattle.hm_history.specs.declared.phases.Migrating.{Migrating}
 use Rattle.hm_history.specs.declared.phases.MoveStep.{MoveStep}

@@ -4,13 +4,13 @@ use Rattle.std.specs.List.{list_any}
 use Rattle.hm_base.specs.Program.{Program}
 use Rattle.hm_base.specs.declared.Frame.{Frame}
 use Rattle.hm_base.specs.declared.ops.Op.{Op}
-use Rattle.hm_history.specs.Words.{same_frame, names, names_directly, writable, place_in}
-use Rattle.hm_history.specs.Plain.{mirror_proc}
-use Rattle.hm_history.specs.Places.{lowest_moving, lowest_named}
-use Rattle.hm_history.specs.After.{After}
-use Rattle.hm_history.specs.Operation.{op_mirror, is_migration}
-use Rattle.hm_history.specs.Legal.{is_finishing}
-use Rattle.hm_history.specs.Due.{due_step, due_finish, finish_page, finish_frames, target_of, settle}
+use Rattle.hm_history.specs.Memory.Words.{same_frame, names, names_directly, writable, place_in}
+use Rattle.hm_history.specs.Memory.Plain.{mirror_proc}
+use Rattle.hm_history.specs.Memory.Places.{lowest_moving, lowest_named}
+use Rattle.hm_history.specs.Memory.After.{After}
+use Rattle.hm_history.specs.Kernel.Operation.{op_mirror, is_migration}
+use Rattle.hm_history.specs.Memory.Rules.{is_finishing}
+use Rattle.hm_history.specs.Kernel.Due.{due_step, due_finish, finish_page, finish_frames, target_of, settle}
 use Rattle.hm_history.specs.declared.Kind.{Kind}
 use Rattle.hm_history.specs.declared.phases.Migrating.{Migrating}
 use Rattle.hm_history.specs.declared.phases.MoveStep.{MoveStep}

@@ -5,11 +5,11 @@ use Rattle.hm_base.specs.Program.{Program}
 use Rattle.hm_base.specs.declared.PoolId.{PoolId}
 use Rattle.hm_base.specs.declared.Frame.{Frame}
 use Rattle.hm_base.specs.declared.Place.{Place}
-use Rattle.hm_history.specs.Words.{sys_frame, dev_frame, names, names_directly, moving_frame, writable, is_empty_place, place_in}
-use Rattle.hm_history.specs.Places.{is_exclusive}
-use Rattle.hm_history.specs.Lookups.{loses, is_guarded}
-use Rattle.hm_history.specs.Contents.{shown_by}
-use Rattle.hm_history.specs.After.{After}
+use Rattle.hm_history.specs.Memory.Words.{sys_frame, dev_frame, names, names_directly, moving_frame, writable, is_empty_place, place_in}
+use Rattle.hm_history.specs.Memory.Places.{is_exclusive}
+use Rattle.hm_history.specs.Memory.Lookups.{loses, is_guarded}
+use Rattle.hm_history.specs.Memory.Contents.{shown_by}
+use Rattle.hm_history.specs.Memory.After.{After}
 use Rattle.hm_laws.specs.Stood.{stood, is_moving}
 use Rattle.hm_laws.specs.Past.{Past}
 use Rattle.hm_laws.specs.Sound.{Sound}

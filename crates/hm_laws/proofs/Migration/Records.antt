@@ -6,11 +6,11 @@ use Rattle.std.proofs.lemmas.Bool.{cases_eq, and_parts, and_from, not-true, eqb-
 use Rattle.std.proofs.lemmas.List.Folds.{list_any-append}
 use Rattle.hm_base.specs.declared.Frame.{Frame}
 use Rattle.hm_base.specs.declared.ops.Op.{Op}
-use Rattle.hm_history.specs.Words.{same_frame, is_frame}
-use Rattle.hm_history.specs.After.{After}
-use Rattle.hm_history.specs.Going.{with_record}
-use Rattle.hm_history.specs.Legal.{was_fresh}
-use Rattle.hm_history.specs.Operation.{op_mirror}
+use Rattle.hm_history.specs.Memory.Words.{same_frame, is_frame}
+use Rattle.hm_history.specs.Memory.After.{After}
+use Rattle.hm_history.specs.Kernel.Going.{with_record}
+use Rattle.hm_history.specs.Kernel.Legal.{was_fresh}
+use Rattle.hm_history.specs.Kernel.Operation.{op_mirror}
 use Rattle.hm_history.specs.declared.Who.{Who}
 use Rattle.hm_history.specs.declared.phases.Migrating.{Migrating}
 use Rattle.hm_history.specs.declared.phases.MoveStep.{MoveStep}
@@ -20,6 +20,7 @@ use Rattle.hm_laws.specs.Records.{same_step, comes_before, is_past, Among, pages
 use Rattle.hm_laws.specs.Facts.{Fact, Is, Windowed, Copying, Frozen_at, Lands_on, HoldsAll, fact_frames, frames_of, known_of, facts_past, record_facts, records}
 use Rattle.hm_laws.proofs.Due.Guards.{number_is}
 use Rattle.hm_history.proofs.Frames.{frame_tells, is_frame_from, is_frame_of}
+use Rattle.hm_history.proofs.Records.{page_stays}
 
 -- facts of two lists
 pub holds_append : (s : After) (t : Past) (a : ℕ) (l m : List Fact) → HoldsAll s t a l → HoldsAll s t a m → HoldsAll s t a (l ++ m)
@@ -204,21 +205,13 @@ with_among x xs y i = at (with_from x xs y i)
         by (inl e) = inl (sym z.2 ∙ replaced x z.0 e, (z.0, z.1, e))
         by (inr ne) = let e : z.0 ≡ y = sym (untouched x z.0 ne) ∙ z.2 in inr (subst (Among xs) e z.1, λ p. ne (ap (λ (u : Migrating). u.page) e ∙ p))
 
--- the pages stay
-with_page_same : (x w : Migrating) → (if w.page == x.page then x else w).page ≡ w.page
-with_page_same x w = by (cases_eq w.page x.page)
-  where
-    by : (w.page ≡ x.page) ⊎ (w.page ≡ x.page → ⊥) → (if w.page == x.page then x else w).page ≡ w.page
-    by (inl e) = ap (λ (u : Migrating). u.page) (replaced x w e) ∙ sym e
-    by (inr ne) = ap (λ (u : Migrating). u.page) (untouched x w ne)
-
 pages_same : (t : ℕ → Bool) (x : Migrating) (xs : List Migrating) → list_all (λ y. t y.page) (with_record x xs) ≡ list_all (λ y. t y.page) xs
 pages_same t x [] = refl
-pages_same t x (w ∷ xs) = ap (λ n. t n && list_all (λ y. t y.page) (with_record x xs)) (with_page_same x w) ∙ ap (λ b. t w.page && b) (pages_same t x xs)
+pages_same t x (w ∷ xs) = ap (λ n. t n && list_all (λ y. t y.page) (with_record x xs)) (page_stays x w) ∙ ap (λ b. t w.page && b) (pages_same t x xs)
 
 rising_with : (x : Migrating) (xs : List Migrating) → rising_pages (with_record x xs) ≡ rising_pages xs
 rising_with x [] = refl
-rising_with x (w ∷ xs) = ap (λ n. list_all (λ y. nat_lt n y.page) (with_record x xs) && rising_pages (with_record x xs)) (with_page_same x w) ∙ (ap (λ b. b && rising_pages (with_record x xs)) (pages_same (nat_lt w.page) x xs) ∙ ap (λ b. list_all (λ y. nat_lt w.page y.page) xs && b) (rising_with x xs))
+rising_with x (w ∷ xs) = ap (λ n. list_all (λ y. nat_lt n y.page) (with_record x xs) && rising_pages (with_record x xs)) (page_stays x w) ∙ (ap (λ b. b && rising_pages (with_record x xs)) (pages_same (nat_lt w.page) x xs) ∙ ap (λ b. list_all (λ y. nat_lt w.page y.page) xs && b) (rising_with x xs))
 
 less_of : (m n : ℕ) → m < n → nat_lt m n ≡ true
 less_of m n h = grind (arith, nat_tests)

@@ -11,14 +11,14 @@ use Rattle.hm_base.specs.declared.Frame.{Frame}
 use Rattle.hm_base.specs.declared.Place.{Place}
 use Rattle.hm_base.specs.declared.ops.Op.{Op}
 use Rattle.hm_base.specs.declared.ops.Rights.{Rights}
-use Rattle.hm_history.specs.Words.{sys_frame, dev_frame, same_frame, is_frame, names, names_directly, moving_frame, writable, is_empty_place}
-use Rattle.hm_history.specs.Plain.{Plain, MirrorState, rights_of, mirror_proc, mirror_dev}
-use Rattle.hm_history.specs.Locks.{is_locker, other_locker}
-use Rattle.hm_history.specs.Sequences.{seq_ended, all_told}
-use Rattle.hm_history.specs.After.{After}
-use Rattle.hm_history.specs.Operation.{op_mirror, is_to_device, is_migration}
-use Rattle.hm_history.specs.Legal.{stays_put, is_own_of, is_not_here, is_locked_by, kept_for}
-use Rattle.hm_history.specs.Due.{due_guard, body_or_end, select_page, select_to_device, select_to_system, kept_or_frozen, not_here}
+use Rattle.hm_history.specs.Memory.Words.{sys_frame, dev_frame, same_frame, is_frame, names, names_directly, moving_frame, writable, is_empty_place}
+use Rattle.hm_history.specs.Memory.Plain.{Plain, MirrorState, rights_of, mirror_proc, mirror_dev}
+use Rattle.hm_history.specs.Memory.Locks.{is_locker, other_locker}
+use Rattle.hm_history.specs.Memory.Sequences.{seq_ended, all_told}
+use Rattle.hm_history.specs.Memory.After.{After}
+use Rattle.hm_history.specs.Kernel.Operation.{op_mirror, is_to_device, is_migration}
+use Rattle.hm_history.specs.Kernel.Legal.{stays_put, is_own_of, is_not_here, is_locked_by, kept_for}
+use Rattle.hm_history.specs.Kernel.Due.{due_guard, body_or_end, select_page, select_to_device, select_to_system, kept_or_frozen, not_here}
 use Rattle.hm_history.specs.declared.KeptAt.{KeptAt}
 use Rattle.hm_history.specs.declared.KeptWhy.{KeptWhy}
 use Rattle.hm_history.specs.declared.Kind.{Kind}

@@ -5,11 +5,11 @@ use Rattle.hm_base.specs.Pages.{Pages, covers, lies_in}
 use Rattle.hm_base.specs.Program.{Program}
 use Rattle.hm_base.specs.declared.cause.Cause.{Cause}
 use Rattle.hm_base.specs.declared.ops.Op.{Op}
-use Rattle.hm_history.specs.Plain.{MirrorState, mirror_passes, is_attached_state, in_window, mirror_proc}
-use Rattle.hm_history.specs.Sequences.{seq_started, some_overlap}
-use Rattle.hm_history.specs.After.{After}
-use Rattle.hm_history.specs.Operation.{op_mirror, is_migration}
-use Rattle.hm_history.specs.Due.{start_entry, in_window_rlock}
+use Rattle.hm_history.specs.Memory.Plain.{MirrorState, mirror_passes, is_attached_state, in_window, mirror_proc}
+use Rattle.hm_history.specs.Memory.Sequences.{seq_started, some_overlap}
+use Rattle.hm_history.specs.Memory.After.{After}
+use Rattle.hm_history.specs.Kernel.Operation.{op_mirror, is_migration}
+use Rattle.hm_history.specs.Kernel.Due.{start_entry, in_window_rlock}
 use Rattle.hm_history.specs.declared.Who.{Who}
 use Rattle.hm_history.specs.declared.Kind.{Kind}
 use Rattle.hm_history.specs.declared.phases.Migrating.{Migrating}

@@ -5,14 +5,14 @@ use Rattle.std.proofs.lemmas.Bool.{cases_eq, or_right, or_left}
 use Rattle.hm_base.specs.Program.{Program}
 use Rattle.hm_base.specs.declared.Frame.{Frame}
 use Rattle.hm_base.specs.declared.ops.Op.{Op}
-use Rattle.hm_history.specs.Words.{same_frame, is_frame}
-use Rattle.hm_history.specs.Places.{lowest_free}
-use Rattle.hm_history.specs.Contents.{zeros}
-use Rattle.hm_history.specs.After.{After}
-use Rattle.hm_history.specs.Operation.{op_mirror, is_to_device}
-use Rattle.hm_history.specs.Stacks.{copying}
-use Rattle.hm_history.specs.Going.{with_record}
-use Rattle.hm_history.specs.Due.{skips, pool_of, due_step}
+use Rattle.hm_history.specs.Memory.Words.{same_frame, is_frame}
+use Rattle.hm_history.specs.Memory.Places.{lowest_free}
+use Rattle.hm_history.specs.Memory.Contents.{zeros}
+use Rattle.hm_history.specs.Memory.After.{After}
+use Rattle.hm_history.specs.Kernel.Operation.{op_mirror, is_to_device}
+use Rattle.hm_history.specs.Kernel.Stacks.{copying}
+use Rattle.hm_history.specs.Kernel.Going.{with_record}
+use Rattle.hm_history.specs.Kernel.Due.{skips, pool_of, due_step}
 use Rattle.hm_history.specs.declared.KeptAt.{KeptAt}
 use Rattle.hm_history.specs.declared.KeptWhy.{KeptWhy}
 use Rattle.hm_history.specs.declared.Who.{Who}

@@ -5,10 +5,10 @@ use Rattle.std.proofs.lemmas.Bool.{eqb-true}
 use Rattle.hm_base.specs.Program.{Program}
 use Rattle.hm_base.specs.declared.Frame.{Frame}
 use Rattle.hm_base.specs.declared.ops.Op.{Op}
-use Rattle.hm_history.specs.Words.{same_frame, with_frame, dev_frame}
-use Rattle.hm_history.specs.Places.{lowest_free, is_withdrawn}
-use Rattle.hm_history.specs.After.{After}
-use Rattle.hm_history.specs.Operation.{is_remove}
+use Rattle.hm_history.specs.Memory.Words.{same_frame, with_frame, dev_frame}
+use Rattle.hm_history.specs.Memory.Places.{lowest_free, is_withdrawn}
+use Rattle.hm_history.specs.Memory.After.{After}
+use Rattle.hm_history.specs.Kernel.Operation.{is_remove}
 use Rattle.hm_history.specs.declared.Kind.{Kind}
 use Rattle.hm_laws.specs.Past.{Past}
 use Rattle.hm_laws.specs.Sound.{Sound}

@@ -5,12 +5,12 @@ use Rattle.std.proofs.lemmas.Option.{same_Some}
 use Rattle.hm_base.specs.Program.{Program}
 use Rattle.hm_base.specs.declared.Frame.{Frame}
 use Rattle.hm_base.specs.declared.Place.{Place}
-use Rattle.hm_history.specs.Words.{with_frame, names, names_directly, moving_frame, page_of}
-use Rattle.hm_history.specs.Plain.{MirrorState, is_attached_state, mirror_passes, mirror_proc, proc_of}
-use Rattle.hm_history.specs.Places.{TableEntry, with_place, cpu_writes, table_reads, table_writes}
+use Rattle.hm_history.specs.Memory.Words.{with_frame, names, names_directly, moving_frame, page_of}
+use Rattle.hm_history.specs.Memory.Plain.{MirrorState, is_attached_state, mirror_passes, mirror_proc, proc_of}
+use Rattle.hm_history.specs.Memory.Places.{TableEntry, with_place, cpu_writes, table_reads, table_writes}
 use Rattle.hm_history.proofs.Owners.{owned_proc}
-use Rattle.hm_history.specs.Contents.{zeros, backing, place_for, stored_in}
-use Rattle.hm_history.specs.After.{After}
+use Rattle.hm_history.specs.Memory.Contents.{zeros, backing, place_for, stored_in}
+use Rattle.hm_history.specs.Memory.After.{After}
 use Rattle.hm_history.specs.declared.Who.{Who}
 use Rattle.hm_history.specs.declared.Kind.{Kind}
 use Rattle.hm_laws.specs.Stood.{stood, is_moving}

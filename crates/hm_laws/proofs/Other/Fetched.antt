@@ -6,10 +6,10 @@ use Rattle.std.proofs.lemmas.Bool.Decides.{nat_tests}
 use Rattle.hm_base.specs.Pages.{covers}
 use Rattle.hm_base.specs.Program.{Program}
 use Rattle.hm_base.specs.declared.Place.{Place}
-use Rattle.hm_history.specs.Words.{with_at, is_empty_place, page_of}
-use Rattle.hm_history.specs.Plain.{MirrorState, mirror_proc, proc_of, rights_of, with_bytes, with_zeros, written_for}
-use Rattle.hm_history.specs.Places.{TableEntry, with_place, cpu_writes, entry_passes, table_reads, table_writes, may_read, is_target, stands_for, is_sole, is_exclusive, is_exclusive_by, is_exclusive_of}
-use Rattle.hm_history.specs.After.{After}
+use Rattle.hm_history.specs.Memory.Words.{with_at, is_empty_place, page_of}
+use Rattle.hm_history.specs.Memory.Plain.{MirrorState, mirror_proc, proc_of, rights_of, with_bytes, with_zeros, written_for}
+use Rattle.hm_history.specs.Memory.Places.{TableEntry, with_place, cpu_writes, entry_passes, table_reads, table_writes, may_read, is_target, stands_for, is_sole, is_exclusive, is_exclusive_by, is_exclusive_of}
+use Rattle.hm_history.specs.Memory.After.{After}
 use Rattle.hm_history.specs.declared.Who.{Who}
 use Rattle.hm_history.specs.declared.Kind.{Kind}
 use Rattle.hm_laws.specs.Past.{Past, past_next}

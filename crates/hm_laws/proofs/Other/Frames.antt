@@ -5,11 +5,11 @@ use Rattle.std.proofs.lemmas.Option.{same_Some}
 use Rattle.hm_base.specs.Program.{Program}
 use Rattle.hm_base.specs.declared.Frame.{Frame}
 use Rattle.hm_base.specs.declared.Place.{Place}
-use Rattle.hm_history.specs.Words.{same_frame, with_frame, names, moving_frame, writable, page_of}
-use Rattle.hm_history.specs.Plain.{proc_of, mirror_proc}
-use Rattle.hm_history.specs.Places.{with_place, lowest_free}
-use Rattle.hm_history.specs.Contents.{zeros, backing, place_for, shown_by, stored_in, with_part_copied}
-use Rattle.hm_history.specs.After.{After}
+use Rattle.hm_history.specs.Memory.Words.{same_frame, with_frame, names, moving_frame, writable, page_of}
+use Rattle.hm_history.specs.Memory.Plain.{proc_of, mirror_proc}
+use Rattle.hm_history.specs.Memory.Places.{with_place, lowest_free}
+use Rattle.hm_history.specs.Memory.Contents.{zeros, backing, place_for, shown_by, stored_in, with_part_copied}
+use Rattle.hm_history.specs.Memory.After.{After}
 use Rattle.hm_history.specs.declared.Kind.{Kind}
 use Rattle.hm_laws.specs.Stood.{stood, is_moving}
 use Rattle.hm_laws.specs.Past.{Past}

@@ -5,12 +5,12 @@ use Rattle.std.proofs.lemmas.Option.{same_Some}
 use Rattle.hm_base.specs.Program.{Program}
 use Rattle.hm_base.specs.declared.Frame.{Frame}
 use Rattle.hm_base.specs.declared.Place.{Place}
-use Rattle.hm_history.specs.Words.{sys_frame, dev_frame, names_directly, moving_frame, is_empty_place}
-use Rattle.hm_history.specs.Plain.{mirror_dev, proc_of}
-use Rattle.hm_history.specs.Places.{with_place}
-use Rattle.hm_history.specs.After.{After}
-use Rattle.hm_history.specs.Operation.{op_mirror, is_to_device}
-use Rattle.hm_history.specs.Due.{has_no_frame, pool_of}
+use Rattle.hm_history.specs.Memory.Words.{sys_frame, dev_frame, names_directly, moving_frame, is_empty_place}
+use Rattle.hm_history.specs.Memory.Plain.{mirror_dev, proc_of}
+use Rattle.hm_history.specs.Memory.Places.{with_place}
+use Rattle.hm_history.specs.Memory.After.{After}
+use Rattle.hm_history.specs.Kernel.Operation.{op_mirror, is_to_device}
+use Rattle.hm_history.specs.Kernel.Due.{has_no_frame, pool_of}
 use Rattle.hm_history.specs.declared.locks.MapLock.{MapLock}
 use Rattle.hm_history.specs.declared.Kind.{Kind}
 use Rattle.hm_history.specs.declared.Who.{Who}

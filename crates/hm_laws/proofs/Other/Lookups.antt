@@ -4,11 +4,11 @@ use Rattle.std.proofs.lemmas.Bool.{and_parts, eqb-true}
 use Rattle.hm_base.specs.Pages.{covers}
 use Rattle.hm_base.specs.Program.{Program}
 use Rattle.hm_base.specs.declared.ops.Op.{Op}
-use Rattle.hm_history.specs.Words.{with_at}
-use Rattle.hm_history.specs.Plain.{MirrorState, Attachment, Attached, Detaching, Gone, is_attached_state, mirror_passes, is_attached, mirror_proc, with_attachment}
-use Rattle.hm_history.specs.Sequences.{Sequences, Interval, interval_seq, interval_proc, is_last_end, applied, applied_stage, with_seq, with_stage as with_stage, RemoveDeferred, Out}
-use Rattle.hm_history.specs.After.{After}
-use Rattle.hm_history.specs.Due.{process_seq}
+use Rattle.hm_history.specs.Memory.Words.{with_at}
+use Rattle.hm_history.specs.Memory.Plain.{MirrorState, Attachment, Attached, Detaching, Gone, is_attached_state, mirror_passes, is_attached, mirror_proc, with_attachment}
+use Rattle.hm_history.specs.Memory.Sequences.{Sequences, Interval, interval_seq, interval_proc, is_last_end, applied, applied_stage, with_seq, with_stage as with_stage, RemoveDeferred, Out}
+use Rattle.hm_history.specs.Memory.After.{After}
+use Rattle.hm_history.specs.Kernel.Due.{process_seq}
 use Rattle.hm_history.specs.declared.Kind.{Kind}
 use Rattle.hm_history.specs.declared.phases.Touch.{Touch}
 use Rattle.hm_laws.specs.Past.{Past, past_next}
@@ -20,6 +20,7 @@ use Rattle.hm_laws.proofs.Kept.Sequences.{started_rises, inserted_rises, ended_r
 use Rattle.hm_laws.proofs.Other.Mirrors.{keeps_proc, proc_is}
 use Rattle.hm_history.proofs.Updates.{other_at, here_at, with_case}
 use Rattle.hm_history.proofs.Tests.{true_false}
+use Rattle.hm_history.proofs.Intervals.{seq_in, settled_seq}
 
 -- the window stays
 within_standing : (t : Attachment) (test : MirrorState → Bool) (x : Option MirrorState) → ((y : MirrorState) → test (record y { stage = t }) ≡ test y) → mirror_passes test x ≡ true → mirror_passes test (with_attachment t x) ≡ true
@@ -73,10 +74,6 @@ below_keeps c s t a k ok m v q w h = subst (λ i. q < (next s a k).sequences.seq
     more l = omega (arith, h, l)
 
 -- a mirror's interval that has the sequence of a look-up had it before, and was not told
-abbrev seq_in : Option Interval → ℕ
-seq_in None = 0
-seq_in (Some y) = y.seq
-
 seq_is : (s : Sequences) (m : ℕ) → interval_seq s m ≡ seq_in (s.interval m)
 seq_is s m = by (s.interval m)
   where
@@ -86,14 +83,6 @@ seq_is s m = by (s.interval m)
 
 stage_seq : (m : ℕ → Option Interval) (i k : ℕ) (x : Option Interval) → seq_in x ≡ seq_in (m i) → seq_in (with_at m i x k) ≡ seq_in (m k)
 stage_seq m i k x h = with_case (λ j y. seq_in y ≡ seq_in (m j)) m i x k (λ here. h) (λ ne. refl)
-
-pub settled_seq : (p : ℕ) (x : Option Interval) → seq_in (applied p x) ≡ seq_in x
-settled_seq p None = refl
-settled_seq p (Some y) = by (y.proc == p)
-  where
-    by : (b : Bool) → seq_in (if b then Some (record y { stage = applied_stage y.stage }) else Some y) ≡ y.seq
-    by true = refl
-    by false = refl
 
 ended_seq : (s : Sequences) (p m : ℕ) (b : Bool) → seq_in (if b then applied p (s.interval m) else s.interval m) ≡ seq_in (s.interval m)
 ended_seq s p m true = settled_seq p (s.interval m)

@@ -2,9 +2,9 @@
 use Rattle.std.proofs.Common.{◌≡◌, ℕ, ◌⊎◌, inl, inr, true, false, is_some, is_none, Option, Some, None, refl, sym, ap, ◌∙◌}
 use Rattle.std.proofs.lemmas.Bool.{cases_eq, and_parts}
 use Rattle.hm_base.specs.Program.{Program}
-use Rattle.hm_history.specs.Words.{with_at}
-use Rattle.hm_history.specs.Plain.{MirrorState, Attachment, Attached, Detaching, Gone, is_attached_state, is_detaching_state, mirror_passes, mirror_proc, mirror_dev, proc_of, with_attachment}
-use Rattle.hm_history.specs.After.{After}
+use Rattle.hm_history.specs.Memory.Words.{with_at}
+use Rattle.hm_history.specs.Memory.Plain.{MirrorState, Attachment, Attached, Detaching, Gone, is_attached_state, is_detaching_state, mirror_passes, mirror_proc, mirror_dev, proc_of, with_attachment}
+use Rattle.hm_history.specs.Memory.After.{After}
 use Rattle.hm_history.specs.declared.Who.{Who}
 use Rattle.hm_history.specs.declared.Kind.{Kind}
 use Rattle.hm_laws.specs.Stood.{lock_on}

@@ -4,13 +4,13 @@ use Rattle.hm_base.specs.Pages.{covers}
 use Rattle.hm_base.specs.Program.{Program}
 use Rattle.hm_base.specs.declared.Frame.{Frame}
 use Rattle.hm_base.specs.declared.Place.{Place}
-use Rattle.hm_history.specs.Words.{with_frame, names, moving_frame, writable}
-use Rattle.hm_history.specs.Plain.{MirrorState, is_attached_state, mirror_passes, is_attached, mirror_proc, mirror_dev}
-use Rattle.hm_history.specs.Places.{with_place, is_for_device}
-use Rattle.hm_history.specs.Sequences.{Interval, Guarded, interval_seq, all_told}
-use Rattle.hm_history.specs.Lookups.{loses, is_guarded}
-use Rattle.hm_history.specs.After.{After}
-use Rattle.hm_history.specs.Due.{process_seq, right_of}
+use Rattle.hm_history.specs.Memory.Words.{with_frame, names, moving_frame, writable}
+use Rattle.hm_history.specs.Memory.Plain.{MirrorState, is_attached_state, mirror_passes, is_attached, mirror_proc, mirror_dev}
+use Rattle.hm_history.specs.Memory.Places.{with_place, is_for_device}
+use Rattle.hm_history.specs.Memory.Sequences.{Interval, Guarded, interval_seq, all_told}
+use Rattle.hm_history.specs.Memory.Lookups.{loses, is_guarded}
+use Rattle.hm_history.specs.Memory.After.{After}
+use Rattle.hm_history.specs.Kernel.Due.{process_seq, right_of}
 use Rattle.hm_history.specs.declared.Kind.{Kind}
 use Rattle.hm_laws.specs.Stood.{is_moving, Fits, Matches}
 use Rattle.hm_laws.specs.Past.{Past, past_next}

@@ -6,11 +6,11 @@ use Rattle.hm_base.specs.Program.{Program}
 use Rattle.hm_base.specs.declared.Frame.{Frame}
 use Rattle.hm_base.specs.declared.Place.{Place}
 use Rattle.hm_base.specs.declared.ops.Op.{Op}
-use Rattle.hm_history.specs.Words.{writable, is_empty_place, page_of}
-use Rattle.hm_history.specs.Plain.{all_mapped, proc_of, Plain, rights_of, is_read_write, area_refusal}
-use Rattle.hm_history.specs.Places.{with_place}
-use Rattle.hm_history.specs.Contents.{shown_by}
-use Rattle.hm_history.specs.After.{After}
+use Rattle.hm_history.specs.Memory.Words.{writable, is_empty_place, page_of}
+use Rattle.hm_history.specs.Memory.Plain.{all_mapped, proc_of, Plain, rights_of, is_read_write, area_refusal}
+use Rattle.hm_history.specs.Memory.Places.{with_place}
+use Rattle.hm_history.specs.Memory.Contents.{shown_by}
+use Rattle.hm_history.specs.Memory.After.{After}
 use Rattle.hm_history.specs.declared.Kind.{Kind}
 use Rattle.hm_laws.specs.Stood.{stood}
 use Rattle.hm_laws.specs.Past.{Past, past_next}
@@ -28,8 +28,9 @@ use Rattle.hm_laws.proofs.Other.Cleared.{gone_for, clearing_other}
 use Rattle.hm_laws.proofs.Other.Frames.{lock_gains, owns_other, contents_other, shows_after}
 use Rattle.hm_laws.specs.Spares.{Another}
 use Rattle.hm_laws.specs.Facts.{Fact, Is, No_map_lock, Read_locked, Sourced, Copying, Coming_back, Back, Clearing, Gone, Emptied, May_read, Leaving, Touching, Noted, Fetched_at, Frozen, Frozen_at, Own_at, Framed, Lands_on, Windowed, Windowed_all, Over_span, Listed, Over_page, May_store, Writes, Not_refused, Emptying, Narrowing, Forking, Halfway, No_guard, In_guard, Over, Locks_only, Owns, Zeroed, Copy_of, Never, ShownIn, Holds}
-use Rattle.hm_history.specs.Due.{proc_of_op}
+use Rattle.hm_history.specs.Kernel.Due.{proc_of_op}
 use Rattle.hm_history.proofs.Tests.{true_false}
+use Rattle.hm_history.proofs.Pages.{no_empty_writable}
 
 writes_other : (c : Program) (s : After) (t : Past) (a b p : ℕ) → Sound c s t → (b ≡ a → ⊥) → (k : Kind) → Allowed c s t a k → WritesThere s b p → WritesThere (next s a k) b p
 writes_other c s t a b p so ne k ok h = (map_other s a b ne k ∙ h.0, there_other c s t a b p true so ne h.0 h.1 k ok)
@@ -37,14 +38,11 @@ writes_other c s t a b p so ne k ok h = (map_other s a b ne k ∙ h.0, there_oth
 reads_other : (c : Program) (s : After) (t : Past) (a b p : ℕ) → Sound c s t → (b ≡ a → ⊥) → (k : Kind) → Allowed c s t a k → ReadsThere s b p → ReadsThere (next s a k) b p
 reads_other c s t a b p so ne k ok h = (map_other s a b ne k ∙ h.0, there_other c s t a b p false so ne h.0 h.1 k ok)
 
-empty_narrow : (x : Place) → is_empty_place x ≡ true → writable x ≡ false
-empty_narrow x h = grind arith
-
 -- pages with an area and no place read zeros
 clean_other : (c : Program) (s : After) (t : Past) (a b p : ℕ) → Sound c s t → (b ≡ a → ⊥) → (k : Kind) → Allowed c s t a k → WritesThere s b p →
     (x : ℕ) → (is_empty_place (s.places.place p (page_of x)) ≡ true → is_some (rights_of s.plain p (page_of x)) ≡ true → s.plain.bytes p x ≡ 0) →
     is_empty_place ((next s a k).places.place p (page_of x)) ≡ true → is_some (rights_of (next s a k).plain p (page_of x)) ≡ true → (next s a k).plain.bytes p x ≡ 0
-clean_other c s t a b p so ne k ok h x f e i = bytes_other c s t a b p true so ne h.0 h.1 k ok x (empty_narrow (s.places.place p (page_of x)) was) ∙ f was (sym (ap is_some (rights_other c s t a b p true so ne h.0 h.1 k ok (page_of x))) ∙ i)
+clean_other c s t a b p so ne k ok h x f e i = bytes_other c s t a b p true so ne h.0 h.1 k ok x (no_empty_writable (s.places.place p (page_of x)) was) ∙ f was (sym (ap is_some (rights_other c s t a b p true so ne h.0 h.1 k ok (page_of x))) ∙ i)
   where
     was : is_empty_place (s.places.place p (page_of x)) ≡ true
     was = sym ((page_other c s t a b p so ne h.0 h.1 k ok (page_of x)).empty) ∙ e

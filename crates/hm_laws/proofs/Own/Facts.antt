@@ -5,9 +5,9 @@ use Rattle.std.specs.List.{list_any}
 use Rattle.hm_base.specs.Areas.{rights_at}
 use Rattle.hm_base.specs.Program.{Program}
 use Rattle.hm_base.specs.declared.Frame.{Frame}
-use Rattle.hm_history.specs.Words.{same_frame}
-use Rattle.hm_history.specs.Plain.{proc_of, rights_of}
-use Rattle.hm_history.specs.After.{After}
+use Rattle.hm_history.specs.Memory.Words.{same_frame}
+use Rattle.hm_history.specs.Memory.Plain.{proc_of, rights_of}
+use Rattle.hm_history.specs.Memory.After.{After}
 use Rattle.hm_history.specs.declared.Who.{Who}
 use Rattle.hm_history.specs.declared.Kind.{Kind}
 use Rattle.hm_laws.specs.Stood.{lock_on}

@@ -5,10 +5,10 @@ use Rattle.hm_base.specs.Areas.{rights_at}
 use Rattle.hm_base.specs.Program.{Program}
 use Rattle.hm_base.specs.declared.Frame.{Frame}
 use Rattle.hm_base.specs.declared.ops.Op.{Op}
-use Rattle.hm_history.specs.Plain.{proc_of, rights_of}
-use Rattle.hm_history.specs.After.{After}
-use Rattle.hm_history.specs.Operation.{is_remove, is_evicting}
-use Rattle.hm_history.specs.Stacks.{with_one_more, gives_up, frames_past}
+use Rattle.hm_history.specs.Memory.Plain.{proc_of, rights_of}
+use Rattle.hm_history.specs.Memory.After.{After}
+use Rattle.hm_history.specs.Kernel.Operation.{is_remove, is_evicting}
+use Rattle.hm_history.specs.Kernel.Stacks.{with_one_more, gives_up, frames_past}
 use Rattle.hm_history.specs.declared.Who.{Who}
 use Rattle.hm_history.specs.declared.Kind.{Kind}
 use Rattle.hm_history.specs.declared.phases.Migrating.{Migrating}
@@ -20,10 +20,10 @@ use Rattle.hm_laws.specs.Records.{apart_from}
 use Rattle.hm_laws.proofs.Own.Facts.{Keeping}
 use Rattle.hm_laws.proofs.Own.Records.{migrating_on}
 use Rattle.hm_laws.proofs.Other.Cleared.{gone_for, clearing_own, clear_past}
-use Rattle.hm_history.specs.Words.{dev_frame}
+use Rattle.hm_history.specs.Memory.Words.{dev_frame}
 use Rattle.hm_laws.specs.Facts.{Clear, catches, keeps_on, of_system, returns_to, No_guard, Locks_only, May_read, Holds, under, held, held_under, beneath, facts, HoldsAll}
 use Rattle.std.specs.List.{list_any}
-use Rattle.hm_history.specs.Words.{same_frame}
+use Rattle.hm_history.specs.Memory.Words.{same_frame}
 use Rattle.hm_laws.specs.Spares.{Apart}
 use Rattle.hm_laws.proofs.Other.Mirrors.{who_keeps}
 use Rattle.hm_laws.proofs.Other.Lookups.{is_begin, touches_own}

@@ -4,9 +4,9 @@ use Rattle.hm_base.specs.Pages.{Pages}
 use Rattle.hm_base.specs.declared.Frame.{Frame}
 use Rattle.hm_base.specs.declared.Place.{Place}
 use Rattle.hm_base.specs.declared.ops.Op.{Op}
-use Rattle.hm_history.specs.After.{After}
-use Rattle.hm_history.specs.Operation.{op_pieces, is_evicting}
-use Rattle.hm_history.specs.Stacks.{read_locked, with_guard, piece_ends, after_walk, with_frame_taken, below_next, frames_past, dropping, after_body, guard_goes_on, is_end, told_mirror, body_next, with_one_more, stack_after, after_begin, after_locked, after_ready, after_answer, after_pages, after_piece, is_added, after_fetched, after_decide, after_taken, after_guard, after_copy, after_finish, after_give_up, after_frames, copying, dropping_lost, kept_step, next_cursor, finishing, after_moves, after_migration}
+use Rattle.hm_history.specs.Memory.After.{After}
+use Rattle.hm_history.specs.Kernel.Operation.{op_pieces, is_evicting}
+use Rattle.hm_history.specs.Kernel.Stacks.{read_locked, with_guard, piece_ends, after_walk, with_frame_taken, below_next, frames_past, dropping, after_body, guard_goes_on, is_end, told_mirror, body_next, with_one_more, stack_after, after_begin, after_locked, after_ready, after_answer, after_pages, after_piece, is_added, after_fetched, after_decide, after_taken, after_guard, after_copy, after_finish, after_give_up, after_frames, copying, dropping_lost, kept_step, next_cursor, finishing, after_moves, after_migration}
 use Rattle.hm_history.specs.declared.KeptAt.{KeptAt}
 use Rattle.hm_history.specs.declared.KeptWhy.{KeptWhy}
 use Rattle.hm_history.specs.declared.Kind.{Kind}
@@ -20,7 +20,7 @@ use Rattle.hm_history.specs.declared.phases.Phase.{Phase}
 use Rattle.hm_laws.specs.Past.{Past}
 use Rattle.hm_laws.specs.Facts.{facts, HoldsAll}
 use Rattle.hm_laws.proofs.Past.Short.{is_given, gives}
-use Rattle.hm_history.proofs.Tests.{true_false}
+use Rattle.hm_history.proofs.Tests.{true_false, never}
 
 opens : (k : Kind) (seen : Seen) (body : Body) (st : List Phase) → gives (with_guard k seen body st) ≡ gives st
 opens (Kind.Start p r q) seen body st = refl
@@ -193,9 +193,6 @@ migration step (Some x) k seen = moves step x k seen
 abbrev pub is_alone_phase : Phase → Bool
 is_alone_phase (Phase.Emptying f at) = true
 is_alone_phase top = false
-
-never : {X : Type 0} (b : Bool) → b ≡ false → b ≡ true → X
-never b h k = absurd (true_false b k h)
 
 pub moved_gives : (s : After) (t : Past) (a : ℕ) (o : Op) (xs : List Migrating) (top : Phase) (below : List Phase) (k : Kind) (seen : Seen) → HoldsAll s t a (facts o xs (top ∷ below)) → gives (stack_after o (top ∷ below) k seen) ≡ true → (gives below ≡ true) ⊎ (is_alone_phase top ≡ true)
 moved_gives s t a o xs Phase.Begin below k seen h g = never _ (begin o k) g

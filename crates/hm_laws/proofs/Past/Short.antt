@@ -8,10 +8,10 @@ use Rattle.std.proofs.Math.Seq.{drop-append_seam, take-append_seam}
 use Rattle.std.proofs.lemmas.Bool.{and_parts, and_from}
 use Rattle.hm_base.specs.Program.{Program}
 use Rattle.hm_base.specs.declared.PoolId.{PoolId}
-use Rattle.hm_history.specs.Places.{lowest_free}
-use Rattle.hm_history.specs.Lookups.{last_where}
-use Rattle.hm_history.specs.After.{after}
-use Rattle.hm_history.specs.Legal.{is_finishing, is_no_frame, was_short, system_is_full}
+use Rattle.hm_history.specs.Memory.Places.{lowest_free}
+use Rattle.hm_history.specs.Memory.Lookups.{last_where}
+use Rattle.hm_history.specs.Memory.After.{after}
+use Rattle.hm_history.specs.Memory.Rules.{is_finishing, is_no_frame, was_short, system_is_full}
 use Rattle.hm_history.specs.declared.KeptAt.{KeptAt}
 use Rattle.hm_history.specs.declared.KeptWhy.{KeptWhy}
 use Rattle.hm_history.specs.declared.Entry.{Entry}

@@ -8,8 +8,8 @@ use Rattle.std.proofs.lemmas.List.Folds.{list_all-append}
 use Rattle.std.proofs.Math.Seq.{drop-append_seam, take-append_seam}
 use Rattle.std.proofs.lemmas.Bool.{and_from, and_parts}
 use Rattle.hm_base.specs.Pages.{covers}
-use Rattle.hm_history.specs.Places.{TableEntry, Places, places_next}
-use Rattle.hm_history.specs.Lookups.{last_from, last_where, is_set_of, is_begin_of, is_told_of, set_from, is_begin_before, at_set, is_untold}
+use Rattle.hm_history.specs.Memory.Places.{TableEntry, Places, places_next}
+use Rattle.hm_history.specs.Memory.Lookups.{last_from, last_where, is_set_of, is_begin_of, is_told_of, set_from, is_begin_before, at_set, is_untold}
 use Rattle.hm_history.specs.declared.Entry.{Entry}
 use Rattle.hm_history.specs.declared.Kind.{Kind}
 use Rattle.hm_laws.specs.Past.{Past, past_start, past_next, is_position}

@@ -7,12 +7,12 @@ use Rattle.hm_base.specs.Program.{Program}
 use Rattle.hm_base.specs.declared.PoolId.{PoolId}
 use Rattle.hm_base.specs.declared.Frame.{Frame}
 use Rattle.hm_base.specs.declared.Place.{Place}
-use Rattle.hm_history.specs.Words.{same_frame, is_frame, names, writable}
-use Rattle.hm_history.specs.Plain.{plain_accepts, mirror_owner, owned}
-use Rattle.hm_history.specs.Places.{Places, is_page, lowest, lowest_named, lowest_free, is_withdrawn, places_accept, one_writer, stands_for, is_frame_target, holds_target, is_for_device, is_removed}
-use Rattle.hm_history.specs.Sequences.{Interval, sequences_accept}
-use Rattle.hm_history.specs.Lookups.{loses, is_guarded, narrows_guarded}
-use Rattle.hm_history.specs.After.{After}
+use Rattle.hm_history.specs.Memory.Words.{same_frame, is_frame, names, writable}
+use Rattle.hm_history.specs.Memory.Plain.{plain_accepts, mirror_owner, owned}
+use Rattle.hm_history.specs.Memory.Places.{Places, is_page, lowest, lowest_named, lowest_free, is_withdrawn, places_accept, one_writer, stands_for, is_frame_target, holds_target, is_for_device, is_removed}
+use Rattle.hm_history.specs.Memory.Sequences.{Interval, sequences_accept}
+use Rattle.hm_history.specs.Memory.Lookups.{loses, is_guarded, narrows_guarded}
+use Rattle.hm_history.specs.Memory.After.{After}
 use Rattle.hm_history.specs.declared.Who.{Who}
 use Rattle.hm_history.specs.declared.Kind.{Kind}
 use Rattle.hm_laws.specs.Stood.{stood, Unnamed}

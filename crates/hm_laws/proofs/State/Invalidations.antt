@@ -3,12 +3,12 @@ use Rattle.std.proofs.Common.{◌≡◌, ℕ, zero, suc, ◌+◌, ◌-◌, ◌<�
 use Rattle.std.specs.List.{list_any, list_all}
 use Rattle.std.proofs.lemmas.Bool.Decides.{nat_tests}
 use Rattle.hm_base.specs.Pages.{Pages, overlap}
-use Rattle.hm_history.specs.Words.{with_at, numbers}
-use Rattle.hm_history.specs.Sequences.{Sequences, Interval, Guarded, Stage, is_odd, in_tree_state, interval_passes, overlaps, overlapping, is_last_end, seq_ended, applied_stage, applied, with_seq, with_stage as with_stage, intervals_ended, same_span, guard_passes, all_told, is_next_told, sequences_accept}
+use Rattle.hm_history.specs.Memory.Words.{with_at, numbers}
+use Rattle.hm_history.specs.Memory.Sequences.{Sequences, Interval, Guarded, Stage, is_odd, in_tree_state, interval_passes, overlaps, overlapping, is_last_end, seq_ended, applied_stage, applied, with_seq, with_stage as with_stage, intervals_ended, same_span, guard_passes, all_told, is_next_told, sequences_accept}
 use Rattle.hm_history.specs.declared.Kind.{Kind}
 use Rattle.hm_laws.specs.Sound.{guards, count_guards, has_met, SequenceRules}
 use Rattle.std.proofs.lemmas.Bool.{cases_eq, and_parts, eqb-true}
-use Rattle.hm_history.specs.Sequences.{Out}
+use Rattle.hm_history.specs.Memory.Sequences.{Out}
 use Rattle.hm_history.proofs.Updates.{other_at, here_at}
 use Rattle.hm_history.proofs.Tests.{true_false}
 

@@ -1,9 +1,9 @@
 -- A mirror with its interval.
 use Rattle.std.proofs.Common.{◌≡◌, ℕ, Bool, true, Option, Some, None, refl, sym, ap, ◌∙◌}
 use Rattle.hm_base.specs.Program.{Program}
-use Rattle.hm_history.specs.Plain.{MirrorState, mirror_passes, mirror_proc}
-use Rattle.hm_history.specs.Sequences.{Interval, interval_proc}
-use Rattle.hm_history.specs.After.{After}
+use Rattle.hm_history.specs.Memory.Plain.{MirrorState, mirror_passes, mirror_proc}
+use Rattle.hm_history.specs.Memory.Sequences.{Interval, interval_proc}
+use Rattle.hm_history.specs.Memory.After.{After}
 use Rattle.hm_laws.specs.Past.{Past}
 use Rattle.hm_laws.specs.Sound.{Pairing, Sound}
 use Rattle.hm_laws.proofs.Kept.Mirrors.{interval_of}

@@ -5,12 +5,12 @@ use Rattle.std.proofs.lemmas.Bool.Decides.{nat_tests}
 use Rattle.std.proofs.lemmas.Bool.{and_parts, and_from, eqb-true}
 use Rattle.std.proofs.lemmas.Option.{same_Some}
 use Rattle.hm_base.specs.declared.Place.{Place}
-use Rattle.hm_history.specs.Words.{is_empty_place}
-use Rattle.hm_history.specs.Places.{Places, is_page, lowest, lower}
+use Rattle.hm_history.specs.Memory.Words.{is_empty_place}
+use Rattle.hm_history.specs.Memory.Places.{Places, is_page, lowest, lower}
 use Rattle.hm_laws.specs.Sound.{PlaceRules}
 use Rattle.hm_laws.proofs.State.Search.{lowest_none}
 use Rattle.hm_laws.proofs.Kept.PlaceLocks.{lowest_passes}
-use Rattle.hm_history.specs.Places.{next_page}
+use Rattle.hm_history.specs.Memory.Places.{next_page}
 use Rattle.hm_history.proofs.Tests.{true_false}
 use Rattle.hm_history.proofs.Placed.{is_page_true}
 

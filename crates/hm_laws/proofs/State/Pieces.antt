@@ -1,6 +1,6 @@
 -- Pieces lie in one page; a frame that is used once is named once, and may get its write right back.
 use Rattle.std.proofs.lemmas.Option.{same_Some}
-use Rattle.hm_history.specs.Words.{moving_frame}
+use Rattle.hm_history.specs.Memory.Words.{moving_frame}
 use Rattle.std.proofs.Common.{◌≡◌, ℕ, zero, suc, ◌+◌, ◌-◌, ◌%◌, ◌≤◌, ◌⊎◌, inl, inr, Bool, true, false, ◌==◌, ◌&&◌, ◌||◌, if◌then◌else◌, is_some, is_none, Option, Some, None, List, [], ◌∷◌, refl, sym, ap, ◌∙◌, arith, cond, count_by, length}
 use Rattle.std.specs.List.{list_any}
 use Rattle.std.proofs.lemmas.Bool.Decides.{nat_tests}
@@ -8,11 +8,11 @@ use Rattle.hm_base.specs.Program.{Program}
 use Rattle.hm_base.specs.declared.Frame.{Frame}
 use Rattle.hm_base.specs.declared.Place.{Place}
 use Rattle.hm_base.specs.declared.ops.Op.{Op}
-use Rattle.hm_history.specs.Words.{sys_frame, is_frame, names, names_directly, is_empty_place}
-use Rattle.hm_history.specs.Plain.{rights_of, is_read_write}
-use Rattle.hm_history.specs.Places.{is_page, uses}
-use Rattle.hm_history.specs.Lookups.{loses}
-use Rattle.hm_history.specs.After.{After}
+use Rattle.hm_history.specs.Memory.Words.{sys_frame, is_frame, names, names_directly, is_empty_place}
+use Rattle.hm_history.specs.Memory.Plain.{rights_of, is_read_write}
+use Rattle.hm_history.specs.Memory.Places.{is_page, uses}
+use Rattle.hm_history.specs.Memory.Lookups.{loses}
+use Rattle.hm_history.specs.Memory.After.{After}
 use Rattle.hm_laws.specs.Stood.{stood, is_moving}
 use Rattle.hm_laws.specs.Past.{Past}
 use Rattle.hm_laws.specs.Sound.{Sound}
@@ -20,13 +20,13 @@ use Rattle.hm_laws.specs.Allowed.{shows, ReadsThere, Reader, PlaceOk, InPage}
 use Rattle.hm_laws.proofs.Kept.Frames.{names_stays}
 use Rattle.std.proofs.Common.{take, drop}
 use Rattle.hm_base.specs.Program.{op_fits}
-use Rattle.hm_history.specs.Words.{pieces, first_len}
-use Rattle.hm_history.specs.Operation.{op_piece, op_bytes, piece_at}
-use Rattle.hm_history.specs.Due.{is_used_once}
+use Rattle.hm_history.specs.Memory.Words.{pieces, first_len}
+use Rattle.hm_history.specs.Kernel.Operation.{op_piece, op_bytes, piece_at}
+use Rattle.hm_history.specs.Kernel.Due.{is_used_once}
 use Rattle.hm_laws.proofs.Due.Good.{some_write}
 use Rattle.std.proofs.Common.{count_by, cond}
 use Rattle.std.proofs.lemmas.List.Sums.{sum_by-cons}
-use Rattle.hm_history.specs.Places.{uses}
+use Rattle.hm_history.specs.Memory.Places.{uses}
 use Rattle.hm_history.proofs.Tests.{some_none, true_false}
 use Rattle.hm_history.proofs.Frames.{is_frame_of}
 use Rattle.hm_history.proofs.Placed.{is_page_true}
@@ -62,12 +62,6 @@ store_in_page p a bs k few = by (op_piece (Op.Store p a bs) k) (piece_in_page a 
 
 pub device_store_in_page : (m a : ℕ) (bs : List ℕ) (k : ℕ) → length bs ≤ 256 → InPage (op_piece (Op.DeviceStore m a bs) k).0 (length (op_bytes (Op.DeviceStore m a bs) (op_piece (Op.DeviceStore m a bs) k)))
 device_store_in_page m a bs k few = store_in_page m a bs k few
-
-pub few_device_bytes : (n m a : ℕ) (bs : List ℕ) → op_fits n (Op.DeviceStore m a bs) ≡ true → length bs ≤ 256
-few_device_bytes n m a bs h = grind (arith, nat_tests)
-
-pub few_bytes : (n p a : ℕ) (bs : List ℕ) → op_fits n (Op.Store p a bs) ≡ true → length bs ≤ 256
-few_bytes n p a bs h = grind (arith, nat_tests)
 
 count_cons : {X : Type 0} (t : X → Bool) (x : X) (xs : List X) → count_by t (x ∷ xs) ≡ (if t x then suc (count_by t xs) else count_by t xs)
 count_cons t x xs = sum_by-cons (λ y. cond (t y) 1 0) x xs ∙ by (t x)

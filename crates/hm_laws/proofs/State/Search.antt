@@ -2,8 +2,8 @@
 use Rattle.std.proofs.Common.{◌≡◌, ℕ, zero, suc, ◌+◌, ◌<◌, ◌≤◌, Bool, true, false, ◌||◌, Option, Some, None, List, [], ◌∷◌, refl, ◌∙◌, arith}
 use Rattle.std.specs.List.{list_any, list_all}
 use Rattle.std.proofs.lemmas.Bool.Decides.{nat_tests}
-use Rattle.hm_history.specs.Words.{least}
-use Rattle.hm_history.specs.Places.{is_page, lowest, lower}
+use Rattle.hm_history.specs.Memory.Words.{least}
+use Rattle.hm_history.specs.Memory.Places.{is_page, lowest, lower}
 
 pub all_pass : {X : Type 0} → (t : X → Bool) → ((x : X) → t x ≡ true) → (xs : List X) → list_all t xs ≡ true
 all_pass t h [] = refl

@@ -6,10 +6,10 @@ use Rattle.hm_base.specs.Pages.{one_page}
 use Rattle.hm_base.specs.Program.{Program}
 use Rattle.hm_base.specs.declared.Frame.{Frame}
 use Rattle.hm_base.specs.declared.Place.{Place}
-use Rattle.hm_history.specs.Words.{sys_frame, dev_frame, writable, is_empty_place, same_bytes, page_of}
-use Rattle.hm_history.specs.Plain.{MirrorState, Plain, rights_of, is_read_write, in_window, mirror_passes, is_attached_state, mirror_proc, plain_bytes, plain_accepts, cause_at}
-use Rattle.hm_history.specs.Places.{TableEntry, Places, may_read, may_write, entry_passes, table_reads, table_writes, is_target, same_target, stands_for, is_exclusive}
-use Rattle.hm_history.specs.After.{After}
+use Rattle.hm_history.specs.Memory.Words.{sys_frame, dev_frame, writable, is_empty_place, same_bytes, page_of}
+use Rattle.hm_history.specs.Memory.Plain.{MirrorState, Plain, rights_of, is_read_write, in_window, mirror_passes, is_attached_state, mirror_proc, plain_bytes, plain_accepts, cause_at}
+use Rattle.hm_history.specs.Memory.Places.{TableEntry, Places, may_read, may_write, entry_passes, table_reads, table_writes, is_target, same_target, stands_for, is_exclusive}
+use Rattle.hm_history.specs.Memory.After.{After}
 use Rattle.hm_history.specs.declared.TableRight.{TableRight}
 use Rattle.hm_history.specs.declared.Who.{Who}
 use Rattle.hm_history.specs.declared.Kind.{Kind}

@@ -8,24 +8,24 @@ use Rattle.hm_base.specs.declared.PoolId.{PoolId}
 use Rattle.hm_base.specs.declared.Frame.{Frame}
 use Rattle.hm_base.specs.declared.Place.{Place}
 use Rattle.hm_base.specs.declared.ops.Op.{Op}
-use Rattle.hm_history.specs.Words.{page_of, sys_frame, dev_frame, names, same_place}
-use Rattle.hm_history.specs.After.{After}
+use Rattle.hm_history.specs.Memory.Words.{page_of, sys_frame, dev_frame, names, same_place}
+use Rattle.hm_history.specs.Memory.After.{After}
 use Rattle.hm_history.specs.declared.Kind.{Kind}
 use Rattle.hm_history.specs.declared.phases.Migrating.{Migrating}
 use Rattle.hm_history.specs.declared.phases.Touch.{Touch}
 use Rattle.hm_history.specs.declared.phases.Phase.{Phase}
-use Rattle.hm_history.specs.Operation.{op_piece, op_mirror, op_writes}
-use Rattle.hm_history.specs.Plain.{rights_of, is_read_only, is_attached, in_window, mirror_proc, mirror_dev}
-use Rattle.hm_history.specs.Places.{lowest_free, lowest_named, held_from}
-use Rattle.hm_history.specs.Locks.{other_locker}
-use Rattle.hm_history.specs.Going.{touch_page, touch_proc}
-use Rattle.hm_history.specs.Due.{is_invalidating, is_usable, has_exclusive, fails, repeats, is_used_once, suits, suits_walk, take_or, fault_at, fault, due_cpu, begin_look_up, due_mirror, due_add, due_fetched, due_piece, due_sole, due_decide, frame_at, due_frames_of, due_frames, under_wlock, in_window_rlock, due_begin, due_phase}
+use Rattle.hm_history.specs.Kernel.Operation.{op_piece, op_mirror, op_writes}
+use Rattle.hm_history.specs.Memory.Plain.{rights_of, is_read_only, is_attached, in_window, mirror_proc, mirror_dev}
+use Rattle.hm_history.specs.Memory.Places.{lowest_free, lowest_named, held_from}
+use Rattle.hm_history.specs.Memory.Locks.{other_locker}
+use Rattle.hm_history.specs.Kernel.Going.{touch_page, touch_proc}
+use Rattle.hm_history.specs.Kernel.Due.{is_invalidating, is_usable, has_exclusive, fails, repeats, is_used_once, suits, suits_walk, take_or, fault_at, fault, due_cpu, begin_look_up, due_mirror, due_add, due_fetched, due_piece, due_sole, due_decide, frame_at, due_frames_of, due_frames, under_wlock, in_window_rlock, due_begin, due_phase}
 use Rattle.hm_laws.specs.Past.{Past}
 use Rattle.hm_laws.specs.Sound.{Sound}
 use Rattle.hm_laws.specs.Facts.{Fact, No_map_lock, No_guard, Locks_only, Never, Leaving, Holds, HoldsAll, facts, nothing_held}
 use Rattle.hm_laws.proofs.Due.Good.{either, either_option}
 use Rattle.hm_laws.proofs.Waits.WaitsFor.{IsBusy, HasMapLock, NoWait, ForBusy, ForHolder, no_wait_busy, busy_holder, invalidating_for, detaching_for, moving_for, locker_busy, rlock_for, wlock_for}
-use Rattle.hm_history.proofs.Tests.{true_false}
+use Rattle.hm_history.proofs.Tests.{true_false, no_test}
 
 -- faults: no mmap lock is waited for
 take_for : (c : Program) (s : After) (k : Kind) → ForBusy s (take_or c s k)
@@ -128,9 +128,6 @@ may_lock (Phase.Piece k) = true
 may_lock (Phase.Fetched old) = true
 may_lock (Phase.Begun k at q) = true
 may_lock top = false
-
-pub no_test : {X : Type 0} → false ≡ true → X
-no_test h = absurd (true_false true refl (sym h))
 
 pub goes_at_once : (c : Program) (s : After) (a : ℕ) (o : Op) (xs : List Migrating) (top : Phase) → may_wait top ≡ false → NoWait (due_phase c s a o xs top)
 goes_at_once c s a o xs Phase.Begin h = no_test (sym h)

@@ -2,9 +2,9 @@
 use Rattle.std.proofs.Common.{◌≡◌, ℕ, ◌+◌, ◌⊎◌, inl, inr, true, is_some, Option, Some, None, List, [], ◌∷◌, refl, ap, ◌∙◌, fold}
 use Rattle.hm_base.specs.Program.{Program}
 use Rattle.hm_base.specs.declared.ops.Op.{Op}
-use Rattle.hm_history.specs.After.{After}
-use Rattle.hm_history.specs.Going.{State, Going, op_at, first_stack, going_from, going_on, going_next, going_top, state_next, state_of, state_start}
-use Rattle.hm_history.specs.Due.{due_in, due_top, due_phase, progress}
+use Rattle.hm_history.specs.Memory.After.{After}
+use Rattle.hm_history.specs.Kernel.Going.{State, Going, op_at, first_stack, going_from, going_on, going_next, going_top, state_next, state_of, state_start}
+use Rattle.hm_history.specs.Kernel.Due.{due_in, due_top, due_phase, progress}
 use Rattle.hm_history.specs.declared.Kind.{Kind}
 use Rattle.hm_history.specs.declared.Entry.{Entry}
 use Rattle.hm_history.specs.declared.Progress.{Progress}

@@ -6,16 +6,16 @@ use Rattle.std.proofs.lemmas.Bool.{and_parts, eqb-true}
 use Rattle.hm_base.specs.Program.{Program}
 use Rattle.hm_base.specs.declared.Frame.{Frame}
 use Rattle.hm_base.specs.declared.Place.{Place}
-use Rattle.hm_history.specs.Words.{moving_frame}
-use Rattle.hm_history.specs.Plain.{Attachment, Attached, Detaching, Gone, MirrorState, is_detaching_state, mirror_passes}
-use Rattle.hm_history.specs.Sequences.{Interval, Guarded, Stage, InTree, InsertDeferred, RemoveDeferred, Removed, Out, is_odd, in_tree, in_tree_state, interval_passes}
-use Rattle.hm_history.specs.Locks.{lock_passes, writer, lowest_other, other_locker}
-use Rattle.hm_history.specs.After.{After}
+use Rattle.hm_history.specs.Memory.Words.{moving_frame}
+use Rattle.hm_history.specs.Memory.Plain.{Attachment, Attached, Detaching, Gone, MirrorState, is_detaching_state, mirror_passes}
+use Rattle.hm_history.specs.Memory.Sequences.{Interval, Guarded, Stage, InTree, InsertDeferred, RemoveDeferred, Removed, Out, is_odd, in_tree, in_tree_state, interval_passes}
+use Rattle.hm_history.specs.Memory.Locks.{lock_passes, writer, lowest_other, other_locker}
+use Rattle.hm_history.specs.Memory.After.{After}
 use Rattle.hm_history.specs.declared.locks.MapLock.{MapLock}
 use Rattle.hm_history.specs.declared.Why.{Why}
 use Rattle.hm_history.specs.declared.phases.Next.{Next}
 use Rattle.hm_history.specs.declared.phases.Next.TheVariants.{Do, Wait}
-use Rattle.hm_history.specs.Due.{rlock, wlock, is_invalidating, process_seq, invalidating, due_detaching}
+use Rattle.hm_history.specs.Kernel.Due.{rlock, wlock, is_invalidating, process_seq, invalidating, due_detaching}
 use Rattle.hm_laws.specs.Past.{Past}
 use Rattle.hm_laws.specs.Sound.{Paired, Sound, stands_so, is_leaving, guards, count_guards}
 use Rattle.hm_laws.specs.Facts.{Leaving, Holds}

@@ -1,5 +1,5 @@
 use Rattle.std.proofs.Common.{◌≡◌, drop}
-use Rattle.hm_history.specs.Going.{steps_from}
+use Rattle.hm_history.specs.Kernel.Going.{steps_from}
 use Rattle.hm_actors.specs.Coming.{come_by}
 use Rattle.hm_actors.proofs.coming.come_to.Given as goal
 

@@ -1,5 +1,5 @@
 use Rattle.std.proofs.Common.{◌≡◌, ◌++◌, take, drop}
-use Rattle.hm_history.specs.Going.{with_record}
+use Rattle.hm_history.specs.Kernel.Going.{with_record}
 use Rattle.hm_actors.proofs.places.put_all.Given as goal
 
 abbrev pub invariant-loop-at : goal.invariant-loop-at

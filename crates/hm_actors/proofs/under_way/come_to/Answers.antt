@@ -1,5 +1,5 @@
 use Rattle.std.proofs.Common.{ℕ, sym, ap, ◌∙◌, Option}
-use Rattle.hm_history.specs.Going.{steps_from}
+use Rattle.hm_history.specs.Kernel.Going.{steps_from}
 use Rattle.hm_actors.specs.Coming.{come_by}
 use Rattle.hm_actors.specs.Actors.{RecordsValue}
 use Rattle.hm_actors.specs.Migrations.{item_or_none, kept_at}

@@ -1,5 +1,5 @@
 use Rattle.std.proofs.Common.{subst}
-use Rattle.hm_report_lines.specs.Heads.{ReadsHead}
+use Rattle.hm_report_front.specs.Heads.{ReadsHead}
 use Rattle.hm_check.specs.declared.verdict.Verdict.TheVariants.{No}
 use Rattle.hm_check.proofs.Exact.{judged_head, judged_behind, is_yes, on_ok}
 use Rattle.hm_check.proofs.verdict.check.Goals as goal

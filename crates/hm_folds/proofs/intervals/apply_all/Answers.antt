@@ -2,7 +2,7 @@ use Rattle.std.proofs.Common.{◌≡◌, None, ap, ◌∙◌, arith}
 use Rattle.std.specs.Prelude.{Option}
 use Rattle.std.proofs.lemmas.List.{get_or_default}
 use Rattle.hm_history.proofs.Updates.{with_case, other_at}
-use Rattle.hm_history.specs.Sequences.{applied}
+use Rattle.hm_history.specs.Memory.Sequences.{applied}
 use Rattle.hm_folds.specs.declared.intervals.KeptInterval.{KeptInterval}
 use Rattle.hm_folds.specs.Kept.{interval_of, interval_at}
 use Rattle.hm_folds.proofs.Writes.{shown_set}

@@ -1,5 +1,5 @@
 use Rattle.std.proofs.Common.{◌≡◌, ℕ, ◌<◌, ◌≤◌}
-use Rattle.hm_history.specs.Sequences.{applied}
+use Rattle.hm_history.specs.Memory.Sequences.{applied}
 use Rattle.hm_folds.specs.Kept.{interval_at}
 use Rattle.hm_folds.proofs.intervals.apply_all.Given as goal
 

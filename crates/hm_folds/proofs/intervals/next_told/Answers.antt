@@ -2,7 +2,7 @@ use Rattle.std.proofs.Common.{◌≡◌, true, false, ◌&&◌, inl, inr, None, 
 use Rattle.std.proofs.lemmas.Bool.{and_right, cases_eq}
 use Rattle.std.proofs.lemmas.Grind.{elements}
 use Rattle.std.proofs.lemmas.Bool.Decides.{nat_tests}
-use Rattle.hm_history.specs.Sequences.{is_above}
+use Rattle.hm_history.specs.Memory.Sequences.{is_above}
 use Rattle.hm_folds.specs.Kept.{overlaps_at, overlaps_in, interval_of}
 use Rattle.hm_folds.specs.declared.intervals.KeptInterval.{KeptInterval}
 use Rattle.std.specs.Prelude.{Option}

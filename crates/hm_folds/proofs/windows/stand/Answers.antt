@@ -1,6 +1,6 @@
 use Rattle.std.proofs.Common.{None, ap, ◌∙◌, arith}
 use Rattle.std.specs.Prelude.{Option}
-use Rattle.hm_history.specs.Plain.{with_attachment}
+use Rattle.hm_history.specs.Memory.Plain.{with_attachment}
 use Rattle.hm_folds.specs.Windows.{mirror_of, attachment_of}
 use Rattle.hm_folds.specs.declared.windows.KeptMirror.{KeptMirror}
 use Rattle.hm_folds.proofs.Writes.{read_at, written_at}

@@ -1,5 +1,5 @@
 use Rattle.std.proofs.Common.{List, ℕ, ◌∙◌, sym, subst}
-use Rattle.hm_report_lines.specs.Parts.{Differ}
+use Rattle.hm_report_front.specs.Parts.{Differ}
 use Rattle.hm_script.specs.Automaton.{lines}
 use Rattle.hm_judge.proofs.behind.judge_rest.Goals as goal
 

@@ -1,5 +1,5 @@
 use Rattle.std.proofs.Common.{ap, ◌∙◌}
-use Rattle.hm_history.specs.Due.{due}
+use Rattle.hm_history.specs.Kernel.Due.{due}
 use Rattle.hm_judge.proofs.StandingLines.{one_more}
 use Rattle.hm_judge.proofs.standing.standings.Goals as goal
 

@@ -1,7 +1,7 @@
 use Rattle.std.proofs.Common.{◌≡◌}
 use Rattle.std.specs.Prelude.{map}
-use Rattle.hm_history.specs.Due.{due}
-use Rattle.hm_history.specs.Words.{numbers}
+use Rattle.hm_history.specs.Kernel.Due.{due}
+use Rattle.hm_history.specs.Memory.Words.{numbers}
 use Rattle.hm_judge.proofs.standing.standings.Given as goal
 
 -- what is due to the actors so far

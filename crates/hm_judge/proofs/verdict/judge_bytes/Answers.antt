@@ -1,5 +1,5 @@
 use Rattle.std.proofs.Common.{subst}
-use Rattle.hm_report_lines.specs.Heads.{ReadsHead}
+use Rattle.hm_report_front.specs.Heads.{ReadsHead}
 use Rattle.hm_check.proofs.Exact.{on_ok}
 use Rattle.hm_judge.proofs.Telling.{behind_head, head_is}
 use Rattle.hm_judge.proofs.verdict.judge_bytes.Goals as goal

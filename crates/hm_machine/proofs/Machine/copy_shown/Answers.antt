@@ -1,7 +1,7 @@
 use Rattle.std.proofs.Common.{◌≡◌, ◌∙◌, ℕ, ◌+◌, ◌<◌, ◌^◌, Bool, None, length, sym, ap, subst, arith}
 use Rattle.std.specs.Prelude.{is_some}
-use Rattle.hm_history.specs.Plain.{rights_of}
-use Rattle.hm_history.specs.Words.{bytes_from, page_of}
+use Rattle.hm_history.specs.Memory.Plain.{rights_of}
+use Rattle.hm_history.specs.Memory.Words.{bytes_from, page_of}
 use Rattle.hm_world.specs.Bytes.{byte_shown}
 use Rattle.hm_world.specs.WorldValue.{now}
 use Rattle.hm_machine.specs.Showing.{shown_at}

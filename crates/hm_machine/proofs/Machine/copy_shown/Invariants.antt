@@ -1,7 +1,7 @@
 use Rattle.std.proofs.Common.{◌≡◌, ℕ, ◌+◌, ◌<◌, get_or, true}
 use Rattle.std.specs.Prelude.{is_some}
-use Rattle.hm_history.specs.Plain.{rights_of}
-use Rattle.hm_history.specs.Words.{page_of}
+use Rattle.hm_history.specs.Memory.Plain.{rights_of}
+use Rattle.hm_history.specs.Memory.Words.{page_of}
 use Rattle.hm_world.specs.WorldValue.{now}
 use Rattle.hm_machine.specs.Showing.{shown_at}
 use Rattle.hm_machine.proofs.Machine.copy_shown.Given as goal

@@ -1,7 +1,7 @@
 use Rattle.std.proofs.Common.{◌∙◌, refl, sym}
 use Rattle.hm_machine.proofs.Draining.{drain_ends, drained_within}
 use Rattle.hm_machine.proofs.Rounds.{grows_drained}
-use Rattle.hm_history.specs.Run.{enough}
+use Rattle.hm_history.specs.Kernel.Run.{enough}
 use Rattle.hm_machine.proofs.Machine.drain.Goals as goal
 
 pub returns-then-has_room : goal.returns-then-has_room

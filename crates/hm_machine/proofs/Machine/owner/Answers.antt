@@ -1,6 +1,6 @@
 use Rattle.std.proofs.Common.{◌≡◌, ◌∙◌, true, false, ap, sym, subst}
 use Rattle.std.specs.Prelude.{is_some, Some}
-use Rattle.hm_history.specs.Plain.{mirror_proc}
+use Rattle.hm_history.specs.Memory.Plain.{mirror_proc}
 use Rattle.hm_world.specs.WorldValue.{now}
 use Rattle.hm_machine.proofs.Touched.{no_owner, some_owner}
 use Rattle.hm_machine.proofs.Machine.owner.Goals as goal

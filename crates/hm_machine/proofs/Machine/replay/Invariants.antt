@@ -1,6 +1,6 @@
 use Rattle.std.specs.Prelude.{fold}
-use Rattle.hm_history.specs.Overrun.{overruns_lines}
-use Rattle.hm_history.specs.Run.{line_run}
+use Rattle.hm_history.specs.Kernel.Overrun.{overruns_lines}
+use Rattle.hm_history.specs.Kernel.Run.{line_run}
 use Rattle.hm_machine.proofs.Lines.{Left}
 use Rattle.hm_machine.proofs.Machine.replay.Given as goal
 

@@ -1,6 +1,6 @@
 use Rattle.std.proofs.Common.{drop}
 use Rattle.std.specs.Prelude.{fold}
-use Rattle.hm_history.specs.Run.{enough, turns_on, actors_of, round}
+use Rattle.hm_history.specs.Kernel.Run.{enough, turns_on, actors_of, round}
 use Rattle.hm_machine.proofs.Draining.{Left}
 use Rattle.hm_machine.proofs.Machine.round.Given as goal
 

@@ -1,6 +1,6 @@
 use Rattle.std.proofs.Common.{◌≡◌, ◌-◌, ◌∙◌, length, refl, sym}
 use Rattle.std.proofs.lemmas.Result.{err_from_is_err_and}
-use Rattle.hm_history.specs.Run.{enough}
+use Rattle.hm_history.specs.Kernel.Run.{enough}
 use Rattle.hm_machine.proofs.Draining.{rounds_fail, rounds_go, rounds_rest, rounds_end}
 use Rattle.hm_machine.proofs.Machine.rounds.Goals as goal
 

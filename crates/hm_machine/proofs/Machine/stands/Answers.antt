@@ -1,5 +1,5 @@
 use Rattle.std.proofs.Common.{◌∙◌, subst}
-use Rattle.hm_history.specs.Legal.{Legal}
+use Rattle.hm_history.specs.Kernel.Legal.{Legal}
 use Rattle.hm_machine.proofs.Machine.stands.Goals as goal
 
 pub returns-clause-legal : goal.returns-clause-legal

@@ -1,6 +1,6 @@
 use Rattle.std.proofs.Common.{◌-◌}
-use Rattle.hm_history.specs.Run.{turns}
-use Rattle.hm_history.specs.Overrun.{overruns_turns}
+use Rattle.hm_history.specs.Kernel.Run.{turns}
+use Rattle.hm_history.specs.Kernel.Overrun.{overruns_turns}
 use Rattle.hm_machine.proofs.Turns.{Left}
 use Rattle.hm_machine.proofs.Machine.turns.Given as goal
 

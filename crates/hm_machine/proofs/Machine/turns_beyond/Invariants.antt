@@ -1,6 +1,6 @@
 use Rattle.std.proofs.Common.{◌≡◌, drop}
-use Rattle.hm_history.specs.Run.{actors_of}
-use Rattle.hm_history.specs.Overrun.{some_overruns}
+use Rattle.hm_history.specs.Kernel.Run.{actors_of}
+use Rattle.hm_history.specs.Kernel.Overrun.{some_overruns}
 use Rattle.hm_machine.proofs.Machine.turns_beyond.Given as goal
 
 abbrev pub invariant-loop-number : goal.invariant-loop-number

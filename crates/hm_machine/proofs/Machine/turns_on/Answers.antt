@@ -1,7 +1,7 @@
 use Rattle.std.proofs.Common.{◌≡◌, ◌-◌, ◌∙◌, true, false, refl, sym, subst}
 use Rattle.std.proofs.lemmas.Result.{err_from_is_err_and}
 use Rattle.std.specs.Prelude.{Ok}
-use Rattle.hm_history.specs.Run.{enough, has_room}
+use Rattle.hm_history.specs.Kernel.Run.{enough, has_room}
 use Rattle.hm_machine.specs.Turning.{Adds}
 use Rattle.hm_machine.proofs.Draining.{ended, turn_fails, turn_rests, turn_goes, turns_end}
 use Rattle.hm_machine.proofs.Rounds.{on_full}

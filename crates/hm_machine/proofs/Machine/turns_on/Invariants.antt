@@ -1,5 +1,5 @@
 use Rattle.std.proofs.Common.{◌-◌}
-use Rattle.hm_history.specs.Run.{enough, turns_on}
+use Rattle.hm_history.specs.Kernel.Run.{enough, turns_on}
 use Rattle.hm_machine.proofs.Draining.{Left}
 use Rattle.hm_machine.proofs.Machine.turns_on.Given as goal
 

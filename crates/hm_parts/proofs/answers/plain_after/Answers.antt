@@ -1,6 +1,6 @@
 use Rattle.std.proofs.Common.{ap, sym, ◌∙◌}
-use Rattle.hm_history.specs.After.{After}
-use Rattle.hm_history.specs.Plain.{Plain, plain_next}
+use Rattle.hm_history.specs.Memory.After.{After}
+use Rattle.hm_history.specs.Memory.Plain.{Plain, plain_next}
 use Rattle.hm_parts.proofs.Following.{after_more}
 use Rattle.hm_parts.proofs.answers.plain_after.Goals as goal
 

@@ -1,5 +1,5 @@
 use Rattle.std.proofs.Common.{◌≡◌, take}
-use Rattle.hm_history.specs.After.{after}
+use Rattle.hm_history.specs.Memory.After.{after}
 use Rattle.hm_folds.specs.Plain.{plain_of}
 use Rattle.hm_parts.proofs.answers.plain_after.Given as goal
 

@@ -1,6 +1,6 @@
 use Rattle.std.proofs.Common.{sym, ap, ◌∙◌}
 use Rattle.hm_base.specs.declared.Place.{Place}
-use Rattle.hm_history.specs.Lookups.{loses}
+use Rattle.hm_history.specs.Memory.Lookups.{loses}
 use Rattle.hm_parts.proofs.guarded.loses.Goals as goal
 
 pub returns-in-Moving : goal.returns-in-Moving

@@ -1,5 +1,5 @@
 use Rattle.std.proofs.Common.{◌≡◌, ◌==◌, ◌&&◌, take}
-use Rattle.hm_history.specs.Lookups.{last_where, is_begin_of}
+use Rattle.hm_history.specs.Memory.Lookups.{last_where, is_begin_of}
 use Rattle.hm_parts.proofs.lookups.last_begin.Given as goal
 
 abbrev pub invariant-loop-at : goal.invariant-loop-at

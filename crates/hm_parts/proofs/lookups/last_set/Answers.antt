@@ -1,5 +1,5 @@
 use Rattle.std.proofs.Common.{Bool, ap, sym, ◌∙◌}
-use Rattle.hm_history.specs.Lookups.{is_set_of}
+use Rattle.hm_history.specs.Memory.Lookups.{is_set_of}
 use Rattle.hm_history.specs.declared.Entry.{Entry}
 use Rattle.hm_parts.proofs.Lasts.{last_hit, last_miss, last_inside}
 use Rattle.hm_parts.proofs.lookups.last_set.Goals as goal

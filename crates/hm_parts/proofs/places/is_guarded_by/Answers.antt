@@ -1,7 +1,7 @@
 use Rattle.std.proofs.Common.{◌||◌, not, sym, ap, ◌∙◌}
 use Rattle.hm_base.specs.declared.Place.{Place}
 use Rattle.hm_folds.specs.Kept.{sequences_of}
-use Rattle.hm_history.specs.Lookups.{is_guarded, loses, narrows_guarded}
+use Rattle.hm_history.specs.Memory.Lookups.{is_guarded, loses, narrows_guarded}
 use Rattle.hm_history.specs.declared.Kind.{Kind}
 use Rattle.hm_parts.proofs.places.is_guarded_by.Goals as goal
 

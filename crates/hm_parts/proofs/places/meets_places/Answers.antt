@@ -1,5 +1,5 @@
 use Rattle.std.proofs.Common.{◌∙◌}
-use Rattle.hm_history.specs.After.{after}
+use Rattle.hm_history.specs.Memory.After.{after}
 use Rattle.hm_parts.proofs.PlacesOn.{accepts_is, guarded_is, may_follow, sequences_is, took}
 use Rattle.hm_parts.proofs.places.meets_places.Goals as goal
 

@@ -1,5 +1,5 @@
 use Rattle.std.proofs.Common.{◌≡◌}
-use Rattle.hm_history.specs.Words.{bytes_from}
+use Rattle.hm_history.specs.Memory.Words.{bytes_from}
 use Rattle.hm_folds.specs.Plain.{plain_of}
 use Rattle.hm_parts.proofs.show_answers.bytes_of.Given as goal
 

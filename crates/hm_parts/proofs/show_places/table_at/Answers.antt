@@ -1,7 +1,7 @@
 use Rattle.std.proofs.Common.{◌≡◌, true, arith}
 use Rattle.std.specs.Prelude.{nat_lt}
 use Rattle.std.proofs.lemmas.Bool.Decides.{nat_tests}
-use Rattle.hm_history.specs.After.{after}
+use Rattle.hm_history.specs.Memory.After.{after}
 use Rattle.hm_parts.proofs.Showing.{table_here}
 use Rattle.hm_parts.proofs.show_places.table_at.Goals as goal
 

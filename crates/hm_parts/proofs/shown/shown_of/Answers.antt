@@ -1,9 +1,9 @@
 use Rattle.std.proofs.Common.{◌≡◌, ℕ, Option, sym, ap, ◌∙◌}
 use Rattle.hm_base.specs.declared.PoolId.{PoolId}
 use Rattle.hm_folds.specs.Standing.{entry_read}
-use Rattle.hm_history.specs.After.{After, after}
-use Rattle.hm_history.specs.Going.{State}
-use Rattle.hm_history.specs.Places.{lowest_free}
+use Rattle.hm_history.specs.Memory.After.{After, after}
+use Rattle.hm_history.specs.Kernel.Going.{State}
+use Rattle.hm_history.specs.Memory.Places.{lowest_free}
 use Rattle.hm_laws.proofs.Histories.Sound.{after_is}
 use Rattle.hm_parts.specs.Shown.{shows_answers, shows_guarded, shows_kept, shows_places, shows_sequences, table_of, taken}
 use Rattle.hm_parts.proofs.shown.shown_of.Goals as goal

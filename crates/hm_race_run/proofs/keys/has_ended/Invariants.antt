@@ -1,5 +1,5 @@
 use Rattle.std.proofs.Common.{◌≡◌, ℕ, ◌<◌, None}
-use Rattle.hm_history.specs.Going.{op_at}
+use Rattle.hm_history.specs.Kernel.Going.{op_at}
 use Rattle.hm_race_states.specs.States.{state_in}
 use Rattle.hm_race_run.proofs.keys.has_ended.Given as goal
 

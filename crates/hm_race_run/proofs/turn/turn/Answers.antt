@@ -1,7 +1,7 @@
 use Rattle.std.proofs.Common.{sym, ap, ◌∙◌, subst, refl}
-use Rattle.hm_history.specs.Going.{state_next}
+use Rattle.hm_history.specs.Kernel.Going.{state_next}
 use Rattle.hm_history.specs.declared.Progress.{Progress}
-use Rattle.hm_races.specs.Blur.{tidied}
+use Rattle.hm_race_laws.specs.Blur.{tidied}
 use Rattle.hm_race_states.specs.Afters.{StaysLow}
 use Rattle.hm_race_states.specs.States.{state_in}
 use Rattle.hm_race_run.proofs.Turning.{low, turned, not_turned}

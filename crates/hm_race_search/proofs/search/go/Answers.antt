@@ -1,5 +1,5 @@
 use Rattle.std.proofs.Common.{◌+◌, subst, ap, arith}
-use Rattle.hm_races.specs.Outcomes.{point_at}
+use Rattle.hm_race_laws.specs.Outcomes.{point_at}
 use Rattle.hm_race_search.specs.Known.{turns_at, IsNext}
 use Rattle.hm_race_search.specs.Values.{all_known}
 use Rattle.hm_race_search.proofs.Steps.{stands, next_here, goes_none, leads_on, full, depth_read, goes_ok}

@@ -1,5 +1,5 @@
 use Rattle.std.proofs.Common.{◌+◌, ◌≤◌, length}
-use Rattle.hm_races.specs.Outcomes.{point_at}
+use Rattle.hm_race_laws.specs.Outcomes.{point_at}
 use Rattle.hm_race_search.specs.Known.{turns_at, GoneOnBelow}
 use Rattle.hm_race_search.specs.Values.{all_known, HasGrown, Searching}
 use Rattle.hm_race_search.proofs.search.step.Given as goal

@@ -1,6 +1,6 @@
 use Rattle.std.proofs.Common.{◌∙◌, ap, sym, Option, ℕ}
 use Rattle.std.proofs.Math.Path.{fun_ext}
-use Rattle.hm_history.specs.Locks.{locks_start, map_next}
+use Rattle.hm_history.specs.Memory.Locks.{locks_start, map_next}
 use Rattle.hm_history.specs.declared.locks.MapLock.{MapLock}
 use Rattle.hm_race_keys.specs.Arrays.{lock_in}
 use Rattle.hm_race_keys.specs.declared.map_locks.MapLocks.{MapLocks}

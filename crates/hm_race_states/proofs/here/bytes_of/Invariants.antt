@@ -1,5 +1,5 @@
 use Rattle.std.proofs.Common.{◌≡◌}
-use Rattle.hm_history.specs.Words.{bytes_from}
+use Rattle.hm_history.specs.Memory.Words.{bytes_from}
 use Rattle.hm_race_states.specs.Bytes.{bytes_in}
 use Rattle.hm_race_states.proofs.here.bytes_of.Given as goal
 

@@ -1,7 +1,7 @@
 use Rattle.std.proofs.Common.{sym, map, refl, ap, ◌∙◌}
-use Rattle.hm_history.specs.Sequences.{interval_seq}
-use Rattle.hm_history.specs.Going.{Going, op_at}
-use Rattle.hm_races.specs.Numbers.{mirror_of}
+use Rattle.hm_history.specs.Memory.Sequences.{interval_seq}
+use Rattle.hm_history.specs.Kernel.Going.{Going, op_at}
+use Rattle.hm_race_laws.specs.Numbers.{mirror_of}
 use Rattle.hm_race_states.specs.Blurs.{blurred_phase}
 use Rattle.hm_race_states.specs.Tasks.{going_in}
 use Rattle.hm_race_states.specs.declared.tasks.RaceTask.{RaceTask}

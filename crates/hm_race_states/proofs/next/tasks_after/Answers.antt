@@ -1,8 +1,8 @@
 use Rattle.std.proofs.Common.{arith, map, ap, ◌∙◌}
 use Rattle.std.proofs.lemmas.List.{length-map}
 use Rattle.std.specs.Rc.{rc_value}
-use Rattle.hm_races.specs.Positions.{forget_going}
-use Rattle.hm_races.specs.Numbers.{small_going}
+use Rattle.hm_race_laws.specs.Positions.{forget_going}
+use Rattle.hm_race_laws.specs.Numbers.{small_going}
 use Rattle.hm_race_states.specs.Goings.{blurred_goings, goings_with}
 use Rattle.hm_race_states.specs.Tasks.{going_in}
 use Rattle.hm_race_states.proofs.Lists.{pushed, mapped_more, one_more, all_there}

@@ -3,7 +3,7 @@ use Rattle.std.specs.Prelude.{Option}
 use Rattle.std.proofs.lemmas.Bool.{cases_lt, cases_eq}
 use Rattle.std.proofs.lemmas.List.{get_or_default}
 use Rattle.std.proofs.Math.ListN.{get_or-eq_default}
-use Rattle.hm_races.specs.Numbers.{small_interval}
+use Rattle.hm_race_laws.specs.Numbers.{small_interval}
 use Rattle.hm_folds.specs.Kept.{interval_of, interval_at}
 use Rattle.hm_folds.specs.declared.intervals.KeptInterval.{KeptInterval}
 use Rattle.hm_race_states.specs.SeqBy.{seq_by}

@@ -1,5 +1,5 @@
 use Rattle.std.proofs.Common.{◌≡◌, ℕ, ◌<◌, ◌&&◌, false}
-use Rattle.hm_history.specs.Sequences.{is_above}
+use Rattle.hm_history.specs.Memory.Sequences.{is_above}
 use Rattle.hm_folds.specs.Kept.{overlaps_at}
 use Rattle.hm_race_states.proofs.small.next_told.Given as goal
 

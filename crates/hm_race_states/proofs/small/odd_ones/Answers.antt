@@ -1,7 +1,7 @@
 use Rattle.std.proofs.Common.{inl, inr, false, sym, ap, ◌∙◌, arith}
 use Rattle.std.proofs.lemmas.Bool.{cases_lt}
 use Rattle.std.proofs.Math.ListN.{get_or-eq_default}
-use Rattle.hm_history.specs.Sequences.{is_odd}
+use Rattle.hm_history.specs.Memory.Sequences.{is_odd}
 use Rattle.hm_race_states.proofs.small.odd_ones.Goals as goal
 
 pub returns : goal.returns

@@ -1,5 +1,5 @@
 use Rattle.std.proofs.Common.{◌≡◌, ℕ, ◌<◌, false, length, slice_index_or}
-use Rattle.hm_history.specs.Sequences.{is_odd}
+use Rattle.hm_history.specs.Memory.Sequences.{is_odd}
 use Rattle.hm_race_states.proofs.small.odd_ones.Given as goal
 
 abbrev pub invariant-loop-number : goal.invariant-loop-number

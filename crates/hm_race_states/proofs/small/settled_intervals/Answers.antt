@@ -2,8 +2,8 @@ use Rattle.std.proofs.Common.{◌≡◌, None, ap, ◌∙◌, arith, length-set,
 use Rattle.std.specs.Prelude.{Option}
 use Rattle.std.proofs.lemmas.List.{get_or_default}
 use Rattle.hm_history.proofs.Updates.{with_case}
-use Rattle.hm_history.specs.Sequences.{Interval}
-use Rattle.hm_races.specs.Numbers.{small_interval}
+use Rattle.hm_history.specs.Memory.Sequences.{Interval}
+use Rattle.hm_race_laws.specs.Numbers.{small_interval}
 use Rattle.hm_folds.specs.declared.intervals.KeptInterval.{KeptInterval}
 use Rattle.hm_folds.specs.Kept.{interval_of, interval_at}
 use Rattle.hm_folds.proofs.Writes.{shown_set}

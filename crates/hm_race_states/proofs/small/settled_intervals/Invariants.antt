@@ -1,5 +1,5 @@
 use Rattle.std.proofs.Common.{◌≡◌, ℕ, ◌<◌, length, slice_index_or}
-use Rattle.hm_races.specs.Numbers.{small_interval}
+use Rattle.hm_race_laws.specs.Numbers.{small_interval}
 use Rattle.hm_folds.specs.Kept.{interval_at}
 use Rattle.hm_race_states.proofs.small.settled_intervals.Given as goal
 

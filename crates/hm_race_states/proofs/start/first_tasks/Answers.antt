@@ -1,6 +1,6 @@
 use Rattle.std.proofs.Common.{arith, map, ap, ◌∙◌}
 use Rattle.std.specs.Rc.{rc_value}
-use Rattle.hm_history.specs.Going.{going_from}
+use Rattle.hm_history.specs.Kernel.Going.{going_from}
 use Rattle.hm_race_states.specs.Tasks.{going_in}
 use Rattle.hm_race_states.proofs.Lists.{pushed, mapped_more, one_more, all_first}
 use Rattle.hm_race_states.proofs.start.first_tasks.Goals as goal

@@ -1,6 +1,6 @@
 use Rattle.std.proofs.Common.{◌≡◌, ℕ, ◌<◌, length, map}
 use Rattle.std.specs.Rc.{rc_value}
-use Rattle.hm_history.specs.Going.{going_from}
+use Rattle.hm_history.specs.Kernel.Going.{going_from}
 use Rattle.hm_race_states.specs.States.{goings_in}
 use Rattle.hm_race_states.proofs.start.first_tasks.Given as goal
 

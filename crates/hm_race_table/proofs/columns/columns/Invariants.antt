@@ -1,5 +1,5 @@
 use Rattle.std.proofs.Common.{◌≡◌, not, map, filter}
-use Rattle.hm_history.specs.Words.{numbers}
+use Rattle.hm_history.specs.Memory.Words.{numbers}
 use Rattle.hm_race_table.specs.Columns.{column, is_shared}
 use Rattle.hm_race_table.proofs.columns.columns.Given as goal
 

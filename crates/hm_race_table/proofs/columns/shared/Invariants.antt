@@ -1,5 +1,5 @@
 use Rattle.std.proofs.Common.{◌≡◌, map, filter}
-use Rattle.hm_history.specs.Words.{numbers}
+use Rattle.hm_history.specs.Memory.Words.{numbers}
 use Rattle.hm_race_table.specs.Columns.{first_answer, is_shared}
 use Rattle.hm_race_table.proofs.columns.shared.Given as goal
 

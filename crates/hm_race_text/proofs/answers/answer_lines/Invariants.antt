@@ -1,5 +1,5 @@
 use Rattle.std.proofs.Common.{◌≡◌, map}
-use Rattle.hm_history.specs.Words.{numbers}
+use Rattle.hm_history.specs.Memory.Words.{numbers}
 use Rattle.hm_race_keys.specs.Trail.{answers_in}
 use Rattle.hm_race_text.specs.Answers.{answer_lines}
 use Rattle.hm_race_text.proofs.answers.answer_lines.Given as goal

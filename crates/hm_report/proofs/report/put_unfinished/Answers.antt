@@ -1,8 +1,8 @@
 use Rattle.std.proofs.Common.{ℕ, ◌<◌, ◌-◌, ◌+◌, ◌++◌, length, slice_index, ap, ◌∙◌, arith}
 use Rattle.std.specs.List.{flat_map}
 use Rattle.std.proofs.lemmas.Result.{err_from_is_err_and}
-use Rattle.hm_history.specs.Words.{numbers}
-use Rattle.hm_history.specs.Going.{ops_of}
+use Rattle.hm_history.specs.Memory.Words.{numbers}
+use Rattle.hm_history.specs.Kernel.Going.{ops_of}
 use Rattle.hm_report.specs.Report.{unfinished_among, unfinished_lines, unfinished_line}
 use Rattle.hm_report.proofs.Joins.{loop_put_stops, loop_put_goes}
 use Rattle.hm_report.proofs.Lines.{among_more, among_at}

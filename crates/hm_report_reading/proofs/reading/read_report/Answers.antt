@@ -1,5 +1,5 @@
 use Rattle.std.proofs.Common.{subst}
-use Rattle.hm_report_lines.specs.Heads.{ReadsHead}
+use Rattle.hm_report_front.specs.Heads.{ReadsHead}
 use Rattle.std.specs.Prelude.{Err}
 use Rattle.hm_report_reading.proofs.Reports.{bad_head, is_this, on_ok, read_whole}
 use Rattle.hm_report_reading.proofs.reading.read_report.Goals as goal

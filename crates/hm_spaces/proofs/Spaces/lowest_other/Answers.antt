@@ -1,5 +1,5 @@
 use Rattle.std.proofs.Common.{ap, ◌∙◌}
-use Rattle.hm_history.specs.Locks.{lowest_other}
+use Rattle.hm_history.specs.Memory.Locks.{lowest_other}
 use Rattle.hm_spaces.specs.Spaces.{SpacesValue, locks_of}
 use Rattle.hm_spaces.proofs.Spaces.lowest_other.Goals as goal
 

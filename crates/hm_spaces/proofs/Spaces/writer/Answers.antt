@@ -1,5 +1,5 @@
 use Rattle.std.proofs.Common.{ap, ◌∙◌}
-use Rattle.hm_history.specs.Locks.{writer}
+use Rattle.hm_history.specs.Memory.Locks.{writer}
 use Rattle.hm_spaces.specs.Spaces.{SpacesValue, locks_of}
 use Rattle.hm_spaces.proofs.Spaces.writer.Goals as goal
 

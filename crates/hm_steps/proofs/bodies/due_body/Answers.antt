@@ -1,9 +1,9 @@
 use Rattle.std.proofs.Common.{◌≡◌, ℕ, ap}
 use Rattle.hm_base.specs.declared.Frame.{Frame}
-use Rattle.hm_history.specs.Words.{place_in}
-use Rattle.hm_history.specs.Plain.{rights_of, is_read_write}
-use Rattle.hm_history.specs.After.{After}
-use Rattle.hm_history.specs.Due.{if_so, has_no_frame}
+use Rattle.hm_history.specs.Memory.Words.{place_in}
+use Rattle.hm_history.specs.Memory.Plain.{rights_of, is_read_write}
+use Rattle.hm_history.specs.Memory.After.{After}
+use Rattle.hm_history.specs.Kernel.Due.{if_so, has_no_frame}
 use Rattle.hm_history.specs.declared.Kind.{Kind}
 use Rattle.hm_steps.proofs.bodies.due_body.Goals as goal
 

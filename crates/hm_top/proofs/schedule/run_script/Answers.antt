@@ -1,7 +1,7 @@
 use Rattle.std.proofs.Common.{◌≡◌, ◌∙◌, false, ap, subst, sym}
-use Rattle.hm_history.specs.Legal.{Legal}
-use Rattle.hm_history.specs.Run.{run}
-use Rattle.hm_history.specs.Overrun.{overruns}
+use Rattle.hm_history.specs.Kernel.Legal.{Legal}
+use Rattle.hm_history.specs.Kernel.Run.{run}
+use Rattle.hm_history.specs.Kernel.Overrun.{overruns}
 use Rattle.hm_top.proofs.Drains.{run_drained}
 use Rattle.hm_top.proofs.schedule.run_script.Goals as goal
 

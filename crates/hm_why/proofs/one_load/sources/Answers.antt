@@ -1,7 +1,7 @@
 use Rattle.std.proofs.Common.{sym, ap, ◌∙◌, subst}
 use Rattle.std.proofs.lemmas.Result.{IfOk-weaker}
 use Rattle.std.specs.Prelude.{map}
-use Rattle.hm_history.specs.Words.{numbers}
+use Rattle.hm_history.specs.Memory.Words.{numbers}
 use Rattle.hm_why.specs.Loads.{IsLoadAt, AllFound, AreSources}
 use Rattle.hm_why.specs.Writers.{source_in}
 use Rattle.hm_why.proofs.Listing.{at_load, load_there, some_load, all_found, are_sources}

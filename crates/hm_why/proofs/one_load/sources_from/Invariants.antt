@@ -1,5 +1,5 @@
 use Rattle.std.proofs.Common.{◌≡◌, ℕ, ◌-◌, Some, map}
-use Rattle.hm_history.specs.Words.{numbers}
+use Rattle.hm_history.specs.Memory.Words.{numbers}
 use Rattle.hm_why.specs.Writers.{source_in}
 use Rattle.hm_why.proofs.one_load.sources_from.Given as goal
 

@@ -1,5 +1,5 @@
 use Rattle.std.proofs.Common.{◌≡◌, ◌-◌, ◌+◌, map, append-nil, ◌++◌, ◌∷◌, subst, sym, ap, ◌∙◌, arith}
-use Rattle.hm_history.specs.Words.{numbers}
+use Rattle.hm_history.specs.Memory.Words.{numbers}
 use Rattle.hm_report.specs.Line.{spaced}
 use Rattle.hm_why.specs.Changes.{change_at, last_change, IsAhead}
 use Rattle.hm_why.specs.Loads.{source_text}

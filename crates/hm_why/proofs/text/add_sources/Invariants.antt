@@ -1,6 +1,6 @@
 use Rattle.std.proofs.Common.{◌≡◌, ℕ, ◌+◌, ◌-◌, List, ◌++◌, map}
 use Rattle.std.specs.Prelude.{Option, None}
-use Rattle.hm_history.specs.Words.{numbers}
+use Rattle.hm_history.specs.Memory.Words.{numbers}
 use Rattle.hm_report.specs.Line.{spaced}
 use Rattle.hm_why.specs.Changes.{last_change, pending, IsAhead}
 use Rattle.hm_why.specs.Loads.{source_text}

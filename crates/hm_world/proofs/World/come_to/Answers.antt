@@ -1,5 +1,5 @@
 use Rattle.std.proofs.Common.{◌∙◌, ap, refl}
-use Rattle.hm_history.specs.Going.{Going, come_to, concerns, steps_from}
+use Rattle.hm_history.specs.Kernel.Going.{Going, come_to, concerns, steps_from}
 use Rattle.hm_actors.specs.Actors.{going_of}
 use Rattle.hm_actors.proofs.Comings.{come_by_shown}
 use Rattle.hm_world.specs.WorldValue.{now}

@@ -1,5 +1,5 @@
 use Rattle.std.proofs.Common.{◌∙◌, ap}
-use Rattle.hm_history.specs.Going.{Going}
+use Rattle.hm_history.specs.Kernel.Going.{Going}
 use Rattle.hm_world.proofs.Shown.{shown, going_now}
 use Rattle.hm_world.proofs.World.index.Goals as goal
 

@@ -1,5 +1,5 @@
 use Rattle.std.proofs.Common.{◌∙◌, ap, sym}
-use Rattle.hm_history.specs.Contents.{backing}
+use Rattle.hm_history.specs.Memory.Contents.{backing}
 use Rattle.hm_world.specs.WorldValue.{now}
 use Rattle.hm_world.proofs.Pages.{held_at}
 use Rattle.hm_world.proofs.World.page_byte.Goals as goal

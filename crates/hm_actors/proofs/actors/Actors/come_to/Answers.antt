@@ -1,5 +1,5 @@
 use Rattle.std.proofs.Common.{List, Option, ℕ, ap, ◌∙◌}
-use Rattle.hm_history.specs.Going.{steps_from}
+use Rattle.hm_history.specs.Kernel.Going.{steps_from}
 use Rattle.hm_history.specs.declared.phases.Migrating.{Migrating}
 use Rattle.hm_actors.specs.Coming.{come_by}
 use Rattle.hm_actors.specs.Migrations.{kept_at, key_of}

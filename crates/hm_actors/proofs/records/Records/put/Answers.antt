@@ -1,5 +1,5 @@
 use Rattle.std.proofs.Common.{arith, ap, ◌∙◌}
-use Rattle.hm_history.specs.Going.{with_record}
+use Rattle.hm_history.specs.Kernel.Going.{with_record}
 use Rattle.hm_actors.proofs.RisingKept.{rises_written}
 use Rattle.hm_actors.proofs.records.Records.put.Goals as goal
 

@@ -1,7 +1,7 @@
 use Rattle.std.proofs.Common.{◌-◌, slice_index_or, sym, ◌∙◌, arith}
 use Rattle.hm_base.specs.declared.PoolId.{PoolId}
 use Rattle.hm_base.specs.PlaceWords.{pool_index}
-use Rattle.hm_history.specs.Words.{least}
+use Rattle.hm_history.specs.Memory.Words.{least}
 use Rattle.hm_folds.specs.HeldFrames.{held_of, frames_of}
 use Rattle.hm_folds.proofs.ByFrame.{read_pool}
 use Rattle.hm_folds.proofs.HeldPools.{held_below}

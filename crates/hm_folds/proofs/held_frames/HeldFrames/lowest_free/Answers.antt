@@ -1,6 +1,6 @@
 use Rattle.std.proofs.Common.{not, slice_index_or, sym, ◌∙◌, arith}
 use Rattle.hm_base.specs.PlaceWords.{pool_index}
-use Rattle.hm_history.specs.Words.{least}
+use Rattle.hm_history.specs.Memory.Words.{least}
 use Rattle.hm_folds.specs.HeldFrames.{held_of, frames_of}
 use Rattle.hm_folds.proofs.ByFrame.{read_pool}
 use Rattle.hm_folds.proofs.HeldPools.{free_below}

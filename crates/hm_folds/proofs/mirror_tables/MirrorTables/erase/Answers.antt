@@ -1,7 +1,7 @@
 use Rattle.std.proofs.Common.{ℕ, ap, ◌∙◌, arith}
 use Rattle.std.specs.Prelude.{Option, None, ◌+◌, ◌&&◌, nat_le, nat_lt, if◌then◌else◌}
 use Rattle.hm_base.specs.Pages.{covers}
-use Rattle.hm_history.specs.Places.{TableEntry}
+use Rattle.hm_history.specs.Memory.Places.{TableEntry}
 use Rattle.hm_folds.specs.MirrorTables.{tables_of}
 use Rattle.hm_folds.proofs.Tables.{read_table, entries_erased}
 use Rattle.hm_folds.proofs.mirror_tables.MirrorTables.erase.Goals as goal

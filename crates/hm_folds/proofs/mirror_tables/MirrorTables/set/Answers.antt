@@ -1,7 +1,7 @@
 use Rattle.std.proofs.Common.{◌≡◌, ℕ, ap, ◌∙◌, arith}
 use Rattle.std.specs.Prelude.{Option, Some, ◌==◌, if◌then◌else◌}
 use Rattle.hm_base.specs.declared.Frame.{Frame}
-use Rattle.hm_history.specs.Places.{TableEntry}
+use Rattle.hm_history.specs.Memory.Places.{TableEntry}
 use Rattle.hm_folds.specs.TableMap.{dev_of, target_of}
 use Rattle.hm_folds.specs.MirrorTables.{tables_of}
 use Rattle.hm_folds.proofs.Tables.{read_table, entry_set, target_kept, entries_same}

@@ -1,5 +1,5 @@
 use Rattle.std.proofs.Common.{ap, sym, ◌∙◌}
-use Rattle.hm_history.specs.Places.{places_accept}
+use Rattle.hm_history.specs.Memory.Places.{places_accept}
 use Rattle.hm_folds.specs.Places.{owners_of}
 use Rattle.hm_folds.proofs.PlaceAccepts.{loaded_is, stored_is, others_accept}
 use Rattle.hm_folds.proofs.places.PlaceState.accepts.Goals as goal

@@ -2,7 +2,7 @@ use Rattle.std.proofs.Common.{false, ap, ◌∙◌}
 use Rattle.std.specs.Prelude.{is_none, Bool, if◌then◌else◌}
 use Rattle.std.proofs.lemmas.Bool.{and_parts}
 use Rattle.hm_base.specs.PlaceWords.{same_frame}
-use Rattle.hm_history.specs.Places.{lowest_named}
+use Rattle.hm_history.specs.Memory.Places.{lowest_named}
 use Rattle.hm_folds.proofs.PlaceSteps.{named_dropped, none_names}
 use Rattle.hm_folds.proofs.places.PlaceState.drop_frame.Goals as goal
 

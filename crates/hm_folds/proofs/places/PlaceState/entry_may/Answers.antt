@@ -1,5 +1,5 @@
 use Rattle.std.proofs.Common.{sym, ap, ◌∙◌}
-use Rattle.hm_history.specs.Places.{is_target, stands_for}
+use Rattle.hm_history.specs.Memory.Places.{is_target, stands_for}
 use Rattle.hm_folds.specs.TableMap.{entry_of}
 use Rattle.hm_folds.proofs.PlaceAccepts.{entry_form, and_then, and_else}
 use Rattle.hm_folds.proofs.places.PlaceState.entry_may.Goals as goal

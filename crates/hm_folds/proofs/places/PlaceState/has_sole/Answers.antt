@@ -1,7 +1,7 @@
 use Rattle.std.proofs.Common.{ap, sym, ◌∙◌, arith}
-use Rattle.hm_history.specs.Words.{page_of}
-use Rattle.hm_history.specs.Plain.{owned}
-use Rattle.hm_history.specs.Places.{table_sole}
+use Rattle.hm_history.specs.Memory.Words.{page_of}
+use Rattle.hm_history.specs.Memory.Plain.{owned}
+use Rattle.hm_history.specs.Memory.Places.{table_sole}
 use Rattle.hm_folds.proofs.Writes.{read_at}
 use Rattle.hm_folds.proofs.places.PlaceState.has_sole.Goals as goal
 

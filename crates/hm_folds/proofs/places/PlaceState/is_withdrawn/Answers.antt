@@ -1,5 +1,5 @@
 use Rattle.std.proofs.Common.{sym, ap, ◌∙◌}
-use Rattle.hm_history.specs.Places.{is_withdrawn}
+use Rattle.hm_history.specs.Memory.Places.{is_withdrawn}
 use Rattle.hm_folds.proofs.places.PlaceState.is_withdrawn.Goals as goal
 
 pub returns-in-Device : goal.returns-in-Device

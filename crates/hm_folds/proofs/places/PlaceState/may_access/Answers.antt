@@ -1,8 +1,8 @@
 use Rattle.std.proofs.Common.{ap, sym, ◌∙◌, arith}
 use Rattle.std.specs.Prelude.{if◌then◌else◌}
-use Rattle.hm_history.specs.Words.{page_of}
-use Rattle.hm_history.specs.Plain.{owned}
-use Rattle.hm_history.specs.Places.{cpu_reads, cpu_writes, table_reads, table_writes}
+use Rattle.hm_history.specs.Memory.Words.{page_of}
+use Rattle.hm_history.specs.Memory.Plain.{owned}
+use Rattle.hm_history.specs.Memory.Places.{cpu_reads, cpu_writes, table_reads, table_writes}
 use Rattle.hm_folds.specs.Standing.{may_access}
 use Rattle.hm_folds.specs.Places.{owners_of}
 use Rattle.hm_folds.proofs.Writes.{read_at}

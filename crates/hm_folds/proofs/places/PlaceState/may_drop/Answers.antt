@@ -1,6 +1,6 @@
 use Rattle.std.proofs.Common.{◌≡◌, Option, Some, None, not, is_none, true, false, refl, sym, ap, ◌∙◌}
 use Rattle.std.specs.Prelude.{is_some, Bool}
-use Rattle.hm_history.specs.Places.{lowest_named}
+use Rattle.hm_history.specs.Memory.Places.{lowest_named}
 use Rattle.hm_tables.proofs.ReadsShown.{lowest_named_shown}
 use Rattle.hm_folds.proofs.PlaceAccepts.{and_then}
 use Rattle.hm_folds.proofs.places.PlaceState.may_drop.Goals as goal

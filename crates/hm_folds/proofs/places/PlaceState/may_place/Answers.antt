@@ -1,6 +1,6 @@
 use Rattle.std.proofs.Common.{sym, ap, ◌∙◌}
 use Rattle.hm_base.specs.PlaceWords.{names}
-use Rattle.hm_history.specs.Places.{holds_target, one_writer, places_next}
+use Rattle.hm_history.specs.Memory.Places.{holds_target, one_writer, places_next}
 use Rattle.hm_history.specs.declared.Kind.{Kind}
 use Rattle.hm_folds.specs.Commits.{committed_at}
 use Rattle.hm_folds.specs.Shares.{shares_at}

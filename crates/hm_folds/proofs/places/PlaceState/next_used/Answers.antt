@@ -1,5 +1,5 @@
 use Rattle.std.proofs.Common.{ℕ, ◌^◌, ap, ◌∙◌, arith}
-use Rattle.hm_history.specs.Places.{is_used}
+use Rattle.hm_history.specs.Memory.Places.{is_used}
 use Rattle.hm_tables.specs.Values.{table_of}
 use Rattle.hm_tables.specs.Reads.{next_page_before}
 use Rattle.hm_tables.specs.declared.places.PageTest.{PageTest}

@@ -1,5 +1,5 @@
 use Rattle.std.proofs.Common.{ap, ◌∙◌, arith}
-use Rattle.hm_history.specs.Words.{page_of}
+use Rattle.hm_history.specs.Memory.Words.{page_of}
 use Rattle.hm_folds.proofs.PastPages.{past_place, address_past}
 use Rattle.hm_folds.proofs.places.PlaceState.place_at.Goals as goal
 

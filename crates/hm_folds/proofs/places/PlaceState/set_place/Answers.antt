@@ -3,7 +3,7 @@ use Rattle.std.specs.Prelude.{Option}
 use Rattle.std.proofs.lemmas.Bool.{and_parts}
 use Rattle.hm_base.specs.declared.Frame.{Frame}
 use Rattle.hm_base.specs.PlaceWords.{is_frame, names}
-use Rattle.hm_history.specs.Places.{pool_size, places_next, holds_target, one_writer}
+use Rattle.hm_history.specs.Memory.Places.{pool_size, places_next, holds_target, one_writer}
 use Rattle.hm_history.specs.declared.Kind.{Kind}
 use Rattle.hm_tables.specs.Values.{Tables}
 use Rattle.hm_tables.specs.Shown.{TablesShown}

@@ -1,6 +1,6 @@
 use Rattle.std.proofs.Common.{◌≡◌, true, sym, subst}
 use Rattle.std.specs.Prelude.{OnOk}
-use Rattle.hm_history.specs.Places.{Places, places_next}
+use Rattle.hm_history.specs.Memory.Places.{Places, places_next}
 use Rattle.hm_history.specs.declared.Kind.{Kind}
 use Rattle.hm_folds.specs.Standing.{accepts_frames, with_mirrors}
 use Rattle.hm_folds.specs.Places.{PlacesShown, ForShown}

@@ -1,6 +1,6 @@
 use Rattle.std.proofs.Common.{◌≡◌, ◌&&◌, ℕ, Option, Some, option_map, sym, ap, ◌∙◌, arith}
-use Rattle.hm_history.specs.Words.{page_of}
-use Rattle.hm_history.specs.Places.{TableEntry, entry_passes, is_sole, is_exclusive_of}
+use Rattle.hm_history.specs.Memory.Words.{page_of}
+use Rattle.hm_history.specs.Memory.Places.{TableEntry, entry_passes, is_sole, is_exclusive_of}
 use Rattle.hm_folds.specs.TableMap.{entry_of}
 use Rattle.hm_folds.specs.MirrorTables.{tables_of}
 use Rattle.hm_folds.proofs.PastPages.{past_sole, address_past}

@@ -1,6 +1,6 @@
 use Rattle.std.proofs.Common.{ℕ, true, false, refl, ap, ◌∙◌, arith}
 use Rattle.std.specs.Prelude.{Bool}
-use Rattle.hm_history.specs.Words.{with_at}
+use Rattle.hm_history.specs.Memory.Words.{with_at}
 use Rattle.hm_folds.proofs.Writes.{written_at}
 use Rattle.hm_folds.proofs.places.PlaceState.withdraw.Goals as goal
 

@@ -1,5 +1,5 @@
 use Rattle.std.proofs.Common.{sym, ap, subst, ◌∙◌}
-use Rattle.hm_history.specs.Plain.{Plain, plain_next}
+use Rattle.hm_history.specs.Memory.Plain.{Plain, plain_next}
 use Rattle.hm_spaces.specs.Spaces.{SpacesFit}
 use Rattle.hm_spaces.proofs.SpacesKept.{taken_fits}
 use Rattle.hm_folds.specs.Plain.{plain_of, with_plain_bytes}

@@ -1,8 +1,8 @@
 use Rattle.std.proofs.Common.{◌≡◌, ◌==◌, true, false, is_none, length, sym, ◌∙◌, arith}
 use Rattle.std.proofs.lemmas.Bool.{and_right}
 use Rattle.std.proofs.lemmas.Bool.Decides.{nat_tests}
-use Rattle.hm_history.specs.Words.{page_of}
-use Rattle.hm_history.specs.Plain.{cause_at, mirror_proc}
+use Rattle.hm_history.specs.Memory.Words.{page_of}
+use Rattle.hm_history.specs.Memory.Plain.{cause_at, mirror_proc}
 use Rattle.hm_history.specs.declared.Who.{Who}
 use Rattle.hm_folds.specs.Plain.{plain_of}
 use Rattle.hm_folds.proofs.Written.{wrong_length}

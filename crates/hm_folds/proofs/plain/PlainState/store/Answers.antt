@@ -1,5 +1,5 @@
 use Rattle.std.proofs.Common.{sym, ◌∙◌, arith}
-use Rattle.hm_history.specs.Words.{page_of}
+use Rattle.hm_history.specs.Memory.Words.{page_of}
 use Rattle.hm_folds.specs.Plain.{plain_of}
 use Rattle.hm_folds.proofs.AreaEnds.{none_beyond}
 use Rattle.hm_folds.proofs.plain.PlainState.store.Goals as goal

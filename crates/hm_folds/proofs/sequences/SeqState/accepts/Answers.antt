@@ -1,5 +1,5 @@
 use Rattle.std.proofs.Common.{ap, sym, ◌∙◌}
-use Rattle.hm_history.specs.Sequences.{sequences_accept}
+use Rattle.hm_history.specs.Memory.Sequences.{sequences_accept}
 use Rattle.hm_folds.specs.Kept.{sequences_of}
 use Rattle.hm_folds.proofs.sequences.SeqState.accepts.Goals as goal
 

@@ -1,6 +1,6 @@
 use Rattle.std.proofs.Common.{◌≡◌, ℕ, Some, ap, ◌∙◌, if◌then◌else◌, slice_index_or, arith}
 use Rattle.std.proofs.lemmas.List.{get_or_default}
-use Rattle.hm_history.specs.Sequences.{Interval, Stage, interval_inserted, InTree, InsertDeferred, is_odd}
+use Rattle.hm_history.specs.Memory.Sequences.{Interval, Stage, interval_inserted, InTree, InsertDeferred, is_odd}
 use Rattle.hm_folds.specs.Kept.{sequences_of, stage_of}
 use Rattle.hm_folds.proofs.SeqSteps.{attach_kept, equal_from}
 use Rattle.hm_folds.proofs.sequences.SeqState.attach.Goals as goal

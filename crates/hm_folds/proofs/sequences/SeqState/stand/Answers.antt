@@ -1,7 +1,7 @@
 use Rattle.std.proofs.Common.{ap, ◌∙◌, arith}
 use Rattle.hm_folds.proofs.SeqSteps.{interval_kept}
 use Rattle.hm_folds.proofs.Writes.{read_at}
-use Rattle.hm_history.specs.Sequences.{with_stage}
+use Rattle.hm_history.specs.Memory.Sequences.{with_stage}
 use Rattle.hm_folds.specs.Kept.{interval_of, stage_of}
 use Rattle.hm_folds.proofs.sequences.SeqState.stand.Goals as goal
 

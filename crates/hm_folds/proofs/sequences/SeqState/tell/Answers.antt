@@ -2,7 +2,7 @@ use Rattle.std.proofs.Common.{◌≡◌, ap, slice_index_or, ◌∙◌, arith}
 use Rattle.std.proofs.lemmas.List.{get_or_default}
 use Rattle.std.specs.Prelude.{Option, nat_lt}
 use Rattle.std.specs.List.{list_all}
-use Rattle.hm_history.specs.Sequences.{Guarded, with_seq, with_told, guard_passes, interval_proc}
+use Rattle.hm_history.specs.Memory.Sequences.{Guarded, with_seq, with_told, guard_passes, interval_proc}
 use Rattle.hm_folds.specs.declared.guards.KeptGuard.{KeptGuard}
 use Rattle.hm_folds.specs.Kept.{sequences_of, guard_of, guards_proc, interval_of}
 use Rattle.hm_folds.proofs.SeqSteps.{told_kept, told_below}

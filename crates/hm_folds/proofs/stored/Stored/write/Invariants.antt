@@ -1,5 +1,5 @@
 use Rattle.std.proofs.Common.{◌≡◌, ℕ, ◌+◌, ◌<◌, true, length, take}
-use Rattle.hm_history.specs.Plain.{with_bytes}
+use Rattle.hm_history.specs.Memory.Plain.{with_bytes}
 use Rattle.hm_folds.specs.Stored.{byte_in, has_byte}
 use Rattle.hm_folds.proofs.stored.Stored.write.Given as goal
 

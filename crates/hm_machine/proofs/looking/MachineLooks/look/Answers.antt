@@ -1,6 +1,6 @@
 use Rattle.std.proofs.Common.{◌≡◌, ◌∙◌, None, Some, refl, sym, ap, subst}
-use Rattle.hm_history.specs.After.{after}
-use Rattle.hm_history.specs.Locks.{writer}
+use Rattle.hm_history.specs.Memory.After.{after}
+use Rattle.hm_history.specs.Memory.Locks.{writer}
 use Rattle.hm_laws.specs.Laws.{ReadsRight}
 use Rattle.hm_laws.specs.Stands.{Stands}
 use Rattle.hm_world.specs.WorldValue.{WorldValue, now}

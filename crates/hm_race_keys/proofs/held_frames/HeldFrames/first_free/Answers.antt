@@ -1,6 +1,6 @@
 use Rattle.std.proofs.Common.{◌≡◌, false, ◌∙◌, rules}
 use Rattle.std.specs.Prelude.{not}
-use Rattle.hm_history.specs.Places.{frame_of}
+use Rattle.hm_history.specs.Memory.Places.{frame_of}
 use Rattle.hm_race_keys.specs.FrameTables.{held_in}
 use Rattle.hm_race_keys.proofs.Counting.{goes_on}
 use Rattle.hm_race_keys.proofs.held_frames.HeldFrames.first_free.Goals as goal

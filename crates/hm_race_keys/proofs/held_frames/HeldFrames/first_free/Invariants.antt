@@ -1,7 +1,7 @@
 use Rattle.std.proofs.Common.{◌≡◌, ◌-◌}
 use Rattle.std.specs.Prelude.{not}
-use Rattle.hm_history.specs.Words.{least}
-use Rattle.hm_history.specs.Places.{frame_of}
+use Rattle.hm_history.specs.Memory.Words.{least}
+use Rattle.hm_history.specs.Memory.Places.{frame_of}
 use Rattle.hm_race_keys.specs.FrameTables.{held_in}
 use Rattle.hm_race_keys.proofs.held_frames.HeldFrames.first_free.Given as goal
 

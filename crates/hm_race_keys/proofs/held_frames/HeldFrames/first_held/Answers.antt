@@ -1,5 +1,5 @@
 use Rattle.std.proofs.Common.{◌≡◌, false, ◌∙◌, rules}
-use Rattle.hm_history.specs.Places.{frame_of}
+use Rattle.hm_history.specs.Memory.Places.{frame_of}
 use Rattle.hm_race_keys.specs.FrameTables.{held_in}
 use Rattle.hm_race_keys.proofs.Counting.{goes_on}
 use Rattle.hm_race_keys.proofs.held_frames.HeldFrames.first_held.Goals as goal

@@ -1,8 +1,8 @@
 use Rattle.std.proofs.Common.{◌≡◌, List, [], ◌++◌, sym, subst}
 use Rattle.hm_history.specs.Laws.{DueFrom}
 use Rattle.hm_history.specs.declared.Entry.{Entry}
-use Rattle.hm_races.specs.Blur.{form_of}
-use Rattle.hm_races.specs.Outcomes.{Point, Reached}
+use Rattle.hm_race_laws.specs.Blur.{form_of}
+use Rattle.hm_race_laws.specs.Outcomes.{Point, Reached}
 use Rattle.hm_race_search.specs.Known.{IsNext}
 use Rattle.hm_race_states.specs.Keyed.{form_in}
 use Rattle.hm_race_run.specs.Races.{RaceValue}

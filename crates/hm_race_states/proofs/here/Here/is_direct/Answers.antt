@@ -1,7 +1,7 @@
 use Rattle.std.proofs.Common.{ap, sym, ◌∙◌}
 use Rattle.std.specs.Prelude.{is_some}
-use Rattle.hm_history.specs.Going.{is_direct}
-use Rattle.hm_history.specs.Places.{lowest_direct}
+use Rattle.hm_history.specs.Kernel.Going.{is_direct}
+use Rattle.hm_history.specs.Memory.Places.{lowest_direct}
 use Rattle.hm_race_keys.specs.PagePlaces.{places_of}
 use Rattle.hm_race_states.specs.States.{state_in}
 use Rattle.hm_race_states.proofs.here.Here.is_direct.Goals as goal

@@ -1,5 +1,5 @@
 use Rattle.std.proofs.Common.{◌∙◌, ap}
-use Rattle.hm_history.specs.Sequences.{some_overlap}
+use Rattle.hm_history.specs.Memory.Sequences.{some_overlap}
 use Rattle.hm_race_states.specs.Small.{kept_seqs}
 use Rattle.hm_race_states.specs.declared.small.SmallSeqs.{SmallSeqs}
 use Rattle.hm_race_states.proofs.here.Here.overlaps.Goals as goal

@@ -1,5 +1,5 @@
 use Rattle.std.proofs.Common.{refl, ap, ◌∙◌}
-use Rattle.hm_history.specs.Locks.{locks_start, orphan}
+use Rattle.hm_history.specs.Memory.Locks.{locks_start, orphan}
 use Rattle.hm_race_keys.specs.FrameTables.{lockers_in}
 use Rattle.hm_race_keys.specs.PagePlaces.{places_of}
 use Rattle.hm_race_states.specs.States.{state_in}

@@ -1,5 +1,5 @@
 use Rattle.std.proofs.Common.{[], refl, sym, ap, ◌∙◌}
-use Rattle.hm_history.specs.Going.{come_to, concerns, steps_from}
+use Rattle.hm_history.specs.Kernel.Going.{come_to, concerns, steps_from}
 use Rattle.hm_actors.proofs.Comings.{come_by_shown, come_nowhere}
 use Rattle.hm_race_states.specs.States.{state_in, going_at}
 use Rattle.hm_race_states.proofs.here.HereReads.coming.Goals as goal

@@ -1,5 +1,5 @@
 use Rattle.std.proofs.Common.{ap, ◌∙◌}
-use Rattle.hm_history.specs.Places.{places_start, lowest_free}
+use Rattle.hm_history.specs.Memory.Places.{places_start, lowest_free}
 use Rattle.hm_race_keys.specs.Arrays.{flag_in}
 use Rattle.hm_race_keys.specs.FrameTables.{held_in}
 use Rattle.hm_race_keys.specs.declared.device_marks.DeviceMarks.{DeviceMarks}

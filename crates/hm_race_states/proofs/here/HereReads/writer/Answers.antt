@@ -1,5 +1,5 @@
 use Rattle.std.proofs.Common.{ap, ◌∙◌}
-use Rattle.hm_history.specs.Words.{least}
+use Rattle.hm_history.specs.Memory.Words.{least}
 use Rattle.hm_spaces.specs.Holders.{is_writer}
 use Rattle.hm_race_keys.specs.declared.map_locks.MapLocks.{MapLocks}
 use Rattle.hm_race_states.proofs.here.HereReads.writer.Goals as goal

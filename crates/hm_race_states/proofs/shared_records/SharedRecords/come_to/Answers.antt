@@ -1,7 +1,7 @@
 use Rattle.std.proofs.Common.{◌≡◌, List, [], sym, ap, ◌∙◌}
 use Rattle.hm_actors.specs.Coming.{come_by}
 use Rattle.hm_actors.proofs.Comings.{come_nowhere}
-use Rattle.hm_history.specs.Going.{steps_from}
+use Rattle.hm_history.specs.Kernel.Going.{steps_from}
 use Rattle.hm_history.specs.declared.phases.Migrating.{Migrating}
 use Rattle.hm_race_states.specs.SharedRecords.{records_in}
 use Rattle.hm_race_states.proofs.shared_records.SharedRecords.come_to.Goals as goal

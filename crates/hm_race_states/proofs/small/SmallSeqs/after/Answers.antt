@@ -1,6 +1,6 @@
 use Rattle.std.proofs.Common.{ap, sym, ◌∙◌}
 use Rattle.hm_base.specs.Pages.{Pages}
-use Rattle.hm_history.specs.Sequences.{sequences_next}
+use Rattle.hm_history.specs.Memory.Sequences.{sequences_next}
 use Rattle.hm_history.specs.declared.Kind.{Kind}
 use Rattle.hm_race_states.specs.Small.{kept_seqs, unguarded}
 use Rattle.hm_race_states.proofs.small.SmallSeqs.after.Goals as goal

@@ -1,5 +1,5 @@
 use Rattle.std.proofs.Common.{◌≡◌, ℕ, Some, ap, ◌∙◌, if◌then◌else◌, arith}
-use Rattle.hm_history.specs.Sequences.{Interval, Stage, interval_inserted, InTree, InsertDeferred, is_odd}
+use Rattle.hm_history.specs.Memory.Sequences.{Interval, Stage, interval_inserted, InTree, InsertDeferred, is_odd}
 use Rattle.hm_folds.specs.Kept.{stage_of}
 use Rattle.hm_race_states.specs.Small.{kept_seqs}
 use Rattle.hm_race_states.proofs.Betweens.{attach_kept}

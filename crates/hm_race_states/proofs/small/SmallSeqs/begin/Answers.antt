@@ -1,5 +1,5 @@
 use Rattle.std.proofs.Common.{ap, ◌+◌, ◌∙◌, arith}
-use Rattle.hm_history.specs.Sequences.{Sequences}
+use Rattle.hm_history.specs.Memory.Sequences.{Sequences}
 use Rattle.hm_race_states.specs.Small.{kept_seqs}
 use Rattle.hm_race_states.proofs.Betweens.{process_kept}
 use Rattle.hm_race_states.proofs.small.SmallSeqs.begin.Goals as goal

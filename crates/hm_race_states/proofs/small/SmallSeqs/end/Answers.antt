@@ -1,6 +1,6 @@
 use Rattle.std.proofs.Common.{◌-◌, ap, ◌∙◌, arith}
 use Rattle.std.proofs.Math.Path.{fun_ext}
-use Rattle.hm_history.specs.Sequences.{Sequences, applied}
+use Rattle.hm_history.specs.Memory.Sequences.{Sequences, applied}
 use Rattle.hm_folds.proofs.SeqSteps.{last_ended, not_ended}
 use Rattle.hm_race_states.specs.Small.{kept_seqs}
 use Rattle.hm_race_states.proofs.Betweens.{process_kept}

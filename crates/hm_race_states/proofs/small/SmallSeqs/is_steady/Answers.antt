@@ -1,7 +1,7 @@
 use Rattle.std.proofs.Common.{◌≡◌, ℕ, Option, List, subst}
 use Rattle.hm_folds.specs.Kept.{interval_at}
 use Rattle.hm_folds.specs.declared.intervals.KeptInterval.{KeptInterval}
-use Rattle.hm_races.specs.Numbers.{small_interval}
+use Rattle.hm_race_laws.specs.Numbers.{small_interval}
 use Rattle.hm_race_states.specs.Small.{kept_seqs}
 use Rattle.hm_race_states.proofs.Settled.{steady_now}
 use Rattle.hm_race_states.proofs.small.SmallSeqs.is_steady.Goals as goal

@@ -2,8 +2,8 @@ use Rattle.std.proofs.Common.{Option, List, filter, ap, ◌∙◌}
 use Rattle.std.specs.Prelude.{find}
 use Rattle.hm_folds.specs.Kept.{overlaps_at}
 use Rattle.hm_folds.specs.declared.intervals.KeptInterval.{KeptInterval}
-use Rattle.hm_history.specs.Sequences.{is_above}
-use Rattle.hm_history.specs.Words.{numbers}
+use Rattle.hm_history.specs.Memory.Sequences.{is_above}
+use Rattle.hm_history.specs.Memory.Words.{numbers}
 use Rattle.hm_race_states.proofs.small.SmallSeqs.next_told.Goals as goal
 
 pub returns : goal.returns

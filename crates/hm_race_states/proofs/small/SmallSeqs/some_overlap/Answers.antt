@@ -1,6 +1,6 @@
 use Rattle.std.proofs.Common.{ap, ◌∙◌}
 use Rattle.std.specs.Prelude.{is_some}
-use Rattle.hm_history.specs.Sequences.{overlapping}
+use Rattle.hm_history.specs.Memory.Sequences.{overlapping}
 use Rattle.hm_race_states.specs.Small.{kept_seqs}
 use Rattle.hm_race_states.proofs.Settled.{any_told}
 use Rattle.hm_race_states.proofs.small.SmallSeqs.some_overlap.Goals as goal

@@ -1,5 +1,5 @@
 use Rattle.std.proofs.Common.{ap, ◌∙◌, arith}
-use Rattle.hm_history.specs.Sequences.{with_stage}
+use Rattle.hm_history.specs.Memory.Sequences.{with_stage}
 use Rattle.hm_folds.specs.Kept.{stage_of}
 use Rattle.hm_race_states.specs.Small.{kept_seqs}
 use Rattle.hm_race_states.proofs.Betweens.{interval_kept}

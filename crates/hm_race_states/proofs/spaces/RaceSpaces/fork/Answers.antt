@@ -1,6 +1,6 @@
 use Rattle.std.proofs.Common.{◌≡◌, Bool, true, false, refl, ap, ◌∙◌, arith}
 use Rattle.std.specs.Rc.{rc_value}
-use Rattle.hm_history.specs.Words.{with_at}
+use Rattle.hm_history.specs.Memory.Words.{with_at}
 use Rattle.hm_folds.proofs.Writes.{written_at}
 use Rattle.hm_race_states.specs.Spaces.{spaces_in}
 use Rattle.hm_race_states.proofs.AreaLists.{made, areas_set, areas_read}

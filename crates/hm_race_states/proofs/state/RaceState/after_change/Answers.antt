@@ -1,7 +1,7 @@
 use Rattle.std.proofs.Common.{◌∙◌, ap, Global, List, map}
 use Rattle.std.specs.Rc.{rc_value}
 use Rattle.std.specs.declared.rc.Rc.{Rc}
-use Rattle.hm_history.specs.Sequences.{sequences_next}
+use Rattle.hm_history.specs.Memory.Sequences.{sequences_next}
 use Rattle.hm_race_states.specs.Goings.{blurred_goings, goings_with}
 use Rattle.hm_race_states.specs.Small.{between_seqs, kept_seqs, settled, unguarded}
 use Rattle.hm_race_states.specs.Tasks.{going_in}

@@ -1,6 +1,6 @@
 use Rattle.std.proofs.Common.{subst}
 use Rattle.hm_race_keys.proofs.Listing.{has_each, each_once}
-use Rattle.hm_races.specs.Forms.{ListsPlaces}
+use Rattle.hm_race_laws.specs.Forms.{ListsPlaces}
 use Rattle.hm_race_keys.specs.PagePlaces.{places_in, listed}
 use Rattle.hm_race_states.proofs.state.RaceState.facts.Goals as goal
 

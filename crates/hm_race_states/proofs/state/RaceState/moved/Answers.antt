@@ -1,5 +1,5 @@
 use Rattle.std.proofs.Common.{◌≡◌, sym, ap, ◌∙◌, subst}
-use Rattle.hm_history.specs.Going.{Going, going_next}
+use Rattle.hm_history.specs.Kernel.Going.{Going, going_next}
 use Rattle.hm_actors.specs.Actors.{IsSeen}
 use Rattle.hm_race_states.specs.States.{state_in}
 use Rattle.hm_race_states.specs.Tasks.{going_in}

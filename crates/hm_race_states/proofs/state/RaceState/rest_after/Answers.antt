@@ -1,5 +1,5 @@
 use Rattle.std.proofs.Common.{◌∙◌, ap}
-use Rattle.hm_history.specs.Locks.{locks_start, orphan}
+use Rattle.hm_history.specs.Memory.Locks.{locks_start, orphan}
 use Rattle.hm_race_keys.specs.FrameTables.{lockers_in}
 use Rattle.hm_race_keys.specs.PagePlaces.{places_in, places_of}
 use Rattle.hm_race_keys.specs.Trail.{lockers_next, entry_old}

@@ -1,5 +1,5 @@
 use Rattle.std.proofs.Common.{ap, ◌∙◌}
-use Rattle.hm_history.specs.Stacks.{stack_after}
+use Rattle.hm_history.specs.Kernel.Stacks.{stack_after}
 use Rattle.hm_actors.specs.Actors.{TaskValue}
 use Rattle.hm_actors.proofs.TaskKept.{ends}
 use Rattle.hm_race_states.proofs.tasks.RaceTask.after_top.Goals as goal

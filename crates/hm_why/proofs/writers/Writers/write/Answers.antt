@@ -3,7 +3,7 @@ use Rattle.std.specs.Prelude.{Option}
 use Rattle.std.proofs.lemmas.List.{length-set}
 use Rattle.std.proofs.lemmas.Option.{slice_get_read}
 use Rattle.std.proofs.lemmas.Result.{on_ok_weaker}
-use Rattle.hm_history.specs.Plain.{owned}
+use Rattle.hm_history.specs.Memory.Plain.{owned}
 use Rattle.hm_why.specs.Sources.{is_among}
 use Rattle.hm_why.proofs.Sharing.{written}
 use Rattle.hm_why.proofs.writers.Writers.write.Goals as goal

@@ -1,6 +1,6 @@
 use Rattle.std.proofs.Common.{◌≡◌, ◌∙◌, ◌%◌, ap, sym, subst, IfOk}
-use Rattle.hm_history.specs.Words.{bytes_from}
-use Rattle.hm_history.specs.Contents.{backing, contents_of}
+use Rattle.hm_history.specs.Memory.Words.{bytes_from}
+use Rattle.hm_history.specs.Memory.Contents.{backing, contents_of}
 use Rattle.hm_world.specs.WorldValue.{now}
 use Rattle.hm_world.proofs.Pages.{at_below, held_at, shows_at, cpu_used}
 use Rattle.hm_world.proofs.reads.WorldReads.cpu_bytes.Goals as goal

@@ -1,6 +1,6 @@
 use Rattle.std.proofs.Common.{◌∙◌, ap}
 use Rattle.std.specs.Prelude.{count_by}
-use Rattle.hm_history.specs.Going.{Going}
+use Rattle.hm_history.specs.Kernel.Going.{Going}
 use Rattle.hm_world.proofs.Shown.{shown, going_now}
 use Rattle.hm_world.proofs.reads.WorldReads.moved_pages.Goals as goal
 

@@ -1,6 +1,6 @@
 use Rattle.std.proofs.Common.{◌∙◌, ap}
 use Rattle.std.specs.Prelude.{slice_get}
-use Rattle.hm_history.specs.Going.{Going}
+use Rattle.hm_history.specs.Kernel.Going.{Going}
 use Rattle.hm_world.proofs.Shown.{shown, going_now}
 use Rattle.hm_world.proofs.Ranged.{top_ranged}
 use Rattle.hm_world.proofs.reads.WorldReads.phase.Goals as goal

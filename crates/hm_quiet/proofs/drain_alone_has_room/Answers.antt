@@ -1,5 +1,0 @@
-use Rattle.hm_quiet.proofs.drains.FromStart.{drain_alone}
-use Rattle.hm_quiet.proofs.drain_alone_has_room.Goals as goal
-
-pub returns : goal.returns
-returns c = drain_alone

@@ -1,5 +1,0 @@
-use Rattle.hm_quiet.proofs.OperationsEnd.{drains_have_room}
-use Rattle.hm_quiet.proofs.drains_have_room.Goals as goal
-
-pub returns : goal.returns
-returns c = drains_have_room

@@ -1,5 +1,0 @@
-use Rattle.hm_quiet.proofs.OperationsEnd.{quiet_ends}
-use Rattle.hm_quiet.proofs.quiet_operations_end.Goals as goal
-
-pub returns : goal.returns
-returns c = quiet_ends

@@ -1,0 +1,5 @@
+use Rattle.hm_race_laws.proofs.Blurred.{blurred_is_complete}
+use Rattle.hm_race_laws.proofs.blurred_is_complete.Goals as goal
+
+pub returns : goal.returns
+returns c = blurred_is_complete

@@ -1,0 +1,5 @@
+use Rattle.hm_race_laws.proofs.Forms.{forms_go_alike}
+use Rattle.hm_race_laws.proofs.forms_go_alike.Goals as goal
+
+pub returns : goal.returns
+returns c = forms_go_alike

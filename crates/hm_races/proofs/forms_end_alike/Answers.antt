@@ -1,5 +1,0 @@
-use Rattle.hm_races.proofs.Forms.{forms_end_alike}
-use Rattle.hm_races.proofs.forms_end_alike.Goals as goal
-
-pub returns : goal.returns
-returns c = forms_end_alike

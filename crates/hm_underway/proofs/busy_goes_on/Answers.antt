@@ -1,5 +1,0 @@
-use Rattle.hm_underway.proofs.Busy.{busy_goes_on}
-use Rattle.hm_underway.proofs.busy_goes_on.Goals as goal
-
-pub returns : goal.returns
-returns c = busy_goes_on

@@ -1,5 +1,0 @@
-use Rattle.hm_underway.proofs.Invalidating.{deferred_stays_empty}
-use Rattle.hm_underway.proofs.deferred_stays_empty.Goals as goal
-
-pub returns : goal.returns
-returns c = deferred_stays_empty

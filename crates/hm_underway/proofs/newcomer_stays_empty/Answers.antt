@@ -1,5 +1,0 @@
-use Rattle.hm_underway.proofs.Invalidating.{newcomer_stays_empty}
-use Rattle.hm_underway.proofs.newcomer_stays_empty.Goals as goal
-
-pub returns : goal.returns
-returns c = newcomer_stays_empty

@@ -1,5 +1,0 @@
-use Rattle.hm_underway.proofs.Refused.{refused_leaves_plain}
-use Rattle.hm_underway.proofs.refused_leaves_plain.Goals as goal
-
-pub returns : goal.returns
-returns c = refused_leaves_plain

@@ -1,5 +1,0 @@
-use Rattle.hm_underway.proofs.Refused.{refused_removal_withdraws}
-use Rattle.hm_underway.proofs.refused_removal_withdraws.Goals as goal
-
-pub returns : goal.returns
-returns c = refused_removal_withdraws
