@@ -18,44 +18,15 @@ use Rattle.hm_history.specs.declared.Entry.{Entry}
 use Rattle.hm_history.specs.declared.Progress.{Progress}
 use Rattle.hm_history.specs.declared.phases.Migrating.{Migrating}
 use Rattle.hm_history.specs.declared.phases.Phase.{Phase}
+use Rattle.hm_history.proofs.Growing.{Grows, grows_more, grows_or_same, grows_on, grows_all}
 use Rattle.hm_history.proofs.RunLemmas.{round_from_due}
 use Rattle.hm_laws.specs.NeverStuck.{IsUnderWay, NeverStuck}
-
--- a history stays as it is, or entries are added to it
-abbrev Grows : List Entry → List Entry → Type 0
-Grows h g = (g ≡ h) ⊎ (length h < length g)
-
-grows_both : (h g k : List Entry) → Grows h g → Grows g k → Grows h k
-grows_both h g k (inl e) y = subst (λ x. Grows x k) e y
-grows_both h g k (inr more) (inl e) = inr (subst (λ x. length h < length x) (sym e) more)
-grows_both h g k (inr more) (inr y) = inr (omega arith)
-
-grows_either : (b : Bool) (h g : List Entry) → Grows h g → Grows h (elim b [ true ↦ g | false ↦ h ])
-grows_either true h g x = x
-grows_either false h g x = inl refl
 
 one_more : (h : List Entry) (e : Entry) → length h < length (h ++ e ∷ [])
 one_more h e = let one : length (h ++ e ∷ []) ≡ length h + 1 = length-append h (e ∷ []) in omega arith
 
-grows_added : (h : List Entry) (p : Progress) → Grows h (added h p)
-grows_added h (Progress.Did e) = grows_either (has_room h) h (h ++ e ∷ []) (inr (one_more h e))
-grows_added h (Progress.Waiting why) = inl refl
-grows_added h Progress.Idle = inl refl
-
-grows_on : (c : Program) (h : List Entry) (a n : ℕ) → Grows h (turns_on c h a n)
-grows_on c h a zero = inl refl
-grows_on c h a (suc n) =
-    grows_either (is_entry (due c h a) && has_room h) h (turns_on c (turn c h a) a n) (grows_both h (turn c h a) (turns_on c (turn c h a) a n) (grows_added h (due c h a)) (grows_on c (turn c h a) a n))
-
-grows_all : (c : Program) (as_ : List ℕ) (h : List Entry) → Grows h (fold (λ g a. turns_on c g a enough) h as_)
-grows_all c [] h = inl refl
-grows_all c (a ∷ as_) h =
-    let g = turns_on c h a enough in
-    grows_both h g (fold (λ x b. turns_on c x b enough) g as_) (grows_on c h a enough) (grows_all c as_ g)
-
 longer : (h g k : List Entry) → length h < length g → Grows g k → length h < length k
-longer h g k more (inl e) = subst (λ x. length h < length x) (sym e) more
-longer h g k more (inr y) = omega arith
+longer h g k more goes = omega (arith, grows_more g k goes)
 
 -- an actor that has an entry due adds it in its turns
 enough_one : enough ≡ suc (enough - 1)
@@ -79,7 +50,7 @@ turns_add c h a e d room = subst (λ n. length h < length (turns_on c h a n)) (s
 -- it was
 all_add : (c : Program) (h : List Entry) (first n b : ℕ) (e : Entry) → first ≤ b → b < first + n → due c h b ≡ Progress.Did e → has_room h ≡ true → length h < length (fold (λ g a. turns_on c g a enough) h (numbers first n))
 all_add c h first zero b e low high d room = absurd (omega arith)
-all_add c h first (suc n) b e low high d room = by (λ above. all_add c h (first + 1) n b e above (omega arith) d room) (grows_on c h first enough)
+all_add c h first (suc n) b e low high d room = by (λ above. all_add c h (first + 1) n b e above (omega arith) d room) (grows_or_same h (turns_on c h first enough) (grows_on c h first enough))
   where
     later : (first + 1 ≤ b → length h < length (fold (λ x a. turns_on c x a enough) h (numbers (first + 1) n))) → turns_on c h first enough ≡ h → (first ≡ b) ⊎ (first ≡ b → ⊥) → length h < length (fold (λ x a. turns_on c x a enough) (turns_on c h first enough) (numbers (first + 1) n))
     later rest same (inl here) =
@@ -87,7 +58,7 @@ all_add c h first (suc n) b e low high d room = by (λ above. all_add c h (first
         longer h (turns_on c h first enough) _ more (grows_all c (numbers (first + 1) n) (turns_on c h first enough))
     later rest same (inr other) = subst (λ g. length h < length (fold (λ x a. turns_on c x a enough) g (numbers (first + 1) n))) (sym same) (rest (omega (arith, other)))
 
-    by : (first + 1 ≤ b → length h < length (fold (λ x a. turns_on c x a enough) h (numbers (first + 1) n))) → Grows h (turns_on c h first enough) → length h < length (fold (λ x a. turns_on c x a enough) (turns_on c h first enough) (numbers (first + 1) n))
+    by : (first + 1 ≤ b → length h < length (fold (λ x a. turns_on c x a enough) h (numbers (first + 1) n))) → (turns_on c h first enough ≡ h) ⊎ (length h < length (turns_on c h first enough)) → length h < length (fold (λ x a. turns_on c x a enough) (turns_on c h first enough) (numbers (first + 1) n))
     by rest (inr more) = longer h (turns_on c h first enough) _ more (grows_all c (numbers (first + 1) n) (turns_on c h first enough))
     by rest (inl same) = later rest same (cases_eq first b)
 

@@ -8,7 +8,7 @@ use Rattle.hm_laws.proofs.State.Search.{lowest_none}
 use Rattle.hm_laws.proofs.Kept.PlaceLocks.{lowest_passes}
 use Rattle.hm_laws.proofs.State.NextPage.{lowest_least}
 use Rattle.hm_history.proofs.Tests.{true_false}
-use Rattle.hm_history.proofs.Placed.{is_page_true}
+use Rattle.hm_history.proofs.Placed.{is_page_true, count_cons, counted}
 
 -- all pages that pass are listed
 abbrev pub Has : (ℕ → ℕ → Bool) → List (ℕ × ℕ) → Type 0
@@ -44,21 +44,8 @@ stays p v q u (x ∷ xs) ne h = by (is_page p v x) refl (is_page q u x) refl h (
     by false e true k l ih = ap (λ z. z || list_any (is_page q u) (drop_page p v xs)) k
     by false e false k l ih = ap (λ z. z || list_any (is_page q u) (drop_page p v xs)) k ∙ ih l
 
-one_more : (t : ℕ × ℕ → Bool) (x : ℕ × ℕ) (xs : List (ℕ × ℕ)) → count_by t (x ∷ xs) ≡ cond (t x) 1 0 + count_by t xs
-one_more t x xs = from (cond (t x) 1 0) xs
-  where
-    from : (n : ℕ) (ys : List (ℕ × ℕ)) → fold (λ a y. a + cond (t y) 1 0) (0 + n) ys ≡ n + fold (λ a y. a + cond (t y) 1 0) 0 ys
-    from n ys = start (0 + n) n ys (omega arith)
-      where
-        start : (m n : ℕ) (ys : List (ℕ × ℕ)) → m ≡ n → fold (λ a y. a + cond (t y) 1 0) m ys ≡ n + fold (λ a y. a + cond (t y) 1 0) 0 ys
-        start m n [] e = omega (arith, e)
-        start m n (y ∷ ys) e = start (m + cond (t y) 1 0) (n + cond (t y) 1 0) ys (omega (arith, e)) ∙ (add_assoc n (cond (t y) 1 0) _ ∙ ap (λ z. n + z) (sym (start (0 + cond (t y) 1 0) (cond (t y) 1 0) ys (omega arith))))
-
-counted : (t : ℕ × ℕ → Bool) (x : ℕ × ℕ) (xs : List (ℕ × ℕ)) → t x ≡ true → count_by t (x ∷ xs) ≡ 1 + count_by t xs
-counted t x xs e = one_more t x xs ∙ ap (λ b. cond b 1 0 + count_by t xs) e
-
 passed : (t : ℕ × ℕ → Bool) (x : ℕ × ℕ) (xs : List (ℕ × ℕ)) → t x ≡ false → count_by t (x ∷ xs) ≡ count_by t xs
-passed t x xs e = one_more t x xs ∙ (ap (λ b. cond b 1 0 + count_by t xs) e ∙ zero-add (count_by t xs))
+passed t x xs e = count_cons t x xs ∙ (ap (λ b. cond b 1 0 + count_by t xs) e ∙ zero-add (count_by t xs))
 
 least_drop : (t : ℕ × ℕ → Bool) (p v : ℕ) (xs : List (ℕ × ℕ)) → count_by t (drop_page p v xs) ≤ count_by t xs
 least_drop t p v [] = omega arith

@@ -64,7 +64,7 @@ reads_right c s t so = record {
 pub frames_read : FramesRead
 frames_read c sc h d = let st : (t : Past) × Standing c (state_of c h) t = standing_of c sc h d in subst ReadsRight (after_is c h) (reads_right c (state_of c h).after st.0 st.1.sound)
 
-idle_lock : (c : Program) (s : After) (t : Past) (a : ℕ) (g : Going) → op_at c a g.index ≡ None → Knows c s t a g → s.locks.map a ≡ None
+pub idle_lock : (c : Program) (s : After) (t : Past) (a : ℕ) (g : Going) → op_at c a g.index ≡ None → Knows c s t a g → s.locks.map a ≡ None
 idle_lock c s t a g e k = by (op_at c a g.index) e k
   where
     by : (x : Option Op) → x ≡ None → HoldsAll s t a (facts_of x g.pages g.stack) → s.locks.map a ≡ None

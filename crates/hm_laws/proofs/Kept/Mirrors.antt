@@ -24,13 +24,6 @@ interval_of mirrors interval device h m x e = by (interval m) refl (subst (λ i.
     by None ei p = absurd p
     by (Some y) ei p = (y, ei, p)
 
-pub mirror_of : (mirrors : ℕ → Option MirrorState) (interval : ℕ → Option Interval) (device : ℕ → Option ℕ) → MirrorRules mirrors interval device → (m : ℕ) (y : Interval) → interval m ≡ Some y → (x : MirrorState) × (mirrors m ≡ Some x) × Pairing x y (device m)
-mirror_of mirrors interval device h m y e = by (mirrors m) refl (subst (λ i. Paired (mirrors m) i (device m)) e (h.paired m))
-  where
-    by : (i : Option MirrorState) → mirrors m ≡ i → Paired i (Some y) (device m) → (x : MirrorState) × (mirrors m ≡ Some x) × Pairing x y (device m)
-    by None ei p = absurd p
-    by (Some x) ei p = (x, ei, p)
-
 pub no_interval : (mirrors : ℕ → Option MirrorState) (interval : ℕ → Option Interval) (device : ℕ → Option ℕ) → MirrorRules mirrors interval device → (m : ℕ) → mirrors m ≡ None → interval m ≡ None
 no_interval mirrors interval device h m e = by (interval m) refl (subst (λ i. Paired i (interval m) (device m)) e (h.paired m))
   where

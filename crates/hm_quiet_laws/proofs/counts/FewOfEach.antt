@@ -40,10 +40,6 @@ count_any : {X : Type 0} (t : ℕ → X → Bool) (f : X → ℕ) (n : ℕ) → 
 count_any t f n h [] = count_none n
 count_any t f n h (x ∷ xs) = omega (arith, sum_by-cons f x xs, count_or (λ q. t q x) (λ q. list_any (t q) xs) n, h x, count_any t f n h xs)
 
--- one number
-beyond : (d n : ℕ) → n ≤ d → (d == n) ≡ false ⊎ (d ≡ n)
-beyond d n h = grind (arith, nat_tests)
-
 count_below : (d n : ℕ) → n ≤ d → count_upto (λ q. d == q) n ≤ 0
 count_below d zero h = omega arith
 count_below d (suc n) h = no_more (count_upto (λ q. d == q) n) (d == n) (count_below d n (omega arith)) (grind (arith, nat_tests))

@@ -43,18 +43,6 @@ count_plus t w (suc n) i f = by (cases_eq n i) (count_plus t w n i f)
     by (inl e) ih = plus_one (count_upto t n) (count_upto w n) (t n) (w n) (count_more t w n (λ k l h. f k (λ j. less k l (j ∙ sym e)) h))
     by (inr ne) ih = plus_same (count_upto t n) (count_upto w n) (t n) (w n) ih (f n ne)
 
-pub count_some : (t : ℕ → Bool) (n i : ℕ) → t i ≡ true → i < n → 1 ≤ count_upto t n
-count_some t zero i e l = absurd (omega arith)
-count_some t (suc n) i e l = by (cases_eq i n) (λ m. count_some t n i e m)
-  where
-    one : (m : ℕ) (b : Bool) → b ≡ true → 1 ≤ m + (if b then 1 else 0)
-    one m true h = omega arith
-    one m false h = cc
-
-    by : (i ≡ n) ⊎ (i ≡ n → ⊥) → (i < n → 1 ≤ count_upto t n) → 1 ≤ count_upto t n + (if t n then 1 else 0)
-    by (inl j) ih = one (count_upto t n) (t n) (ap t (sym j) ∙ e)
-    by (inr ne) ih = omega (arith, ih (omega arith))
-
 -- places on a page
 other_process : (place : ℕ → ℕ → Place) (p v : ℕ) (x : Place) (q : ℕ) → (q ≡ p → ⊥) → with_place place p v x q v ≡ place q v
 other_process place p v x q ne = grind (arith, nat_tests)
