@@ -1,15 +1,9 @@
 -- The points of turns are reached.
-use Rattle.std.proofs.Common.{◌≡◌, ℕ, ◌+◌, List, [], ◌∷◌, length, refl, ap, ◌∙◌, sym, fold, arith}
+use Rattle.std.proofs.Common.{◌≡◌, ℕ, List, [], ◌∷◌, refl, ap, ◌∙◌, fold}
 use Rattle.hm_base.specs.Program.{Program}
-use Rattle.hm_base.specs.declared.ops.Op.{Op}
-use Rattle.std.proofs.Common.{Option, Some, None}
-use Rattle.hm_history.specs.Kernel.Going.{State, op_at, state_next}
-use Rattle.hm_history.specs.Kernel.Due.{due_in, due_top, due_phase, progress}
+use Rattle.hm_history.specs.Kernel.Due.{due_in}
 use Rattle.hm_history.specs.declared.Entry.{Entry}
 use Rattle.hm_history.specs.declared.Progress.{Progress}
-use Rattle.hm_history.specs.declared.phases.Phase.{Phase}
-use Rattle.hm_history.specs.declared.phases.Next.{Next}
-use Rattle.hm_history.specs.declared.phases.Next.TheVariants.{Do, Wait}
 use Rattle.hm_race_laws.specs.Outcomes.{Point, Reached, point_from, point_turned, point_turn, point_at}
 use Rattle.hm_race_laws.proofs.Closed.{from_reached, snoc_reached}
 use Rattle.hm_history.proofs.Going.{own_actor}

@@ -6,7 +6,7 @@ use Rattle.hm_base.specs.Program.{Program}
 use Rattle.hm_base.specs.declared.cause.Cause.{Cause}
 use Rattle.hm_base.specs.declared.Place.{Place}
 use Rattle.hm_base.specs.declared.ops.Op.{Op}
-use Rattle.hm_history.specs.Memory.Words.{writable, is_empty_place, page_of}
+use Rattle.hm_history.specs.Memory.Words.{writable, page_of}
 use Rattle.hm_history.specs.Memory.Plain.{Plain, rights_of, is_read_write, plain_accepts}
 use Rattle.hm_history.specs.Memory.Places.{cpu_reads, cpu_writes}
 use Rattle.hm_history.specs.Memory.After.{After}

@@ -1,5 +1,5 @@
 -- What stands after each history.
-use Rattle.std.proofs.Common.{◌≡◌, ℕ, zero, suc, ◌+◌, ◌%◌, ◌≤◌, ◌⊎◌, inl, inr, Bool, true, false, ◌==◌, ◌&&◌, not, Option, Some, None, List, [], refl, ap, ◌∙◌, subst, arith, length}
+use Rattle.std.proofs.Common.{◌≡◌, ℕ, zero, suc, ◌+◌, ◌%◌, ◌≤◌, ◌⊎◌, inl, inr, Bool, true, false, ◌==◌, ◌&&◌, not, Option, Some, None, List, [], refl, ap, ◌∙◌, subst, arith}
 use Rattle.std.proofs.lemmas.Bool.Decides.{nat_tests}
 use Rattle.hm_base.specs.Program.{Program}
 use Rattle.hm_base.specs.declared.Place.{Place}
@@ -15,8 +15,7 @@ use Rattle.hm_laws.specs.Allowed.{shows, Allowed}
 use Rattle.std.proofs.lemmas.Bool.{cases_eq}
 use Rattle.hm_laws.proofs.Kept.Contents.{backing_is}
 use Rattle.hm_laws.specs.Facts.{facts_of, HoldsAll, Knows}
-use Rattle.std.proofs.Common.{slice_get, zero, suc}
-use Rattle.std.proofs.lemmas.Option.{slice_get_past}
+use Rattle.std.proofs.Common.{zero, suc}
 use Rattle.hm_history.specs.Memory.After.{after}
 use Rattle.hm_history.specs.Kernel.Run.{run}
 use Rattle.hm_history.specs.Kernel.Going.{Going, going_next, op_at, state_of}

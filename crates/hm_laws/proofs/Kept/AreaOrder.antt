@@ -1,6 +1,6 @@
 -- Areas stay few, and in order.
 use Rattle.std.proofs.Common.{append_assoc}
-use Rattle.std.proofs.Common.{◌≡◌, ℕ, suc, ◌+◌, ◌-◌, ◌^◌, ◌<◌, ◌≤◌, Bool, true, false, ◌==◌, ◌&&◌, ◌||◌, nat_lt, nat_le, if◌then◌else◌, not, is_none, Option, Some, None, List, [], ◌∷◌, ◌++◌, refl, ap, ◌∙◌, arith, length, min, max}
+use Rattle.std.proofs.Common.{◌≡◌, ℕ, ◌+◌, ◌-◌, ◌^◌, ◌<◌, ◌≤◌, Bool, true, false, ◌==◌, ◌&&◌, ◌||◌, nat_lt, nat_le, if◌then◌else◌, not, is_none, Option, Some, None, List, [], ◌∷◌, ◌++◌, refl, ap, ◌∙◌, arith, length, min, max}
 use Rattle.std.proofs.lemmas.Bool.Decides.{nat_tests}
 use Rattle.std.proofs.lemmas.Bool.{and_parts, and_from}
 use Rattle.hm_base.specs.Pages.{Pages, overlap}
@@ -20,7 +20,7 @@ use Rattle.hm_laws.specs.Past.{Past}
 use Rattle.hm_laws.specs.Allowed.{next, Allowed}
 use Rattle.hm_history.specs.Memory.Plain.{all_mapped}
 use Rattle.hm_laws.proofs.Due.Good.{Fair}
-use Rattle.std.proofs.Common.{min, max, suc}
+use Rattle.std.proofs.Common.{min, max}
 use Rattle.hm_laws.specs.Order.{rising, OrderRules}
 use Rattle.hm_laws.proofs.Kept.AreaCuts.{no_meet}
 use Rattle.hm_base.proofs.Shared.{length_with_area}

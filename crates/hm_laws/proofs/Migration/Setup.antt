@@ -1,5 +1,5 @@
 -- The setup of a migration: its lock, and the guard in which it goes through its pages (mm/migrate_device.c).
-use Rattle.std.proofs.Common.{◌≡◌, ℕ, ◌<◌, Bool, true, ◌&&◌, ◌==◌, nat_le, Option, Some, None, List, [], ◌∷◌, refl, sym, subst, arith}
+use Rattle.std.proofs.Common.{◌≡◌, ℕ, ◌<◌, Bool, true, ◌&&◌, ◌==◌, Option, Some, None, List, [], ◌∷◌, refl, sym, subst, arith}
 use Rattle.std.proofs.lemmas.Bool.Decides.{nat_tests}
 use Rattle.hm_base.specs.Pages.{Pages, covers, lies_in}
 use Rattle.hm_base.specs.Program.{Program}

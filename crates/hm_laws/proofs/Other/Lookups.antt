@@ -6,7 +6,7 @@ use Rattle.hm_base.specs.Program.{Program}
 use Rattle.hm_base.specs.declared.ops.Op.{Op}
 use Rattle.hm_history.specs.Memory.Words.{with_at}
 use Rattle.hm_history.specs.Memory.Plain.{MirrorState, Attachment, Attached, Detaching, Gone, is_attached_state, mirror_passes, is_attached, mirror_proc, with_attachment}
-use Rattle.hm_history.specs.Memory.Sequences.{Sequences, Interval, interval_seq, interval_proc, is_last_end, applied, applied_stage, with_seq, with_stage as with_stage, RemoveDeferred, Out}
+use Rattle.hm_history.specs.Memory.Sequences.{Sequences, Interval, interval_seq, interval_proc, is_last_end, applied, with_seq, with_stage as with_stage, RemoveDeferred, Out}
 use Rattle.hm_history.specs.Memory.After.{After}
 use Rattle.hm_history.specs.Kernel.Due.{process_seq}
 use Rattle.hm_history.specs.declared.Kind.{Kind}

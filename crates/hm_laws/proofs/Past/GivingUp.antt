@@ -20,7 +20,7 @@ use Rattle.hm_history.specs.declared.phases.Phase.{Phase}
 use Rattle.hm_laws.specs.Past.{Past}
 use Rattle.hm_laws.specs.Facts.{facts, HoldsAll}
 use Rattle.hm_laws.proofs.Past.Short.{is_given, gives}
-use Rattle.hm_history.proofs.Tests.{true_false, never}
+use Rattle.hm_history.proofs.Tests.{never}
 
 opens : (k : Kind) (seen : Seen) (body : Body) (st : List Phase) → gives (with_guard k seen body st) ≡ gives st
 opens (Kind.Start p r q) seen body st = refl

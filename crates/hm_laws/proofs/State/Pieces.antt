@@ -19,7 +19,6 @@ use Rattle.hm_laws.specs.Sound.{Sound}
 use Rattle.hm_laws.specs.Allowed.{shows, ReadsThere, Reader, PlaceOk, InPage}
 use Rattle.hm_laws.proofs.Kept.Frames.{names_stays}
 use Rattle.std.proofs.Common.{take, drop}
-use Rattle.hm_base.specs.Program.{op_fits}
 use Rattle.hm_history.specs.Memory.Words.{pieces, first_len}
 use Rattle.hm_history.specs.Kernel.Operation.{op_piece, op_bytes, piece_at}
 use Rattle.hm_history.specs.Kernel.Due.{is_used_once}

@@ -25,7 +25,7 @@ use Rattle.hm_laws.specs.Sound.{Sound}
 use Rattle.hm_laws.specs.Facts.{Fact, No_map_lock, No_guard, Locks_only, Never, Leaving, Holds, HoldsAll, facts, nothing_held}
 use Rattle.hm_laws.proofs.Due.Good.{either, either_option}
 use Rattle.hm_laws.proofs.Waits.WaitsFor.{IsBusy, HasMapLock, NoWait, ForBusy, ForHolder, no_wait_busy, busy_holder, invalidating_for, detaching_for, moving_for, locker_busy, rlock_for, wlock_for}
-use Rattle.hm_history.proofs.Tests.{true_false, no_test}
+use Rattle.hm_history.proofs.Tests.{no_test}
 
 -- faults: no mmap lock is waited for
 take_for : (c : Program) (s : After) (k : Kind) → ForBusy s (take_or c s k)

@@ -1,17 +1,14 @@
 -- From entries that are due to an actor one after the other to its turns.
-use Rattle.std.proofs.Common.{◌≡◌, ℕ, ◌+◌, ◌<◌, ◌≤◌, true, false, Option, Some, None, List, [], ◌∷◌, ◌++◌, sym, ap, ◌∙◌, subst, arith, length, fold}
+use Rattle.std.proofs.Common.{◌≡◌, ℕ, ◌+◌, ◌<◌, ◌≤◌, true, false, List, [], ◌∷◌, ◌++◌, sym, ap, ◌∙◌, subst, arith, length, fold}
 use Rattle.std.proofs.Common.{append_assoc, append-nil}
-use Rattle.std.proofs.lemmas.Bool.Decides.{nat_tests}
 use Rattle.std.proofs.lemmas.List.Sums.{fold-append}
 use Rattle.hm_base.specs.Program.{Program, IsScript}
-use Rattle.hm_base.specs.declared.ops.Op.{Op}
-use Rattle.hm_history.specs.Kernel.Going.{State, op_at, state_start, state_next, state_of, state_of-snoc}
-use Rattle.hm_history.specs.Kernel.Due.{due, due_in, due_top, due_phase, progress}
-use Rattle.hm_history.specs.Kernel.Run.{has_room, added, turn, turns}
+use Rattle.hm_history.specs.Kernel.Going.{State, state_start, state_next, state_of, state_of-snoc}
+use Rattle.hm_history.specs.Kernel.Due.{due, due_in, progress}
+use Rattle.hm_history.specs.Kernel.Run.{added, turn, turns}
 use Rattle.hm_history.specs.Laws.{DueFrom}
 use Rattle.hm_history.specs.declared.Entry.{Entry}
 use Rattle.hm_history.specs.declared.Progress.{Progress}
-use Rattle.hm_history.specs.declared.phases.Phase.{Phase}
 use Rattle.hm_history.specs.declared.phases.Next.{Next}
 use Rattle.hm_history.specs.declared.phases.Next.TheVariants.{Do, Wait}
 use Rattle.hm_laws.specs.Past.{Past, past_start, past_next}
