@@ -7,7 +7,7 @@ use Rattle.std.proofs.lemmas.List.Folds.{list_any_none, list_any_at}
 use Rattle.std.proofs.lemmas.List.Quantifiers.{position-Some}
 use Rattle.std.proofs.lemmas.List.Sums.{fails_before_first, position_or_len_is}
 use Rattle.hm_race_text.specs.Laws.{lines_of}
-use Rattle.hm_race_text.specs.declared.block.Block.{Block}
+use Rattle.hm_race_text.specs.declared.block.OutcomeBlock.{OutcomeBlock}
 use Rattle.hm_conditions.specs.declared.condition.Quantifier.{Quantifier}
 use Rattle.hm_conditions.specs.Meets.{meets}
 use Rattle.hm_conditions.specs.Judged.{holds_for, decides_for, by_witness}
@@ -55,23 +55,23 @@ holds_by_witness k outcomes = held_by k.quantifier (meets k.body) outcomes
 abbrev pub NoneBefore : (List ℕ → Bool) → List (List ℕ) → ℕ → Type 0
 NoneBefore p xs n = (k : ℕ) (d : List ℕ) → k < n → p (get_or xs k d) ≡ false
 
-line_at : (bs : List Block) (i : ℕ) (b : Block) (d : List ℕ) → b ≡ get_or bs i b → i < length bs → get_or (lines_of bs) i d ≡ b.lines
+line_at : (bs : List OutcomeBlock) (i : ℕ) (b : OutcomeBlock) (d : List ℕ) → b ≡ get_or bs i b → i < length bs → get_or (lines_of bs) i d ≡ b.lines
 line_at [] i b d is lt = absurd (omega arith)
-line_at (x ∷ bs) zero b d is lt = ap (λ (y : Block). y.lines) (sym is)
+line_at (x ∷ bs) zero b d is lt = ap (λ (y : OutcomeBlock). y.lines) (sym is)
 line_at (x ∷ bs) (suc i) b d is lt = line_at bs i b d is (omega arith)
 
-pub none_more : (p : List ℕ → Bool) (bs : List Block) (i : ℕ) (b : Block) → b ≡ get_or bs i b → i < length bs → p b.lines ≡ false → NoneBefore p (lines_of bs) i → NoneBefore p (lines_of bs) (i + 1)
+pub none_more : (p : List ℕ → Bool) (bs : List OutcomeBlock) (i : ℕ) (b : OutcomeBlock) → b ≡ get_or bs i b → i < length bs → p b.lines ≡ false → NoneBefore p (lines_of bs) i → NoneBefore p (lines_of bs) (i + 1)
 none_more p bs i b is lt fails before k d below = by (cases_eq k i)
   where
     by : (k ≡ i) ⊎ (k ≡ i → ⊥) → p (get_or (lines_of bs) k d) ≡ false
     by (inl e) = ap (λ n. p (get_or (lines_of bs) n d)) e ∙ ap p (line_at bs i b d is lt) ∙ fails
     by (inr e) = before k d (omega arith)
 
-lines_many : (bs : List Block) → length (lines_of bs) ≡ length bs
+lines_many : (bs : List OutcomeBlock) → length (lines_of bs) ≡ length bs
 lines_many [] = refl
 lines_many (b ∷ bs) = ap (λ n. suc n) (lines_many bs)
 
-pub found_at : (p : List ℕ → Bool) (bs : List Block) (i : ℕ) (b : Block) → b ≡ get_or bs i b → i < length bs → p b.lines ≡ true → NoneBefore p (lines_of bs) i → Some i ≡ position p (lines_of bs)
+pub found_at : (p : List ℕ → Bool) (bs : List OutcomeBlock) (i : ℕ) (b : OutcomeBlock) → b ≡ get_or bs i b → i < length bs → p b.lines ≡ true → NoneBefore p (lines_of bs) i → Some i ≡ position p (lines_of bs)
 found_at p bs i b is lt passes before =
     let n = lines_many bs in
     let within : i < length (lines_of bs) = omega (arith, n) in
@@ -79,7 +79,7 @@ found_at p bs i b is lt passes before =
     let t = lt-ltb i (length (lines_of bs)) within in
     sym (ap (λ k. cond (ltb k (length (lines_of bs))) (Some k) None) first ∙ ap (λ u. cond u (Some i) None) t)
 
-pub found_none : (p : List ℕ → Bool) (bs : List Block) (i : ℕ) → length bs ≤ i → NoneBefore p (lines_of bs) i → None ≡ position p (lines_of bs)
+pub found_none : (p : List ℕ → Bool) (bs : List OutcomeBlock) (i : ℕ) → length bs ≤ i → NoneBefore p (lines_of bs) i → None ≡ position p (lines_of bs)
 found_none p bs i past before =
     let n = lines_many bs in
     let first : position_or_len p (lines_of bs) ≡ length (lines_of bs) = position_or_len_is p (lines_of bs) (length (lines_of bs)) [] (omega arith) (λ k low. before k [] (omega (arith, n))) (λ low. absurd (omega arith)) in

@@ -7,7 +7,7 @@ ghost use Rattle.hm_race_text.specs.Laws.{lines_of};
 use crate::condition::{Condition, Literal, Quantifier};
 use crate::laws::holds_by_witness;
 use crate::lines::has_line;
-use hm_race_text::Block;
+use hm_race_text::OutcomeBlock;
 
 /// What outcomes say of a condition.
 #[derive(Clone, Copy, PartialEq, Eq, Debug)]
@@ -61,7 +61,7 @@ pub fn is_witness(condition: &Condition, lines: &[u8]) -> bool
 }
 
 /// The index of the first outcome that decides the condition alone.
-fn witness(condition: &Condition, blocks: &[Block]) -> Option<usize>
+fn witness(condition: &Condition, blocks: &[OutcomeBlock]) -> Option<usize>
     ensures { result ≡ witness condition.now (lines_of blocks.now) }
 {
     for at in 0..blocks.len() {
@@ -83,7 +83,7 @@ fn by_witness(quantifier: Quantifier, witness: Option<usize>) -> bool
 }
 
 /// What these outcomes say of the condition. If they are not all that there are, it is sure only with a witness.
-pub fn judge(condition: &Condition, blocks: &[Block]) -> Verdict
+pub fn judge(condition: &Condition, blocks: &[OutcomeBlock]) -> Verdict
     ensures holds { result.holds ≡ holds condition.now (lines_of blocks.now) }
     ensures witness { result.witness ≡ witness condition.now (lines_of blocks.now) }
 {

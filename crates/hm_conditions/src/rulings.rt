@@ -7,7 +7,7 @@ ghost use Rattle.hm_race_text.specs.Laws.{lines_of};
 use crate::condition::{Condition, Quantifier};
 use crate::judging::{Verdict, is_witness, judge};
 use crate::question::Question;
-use hm_race_text::Block;
+use hm_race_text::OutcomeBlock;
 
 /// What is said of a condition.
 #[derive(Clone, Copy, PartialEq, Eq, Debug)]
@@ -35,14 +35,14 @@ fn ruling_by(verdict: &Verdict, whole: bool) -> Ruling
 }
 
 /// What these outcomes say of the condition: all that there are, or some of them.
-pub fn ruling_of(condition: &Condition, blocks: &[Block], whole: bool) -> Ruling
+pub fn ruling_of(condition: &Condition, blocks: &[OutcomeBlock], whole: bool) -> Ruling
     ensures { result ≡ ruling_of condition.now (lines_of blocks.now) whole }
 {
     ruling_by(&judge(condition, blocks), whole)
 }
 
 /// Whether this is said of one of the conditions.
-fn one_has(questions: &[Question], blocks: &[Block], whole: bool, wanted: Ruling) -> bool
+fn one_has(questions: &[Question], blocks: &[OutcomeBlock], whole: bool, wanted: Ruling) -> bool
     ensures { result ≡ one_has questions.now (lines_of blocks.now) whole wanted }
 {
     for question in questions {
@@ -54,7 +54,7 @@ fn one_has(questions: &[Question], blocks: &[Block], whole: bool, wanted: Ruling
 }
 
 /// What is said of all conditions together: that one fails, or else that one is open, or that all hold.
-pub fn summary(questions: &[Question], blocks: &[Block], whole: bool) -> Ruling
+pub fn summary(questions: &[Question], blocks: &[OutcomeBlock], whole: bool) -> Ruling
     ensures { result ≡ summary questions.now (lines_of blocks.now) whole }
 {
     if one_has(questions, blocks, whole, Ruling::Fails) {

@@ -11,7 +11,7 @@ use crate::question::Question;
 use crate::rulings::{Ruling, ruling_of};
 use hm_base::{NoMemory, Text};
 use hm_race_search::End;
-use hm_race_text::{Block, add_outcome, add_states};
+use hm_race_text::{OutcomeBlock, add_outcome, add_states};
 use std::alloc::Global;
 
 /// Whether the search knows all states.
@@ -49,7 +49,7 @@ fn add_line(text: &mut Text, question: &Question, ruling: Ruling) -> Result<(), 
 fn add_witness(
     alloc: Global,
     text: &mut Text,
-    blocks: &[Block],
+    blocks: &[OutcomeBlock],
     witness: Option<usize>,
 ) -> Result<(), NoMemory>
     ensures { OnOk result (text.new ≡ text.old ++ witness_text blocks.now witness) }
@@ -69,7 +69,7 @@ fn add_question(
     alloc: Global,
     text: &mut Text,
     question: &Question,
-    blocks: &[Block],
+    blocks: &[OutcomeBlock],
     whole: bool,
 ) -> Result<(), NoMemory>
     ensures { OnOk result (text.new ≡ text.old ++ question_text blocks.now whole question.now) }
@@ -88,7 +88,7 @@ fn add_questions(
     alloc: Global,
     text: &mut Text,
     questions: &[Question],
-    blocks: &[Block],
+    blocks: &[OutcomeBlock],
     whole: bool,
 ) -> Result<(), NoMemory>
     ensures { OnOk result (text.new ≡ text.old ++ questions_text blocks.now whole questions.now) }
@@ -105,7 +105,7 @@ fn add_questions(
 pub fn rulings_text(
     alloc: Global,
     questions: &[Question],
-    blocks: &[Block],
+    blocks: &[OutcomeBlock],
     states: u64,
     end: End,
 ) -> Result<Text, NoMemory>

@@ -16,7 +16,7 @@ use Rattle.hm_tables.specs.Steps.{with_uses, without_use_of, with_use_of, with_m
 use Rattle.hm_folds.specs.Fitted.{IsFitted}
 use Rattle.hm_folds.specs.HeldFrames.{frames_in}
 use Rattle.hm_folds.specs.Places.{HoldsNamed}
-use Rattle.hm_folds.specs.declared.held.Held.{Held}
+use Rattle.hm_folds.specs.declared.held.HeldNumbers.{HeldNumbers}
 use Rattle.hm_folds.proofs.HeldPools.{held_within}
 
 length_set : {X : Type 0} (xs : List X) (i : ℕ) (x : X) → length (set xs i x) ≡ length xs
@@ -62,14 +62,14 @@ sizes_kept p v old y pools pool = by (freezes old y) (keeps_use old y)
     by false true = refl
     by false false = size_into p v (is_moving y) (names y) (without_use_of p v (names old) pools) pool ∙ size_out p v (names old) pools pool
 
-pub fitted_next : (x y z : Tables) (held : List Held) (p v : ℕ) (place : Place) → IsFitted x held → SameTables x y → z ≡ tables_next (Kind.Place p v place) y → IsFitted z held
+pub fitted_next : (x y z : Tables) (held : List HeldNumbers) (p v : ℕ) (place : Place) → IsFitted x held → SameTables x y → z ≡ tables_next (Kind.Place p v place) y → IsFitted z held
 fitted_next x y z held p v place h same e = record { sizes = λ pool. h.sizes pool ∙ sym (same.pools.sizes pool) ∙ sym (sizes_kept p v (place_of y p v) place y.pools pool) ∙ sym (ap (λ (t : Tables). size_in t.pools pool) e) }
 
 -- what is held is one of its pool, in the tables too
-pub named_fits : (x : Tables) (held : List Held) → IsFitted x held → (o : Option Frame) → HoldsNamed held o → FrameFits (size_in x.pools) o
+pub named_fits : (x : Tables) (held : List HeldNumbers) → IsFitted x held → (o : Option Frame) → HoldsNamed held o → FrameFits (size_in x.pools) o
 named_fits x held h None k = tt
 named_fits x held h (Some f) k = subst (λ n. f.number < n) (h.sizes f.pool) (held_within held f k)
 
-pub size_fits : (size : PoolId → ℕ) (held : List Held) → ((pool : PoolId) → frames_in held pool ≡ size pool) → (o : Option Frame) → HoldsNamed held o → FrameFits size o
+pub size_fits : (size : PoolId → ℕ) (held : List HeldNumbers) → ((pool : PoolId) → frames_in held pool ≡ size pool) → (o : Option Frame) → HoldsNamed held o → FrameFits size o
 size_fits size held h None k = tt
 size_fits size held h (Some f) k = subst (λ n. f.number < n) (h f.pool) (held_within held f k)

@@ -3,8 +3,8 @@ use Rattle.std.specs.Prelude.{◌≡◌, List}
 use Rattle.hm_base.specs.declared.PoolId.{PoolId}
 use Rattle.hm_tables.specs.Values.{Tables, size_in}
 use Rattle.hm_folds.specs.HeldFrames.{frames_in}
-use Rattle.hm_folds.specs.declared.held.Held.{Held}
+use Rattle.hm_folds.specs.declared.held.HeldNumbers.{HeldNumbers}
 
 -- for each pool, tables and held frames speak of the same frames
-pub record IsFitted (tables : Tables) (held : List Held) : Type 0 where
+pub record IsFitted (tables : Tables) (held : List HeldNumbers) : Type 0 where
   pub sizes : (pool : PoolId) → frames_in held pool ≡ size_in tables.pools pool

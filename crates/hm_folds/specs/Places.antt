@@ -14,7 +14,7 @@ use Rattle.hm_folds.specs.Commits.{committed_at}
 use Rattle.hm_folds.specs.Shares.{shares_at}
 use Rattle.hm_folds.specs.Standing.{shares_where, is_backed, is_moving_of}
 use Rattle.hm_folds.specs.MirrorTables.{tables_of, numbers_of}
-use Rattle.hm_folds.specs.declared.held.Held.{Held}
+use Rattle.hm_folds.specs.declared.held.HeldNumbers.{HeldNumbers}
 use Rattle.hm_folds.specs.declared.places.PlaceState.{PlaceState}
 
 -- each read of the fold answers as the state does; what a place names is held in it, and no place shares what a
@@ -42,12 +42,12 @@ abbrev pub owners_of : PlaceState → ℕ → Option ℕ
 owners_of x = numbers_of x.owners
 
 -- what a step asks of the frames that are held
-abbrev pub HoldsNamed : List Held → Option Frame → Type 0
+abbrev pub HoldsNamed : List HeldNumbers → Option Frame → Type 0
 HoldsNamed held None = Unit {0}
 HoldsNamed held (Some f) = held_at held f ≡ true
 
 -- what an entry asks of the frames that are held, so that the fold can take it
-abbrev pub StepFits : List Held → Kind → Type 0
+abbrev pub StepFits : List HeldNumbers → Kind → Type 0
 StepFits held (Kind.Place p v y) = HoldsNamed held (names y)
 StepFits held (Kind.Take f) =
     least (λ n. not (held_at held (frame_of f.pool n))) 0 (frames_in held f.pool) ≡ Some f.number

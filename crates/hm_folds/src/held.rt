@@ -10,7 +10,7 @@ use std::alloc::Global;
 
 /// The frames of a pool: those that are held, and how many there are.
 #[derive(Drop)]
-pub struct Held {
+pub struct HeldNumbers {
     frames: u64,
     // No frame from there on was ever held.
     next: u64,
@@ -20,13 +20,13 @@ pub struct Held {
     ghost sound: { IsHeld frames next held free },
 }
 
-impl Held {
+impl HeldNumbers {
     /// So many frames, of which none is held. It takes no memory.
-    pub fn new(alloc: Global, frames: u32) -> Held
+    pub fn new(alloc: Global, frames: u32) -> HeldNumbers
         ensures frames { result.frames ≡ frames }
         ensures held { (n : ℕ) → has_number result.held n ≡ false }
     {
-        Held {
+        HeldNumbers {
             frames: u64::from(frames),
             next: 0,
             held: Numbers::new(alloc),

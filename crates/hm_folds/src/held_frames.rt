@@ -7,7 +7,7 @@ ghost use Rattle.hm_history.specs.Memory.Words.{least};
 ghost use Rattle.hm_history.specs.Memory.Places.{frame_of, pool_size};
 ghost use Rattle.hm_folds.specs.HeldFrames.{held_at, frames_in};
 
-use crate::held::Held;
+use crate::held::HeldNumbers;
 use hm_base::frames::pool_index;
 use hm_base::{Dev, DeviceList, Frame, NoMemory, PoolId, Script};
 use std::alloc::Global;
@@ -15,7 +15,7 @@ use std::alloc::Global;
 /// The pools of a script: the system's, and those of four devices.
 #[derive(Drop)]
 pub struct HeldFrames {
-    pools: [Held; 5],
+    pools: [HeldNumbers; 5],
 }
 
 impl HeldFrames {
@@ -27,11 +27,11 @@ impl HeldFrames {
         script.facts();
         HeldFrames {
             pools: [
-                Held::new(alloc, script.frames),
-                Held::new(alloc, frames_of(&script.devices, 0)),
-                Held::new(alloc, frames_of(&script.devices, 1)),
-                Held::new(alloc, frames_of(&script.devices, 2)),
-                Held::new(alloc, frames_of(&script.devices, 3)),
+                HeldNumbers::new(alloc, script.frames),
+                HeldNumbers::new(alloc, frames_of(&script.devices, 0)),
+                HeldNumbers::new(alloc, frames_of(&script.devices, 1)),
+                HeldNumbers::new(alloc, frames_of(&script.devices, 2)),
+                HeldNumbers::new(alloc, frames_of(&script.devices, 3)),
             ],
         }
     }

@@ -3,7 +3,7 @@ use Rattle.std.proofs.Common.{◌≡◌, ℕ, ◌+◌, ◌<◌, ◌≤◌, suc, 
 use Rattle.std.proofs.lemmas.List.{length-append, length-map, get_or_past, take-append-drop, length-take-le, reverse-append, get_or_append_left, get_or_at}
 use Rattle.hm_race_laws.specs.Outcomes.{Point}
 use Rattle.hm_race_search.specs.declared.known.Known.{Known}
-use Rattle.hm_race_search.specs.declared.known.Turn.{Turn}
+use Rattle.hm_race_search.specs.declared.known.Edge.{Edge}
 use Rattle.hm_race_search.specs.Known.{KnownValue, turns_at}
 use Rattle.hm_race_search.specs.Values.{turns_by, known_of, with_known, all_known, from_of}
 use Rattle.hm_race_search.proofs.Exploring.{known_length, turns_left, turns_last, turns_kept, fold_begins}
@@ -38,7 +38,7 @@ value_in form vs (m ∷ ns) (suc i) k n d e l is = value_in form (with_known for
 pub value_at : {K : Type 0} (form : K → Point) (ns : List (Known K)) (i : ℕ) (n : Known K) (d : KnownValue) → i < length ns → n ≡ get_or ns i n → get_or (all_known form ns) i d ≡ record { form = form n.key; turns = turns_at (all_known form ns) i; ended = n.ended }
 value_at form ns i n d l is = value_in form [] ns i i n d (omega arith) l is
 
-some_within : {K : Type 0} (ns : List (Known K)) (at : ℕ) (turn : Turn) → from_of ns at ≡ Some turn → at < length ns
+some_within : {K : Type 0} (ns : List (Known K)) (at : ℕ) (turn : Edge) → from_of ns at ≡ Some turn → at < length ns
 some_within [] zero turn e = cc
 some_within [] (suc at) turn e = cc
 some_within (n ∷ ns) zero turn e = omega arith
@@ -53,7 +53,7 @@ module _ {K : Type 0} (form : K → Point) (ns : List (Known K)) (at : ℕ) wher
   ends_none all turns e is = sym (is ∙ ap (λ z. z ++ reverse turns) (first ∙ ap (turns_by (all_known form (take at ns))) e))
 
   -- a turn led to it from a state before it
-  turn_before : (turn : Turn) → from_of ns at ≡ Some turn → turn.state < at → turns_at (all_known form ns) at ≡ turns_at (all_known form ns) turn.state ++ turn.actor ∷ []
+  turn_before : (turn : Edge) → from_of ns at ≡ Some turn → turn.state < at → turns_at (all_known form ns) at ≡ turns_at (all_known form ns) turn.state ++ turn.actor ∷ []
   turn_before turn e l = first ∙ (ap (turns_by (all_known form (take at ns))) e ∙ ap (λ z. z ++ turn.actor ∷ []) same)
     where
       m : at < length ns
@@ -63,14 +63,14 @@ module _ {K : Type 0} (form : K → Point) (ns : List (Known K)) (at : ℕ) wher
       same = sym (turns_kept form (take at ns) (drop at ns) turn.state (omega (arith, l, m, length-take-le at ns (omega (arith, m))))) ∙ ap (λ z. turns_at (all_known form z) turn.state) (take-append-drop at ns)
 
   -- or from none before it
-  turn_from_none : (turn : Turn) → from_of ns at ≡ Some turn → at ≤ turn.state → turns_at (all_known form ns) at ≡ turn.actor ∷ []
+  turn_from_none : (turn : Edge) → from_of ns at ≡ Some turn → at ≤ turn.state → turns_at (all_known form ns) at ≡ turn.actor ∷ []
   turn_from_none turn e l = let m = some_within ns at turn e in first ∙ (ap (turns_by (all_known form (take at ns))) e ∙ ap (λ z. z ++ turn.actor ∷ []) (turns_past (all_known form (take at ns)) turn.state (omega (arith, l, known_length form (take at ns), length-take-le at ns (omega (arith, m))))))
 
   found_more : (all turns t u : List ℕ) (a : ℕ) → all ≡ t ++ reverse turns → t ≡ u ++ a ∷ [] → all ≡ u ++ reverse (turns ++ a ∷ [])
   found_more all turns t u a e f = e ∙ (ap (λ z. z ++ reverse turns) f ∙ (append_assoc u (a ∷ []) (reverse turns) ∙ ap (λ z. u ++ z) (sym (reverse-append turns (a ∷ [])))))
 
-  pub goes_back : (all turns more : List ℕ) (turn : Turn) → from_of ns at ≡ Some turn → turn.state < at → more ≡ turns ++ turn.actor ∷ [] → all ≡ turns_at (all_known form ns) at ++ reverse turns → all ≡ turns_at (all_known form ns) turn.state ++ reverse more
+  pub goes_back : (all turns more : List ℕ) (turn : Edge) → from_of ns at ≡ Some turn → turn.state < at → more ≡ turns ++ turn.actor ∷ [] → all ≡ turns_at (all_known form ns) at ++ reverse turns → all ≡ turns_at (all_known form ns) turn.state ++ reverse more
   goes_back all turns more turn e l m is = found_more all turns _ _ turn.actor is (turn_before turn e l) ∙ ap (λ z. turns_at (all_known form ns) turn.state ++ reverse z) (sym m)
 
-  pub ends_some : (all turns more : List ℕ) (turn : Turn) → from_of ns at ≡ Some turn → at ≤ turn.state → more ≡ turns ++ turn.actor ∷ [] → all ≡ turns_at (all_known form ns) at ++ reverse turns → reverse more ≡ all
+  pub ends_some : (all turns more : List ℕ) (turn : Edge) → from_of ns at ≡ Some turn → at ≤ turn.state → more ≡ turns ++ turn.actor ∷ [] → all ≡ turns_at (all_known form ns) at ++ reverse turns → reverse more ≡ all
   ends_some all turns more turn e l m is = ap reverse m ∙ sym (found_more all turns _ [] turn.actor is (turn_from_none turn e l))

@@ -7,17 +7,17 @@ use Rattle.hm_race_laws.specs.Outcomes.{Point}
 use Rattle.hm_race_laws.specs.Closed.{IsListed, AreDistinct}
 use Rattle.hm_race_search.specs.Buckets.{BucketsValue}
 use Rattle.hm_race_search.specs.Known.{KnownValue, turns_at, Explores, IsNear}
-use Rattle.hm_race_search.specs.declared.known.Turn.{Turn}
+use Rattle.hm_race_search.specs.declared.known.Edge.{Edge}
 use Rattle.hm_race_search.specs.declared.known.Known.{Known}
 
 -- the turns that lead to a state after a turn at one of these
-abbrev pub turns_by : List KnownValue → Option Turn → List ℕ
+abbrev pub turns_by : List KnownValue → Option Edge → List ℕ
 turns_by vs None = []
 turns_by vs (Some turn) = turns_at vs turn.state ++ turn.actor ∷ []
 
 -- the turn that led first to the state at a place
-abbrev pub from_of : {K : Type 0} → List (Known K) → ℕ → Option Turn
-from_of ns at = elim (slice_get ns at) as (λ z. Option Turn) [ None ↦ None | Some n ↦ n.from ]
+abbrev pub from_of : {K : Type 0} → List (Known K) → ℕ → Option Edge
+from_of ns at = elim (slice_get ns at) as (λ z. Option Edge) [ None ↦ None | Some n ↦ n.from ]
 
 -- what contracts see of a state that is known, after these; `form` reads its key
 abbrev pub known_of : {K : Type 0} → (K → Point) → List KnownValue → Known K → KnownValue

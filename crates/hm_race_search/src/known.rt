@@ -11,7 +11,7 @@ use std::alloc::Global;
 
 /// A turn of an actor, at the known state with this index.
 #[derive(Clone, Copy)]
-pub struct Turn {
+pub struct Edge {
     pub state: usize,
     pub actor: Actor,
 }
@@ -21,7 +21,7 @@ pub struct Turn {
 #[derive(Drop)]
 pub struct Known<K> {
     pub key: K,
-    pub from: Option<Turn>,
+    pub from: Option<Edge>,
     pub depth: u64,
     pub ended: bool,
 }
@@ -80,7 +80,7 @@ impl<K: RaceKey + Drop> States<K> {
 }
 
 // The turn that led first to the state at this place.
-fn turn_to<K>(known: &[Known<K>], at: usize) -> Option<Turn>
+fn turn_to<K>(known: &[Known<K>], at: usize) -> Option<Edge>
     ensures { result ≡ from_of known.now at }
 {
     match known.get(at) {

@@ -8,6 +8,6 @@ mod race;
 mod search;
 
 pub use goal::{Goal, Nowhere};
-pub use known::{Known, Turn, turns_to};
+pub use known::{Edge, Known, turns_to};
 pub use race::{Race, RaceKey};
 pub use search::{End, Explored, explore};

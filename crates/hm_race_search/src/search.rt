@@ -11,7 +11,7 @@ ghost use Rattle.hm_race_search.specs.Known.{IsComplete, HaveForms, AreReal, Are
 ghost use Rattle.hm_race_search.specs.Known.{IsCut, IsNear, MayFail};
 
 use crate::goal::{Goal, any_reached};
-use crate::known::{Known, States, Turn};
+use crate::known::{Edge, Known, States};
 use crate::race::{Race, RaceKey};
 use hm_base::{Actor, MOST_ENTRIES, NoMemory};
 use hm_history::StepError;
@@ -48,7 +48,7 @@ fn add<R: Race>(
     alloc: Global,
     states: &mut States<R::Key>,
     key: R::Key,
-    turn: Turn,
+    turn: Edge,
     depth: u64,
 ) -> Result<(), StepError>
     requires searching { Searching (R.script race.now) (R.set_up race.now) R.Key.form R.Key.number R.Key.Valid
@@ -87,7 +87,7 @@ fn go<R: Race>(
     race: &R,
     alloc: Global,
     states: &mut States<R::Key>,
-    turn: Turn,
+    turn: Edge,
 ) -> Result<(), StepError>
     requires searching { Searching (R.script race.now) (R.set_up race.now) R.Key.form R.Key.number R.Key.Valid
         states.old.known.items states.old.buckets turn.state }
@@ -133,7 +133,7 @@ fn step<R: Race>(
 {
     race.facts();
     for number in 0..race.actors() {
-        let turn = Turn {
+        let turn = Edge {
             state: at,
             actor: Actor::new(number),
         };

@@ -1,7 +1,7 @@
 -- The answers of outcomes, each a line of their text.
 use Rattle.std.specs.Prelude.{ℕ, ◌==◌, List, [], map, slice_get, unwrap_or}
 use Rattle.std.specs.List.{before_first}
-use Rattle.hm_race_text.specs.declared.block.Block.{Block}
+use Rattle.hm_race_text.specs.declared.block.OutcomeBlock.{OutcomeBlock}
 use Rattle.hm_script.specs.Automaton.{lines}
 
 -- the answers of one outcome
@@ -13,7 +13,7 @@ abbrev pub answers : List ℕ → Row
 answers text = map (before_first (λ b. b == 10)) (lines text)
 
 -- the answers of each outcome
-abbrev pub rows_of : List Block → List Row
+abbrev pub rows_of : List OutcomeBlock → List Row
 rows_of bs = map (λ b. answers b.lines) bs
 
 -- the answer at a position, and nothing after the last

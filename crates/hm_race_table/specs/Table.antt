@@ -2,7 +2,7 @@
 use Rattle.std.specs.Prelude.{ℕ, ◌+◌, ◌-◌, List, [], ◌∷◌, ◌++◌, length, replicate, codes}
 use Rattle.std.specs.List.{flat_map}
 use Rattle.std.specs.Fmt.{decimal}
-use Rattle.hm_race_text.specs.declared.block.Block.{Block}
+use Rattle.hm_race_text.specs.declared.block.OutcomeBlock.{OutcomeBlock}
 use Rattle.hm_race_search.specs.declared.search.End.{End}
 use Rattle.hm_race_text.specs.Text.{states_line}
 use Rattle.hm_race_table.specs.declared.columns.Column.{Column}
@@ -45,5 +45,5 @@ abbrev pub table_of : List Row → List ℕ
 table_of rows = shared_text (shared rows) ++ rows_text (columns rows) (number_width rows) 1 rows
 
 -- the table of the outcomes, and the last line
-unfoldable pub table_text : List Block → ℕ → End → List ℕ
+unfoldable pub table_text : List OutcomeBlock → ℕ → End → List ℕ
 table_text bs states end = table_of (rows_of bs) ++ states_line states end

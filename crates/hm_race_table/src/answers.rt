@@ -4,7 +4,7 @@ ghost use Rattle.std.specs.List.{before_first};
 ghost use Rattle.hm_race_table.specs.Answers.{answer_at, answers, rows_of};
 
 use hm_base::{ListOf, NoMemory, Text};
-use hm_race_text::Block;
+use hm_race_text::OutcomeBlock;
 use hm_script::cut_line;
 use std::alloc::Global;
 
@@ -43,7 +43,7 @@ fn answers_in(alloc: Global, lines: &[u8]) -> Result<AnswerList, NoMemory>
 }
 
 /// The answers of each outcome.
-pub fn rows_of(alloc: Global, blocks: &[Block]) -> Result<ListOf<AnswerList>, NoMemory>
+pub fn rows_of(alloc: Global, blocks: &[OutcomeBlock]) -> Result<ListOf<AnswerList>, NoMemory>
     ensures { IfOk result (λ rows. rows ≡ rows_of blocks.now) }
 {
     let mut rows = ListOf::new(alloc);

@@ -8,7 +8,7 @@ use crate::row::add_rows;
 use crate::shared::add_shared;
 use hm_base::{NoMemory, Text};
 use hm_race_search::End;
-use hm_race_text::{Block, add_states};
+use hm_race_text::{OutcomeBlock, add_states};
 use std::alloc::Global;
 
 /// Adds the table of these answers.
@@ -24,7 +24,12 @@ fn add_table(alloc: Global, text: &mut Text, rows: &[AnswerList]) -> Result<(), 
 
 /// The outcomes as a table, and how many states a search knows.
 #[tactic(auto, using(std::proofs::Common::append_assoc), unfolding(crate::specs::Table::table_text))]
-pub fn table_text(alloc: Global, blocks: &[Block], states: u64, end: End) -> Result<Text, NoMemory>
+pub fn table_text(
+    alloc: Global,
+    blocks: &[OutcomeBlock],
+    states: u64,
+    end: End,
+) -> Result<Text, NoMemory>
     ensures { IfOk result (λ t. t ≡ table_text blocks.now states end) }
 {
     let rows = rows_of(alloc, blocks)?;

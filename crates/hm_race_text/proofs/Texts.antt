@@ -6,20 +6,20 @@ use Rattle.hm_history.specs.declared.Kind.{Kind}
 use Rattle.hm_history.proofs.Numbers.{numbers_append}
 use Rattle.hm_race_text.specs.Answers.{actor_lines, lines_from, answer_lines}
 use Rattle.hm_race_text.specs.Text.{block_text, blocks_text}
-use Rattle.hm_race_text.specs.declared.block.Block.{Block}
+use Rattle.hm_race_text.specs.declared.block.OutcomeBlock.{OutcomeBlock}
 
-blocks_append : (n : ℕ) (xs ys : List Block) → blocks_text n (xs ++ ys) ≡ blocks_text n xs ++ blocks_text (n + length xs) ys
+blocks_append : (n : ℕ) (xs ys : List OutcomeBlock) → blocks_text n (xs ++ ys) ≡ blocks_text n xs ++ blocks_text (n + length xs) ys
 blocks_append n [] ys = ap (λ k. blocks_text k ys) (sym (add-zero n))
 blocks_append n (x ∷ xs) ys =
     let more : (n + 1) + length xs ≡ n + suc (length xs) = omega arith in
     ap (λ (z : List ℕ). block_text n x ++ z) (blocks_append (n + 1) xs ys ∙ ap (λ k. blocks_text (n + 1) xs ++ blocks_text k ys) more)
     ∙ sym (append_assoc (block_text n x) (blocks_text (n + 1) xs) (blocks_text (n + suc (length xs)) ys))
 
-pub one_block : (bs : List Block) (i : ℕ) (b : Block) (old text new : List ℕ) → i < length bs → b ≡ get_or bs i b → text ≡ old ++ blocks_text 1 (take i bs) → new ≡ text ++ block_text (i + 1) b → new ≡ old ++ blocks_text 1 (take (i + 1) bs)
+pub one_block : (bs : List OutcomeBlock) (i : ℕ) (b : OutcomeBlock) (old text new : List ℕ) → i < length bs → b ≡ get_or bs i b → text ≡ old ++ blocks_text 1 (take i bs) → new ≡ text ++ block_text (i + 1) b → new ≡ old ++ blocks_text 1 (take (i + 1) bs)
 one_block bs i b old text new below is so next =
     let le : i ≤ length bs = omega arith in
     let at : 1 + length (take i bs) ≡ i + 1 = omega (arith, length-take-le i bs le) in
-    let front : take (i + 1) bs ≡ take i bs ++ b ∷ [] = take_more bs i b below ∙ ap (λ (x : Block). take i bs ++ x ∷ []) (sym is) in
+    let front : take (i + 1) bs ≡ take i bs ++ b ∷ [] = take_more bs i b below ∙ ap (λ (x : OutcomeBlock). take i bs ++ x ∷ []) (sym is) in
     next ∙ ap (λ (z : List ℕ). z ++ block_text (i + 1) b) so ∙ append_assoc old (blocks_text 1 (take i bs)) (block_text (i + 1) b)
     ∙ ap (λ (z : List ℕ). old ++ z) (sym (ap (blocks_text 1) front ∙ blocks_append 1 (take i bs) (b ∷ []) ∙ ap (λ k. blocks_text 1 (take i bs) ++ blocks_text k (b ∷ [])) at
     ∙ ap (λ (z : List ℕ). blocks_text 1 (take i bs) ++ z) (append-nil (block_text (i + 1) b))))

@@ -15,7 +15,7 @@ use Rattle.hm_script.specs.Spelling.{text}
 use Rattle.hm_race_text.specs.Answers.{answer_lines}
 use Rattle.hm_race_text.specs.Schedule.{with_turns}
 use Rattle.hm_race_text.specs.Text.{Way, block_of, blocks_of, turns_text}
-use Rattle.hm_race_text.specs.declared.block.Block.{Block}
+use Rattle.hm_race_text.specs.declared.block.OutcomeBlock.{OutcomeBlock}
 
 -- ---- schedules
 
@@ -63,17 +63,17 @@ PointsAreLed =
 -- ---- blocks
 
 -- a way that is listed, whose block this is
-pub record IsFound (ws : List Way) (b : Block) : Type 0 where
+pub record IsFound (ws : List Way) (b : OutcomeBlock) : Type 0 where
   pub way : Way
   pub listed : IsListed ws way
   pub block : block_of way ≡ b
 
 -- each block that is written comes from a way that was found
 abbrev pub BlocksAreFound : Type 0
-BlocksAreFound = (ws : List Way) (b : Block) → IsListed (blocks_of ws) b → IsFound ws b
+BlocksAreFound = (ws : List Way) (b : OutcomeBlock) → IsListed (blocks_of ws) b → IsFound ws b
 
 -- each way's answers are those of a block
-abbrev pub lines_of : List Block → List (List ℕ)
+abbrev pub lines_of : List OutcomeBlock → List (List ℕ)
 lines_of bs = map (λ b. b.lines) bs
 
 -- each way that was found has its answers written

@@ -8,7 +8,7 @@ use Rattle.hm_history.specs.declared.Kind.{Kind}
 use Rattle.hm_script.specs.Spelling.{line, schedule_words}
 use Rattle.hm_race_text.specs.Answers.{answer_lines}
 use Rattle.hm_race_text.specs.Schedule.{packed}
-use Rattle.hm_race_text.specs.declared.block.Block.{Block}
+use Rattle.hm_race_text.specs.declared.block.OutcomeBlock.{OutcomeBlock}
 use Rattle.hm_race_search.specs.declared.search.End.{End}
 
 -- the answers of the actors at the end of a race, and turns that lead there
@@ -17,19 +17,19 @@ pub record Way : Type 0 where
   pub turns : List ℕ
 
 -- the block of a way, whose answers are written as lines
-abbrev pub block_of : Way → Block
+abbrev pub block_of : Way → OutcomeBlock
 block_of w = record { lines = answer_lines w.answers; turns = w.turns }
 
 -- some block has these lines
-abbrev pub has_lines : List ℕ → List Block → Bool
+abbrev pub has_lines : List ℕ → List OutcomeBlock → Bool
 has_lines lines bs = list_any (λ b. bytes_eq b.lines lines) bs
 
 -- with one more, unless its lines are there already
-abbrev pub with_block : List Block → Block → List Block
+abbrev pub with_block : List OutcomeBlock → OutcomeBlock → List OutcomeBlock
 with_block bs b = if has_lines b.lines bs then bs else bs ++ b ∷ []
 
 -- of these ways the first to each outcome
-abbrev pub blocks_of : List Way → List Block
+abbrev pub blocks_of : List Way → List OutcomeBlock
 blocks_of ws = fold (λ bs w. with_block bs (block_of w)) [] ws
 
 -- the lines of a schedule
@@ -45,11 +45,11 @@ abbrev pub outcome_line : ℕ → List ℕ
 outcome_line n = line (codes "outcome" ∷ decimal n ∷ [])
 
 -- an outcome: its number, the answers, and turns that lead to it
-abbrev pub block_text : ℕ → Block → List ℕ
+abbrev pub block_text : ℕ → OutcomeBlock → List ℕ
 block_text n b = outcome_line n ++ (b.lines ++ turns_text b.turns)
 
 -- the blocks, numbered from one on
-abbrev pub blocks_text : ℕ → List Block → List ℕ
+abbrev pub blocks_text : ℕ → List OutcomeBlock → List ℕ
 blocks_text n [] = []
 blocks_text n (b ∷ bs) = block_text n b ++ blocks_text (n + 1) bs
 
@@ -64,5 +64,5 @@ abbrev pub states_line : ℕ → End → List ℕ
 states_line states end = line (codes "states" ∷ decimal states ∷ end_word end ∷ [])
 
 -- all outcomes, and the last line
-unfoldable pub outcomes_text : List Block → ℕ → End → List ℕ
+unfoldable pub outcomes_text : List OutcomeBlock → ℕ → End → List ℕ
 outcomes_text bs states end = blocks_text 1 bs ++ states_line states end

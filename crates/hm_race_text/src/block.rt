@@ -6,12 +6,12 @@ use hm_base::{Actor, ListOf, NoMemory, Text};
 
 /// The lines of an outcome's answers, and turns that lead to it.
 #[derive(Drop)]
-pub struct Block {
+pub struct OutcomeBlock {
     pub lines: Text,
     pub turns: ListOf<Actor>,
 }
 
-fn has_lines(blocks: &[Block], lines: &[u8]) -> bool
+fn has_lines(blocks: &[OutcomeBlock], lines: &[u8]) -> bool
     ensures { result ≡ has_lines lines.now blocks.now }
 {
     for block in blocks {
@@ -23,7 +23,7 @@ fn has_lines(blocks: &[Block], lines: &[u8]) -> bool
 }
 
 /// Adds a block at the end, unless its lines are there already.
-pub fn add_block(blocks: &mut ListOf<Block>, block: Block) -> Result<(), NoMemory>
+pub fn add_block(blocks: &mut ListOf<OutcomeBlock>, block: OutcomeBlock) -> Result<(), NoMemory>
     ensures { OnOk result (blocks.new ≡ with_block blocks.old block) }
 {
     if has_lines(blocks.as_slice(), block.lines.as_slice()) {

@@ -10,7 +10,7 @@ mod schedule;
 mod turned;
 
 pub use answers::answer_lines;
-pub use block::{Block, add_block};
+pub use block::{OutcomeBlock, add_block};
 pub use decimal::add_decimal;
 pub use laws::{
     blocks_are_found, none_twice, points_are_led, same_due, same_legal, turns_come_last,

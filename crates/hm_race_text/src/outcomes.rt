@@ -3,7 +3,7 @@ ghost use Rattle.std.specs.Prelude.{◌≡◌, ◌∷◌, ◌++◌, [], IfOk, On
 ghost use Rattle.hm_race_text.specs.Text.{end_word, outcome_line, block_text, blocks_text, states_line};
 ghost use Rattle.hm_race_text.specs.Text.{outcomes_text};
 
-use crate::block::Block;
+use crate::block::OutcomeBlock;
 use crate::decimal::add_decimal;
 use crate::schedule::add_turns;
 use hm_base::{NoMemory, Text};
@@ -16,7 +16,7 @@ pub fn add_outcome(
     alloc: Global,
     text: &mut Text,
     number: u64,
-    block: &Block,
+    block: &OutcomeBlock,
 ) -> Result<(), NoMemory>
     ensures { OnOk result (text.new ≡ text.old ++ block_text number block.now) }
 {
@@ -27,7 +27,7 @@ pub fn add_outcome(
 }
 
 /// Adds the blocks, numbered from 1.
-fn add_blocks(alloc: Global, text: &mut Text, blocks: &[Block]) -> Result<(), NoMemory>
+fn add_blocks(alloc: Global, text: &mut Text, blocks: &[OutcomeBlock]) -> Result<(), NoMemory>
     ensures { OnOk result (text.new ≡ text.old ++ blocks_text 1 blocks.now) }
 {
     for at in 0..blocks.len() {
@@ -61,7 +61,7 @@ pub fn add_states(alloc: Global, text: &mut Text, states: u64, end: End) -> Resu
 #[tactic(auto, using(std::proofs::Common::append_assoc), unfolding(crate::specs::Text::outcomes_text))]
 pub fn outcomes_text(
     alloc: Global,
-    blocks: &[Block],
+    blocks: &[OutcomeBlock],
     states: u64,
     end: End,
 ) -> Result<Text, NoMemory>

@@ -6,17 +6,17 @@ use Rattle.hm_race_laws.specs.Closed.{IsListed}
 use Rattle.hm_conditions.specs.Laws.{IsReal, SameEnd}
 use Rattle.hm_race_text.specs.Answers.{answer_lines}
 use Rattle.hm_race_text.specs.Laws.{lines_of}
-use Rattle.hm_race_text.specs.declared.block.Block.{Block}
+use Rattle.hm_race_text.specs.declared.block.OutcomeBlock.{OutcomeBlock}
 use Rattle.hm_race_top.specs.Laws.{AllIsListed, TrueIsReal}
 use Rattle.hm_race_top.specs.Ways.{IsTrueOf}
 
 -- a block with these lines
-record With (bs : List Block) (lines : List ℕ) : Type 0 where
-  block : Block
+record With (bs : List OutcomeBlock) (lines : List ℕ) : Type 0 where
+  block : OutcomeBlock
   listed : IsListed bs block
   same : block.lines ≡ lines
 
-with_lines : (bs : List Block) (lines : List ℕ) → IsListed (lines_of bs) lines → With bs lines
+with_lines : (bs : List OutcomeBlock) (lines : List ℕ) → IsListed (lines_of bs) lines → With bs lines
 with_lines [] lines l = absurd l
 with_lines (b ∷ bs) lines (inl e) = record { block = b; listed = inl refl; same = e }
 with_lines (b ∷ bs) lines (inr l) = let f = with_lines bs lines l in record { block = f.block; listed = inr f.listed; same = f.same }
@@ -25,7 +25,7 @@ pub true_is_real : SameEnd → TrueIsReal
 true_is_real same c bs are lines l = record {
   entries = t.ends.entries;
   ends = record { due = t.ends.due; ended = sym (same c t.way.turns (run c ++ t.ends.entries)) ∙ t.ends.ended };
-  same = ap answer_lines t.ends.answers ∙ ap (λ (b : Block). b.lines) t.block ∙ f.same;
+  same = ap answer_lines t.ends.answers ∙ ap (λ (b : OutcomeBlock). b.lines) t.block ∙ f.same;
 }
   where
     f : With bs lines

@@ -12,7 +12,7 @@ use Rattle.hm_race_search.specs.Known.{KnownValue}
 use Rattle.hm_race_search.specs.declared.search.End.{End}
 use Rattle.hm_race_text.specs.Laws.{lines_of}
 use Rattle.hm_race_text.specs.Text.{blocks_of}
-use Rattle.hm_race_text.specs.declared.block.Block.{Block}
+use Rattle.hm_race_text.specs.declared.block.OutcomeBlock.{OutcomeBlock}
 use Rattle.hm_script.specs.Built.{has_drain}
 use Rattle.hm_race_top.specs.Asked.{questions_in}
 use Rattle.hm_race_top.specs.Races.{Found, HasFound, Holds}
@@ -21,7 +21,7 @@ use Rattle.hm_race_top.specs.Ways.{ways_by}
 use Rattle.hm_race_top.specs.declared.asked.Task.{Task}
 use Rattle.hm_race_top.specs.declared.telling.Telling.{Telling}
 
-script_ends : (c : Program) (o : Option Block) → IsEnding (script_told c o).ends
+script_ends : (c : Program) (o : Option OutcomeBlock) → IsEnding (script_told c o).ends
 script_ends c None = tt
 script_ends c (Some b) = tt
 
@@ -30,7 +30,7 @@ ruling_ends Ruling.Holds = tt
 ruling_ends Ruling.Fails = tt
 ruling_ends Ruling.Open = tt
 
-telling_ends : (c : Program) (task : Task) (bs : List Block) (states : ℕ) (end : End) → IsEnding (telling c task bs states end).ends
+telling_ends : (c : Program) (task : Task) (bs : List OutcomeBlock) (states : ℕ) (end : End) → IsEnding (telling c task bs states end).ends
 telling_ends c Task.Outcomes bs states end = tt
 telling_ends c Task.Table bs states end = tt
 telling_ends c (Task.Script n) bs states end = script_ends c (numbered bs n)
@@ -126,7 +126,7 @@ all_sent (Status.Race RaceEnd.Drained) pending i same = absurd i
 
 -- ---- one text
 
-pub told_same : (c : Program) (task : Task) (known : List KnownValue) (end : End) (bs : List Block) (actors states : ℕ) → actors ≡ length c.actors → states ≡ length known → bs ≡ blocks_of (ways_by actors known)
+pub told_same : (c : Program) (task : Task) (known : List KnownValue) (end : End) (bs : List OutcomeBlock) (actors states : ℕ) → actors ≡ length c.actors → states ≡ length known → bs ≡ blocks_of (ways_by actors known)
     → telling c task bs states end ≡ told c task known end
 told_same c task known end bs actors states is all same =
-    ap (λ (n : ℕ). telling c task bs n end) all ∙ ap (λ (x : List Block). telling c task x (length known) end) (same ∙ ap (λ (n : ℕ). blocks_of (ways_by n known)) is)
+    ap (λ (n : ℕ). telling c task bs n end) all ∙ ap (λ (x : List OutcomeBlock). telling c task x (length known) end) (same ∙ ap (λ (n : ℕ). blocks_of (ways_by n known)) is)

@@ -10,7 +10,7 @@ use Rattle.hm_race_search.specs.Known.{KnownValue, outcomes_of}
 use Rattle.hm_race_text.specs.Answers.{answer_lines}
 use Rattle.hm_race_text.specs.Laws.{lines_of, WaysAreShown}
 use Rattle.hm_race_text.specs.Text.{Way, block_of, with_block, blocks_of}
-use Rattle.hm_race_text.specs.declared.block.Block.{Block}
+use Rattle.hm_race_text.specs.declared.block.OutcomeBlock.{OutcomeBlock}
 use Rattle.hm_race_top.specs.Laws.{WaysAreOutcomes, CompleteIsAll}
 use Rattle.hm_race_top.specs.Ways.{way_by, ways_by, ways_of, blocks_known}
 
@@ -76,22 +76,22 @@ module _ (actors : ℕ) (ns : List KnownValue) (i : ℕ) (n : KnownValue) (lt : 
   grown : ways_by actors (take (i + 1) ns) ≡ ways_by actors (take i ns) ++ ways_by actors (n ∷ [])
   grown = ap (ways_by actors) (take_more ns i n lt ∙ ap (λ (x : KnownValue). take i ns ++ x ∷ []) is) ∙ ways_more actors (take i ns) n
 
-  pub one_ended : (bs new : List Block) → n.ended ≡ true → bs ≡ blocks_of (ways_by actors (take i ns)) → new ≡ with_block bs (block_of (way_by actors n))
+  pub one_ended : (bs new : List OutcomeBlock) → n.ended ≡ true → bs ≡ blocks_of (ways_by actors (take i ns)) → new ≡ with_block bs (block_of (way_by actors n))
       → new ≡ blocks_of (ways_by actors (take (i + 1) ns))
   one_ended bs new e so next =
       let one : ways_by actors (n ∷ []) ≡ way_by actors n ∷ [] =
       ap (λ (t : Bool). if t then way_by actors n ∷ [] else []) e in
-      next ∙ ap (λ (cs : List Block). with_block cs (block_of (way_by actors n))) so
+      next ∙ ap (λ (cs : List OutcomeBlock). with_block cs (block_of (way_by actors n))) so
       ∙ sym (ap blocks_of (grown ∙ ap (λ (ws : List Way). ways_by actors (take i ns) ++ ws) one)
-      ∙ fold-append (λ (cs : List Block) (w : Way). with_block cs (block_of w)) [] (ways_by actors (take i ns)) (way_by actors n ∷ []))
+      ∙ fold-append (λ (cs : List OutcomeBlock) (w : Way). with_block cs (block_of w)) [] (ways_by actors (take i ns)) (way_by actors n ∷ []))
 
-  pub one_open : (bs : List Block) → n.ended ≡ false → bs ≡ blocks_of (ways_by actors (take i ns))
+  pub one_open : (bs : List OutcomeBlock) → n.ended ≡ false → bs ≡ blocks_of (ways_by actors (take i ns))
       → bs ≡ blocks_of (ways_by actors (take (i + 1) ns))
   one_open bs e so =
       let none : ways_by actors (n ∷ []) ≡ [] =
       ap (λ (t : Bool). if t then way_by actors n ∷ [] else []) e in
       so ∙ sym (ap blocks_of (grown ∙ ap (λ (ws : List Way). ways_by actors (take i ns) ++ ws) none)
-      ∙ fold-append (λ (cs : List Block) (w : Way). with_block cs (block_of w)) [] (ways_by actors (take i ns)) [])
+      ∙ fold-append (λ (cs : List OutcomeBlock) (w : Way). with_block cs (block_of w)) [] (ways_by actors (take i ns)) [])
 
 -- all of them were taken
 pub took_all : (ns : List KnownValue) (i : ℕ) → length ns ≤ i → take i ns ≡ ns

@@ -7,7 +7,7 @@ use Rattle.hm_race_search.specs.Known.{KnownValue, IsComplete, AreKnown, outcome
 use Rattle.hm_conditions.specs.Laws.{AllListed, AllReal}
 use Rattle.hm_race_text.specs.Laws.{lines_of}
 use Rattle.hm_race_text.specs.Text.{Way}
-use Rattle.hm_race_text.specs.declared.block.Block.{Block}
+use Rattle.hm_race_text.specs.declared.block.OutcomeBlock.{OutcomeBlock}
 use Rattle.hm_race_top.specs.Ways.{ways_of, blocks_known, AreTrue, HaveAll}
 use Rattle.hm_script.specs.Built.{has_drain}
 
@@ -32,8 +32,8 @@ CompleteIsAll = (c : Program) (ns : List KnownValue) → IsComplete c (run c) ns
 
 -- blocks that are true are outcomes of the race
 abbrev pub TrueIsReal : Type 0
-TrueIsReal = (c : Program) (bs : List Block) → AreTrue c bs → AllReal c (lines_of bs)
+TrueIsReal = (c : Program) (bs : List OutcomeBlock) → AreTrue c bs → AllReal c (lines_of bs)
 
 -- and if they are all, every outcome is listed
 abbrev pub AllIsListed : Type 0
-AllIsListed = (c : Program) (bs : List Block) → HaveAll c bs → AllListed c (lines_of bs)
+AllIsListed = (c : Program) (bs : List OutcomeBlock) → HaveAll c bs → AllListed c (lines_of bs)

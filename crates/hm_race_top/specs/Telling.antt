@@ -16,7 +16,7 @@ use Rattle.hm_race_table.specs.Table.{table_text}
 use Rattle.hm_race_text.specs.Laws.{lines_of}
 use Rattle.hm_race_text.specs.Schedule.{with_turns}
 use Rattle.hm_race_text.specs.Text.{outcomes_text}
-use Rattle.hm_race_text.specs.declared.block.Block.{Block}
+use Rattle.hm_race_text.specs.declared.block.OutcomeBlock.{OutcomeBlock}
 use Rattle.hm_script.specs.Spelling.{text}
 use Rattle.hm_race_top.specs.declared.asked.Task.{Task}
 use Rattle.hm_race_top.specs.declared.telling.Telling.{Telling}
@@ -27,12 +27,12 @@ abbrev pub done : List ℕ → Telling
 done t = record { text = t; ends = Status.Done }
 
 -- the script with the schedule of the outcome with this index, if there is one
-abbrev pub script_told : Program → Option Block → Telling
+abbrev pub script_told : Program → Option OutcomeBlock → Telling
 script_told c None = record { text = []; ends = Status.Race RaceEnd.NoOutcome }
 script_told c (Some b) = done (text (with_turns c b.turns))
 
 -- the outcome with this number, from 1
-abbrev pub numbered : List Block → ℕ → Option Block
+abbrev pub numbered : List OutcomeBlock → ℕ → Option OutcomeBlock
 numbered bs n = if n == 0 then None else slice_get bs (n - 1)
 
 -- how a call ends that says this of its conditions
@@ -42,12 +42,12 @@ ending_of Ruling.Fails = Status.Race RaceEnd.Fails
 ending_of Ruling.Open = Status.Race RaceEnd.Unsettled
 
 -- what is said of conditions
-abbrev pub rulings_told : List Question → List Block → ℕ → End → Telling
+abbrev pub rulings_told : List Question → List OutcomeBlock → ℕ → End → Telling
 rulings_told qs bs states end =
     record { text = rulings_text qs bs states end; ends = ending_of (summary qs (lines_of bs) (is_whole end)) }
 
 -- what is written for a task, of the outcomes and the number of states that a search knows
-abbrev pub telling : Program → Task → List Block → ℕ → End → Telling
+abbrev pub telling : Program → Task → List OutcomeBlock → ℕ → End → Telling
 telling c Task.Outcomes bs states end = done (outcomes_text bs states end)
 telling c Task.Table bs states end = done (table_text bs states end)
 telling c (Task.Script n) bs states end = script_told c (numbered bs n)

@@ -13,7 +13,7 @@ use Rattle.hm_race_text.specs.Answers.{answer_lines}
 use Rattle.hm_race_text.specs.Laws.{lines_of}
 use Rattle.hm_race_text.specs.Schedule.{with_turns}
 use Rattle.hm_race_text.specs.Text.{Way, block_of, blocks_of}
-use Rattle.hm_race_text.specs.declared.block.Block.{Block}
+use Rattle.hm_race_text.specs.declared.block.OutcomeBlock.{OutcomeBlock}
 
 -- the way to the state with this number, whose form this is, with the answers of `actors` actors
 abbrev pub way_to : ℕ → List KnownValue → ℕ → Point → Way
@@ -33,7 +33,7 @@ abbrev pub ways_of : Program → List KnownValue → List Way
 ways_of c ns = ways_by (length c.actors) ns
 
 -- what is written of them
-abbrev pub blocks_known : Program → List KnownValue → List Block
+abbrev pub blocks_known : Program → List KnownValue → List OutcomeBlock
 blocks_known c ns = blocks_of (ways_of c ns)
 
 -- The script with these turns after its schedule goes on from its set-up by entries that are due. Its history is legal,
@@ -49,18 +49,18 @@ pub record EndsSo (c : Program) (w : Way) : Type 0 where
   pub script : run_lines (with_turns c w.turns).schedule ≤ 100000 → IsScript (with_turns c w.turns)
 
 -- the block is true
-pub record IsTrueOf (c : Program) (b : Block) : Type 0 where
+pub record IsTrueOf (c : Program) (b : OutcomeBlock) : Type 0 where
   pub way : Way
   pub block : block_of way ≡ b
   pub ends : EndsSo c way
 
 -- each block that is written is true
-abbrev pub AreTrue : Program → List Block → Type 0
-AreTrue c bs = (b : Block) → IsListed bs b → IsTrueOf c b
+abbrev pub AreTrue : Program → List OutcomeBlock → Type 0
+AreTrue c bs = (b : OutcomeBlock) → IsListed bs b → IsTrueOf c b
 
 -- after every list of entries that are due one after the other from the set-up on, after which all operations have
 -- ended, the lines of its outcome are those of a block
-abbrev pub HaveAll : Program → List Block → Type 0
+abbrev pub HaveAll : Program → List OutcomeBlock → Type 0
 HaveAll c bs =
     (es : List Entry) → DueFrom c (run c) es → ended c (run c ++ es) ≡ true
     → IsListed (lines_of bs) (answer_lines (outcome c (answers_of es)))

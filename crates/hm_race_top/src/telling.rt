@@ -13,7 +13,7 @@ use hm_edge::{RaceEnd, Status};
 use hm_io::Sink;
 use hm_race_search::End;
 use hm_race_table::table_text;
-use hm_race_text::{Block, outcomes_text, text_with_turns};
+use hm_race_text::{OutcomeBlock, outcomes_text, text_with_turns};
 use hm_report::{Written, write_text};
 use std::alloc::Global;
 
@@ -25,7 +25,7 @@ pub struct Telling {
 }
 
 /// The outcome with this number, from 1.
-fn numbered(blocks: &[Block], number: u64) -> Option<&Block>
+fn numbered(blocks: &[OutcomeBlock], number: u64) -> Option<&OutcomeBlock>
     ensures { MatchOption result (numbered blocks.now number ≡ None) (λ b. numbered blocks.now number ≡ Some b.now) }
 {
     if number == 0 {
@@ -38,7 +38,7 @@ fn numbered(blocks: &[Block], number: u64) -> Option<&Block>
 fn tell_script(
     alloc: Global,
     script: &Script,
-    blocks: &[Block],
+    blocks: &[OutcomeBlock],
     number: u64,
 ) -> Result<Telling, NoMemory>
     ensures telling { IfOk result (λ t. t ≡ script_told script.now (numbered blocks.now number)) }
@@ -72,7 +72,7 @@ fn ending_of(ruling: Ruling) -> Status
 fn tell_rulings(
     alloc: Global,
     questions: &[Question],
-    blocks: &[Block],
+    blocks: &[OutcomeBlock],
     states: u64,
     end: End,
 ) -> Result<Telling, NoMemory>
@@ -90,7 +90,7 @@ pub fn tell(
     alloc: Global,
     script: &Script,
     task: &Task,
-    blocks: &[Block],
+    blocks: &[OutcomeBlock],
     states: u64,
     end: End,
 ) -> Result<Telling, NoMemory>

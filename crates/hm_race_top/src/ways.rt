@@ -10,7 +10,7 @@ ghost use Rattle.hm_race_top.specs.Ways.{way_to, ways_by};
 use hm_base::{Actor, ListOf, NoMemory, ScheduleLine};
 use hm_race_search::{Known, turns_to};
 use hm_race_states::key::StateKey;
-use hm_race_text::{Block, add_block, answer_lines};
+use hm_race_text::{OutcomeBlock, add_block, answer_lines};
 use std::alloc::Global;
 
 /// Whether one of the lines is `drain`.
@@ -52,11 +52,11 @@ fn block_of(
     known: &[Known<StateKey>],
     at: usize,
     key: &StateKey,
-) -> Result<Block, NoMemory>
+) -> Result<OutcomeBlock, NoMemory>
     requires { actors ≤ 16 }
     ensures { IfOk result (λ b. b ≡ block_of (way_to actors (all_known form_in known.now) at (form_in key.now))) }
 {
-    Ok(Block {
+    Ok(OutcomeBlock {
         lines: answer_lines(alloc, &key.answers, actors)?,
         turns: turns_of(alloc, known, at)?,
     })
@@ -67,7 +67,7 @@ pub fn blocks_of(
     alloc: Global,
     actors: u64,
     known: &[Known<StateKey>],
-) -> Result<ListOf<Block>, NoMemory>
+) -> Result<ListOf<OutcomeBlock>, NoMemory>
     requires { actors ≤ 16 }
     ensures { IfOk result (λ bs. bs ≡ blocks_of (ways_by actors (all_known form_in known.now))) }
 {

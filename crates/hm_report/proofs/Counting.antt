@@ -8,7 +8,7 @@ use Rattle.hm_history.specs.Memory.Words.{with_at}
 use Rattle.hm_history.specs.Kernel.Going.{ops_of}
 use Rattle.hm_history.specs.declared.Entry.{Entry}
 use Rattle.hm_report.specs.Ended.{ended_next, ended_start, all_next, ended_after}
-use Rattle.hm_report.specs.declared.ended.Ended.{Ended}
+use Rattle.hm_report.specs.declared.ended.EndedOps.{EndedOps}
 use Rattle.hm_history.proofs.Updates.{here_at, other_at}
 
 pub ended_more : (c : Program) (es : List Entry) (i : ℕ) (e : Entry) → i < length es → e ≡ get_or es i e → ended_after c (take (i + 1) es) ≡ all_next c (ended_after c (take i es)) e
@@ -21,7 +21,7 @@ same_or_not zero (suc k) = inr (λ e. omega arith)
 same_or_not (suc a) zero = inr (λ e. omega arith)
 same_or_not (suc a) (suc k) = elim (same_or_not a k) [ inl e ↦ inl (ap suc e) | inr n ↦ inr (λ e. n (omega arith)) ]
 
-with_at_field : (field : Ended → ℕ) (f : ℕ → Ended) (k : ℕ) (x : Ended) (a : ℕ) → field (with_at f k x a) ≡ with_at (λ q. field (f q)) k (field x) a
+with_at_field : (field : EndedOps → ℕ) (f : ℕ → EndedOps) (k : ℕ) (x : EndedOps) (a : ℕ) → field (with_at f k x a) ≡ with_at (λ q. field (f q)) k (field x) a
 with_at_field field f k x a = elim (same_or_not a k) [
   | inl e ↦ rw e (ap field (here_at f k x) ∙ sym (here_at (λ q. field (f q)) k (field x)))
   | inr n ↦ ap field (other_at f k a x n) ∙ sym (other_at (λ q. field (f q)) k a (field x) n)
@@ -41,7 +41,7 @@ set_bound xs k v most lt le a same = elim (same_or_not a k) [
 ]
 
 -- an entry changes how far its actor is
-pub entry_step : (field : Ended → ℕ) (c : Program) (f : ℕ → Ended) (e : Entry) (k : ℕ) (ops ps xs : List ℕ) (x : Ended) → k ≡ e.actor → k < length xs → slice_index ops k ≡ (f k).operations → slice_index ps k ≡ (f k).pieces
+pub entry_step : (field : EndedOps → ℕ) (c : Program) (f : ℕ → EndedOps) (e : Entry) (k : ℕ) (ops ps xs : List ℕ) (x : EndedOps) → k ≡ e.actor → k < length xs → slice_index ops k ≡ (f k).operations → slice_index ps k ≡ (f k).pieces
     → x ≡ ended_next (ops_of c e.actor) (record { operations = slice_index ops k; pieces = slice_index ps k }) e.kind
     → (a : ℕ) → slice_index xs a ≡ field (f a) → slice_index (slice_set xs k (field x)) a ≡ field (all_next c f e a)
 entry_step field c f e k ops ps xs x at lt o p next a same =

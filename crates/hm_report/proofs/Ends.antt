@@ -21,7 +21,7 @@ use Rattle.hm_history.specs.declared.phases.Seen.{Seen}
 use Rattle.hm_history.specs.declared.phases.Phase.{Phase}
 use Rattle.hm_history.specs.declared.phases.Next.{Next}
 use Rattle.hm_history.specs.declared.phases.Next.TheVariants.{Do, Wait}
-use Rattle.hm_report.specs.declared.ended.Ended.{Ended}
+use Rattle.hm_report.specs.declared.ended.EndedOps.{EndedOps}
 use Rattle.hm_report.specs.Kinds.{is_answer, finishes}
 use Rattle.hm_report.specs.Ended.{answered, ended_at, ended_next, ended_start, all_next, ended_after}
 use Rattle.hm_report.specs.Counted.{EndsAreCounted}
@@ -75,7 +75,7 @@ StackFits None n stack = stack ≡ []
 StackFits (Some o) n stack = fits o n stack ≡ true
 
 -- the count and the definition agree on one actor
-pub record Agrees (c : Program) (a : ℕ) (g : Going) (n : Ended) : Type 0 where
+pub record Agrees (c : Program) (a : ℕ) (g : Going) (n : EndedOps) : Type 0 where
   pub index : g.index ≡ n.operations
   pub stack : StackFits (op_at c a g.index) n.pieces g.stack
 
@@ -131,7 +131,7 @@ op_agrees c s a i n (top ∷ below) xs k (Some o) at fit due =
     let went = moved_goes c s a o n xs top below k see fit (λ j. refl) (progress_do a (due_phase c s a o xs top) k due) in
     entry_agrees c a i n o k (after_top o top below k (see k)) (recorded top (see k).page xs k) (is_answer k) at went
 
-going_agrees : (c : Program) (s : After) (a : ℕ) (g : Going) (n : Ended) (k : Kind) → Agrees c a g n → due_top c s a (op_at c a g.index) g.pages g.stack ≡ Progress.Did (record { actor = a; kind = k })
+going_agrees : (c : Program) (s : After) (a : ℕ) (g : Going) (n : EndedOps) (k : Kind) → Agrees c a g n → due_top c s a (op_at c a g.index) g.pages g.stack ≡ Progress.Did (record { actor = a; kind = k })
     → Agrees c a (going_next c s a g k) (ended_next (ops_of c a) n k)
 going_agrees c s a g n k h due =
     let went = op_agrees c s a g.index n.pieces g.stack g.pages k (op_at c a g.index) refl h.stack due in

@@ -13,33 +13,33 @@ pub const ACTORS: usize = 16;
 
 /// How far an actor is: how many operations have ended, and how many pieces of the next were answered.
 #[derive(Clone, Copy, PartialEq, Eq, Debug)]
-pub struct Ended {
+pub struct EndedOps {
     pub operations: u64,
     pub pieces: u64,
 }
 
-impl Ended {
+impl EndedOps {
     ghost use Rattle.hm_report.specs.Ended.{answered, next_operation};
 
     /// After the end of the operation.
-    fn next_operation(self) -> Ended
+    fn next_operation(self) -> EndedOps
         requires { self.operations + 1 < 2 ^ 64 }
         ensures { result ≡ next_operation self }
     {
-        Ended {
+        EndedOps {
             operations: self.operations + 1,
             pieces: 0,
         }
     }
 
     /// After the answer to a piece of the operation.
-    fn answered(self, op: &Op) -> Ended
+    fn answered(self, op: &Op) -> EndedOps
         requires operations { self.operations + 1 < 2 ^ 64 }
         requires pieces { self.pieces + 1 < 2 ^ 64 }
         ensures { result ≡ answered op.now self }
     {
         if self.pieces + 1 < piece_count(op) {
-            Ended {
+            EndedOps {
                 operations: self.operations,
                 pieces: self.pieces + 1,
             }
@@ -147,7 +147,7 @@ fn tells(kind: &Kind) -> bool
 }
 
 /// How far an actor is after its entry.
-fn after_entry(script: &Script, entry: &Entry, ended: &Ended) -> Ended
+fn after_entry(script: &Script, entry: &Entry, ended: &EndedOps) -> EndedOps
     requires operations { ended.now.operations + 1 < 2 ^ 64 }
     requires pieces { ended.now.pieces + 1 < 2 ^ 64 }
     ensures next { result ≡ ended_next (ops_of script.now entry.now.actor) ended.now entry.now.kind }
@@ -191,7 +191,7 @@ pub fn operations_ended(script: &Script, history: &History) -> [u64; ACTORS]
     let mut pieces = [0; ACTORS];
     for entry in history.as_slice() {
         let at = entry.actor.number() as usize;
-        let ended = Ended {
+        let ended = EndedOps {
             operations: operations[at],
             pieces: pieces[at],
         };

@@ -7,7 +7,7 @@ use hm_script::{address, number};
 
 /// Bytes of a process that are asked for: 1 to 256 of them, that end at or below 2^48.
 #[derive(Clone, Copy, Debug, PartialEq, Eq)]
-pub struct Asked {
+pub struct PeekedBytes {
     pub proc: Proc,
     /// The address of the first.
     pub addr: u64,
@@ -50,7 +50,7 @@ pub enum Command {
     /// Runs each actor of a script from a thread of its own, and writes the report.
     Threads(Begin),
     /// Does what `threads` does, with a watcher that looks at bytes of a process, and writes what it saw too.
-    Peek(Asked),
+    Peek(PeekedBytes),
 }
 
 fn plain_command(word: &str) -> Option<Command>
@@ -105,7 +105,7 @@ fn peek_at(proc: u64, addr: u64, len: u64) -> Option<Command>
     ensures looks { spec.Looks result }
 {
     if proc < 32 && len > 0 && len <= 256 && addr <= (1 << 48) - len {
-        Some(Command::Peek(Asked {
+        Some(Command::Peek(PeekedBytes {
             proc: Proc::new(proc as u32),
             addr,
             len: len as u32,

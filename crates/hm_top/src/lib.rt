@@ -16,7 +16,7 @@ mod top;
 mod upgrade;
 mod why;
 
-pub use command::{Asked, Command};
+pub use command::{Command, PeekedBytes};
 pub use ended::Ended;
 pub use process::{NAME, USAGE, program};
 pub use top::{run, run_alone};

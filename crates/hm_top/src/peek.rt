@@ -11,7 +11,7 @@ ghost use Rattle.hm_top.specs.RunsThreads.{AllEnded, StoppedFull};
 ghost use Rattle.hm_edge.specs.Traffic.{traffic};
 ghost use Rattle.hm_edge.specs.Writing.{HasWritten, IsFlushed, WriteFaulted};
 
-use crate::command::Asked;
+use crate::command::PeekedBytes;
 use crate::ended::Ended;
 use crate::output::show_run;
 use crate::schedule::Ran;
@@ -51,7 +51,7 @@ fn run_peeked<R: Threads + Wait + Sync, G: Gate + Sync>(
     script: Script,
     gate: &G,
     skip: &Kept,
-    asked: &Asked,
+    asked: &PeekedBytes,
 ) -> Result<Peeked, NoMemory>
     requires { IsLook asked.now.addr asked.now.len }
     ensures script { IfOk result (λ r. r.ran.script ≡ script) }
@@ -204,7 +204,7 @@ pub fn peek<R: Threads + Wait + Sync, S: Source, K: Sink, G: Gate + Sync>(
     sink: &mut K,
     gate: &G,
     skip: &Kept,
-    asked: &Asked,
+    asked: &PeekedBytes,
 ) -> Ended
     requires { IsLook asked.now.addr asked.now.len }
     ensures { RunsPeeked asked.now.proc asked.now.addr asked.now.len

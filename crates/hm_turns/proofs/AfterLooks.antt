@@ -8,7 +8,7 @@ use Rattle.hm_turns.specs.Looking.{Sees, LooksTo}
 use Rattle.hm_turns.specs.Ruled.{Won, winner, freed, sight_of}
 use Rattle.hm_turns.specs.Seats.{Becomes, Place, sight}
 use Rattle.hm_turns.specs.Sights.{Sight, GoesOn, OwnsOnce}
-use Rattle.hm_turns.specs.declared.known.Known.{Known}
+use Rattle.hm_turns.specs.declared.known.Knowledge.{Knowledge}
 use Rattle.hm_turns.specs.declared.looks.Look.{Look}
 use Rattle.hm_turns.proofs.Owns.{owns_longer}
 use Rattle.hm_turns.proofs.Sums.{prefix_refl}
@@ -23,7 +23,7 @@ never_told None now known none = refl
 never_told (Some e) now known none = absurd (cc (known e refl, none))
 
 module _ {S : Type 0} (script : S → Program) (history : S → List Entry) (halt : S → Option StepError) (legal : Program → List Entry → Type 0) where
-  shown : (table : TableId) (v : Known) (x : S) (stopped : Option StepError) → Won script history halt v x → halt x ≡ stopped → stopped ≡ None → legal (script x) (history x)
+  shown : (table : TableId) (v : Knowledge) (x : S) (stopped : Option StepError) → Won script history halt v x → halt x ≡ stopped → stopped ≡ None → legal (script x) (history x)
       → Sees legal (sight_of table (v ∷ [])) (sight_of table (freed (winner v (history x) stopped) stopped ∷ []))
   shown table v x stopped won is none good =
       let running = never_told v.told stopped (λ e told. sym is ∙ won.told e told) none in
@@ -41,7 +41,7 @@ module _ {S : Type 0} (script : S → Program) (history : S → List Entry) (hal
       let known : new.me.0 ≡ freed (winner old.me.0 (history x) (halt x)) (halt x) = ap (λ m. m.0) given.me_is ∙ ap (λ m. freed m.0 (halt x)) taken.me_is in
       let table : new.table_id ≡ old.table_id = given.table_is ∙ taken.table_is in
       let first = shown old.table_id old.me.0 x (halt x) won refl none good in
-      (subst (λ (z : TableId × Known). Sees legal (sight old) (sight_of z.0 (z.1 ∷ []))) (λ i. (sym table i, sym known i)) first, ap (λ (v : Known). v.list) known)
+      (subst (λ (z : TableId × Knowledge). Sees legal (sight old) (sight_of z.0 (z.1 ∷ []))) (λ i. (sym table i, sym known i)) first, ap (λ (v : Knowledge). v.list) known)
 
 module _ (legal : Program → List Entry → Type 0) (p at : ℕ) (bytes : List ℕ) (v : Sight) where
   seen_owns : (w : Sight) → OwnsOnce v.own v.list → Sees legal v w → OwnsOnce w.own w.list

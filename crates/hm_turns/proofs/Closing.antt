@@ -8,38 +8,38 @@ use Rattle.atomic_table.specs.Table.{State, Final, Seen, opening}
 use Rattle.hm_history.specs.declared.Entry.{Entry}
 use Rattle.hm_base.specs.Program.{Program}
 use Rattle.hm_history.specs.declared.StepError.{StepError}
-use Rattle.hm_turns.specs.declared.known.Known.{Known}
+use Rattle.hm_turns.specs.declared.known.Knowledge.{Knowledge}
 use Rattle.hm_turns.specs.Sights.{AreMarks, all_shares}
 use Rattle.hm_turns.specs.Ruled.{count_word, turn_word, IsHome, AtHome, Away, Fits, Kept, opened}
 use Rattle.hm_turns.proofs.Sums.{prefix_whole, two_of}
 
 module _ {S : Type 0} (script : S → Program) (history : S → List Entry) (halt : S → Option StepError) (of : Program) where
   abbrev St : Type 0
-  St = State (Option S) Known
+  St = State (Option S) Knowledge
 
   abbrev Rule : St → Type 0
   Rule = Kept script history halt of
 
   -- the pass with all shares has seen the history
-  pub record Whole (s : St) (k : Rule s) (v : Known) : Type 0 where
+  pub record Whole (s : St) (k : Rule s) (v : Knowledge) : Type 0 where
     pub turn : turn_word s.words ≡ 0
     pub count_is : count_word s.words ≡ length k.log
     pub home : IsHome script history halt of k.log k.stopped s.homes
     pub list_is : v.list ≡ k.log
 
-  pub whole_pass : (s : St) (k : Rule s) (id : ℕ) (v : Known) → get_elem? s.views id ≡ some v → v.shares ≡ all_shares → v.holds ≡ false → Whole s k v
+  pub whole_pass : (s : St) (k : Rule s) (id : ℕ) (v : Knowledge) → get_elem? s.views id ≡ some v → v.shares ≡ all_shares → v.holds ≡ false → Whole s k v
   whole_pass s k id v at all free =
-      let only : (j : ℕ) (u : Known) → get_elem? s.views j ≡ some u → 0 < u.shares → u ≡ v =
+      let only : (j : ℕ) (u : Knowledge) → get_elem? s.views j ≡ some u → 0 < u.shares → u ≡ v =
       λ j u e live. dite (ℕ_discrete j id) (λ here. some-injective u v (sym e ∙ (ap (λ (i : ℕ). get_elem? s.views i) here ∙ at)))
-      (λ away. absurd (let two = two_of (λ (z : Known). z.shares) s.views j id u v away e at in let sum = k.shared in omega arith)) in
+      (λ away. absurd (let two = two_of (λ (z : Knowledge). z.shares) s.views j id u v away e at in let sum = k.shared in omega arith)) in
       ⊎_elim
       (λ (p : AtHome script history halt of k.log k.stopped s).
-      let n = p.1 in let f = subst (λ (u : Known). count_word s.words ≤ length u.list) (only k.front.seat k.front.view k.front.at k.front.live) k.front.whole in
+      let n = p.1 in let f = subst (λ (u : Knowledge). count_word s.words ≤ length u.list) (only k.front.seat k.front.view k.front.at k.front.live) k.front.whole in
       record { turn = p.0; count_is = p.1; home = p.2; list_is = prefix_whole v.list k.log (k.each id v at).seen (omega arith) })
       (λ (q : Away script history halt k.log k.stopped s).
-      let h : true ≡ false = sym q.1.holds ∙ (ap (λ (u : Known). u.holds) (only q.1.seat q.1.view q.1.at q.1.live) ∙ free) in absurd (let g = h in cc)) k.placed
+      let h : true ≡ false = sym q.1.holds ∙ (ap (λ (u : Knowledge). u.holds) (only q.1.seat q.1.view q.1.at q.1.live) ∙ free) in absurd (let g = h in cc)) k.placed
 
-  pub record Closes (words : List ℕ) (slots : List (Option S)) (v : Known) : Type 0 where
+  pub record Closes (words : List ℕ) (slots : List (Option S)) (v : Knowledge) : Type 0 where
     pub value : S
     pub at : get_elem? slots 0 ≡ some (Some value)
     pub history_is : history value ≡ v.list
@@ -48,7 +48,7 @@ module _ {S : Type 0} (script : S → Program) (history : S → List Entry) (hal
     pub counted : v.loaded ≤ length v.list
     pub marked : AreMarks v.list v.marks
 
-  pub closes : (words : List ℕ) (slots : List (Option S)) (id : ℕ) (v : Known) → v.shares ≡ all_shares → v.holds ≡ false → Final (Seen Rule id v) words slots → Closes words slots v
+  pub closes : (words : List ℕ) (slots : List (Option S)) (id : ℕ) (v : Knowledge) → v.shares ≡ all_shares → v.holds ≡ false → Final (Seen Rule id v) words slots → Closes words slots v
   closes words slots id v all free final = let s = final.0 in let k = final.1.0 in let at = final.1.1 in let w = whole_pass s k id v at all free in let h = w.home in record {
     value = h.value;
     at = final.4 0 (Some h.value) h.at;
@@ -59,17 +59,17 @@ module _ {S : Type 0} (script : S → Program) (history : S → List Entry) (hal
     marked = subst (λ (es : List Entry). AreMarks es v.marks) (sym w.list_is) (k.each id v at).marked;
   }
 
-  pub took_out : (words : List ℕ) (slots : List (Option S)) (v : Known) (k : Closes words slots v) (out : Option S) → get_elem? slots 0 ≡ some out → out ≡ Some k.value
+  pub took_out : (words : List ℕ) (slots : List (Option S)) (v : Knowledge) (k : Closes words slots v) (out : Option S) → get_elem? slots 0 ≡ some out → out ≡ Some k.value
   took_out words slots v k out e = some-injective out (Some k.value) (sym e ∙ k.at)
 
   abbrev of_option : S → Option S → S
   of_option d None = d
   of_option d (Some x) = x
 
-  pub took_it : (words : List ℕ) (slots : List (Option S)) (v : Known) (k : Closes words slots v) (out : Option S) (x : S) → get_elem? slots 0 ≡ some out → out ≡ Some x → x ≡ k.value
+  pub took_it : (words : List ℕ) (slots : List (Option S)) (v : Knowledge) (k : Closes words slots v) (out : Option S) (x : S) → get_elem? slots 0 ≡ some out → out ≡ Some x → x ≡ k.value
   took_it words slots v k out x e is = ap (of_option k.value) (sym is ∙ took_out words slots v k out e)
 
-  only_first : (j : ℕ) (u : Known) → get_elem? (opened of ∷ []) j ≡ some u → opened of ≡ u
+  only_first : (j : ℕ) (u : Knowledge) → get_elem? (opened of ∷ []) j ≡ some u → opened of ≡ u
   only_first zero u e = some-injective (opened of) u e
   only_first (suc j) u e = absurd (some-ne-none u (sym e))
 
@@ -81,8 +81,8 @@ module _ {S : Type 0} (script : S → Program) (history : S → List Entry) (hal
         stopped = None;
         wide = wide;
         published = omega arith;
-        placed = inl (zeros 1 (omega arith), count, record { value = x; at = refl; script_is = script_is; log_is = history_is; halt_is = halt_is }, λ j u e. subst (λ (z : Known). z.holds ≡ false) (one j u e) refl);
-        each = λ j u e. subst (λ (z : Known). Fits of [] None (get_or words 0 0) z) (one j u e)
+        placed = inl (zeros 1 (omega arith), count, record { value = x; at = refl; script_is = script_is; log_is = history_is; halt_is = halt_is }, λ j u e. subst (λ (z : Knowledge). z.holds ≡ false) (one j u e) refl);
+        each = λ j u e. subst (λ (z : Knowledge). Fits of [] None (get_or words 0 0) z) (one j u e)
             record { script_is = λ _. refl; seen = ([], refl); joined = ([], refl); shown = λ _. omega arith; counted = omega arith; halted = λ e t. t; there = tt; marked = tt };
         front = record { seat = 0; view = opened of; at = refl; live = omega arith; whole = omega arith };
         shared = refl;

@@ -11,7 +11,7 @@ use Rattle.atomic_table.proofs.Lists.{set_else, at_snoc, at_longer, at_last}
 use Rattle.hm_history.specs.declared.Entry.{Entry}
 use Rattle.hm_base.specs.Program.{Program}
 use Rattle.hm_history.specs.declared.StepError.{StepError}
-use Rattle.hm_turns.specs.declared.known.Known.{Known}
+use Rattle.hm_turns.specs.declared.known.Knowledge.{Knowledge}
 use Rattle.hm_turns.specs.Sights.{times, longer, shorter, either_told}
 use Rattle.hm_turns.specs.Ruled.{count_word, Fits, AtHome, Away, Kept, left_of, right_of, both_of, spent}
 use Rattle.hm_turns.proofs.Sums.{prefix_pair, sum_set, set_at}
@@ -42,16 +42,16 @@ told_by (Some x) b e h = inl h
 
 module _ {S : Type 0} (script : S → Program) (history : S → List Entry) (halt : S → Option StepError) (of : Program) where
   abbrev St : Type 0
-  St = State (Option S) Known
+  St = State (Option S) Knowledge
 
   abbrev Rule : St → Type 0
   Rule = Kept script history halt of
 
-  pub split_allowed : (id : ℕ) (v : Known) → v.holds ≡ false → 1 < v.shares → Splits Rule id v (left_of v) (right_of v)
+  pub split_allowed : (id : ℕ) (v : Knowledge) → v.holds ≡ false → 1 < v.shares → Splits Rule id v (left_of v) (right_of v)
   split_allowed id v free many s k at =
-      let l : Known = left_of v in let r : Known = right_of v in let views : Views = s.views in let vs : Views = set views id l in let f = k.each id v at in
-      let new_each : (P : ℕ → Known → Type 0) → ((j : ℕ) (u : Known) → get_elem? vs j ≡ some u → P j u) → ((j : ℕ) → P j r) → (j : ℕ) (u : Known) → get_elem? (vs ++ r ∷ []) j ≡ some u → P j u =
-      λ P old new j u e. ⊎_elim (λ (a : get_elem? vs j ≡ some u). old j u a) (λ (a : r ≡ u). subst (λ (z : Known). P j z) a (new j)) (at_snoc vs r u j e) in
+      let l : Knowledge = left_of v in let r : Knowledge = right_of v in let views : Views = s.views in let vs : Views = set views id l in let f = k.each id v at in
+      let new_each : (P : ℕ → Knowledge → Type 0) → ((j : ℕ) (u : Knowledge) → get_elem? vs j ≡ some u → P j u) → ((j : ℕ) → P j r) → (j : ℕ) (u : Knowledge) → get_elem? (vs ++ r ∷ []) j ≡ some u → P j u =
+      λ P old new j u e. ⊎_elim (λ (a : get_elem? vs j ≡ some u). old j u a) (λ (a : r ≡ u). subst (λ (z : Knowledge). P j z) a (new j)) (at_snoc vs r u j e) in
       record {
         log = k.log;
         stopped = k.stopped;
@@ -82,20 +82,20 @@ module _ {S : Type 0} (script : S → Program) (history : S → List Entry) (hal
             (λ j. record { script_is = λ _. f.script_is (omega arith); seen = f.seen; joined = (k.log, refl); shown = λ _. f.shown free; counted = f.counted; halted = f.halted; there = tt; marked = f.marked });
         front = dite (ℕ_discrete k.front.seat id)
             (λ here. let same : k.front.view ≡ v = some-injective k.front.view v (sym k.front.at ∙ (ap (λ (j : ℕ). get_elem? views j) here ∙ at)) in
-            record { seat = id; view = l; at = at_longer vs (r ∷ []) id l (set_at views id v l at); live = omega arith; whole = subst (λ (u : Known). count_word s.words ≤ length u.list) same k.front.whole })
+            record { seat = id; view = l; at = at_longer vs (r ∷ []) id l (set_at views id v l at); live = omega arith; whole = subst (λ (u : Knowledge). count_word s.words ≤ length u.list) same k.front.whole })
             (λ away. record { seat = k.front.seat; view = k.front.view; at = at_longer vs (r ∷ []) k.front.seat k.front.view (set_else views id k.front.seat l away ∙ k.front.at); live = k.front.live; whole = k.front.whole });
-        shared = let sum = sum_set (λ (u : Known). u.shares) views id v l at in let more = sum_by-append (λ (u : Known). u.shares) vs (r ∷ []) in let whole = k.shared in omega arith;
-        apart = λ x. let sum = sum_set (λ (u : Known). times x u.own) views id v l at in let more = sum_by-append (λ (u : Known). times x u.own) vs (r ∷ []) in let a = k.apart x in omega arith;
+        shared = let sum = sum_set (λ (u : Knowledge). u.shares) views id v l at in let more = sum_by-append (λ (u : Knowledge). u.shares) vs (r ∷ []) in let whole = k.shared in omega arith;
+        apart = λ x. let sum = sum_set (λ (u : Knowledge). times x u.own) views id v l at in let more = sum_by-append (λ (u : Knowledge). times x u.own) vs (r ∷ []) in let a = k.apart x in omega arith;
         marks = k.marks;
       }
 
-  pub join_allowed : (id other : ℕ) (v w : Known) → v.holds ≡ false → w.holds ≡ false → 0 < v.shares → Joins Rule id v other w (both_of v w) spent
+  pub join_allowed : (id other : ℕ) (v w : Knowledge) → v.holds ≡ false → w.holds ≡ false → 0 < v.shares → Joins Rule id v other w (both_of v w) spent
   join_allowed id other v w free free_too live s k at apart at_other =
-      let b : Known = both_of v w in let views : Views = s.views in let mid : Views = set views id b in let vs : Views = set mid other spent in let n : ℕ = count_word s.words in
+      let b : Knowledge = both_of v w in let views : Views = s.views in let mid : Views = set views id b in let vs : Views = set mid other spent in let n : ℕ = count_word s.words in
       let f = k.each id v at in let at_w : get_elem? views other ≡ some w = sym (set_else views id other b apart) ∙ at_other in let g = k.each other w at_w in
       let lens = longer_by v.list w.list (ltb (length v.list) (length w.list)) refl in let one = lens.0 in let two = lens.1 in
       let both_seen : IsPrefix b.list k.log = either_list (λ l. IsPrefix l k.log) v.list w.list (ltb (length v.list) (length w.list)) f.seen g.seen in
-      let new_each : (P : ℕ → Known → Type 0) → P id b → P other spent → ((j : ℕ) (u : Known) → j ≢ id → j ≢ other → get_elem? views j ≡ some u → P j u) → (j : ℕ) (u : Known) → get_elem? vs j ≡ some u → P j u =
+      let new_each : (P : ℕ → Knowledge → Type 0) → P id b → P other spent → ((j : ℕ) (u : Knowledge) → j ≢ id → j ≢ other → get_elem? views j ≡ some u → P j u) → (j : ℕ) (u : Knowledge) → get_elem? vs j ≡ some u → P j u =
       λ P both gone rest. each_set P mid other spent gone (λ j u ne e. each_set (λ i z. i ≢ other → P i z) views id b (λ _. both) (λ i z ni a no. rest i z ni no a) j u e ne) in
       record {
         log = k.log;
@@ -123,14 +123,14 @@ module _ {S : Type 0} (script : S → Program) (history : S → List Entry) (hal
             (λ j u _ _ e. k.each j u e);
         front = dite (ℕ_discrete k.front.seat id)
             (λ here. let same : k.front.view ≡ v = some-injective k.front.view v (sym k.front.at ∙ (ap (λ (j : ℕ). get_elem? views j) here ∙ at)) in
-            let whole = subst (λ (u : Known). n ≤ length u.list) same k.front.whole in
+            let whole = subst (λ (u : Knowledge). n ≤ length u.list) same k.front.whole in
             record { seat = id; view = b; at = set_else mid other id spent (λ e. apart (sym e)) ∙ set_at views id v b at; live = omega arith; whole = omega arith })
             (λ away. dite (ℕ_discrete k.front.seat other)
             (λ here. let same : k.front.view ≡ w = some-injective k.front.view w (sym k.front.at ∙ (ap (λ (j : ℕ). get_elem? views j) here ∙ at_w)) in
-            let whole = subst (λ (u : Known). n ≤ length u.list) same k.front.whole in
+            let whole = subst (λ (u : Knowledge). n ≤ length u.list) same k.front.whole in
             record { seat = id; view = b; at = set_else mid other id spent (λ e. apart (sym e)) ∙ set_at views id v b at; live = omega arith; whole = omega arith })
             (λ far. record { seat = k.front.seat; view = k.front.view; at = set_else mid other k.front.seat spent far ∙ (set_else views id k.front.seat b away ∙ k.front.at); live = k.front.live; whole = k.front.whole }));
-        shared = let sum = sum_set (λ (u : Known). u.shares) views id v b at in let more = sum_set (λ (u : Known). u.shares) mid other w spent at_other in let whole = k.shared in omega arith;
-        apart = λ x. let sum = sum_set (λ (u : Known). times x u.own) views id v b at in let more = sum_set (λ (u : Known). times x u.own) mid other w spent at_other in let a = k.apart x in let both = times_both x v.own w.own in omega arith;
+        shared = let sum = sum_set (λ (u : Knowledge). u.shares) views id v b at in let more = sum_set (λ (u : Knowledge). u.shares) mid other w spent at_other in let whole = k.shared in omega arith;
+        apart = λ x. let sum = sum_set (λ (u : Knowledge). times x u.own) views id v b at in let more = sum_set (λ (u : Knowledge). times x u.own) mid other w spent at_other in let a = k.apart x in let both = times_both x v.own w.own in omega arith;
         marks = k.marks;
       }

@@ -14,7 +14,7 @@ use Rattle.hm_base.specs.Program.{Program}
 use Rattle.hm_base.specs.declared.ops.Version.TheVariants.{One}
 use Rattle.hm_history.specs.declared.StepError.{StepError}
 use Rattle.hm_turns.specs.Touching.{last_touched}
-use Rattle.hm_turns.specs.declared.known.Known.{Known}
+use Rattle.hm_turns.specs.declared.known.Knowledge.{Knowledge}
 use Rattle.hm_turns.specs.Sights.{Sight, OwnsOnce, IsQuiet, Follows, AreMarks, AreThere, times, longer, shorter}
 use Rattle.hm_turns.specs.Sights.{either_told, all_shares}
 
@@ -27,15 +27,15 @@ abbrev pub turn_word : List ℕ → ℕ
 turn_word ws = slice_index ws 1
 
 -- the shares of all views
-abbrev pub shares_of : List Known → ℕ
-shares_of views = sum_by (λ (v : Known). v.shares) views
+abbrev pub shares_of : List Knowledge → ℕ
+shares_of views = sum_by (λ (v : Knowledge). v.shares) views
 
 -- how often a position is somebody's own
-abbrev pub owned : ℕ → List Known → ℕ
-owned x views = sum_by (λ (v : Known). times x v.own) views
+abbrev pub owned : ℕ → List Knowledge → ℕ
+owned x views = sum_by (λ (v : Knowledge). times x v.own) views
 
 -- what a view knows is so
-pub record Fits (of : Program) (log : List Entry) (stopped : Option StepError) (count : ℕ) (v : Known) : Type 0 where
+pub record Fits (of : Program) (log : List Entry) (stopped : Option StepError) (count : ℕ) (v : Knowledge) : Type 0 where
   pub script_is : 0 < v.shares → v.script ≡ of
   pub seen : IsPrefix v.list log
   pub joined : IsPrefix v.other log
@@ -46,9 +46,9 @@ pub record Fits (of : Program) (log : List Entry) (stopped : Option StepError) (
   pub marked : AreMarks log v.marks
 
 -- a view that is not spent has seen all that is published
-pub record HasFront (count : ℕ) (views : List Known) : Type 0 where
+pub record HasFront (count : ℕ) (views : List Knowledge) : Type 0 where
   pub seat : ℕ
-  pub view : Known
+  pub view : Knowledge
   pub at : get_elem? views seat ≡ some view
   pub live : 0 < view.shares
   pub whole : count ≤ length view.list
@@ -68,9 +68,9 @@ abbrev pub MarksFit : List Entry → ℕ → List ℕ → Type 0
 MarksFit log n ws = (p : ℕ) → p < 32 → MarkFits log n (mark_word ws p) p
 
 -- one seat has the value, and what it has seen is the history
-pub record IsOut (log : List Entry) (stopped : Option StepError) (words : List ℕ) (views : List Known) : Type 0 where
+pub record IsOut (log : List Entry) (stopped : Option StepError) (words : List ℕ) (views : List Knowledge) : Type 0 where
   pub seat : ℕ
-  pub view : Known
+  pub view : Knowledge
   pub at : get_elem? views seat ≡ some view
   pub holds : view.holds ≡ true
   pub live : 0 < view.shares
@@ -79,7 +79,7 @@ pub record IsOut (log : List Entry) (stopped : Option StepError) (words : List �
   pub even : view.ahead ≡ false → count_word words ≡ length log
   pub one_more : view.ahead ≡ true → length log ≡ count_word words + 1
   pub marked : view.marked ≡ true → MarksFit log (length log) words
-  pub others : (j : ℕ) (v : Known) → get_elem? views j ≡ some v → j ≢ seat → v.holds ≡ false
+  pub others : (j : ℕ) (v : Knowledge) → get_elem? views j ≡ some v → j ≢ seat → v.holds ≡ false
 
 module _ {S : Type 0} (script : S → Program) (history : S → List Entry) (halt : S → Option StepError) where
   pub record IsHome (of : Program) (log : List Entry) (stopped : Option StepError)
@@ -91,28 +91,28 @@ module _ {S : Type 0} (script : S → Program) (history : S → List Entry) (hal
     pub halt_is : halt value ≡ stopped
 
   -- the turn is free: the value is in its slot, all of its history is published, and no seat has the turn
-  abbrev pub AtHome : Program → List Entry → Option StepError → State (Option S) Known → Type 0
+  abbrev pub AtHome : Program → List Entry → Option StepError → State (Option S) Knowledge → Type 0
   AtHome of log stopped s =
       (turn_word s.words ≡ 0)
       × (count_word s.words ≡ length log)
       × IsHome of log stopped s.homes
-      × ((j : ℕ) (v : Known) → get_elem? s.views j ≡ some v → v.holds ≡ false)
+      × ((j : ℕ) (v : Knowledge) → get_elem? s.views j ≡ some v → v.holds ≡ false)
 
   -- the turn is held
-  abbrev pub Away : List Entry → Option StepError → State (Option S) Known → Type 0
+  abbrev pub Away : List Entry → Option StepError → State (Option S) Knowledge → Type 0
   Away log stopped s = (turn_word s.words ≡ 1) × IsOut log stopped s.words s.views
 
   -- where the value is
-  abbrev pub Placed : Program → List Entry → Option StepError → State (Option S) Known → Type 0
+  abbrev pub Placed : Program → List Entry → Option StepError → State (Option S) Knowledge → Type 0
   Placed of log stopped s = AtHome of log stopped s ⊎ Away log stopped s
 
-  pub record Kept (of : Program) (s : State (Option S) Known) : Type 0 where
+  pub record Kept (of : Program) (s : State (Option S) Knowledge) : Type 0 where
     pub log : List Entry
     pub stopped : Option StepError
     pub wide : 33 < length s.words
     pub published : count_word s.words ≤ length log
     pub placed : Placed of log stopped s
-    pub each : (j : ℕ) (v : Known) → get_elem? s.views j ≡ some v → Fits of log stopped (count_word s.words) v
+    pub each : (j : ℕ) (v : Knowledge) → get_elem? s.views j ≡ some v → Fits of log stopped (count_word s.words) v
     pub front : HasFront (count_word s.words) s.views
     pub shared : shares_of s.views ≡ all_shares
     pub apart : (x : ℕ) → owned x s.views ≤ 1
@@ -120,7 +120,7 @@ module _ {S : Type 0} (script : S → Program) (history : S → List Entry) (hal
 
 -- what a seat of the table sees: the value, if it has it, and what it knows
 abbrev Sat : Type 0 → Type 0
-Sat S = Me (Option S) Known
+Sat S = Me (Option S) Knowledge
 
 -- a step of the table
 abbrev At : Type 0 → Type 0
@@ -131,7 +131,7 @@ abbrev pub no_script : Program
 no_script = record { version = One; frames = 0; devices = []; skip = 0; actors = []; schedule = [] }
 
 -- the view of the first seat
-abbrev pub opened : Program → Known
+abbrev pub opened : Program → Knowledge
 opened of =
     record {
       script = of;
@@ -150,15 +150,15 @@ opened of =
     }
 
 -- the first seat takes the value, with its history and its mark
-abbrev pub winner : Known → List Entry → Option StepError → Known
+abbrev pub winner : Knowledge → List Entry → Option StepError → Knowledge
 winner v log stopped = record v { list = log; told = stopped; ahead = false; marked = true; holds = true }
 
 -- the view after the turn was found held by another
-abbrev pub kept_out : Known → Known
+abbrev pub kept_out : Knowledge → Knowledge
 kept_out v = record v { busy = v.busy + 1 }
 
 -- the history became longer by one entry
-abbrev pub grown : Known → List Entry → Entry → Known
+abbrev pub grown : Knowledge → List Entry → Entry → Knowledge
 grown v log e =
     record v {
       list = log;
@@ -168,11 +168,11 @@ grown v log e =
     }
 
 -- the mark is raised
-abbrev pub raised : Known → Known
+abbrev pub raised : Knowledge → Knowledge
 raised v = record v { marked = true }
 
 -- the history is published
-abbrev pub even : Known → Known
+abbrev pub even : Knowledge → Knowledge
 even v = record v { ahead = false }
 
 -- 1 if a value that was not halted is halted now
@@ -182,20 +182,20 @@ newly None (Some e) = 1
 newly (Some e) after = 0
 
 -- the view after the value was put back, and whether it was halted then
-abbrev pub freed : Known → Option StepError → Known
+abbrev pub freed : Knowledge → Option StepError → Knowledge
 freed v stopped = record v { stops = v.stops + newly v.told stopped; told = stopped; holds = false }
 
 -- a cut, and what two views are together
-abbrev pub left_of : Known → Known
+abbrev pub left_of : Knowledge → Knowledge
 left_of v = record v { shares = v.shares - 1 }
 
 -- what the second half of a cut begins with: nothing of its own, and no counts
-abbrev pub right_of : Known → Known
+abbrev pub right_of : Knowledge → Knowledge
 right_of v =
     record v { own = []; shares = 1; busy = 0; stops = 0; other = []; ahead = false; marked = false; holds = false }
 
 -- what two views are once one has taken the other in: the longer history, and all counts together
-abbrev pub both_of : Known → Known → Known
+abbrev pub both_of : Knowledge → Knowledge → Knowledge
 both_of v w = record {
   script = v.script;
   list = longer v.list w.list;
@@ -213,7 +213,7 @@ both_of v w = record {
 }
 
 -- what a view is once it was taken in
-abbrev pub spent : Known
+abbrev pub spent : Knowledge
 spent =
     record {
       script = no_script;
@@ -232,12 +232,12 @@ spent =
     }
 
 -- the view after its two histories were compared, of which it keeps the longer one
-abbrev pub compared : Known → Known
+abbrev pub compared : Knowledge → Knowledge
 compared v = record v { other = [] }
 
 module _ {S : Type 0} (script : S → Program) (history : S → List Entry) (halt : S → Option StepError) where
   -- what is known of the value that is taken
-  pub record Won (v : Known) (x : S) : Type 0 where
+  pub record Won (v : Knowledge) (x : S) : Type 0 where
     pub script_is : script x ≡ v.script
     pub later : IsPrefix v.list (history x)
     pub counted : v.loaded ≤ length (history x)
@@ -269,7 +269,7 @@ abbrev pub raised_as : {S : Type 0} → At S → Sat S → ℕ → Sat S → Typ
 raised_as st m n m' = m' ≡ (raised m.0, m.1)
 
 -- the view after the count was loaded
-abbrev pub told_count : Known → ℕ → Known
+abbrev pub told_count : Knowledge → ℕ → Knowledge
 told_count v n = record v { loaded = n }
 
 -- the count was loaded
@@ -279,7 +279,7 @@ counted_as st m n m' =
     × (m.0.shares ≡ all_shares → n ≡ length m.0.list)
 
 -- the view after a process's mark was loaded
-abbrev pub told_mark : Known → ℕ → ℕ → Known
+abbrev pub told_mark : Knowledge → ℕ → ℕ → Knowledge
 told_mark v p k = record v { marks = v.marks ++ record { proc = p; at = k; upto = v.loaded } ∷ [] }
 
 -- a mark was loaded
@@ -291,7 +291,7 @@ abbrev pub compared_as : {S : Type 0} → At S → Sat S → ℕ → Sat S → T
 compared_as st m n m' = (m' ≡ (compared m.0, m.1)) × IsPrefix m.0.other m.0.list × OwnsOnce m.0.own m.0.list
 
 -- what contracts see of a pass
-abbrev pub sight_of : TableId → List Known → Sight
+abbrev pub sight_of : TableId → List Knowledge → Sight
 sight_of table [] =
     record {
       desk = record { table = table; script = no_script };
@@ -318,18 +318,18 @@ sight_of table (v ∷ vs) =
     }
 
 -- the holder's list is longer than what is published
-pub record IsAhead (v : Known) : Type 0 where
+pub record IsAhead (v : Knowledge) : Type 0 where
   pub holds : v.holds ≡ true
   pub ahead : v.ahead ≡ true
   pub marked : v.marked ≡ is_none (last_touched v.list)
 
 -- a pass between two calls
-pub record IsResting (v : Known) : Type 0 where
+pub record IsResting (v : Knowledge) : Type 0 where
   pub free : v.holds ≡ false
   pub alone : v.other ≡ []
   pub live : 0 < v.shares
 
 -- there is one view alone, and it rests: so a value can be taken out of the table
-abbrev pub AreResting : List Known → Type 0
+abbrev pub AreResting : List Knowledge → Type 0
 AreResting [] = ⊥
 AreResting (v ∷ vs) = (vs ≡ []) × IsResting v × OwnsOnce v.own v.list

@@ -5,7 +5,7 @@ use Rattle.atomic_table.specs.declared.shared.Seat.{Seat}
 use Rattle.hm_history.specs.declared.Entry.{Entry}
 use Rattle.hm_base.specs.Program.{Program}
 use Rattle.hm_history.specs.declared.StepError.{StepError}
-use Rattle.hm_turns.specs.declared.known.Known.{Known}
+use Rattle.hm_turns.specs.declared.known.Knowledge.{Knowledge}
 use Rattle.hm_turns.specs.Sights.{Sight, OwnsOnce, all_shares}
 use Rattle.hm_turns.specs.Ruled.{Won, winner, kept_out, sight_of}
 
@@ -15,11 +15,11 @@ IsSized z = (z.words ≡ 34) × (z.slots ≡ 1)
 
 -- a seat at the table of a shared value
 abbrev pub Place : Type 0 → Type 0
-Place S = Seat (Option S) Known
+Place S = Seat (Option S) Knowledge
 
 module _ {S : Type 0} where
   -- the seat stays, and knows this and holds that
-  pub record Becomes (old new : Place S) (v : Known) (hand : List (ℕ × Option S)) : Type 0 where
+  pub record Becomes (old new : Place S) (v : Knowledge) (hand : List (ℕ × Option S)) : Type 0 where
     pub table_is : new.table_id ≡ old.table_id
     pub id_is : new.id ≡ old.id
     pub me_is : new.me ≡ (v, hand)

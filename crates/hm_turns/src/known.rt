@@ -18,7 +18,7 @@ pub struct Own {
 }
 
 /// What a seat knows.
-pub struct Known {
+pub struct Knowledge {
     pub script: Script,
     /// The history as far as it was seen.
     pub list: LinkedList<Entry>,

@@ -1,12 +1,12 @@
 // What a caller of the turn has seen.
-use crate::known::Known;
+use crate::known::Knowledge;
 use atomic_table::Badge;
 use std::marker::Model;
 
 /// The right to try for the turn, and what was seen with it. It has no bytes.
 #[derive(Drop)]
 pub struct Pass {
-    pub(crate) badge: Badge<Known>,
+    pub(crate) badge: Badge<Knowledge>,
 }
 
 impl Model for Pass {

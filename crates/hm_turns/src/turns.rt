@@ -11,7 +11,7 @@ ghost use Rattle.hm_turns.specs.Ruled.{grown, raised, even, freed, told_count, t
 ghost use Rattle.hm_turns.specs.Ruled.{AreResting};
 ghost use Rattle.hm_turns.specs.Seats.{IsSized, IsIdle, Becomes, Takes, IsGivable, OwnsItsOwn, sight};
 
-use crate::known::Known;
+use crate::known::Knowledge;
 use crate::pass::Pass;
 use crate::plays::{Compare, Count, Cut, Give, Glue, Mark, Note, Publish, Raise, Take};
 use crate::receipt::Receipt;
@@ -35,7 +35,7 @@ const TURN: usize = 1;
 /// The word of the first of 32 marks, one for each process.
 const MARKS: usize = 2;
 
-pub(crate) type Seated<S> = Seat<Option<S>, Known>;
+pub(crate) type Seated<S> = Seat<Option<S>, Knowledge>;
 
 /// One stepped value, whose steps are made one at a time by whoever has the turn. No call waits for another.
 #[derive(Drop)]
@@ -180,7 +180,7 @@ impl<S: Stepped> Turns<S> {
 }
 
 // The seat of a pass, and back.
-pub(crate) fn seat_of<S>(badge: Badge<Known>) -> Seated<S>
+pub(crate) fn seat_of<S>(badge: Badge<Knowledge>) -> Seated<S>
     requires { AreResting badge.views }
     ensures idle { IsIdle result × OwnsItsOwn result }
     ensures sight { sight_of badge.table_id badge.views ≡ sight result }
@@ -188,7 +188,7 @@ pub(crate) fn seat_of<S>(badge: Badge<Known>) -> Seated<S>
     badge.into_seat()
 }
 
-pub(crate) fn badge_of<S>(seat: Seated<S>) -> Badge<Known>
+pub(crate) fn badge_of<S>(seat: Seated<S>) -> Badge<Knowledge>
     requires { IsIdle seat × OwnsItsOwn seat }
     ensures resting { AreResting result.views }
     ensures sight { sight_of result.table_id result.views ≡ sight seat }

@@ -16,7 +16,7 @@ use Rattle.hm_turns.specs.declared.looks.Looked.{Looked}
 use Rattle.hm_workers.specs.Peeking.{ArePeeks, CountsRise, IsOf, IsPlain, IsRight, ReachesEnd, is_newer, last_count}
 use Rattle.hm_workers.specs.Watching.{Checks, ChecksTo, IsKept, LastsTo, RightPeeks, peek_of}
 use Rattle.hm_workers.specs.declared.peeks.Peek.{Peek}
-use Rattle.hm_workers.specs.declared.watching.Asked.{Asked}
+use Rattle.hm_workers.specs.declared.watching.WatchedBytes.{WatchedBytes}
 use Rattle.hm_workers.specs.declared.watching.Checked.{Checked}
 use Rattle.seq_copies.proofs.Current.{filled_has_areas, last_mark}
 use Rattle.seq_copies.specs.Copies.{IsCurrent, StillHaveAreas, TakesTo, checked}
@@ -25,7 +25,7 @@ use Rattle.seq_copies.specs.declared.answers.Still.{Still}
 use Rattle.seq_copies.specs.declared.answers.Taken.{Taken}
 
 -- peeks stay right
-pub peeks_stay : (a : Asked) (v w : Sight) (xs : List Peek) → ((later : List Entry) → IsShown w later → IsShown v later) → RightPeeks a v xs → RightPeeks a w xs
+pub peeks_stay : (a : WatchedBytes) (v w : Sight) (xs : List Peek) → ((later : List Entry) → IsShown w later → IsShown v later) → RightPeeks a v xs → RightPeeks a w xs
 peeks_stay a v w xs shown are = record {
   each = λ i x at. let e = are.each i x at in (e.0, λ later s. e.1 later (shown later s));
   rise = are.rise;
@@ -70,7 +70,7 @@ rises_more xs z rise newer i j x y lt at_i at_j = by (get_push xs z y j at_j) (g
     by (inr a) (inl b) = let below = above_each xs z.count rise newer i x b.1 in let same = ap (λ (p : Peek). p.count) a.1 in omega (arith, below, same)
     by (inr a) (inr b) = absurd (omega (arith, lt, a.0, b.0))
 
-pub peeks_more : (a : Asked) (v : Sight) (xs : List Peek) (z : Peek) → RightPeeks a v xs → is_newer xs z.count ≡ true → IsOf a.proc a.addr a.len z → IsRight v z → RightPeeks a v (xs ++ z ∷ [])
+pub peeks_more : (a : WatchedBytes) (v : Sight) (xs : List Peek) (z : Peek) → RightPeeks a v xs → is_newer xs z.count ≡ true → IsOf a.proc a.addr a.len z → IsRight v z → RightPeeks a v (xs ++ z ∷ [])
 peeks_more a v xs z are newer of right = record {
   each = λ i x at. by i x (get_push xs z x i at);
   rise = rises_more xs z are.rise newer;
@@ -81,7 +81,7 @@ peeks_more a v xs z are newer of right = record {
     by i x (inr r) = subst (λ (y : Peek). IsOf a.proc a.addr a.len y × IsRight v y) (sym r.1) (of, right)
 
 -- a copy that was taken
-pub taken_kept : (legal : Program → List Entry → Type 0) (a : Asked) (v w : Sight) (s : Snapshot) → TakesTo legal a.proc a.addr a.len v (Taken.Taken s) w → IsKept a w.list s
+pub taken_kept : (legal : Program → List Entry → Type 0) (a : WatchedBytes) (v w : Sight) (s : Snapshot) → TakesTo legal a.proc a.addr a.len v (Taken.Taken s) w → IsKept a w.list s
 taken_kept legal a v w s t =
     let of = t.1 in
     let whole : take s.at w.list ≡ w.list = ap (λ k. take k w.list) of.at_is ∙ take-length w.list in
@@ -105,7 +105,7 @@ current_right s w n loaded current areas later shown = record {
 }
 
 -- after a check
-pub checks_stay : (a : Asked) (v w : Sight) (s : Snapshot) (t : Still) → w ≡ checked v s.proc t → IsKept a v.list s → IsKept a w.list s
+pub checks_stay : (a : WatchedBytes) (v w : Sight) (s : Snapshot) (t : Still) → w ≡ checked v s.proc t → IsKept a v.list s → IsKept a w.list s
 checks_stay a v w s t is kept = subst (λ l. IsKept a l s) (sym (ap (λ (z : Sight). z.list) is)) kept
 
 pub checks_more : (xs ys : List Peek) (s : Snapshot) (t : Still) (r : Checked) → ChecksTo s t xs r ys → length ys ≤ length xs + 1
@@ -114,7 +114,7 @@ checks_more xs ys s t Checked.Same c = let e = ap (λ (l : List Peek). length l)
 checks_more xs ys s t Checked.New c = let e = ap (λ (l : List Peek). length l) c.2 in let more = length-append xs (peek_of s t.count ∷ []) in omega (arith, e, more)
 
 -- no peek counts more than a list that is shown, so one that is not older is of the whole list
-not_newer : (a : Asked) (w : Sight) (xs : List Peek) → RightPeeks a w xs → IsShown w w.list → is_newer xs (length w.list) ≡ false → last_count xs ≡ Some (length w.list)
+not_newer : (a : WatchedBytes) (w : Sight) (xs : List Peek) → RightPeeks a w xs → IsShown w w.list → is_newer xs (length w.list) ≡ false → last_count xs ≡ Some (length w.list)
 not_newer a w xs are shown old = by (slice_get xs (length xs - 1)) refl old
   where
     by : (o : Option Peek) → slice_get xs (length xs - 1) ≡ o → elim o [ None ↦ true | Some z ↦ nat_lt z.count (length w.list) ] ≡ false → last_count xs ≡ Some (length w.list)
@@ -132,7 +132,7 @@ last_of xs z =
     ap (λ i. option_map (λ (x : Peek). x.count) (slice_get (xs ++ z ∷ []) i)) at ∙ ap (option_map (λ (x : Peek). x.count)) (get_last xs z)
 
 -- the check of a copy of all that the whole pass has seen
-pub checks_last : (a : Asked) (v w : Sight) (s : Snapshot) (xs ys : List Peek) (r : Checked) → v.shares ≡ all_shares → s.at ≡ length v.list → Checks v s xs r w ys → RightPeeks a w ys → LastsTo a w ys
+pub checks_last : (a : WatchedBytes) (v w : Sight) (s : Snapshot) (xs ys : List Peek) (r : Checked) → v.shares ≡ all_shares → s.at ≡ length v.list → Checks v s xs r w ys → RightPeeks a w ys → LastsTo a w ys
 checks_last a v w s xs ys r whole at c are running shown found = by r c.answer
   where
     t : Still
@@ -158,7 +158,7 @@ checks_last a v w s xs ys r whole at c are running shown found = by r c.answer
     by Checked.New x = ap last_count x.2 ∙ last_of xs (peek_of s t.count) ∙ ap Some count_is
 
 -- peeks that are right in a list that is shown
-pub plain_in : (a : Asked) (w : Sight) (xs : List Peek) (list : List Entry) → RightPeeks a w xs → IsShown w list → ArePeeks a.proc a.addr a.len (IsPlain list) xs
+pub plain_in : (a : WatchedBytes) (w : Sight) (xs : List Peek) (list : List Entry) → RightPeeks a w xs → IsShown w list → ArePeeks a.proc a.addr a.len (IsPlain list) xs
 plain_in a w xs list are shown = record {
   each = λ i x at. let e = are.each i x at in (e.0, e.1 list shown);
   rise = are.rise;

@@ -8,7 +8,7 @@ use Rattle.hm_turns.specs.Stepping.{is_halted}
 use Rattle.hm_turns.specs.declared.turn.Turn.{Turn}
 use Rattle.hm_turns.specs.declared.turn.Turn.TheVariants as turn
 use Rattle.hm_workers.specs.Working.{Tries, next_of}
-use Rattle.hm_workers.specs.declared.workers.Next.{Next}
+use Rattle.hm_workers.specs.declared.workers.AfterTry.{AfterTry}
 
 module _ (legal : Program → List Entry → Type 0) (due : Program → List Entry → ℕ → Progress) (actor : ℕ) (v w : Sight) (goes : GoesOn v w) where
   by_turn : (t : Turn) → TurnsTo legal due actor v t w → Tries due actor v (next_of t) w
@@ -24,5 +24,5 @@ module _ (legal : Program → List Entry → Type 0) (due : Program → List Ent
   by_turn (turn.Stopped e) x = (goes, inr (ap (λ (s : Sight). is_halted s.told) x.pass_is))
   by_turn turn.Halted x = (goes, inr x.halted)
 
-  pub tries : (t : Turn) (next : Next) → TurnsTo legal due actor v t w → next ≡ next_of t → Tries due actor v next w
-  tries t next x is = subst (λ (n : Next). Tries due actor v n w) (sym is) (by_turn t x)
+  pub tries : (t : Turn) (next : AfterTry) → TurnsTo legal due actor v t w → next ≡ next_of t → Tries due actor v next w
+  tries t next x is = subst (λ (n : AfterTry). Tries due actor v n w) (sym is) (by_turn t x)

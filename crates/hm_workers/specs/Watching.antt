@@ -6,7 +6,7 @@ use Rattle.hm_turns.specs.Sights.{Sight, GoesOn, IsShown, all_shares}
 use Rattle.hm_turns.specs.Stepping.{is_halted}
 use Rattle.hm_workers.specs.Peeking.{ArePeeks, IsRight, ReachesEnd, is_newer}
 use Rattle.hm_workers.specs.declared.peeks.Peek.{Peek}
-use Rattle.hm_workers.specs.declared.watching.Asked.{Asked}
+use Rattle.hm_workers.specs.declared.watching.WatchedBytes.{WatchedBytes}
 use Rattle.hm_workers.specs.declared.watching.Checked.{Checked}
 use Rattle.hm_workers.specs.declared.watching.Tried.{Tried}
 use Rattle.seq_copies.specs.Copies.{HaveAreas, IsCopy, checked}
@@ -24,11 +24,11 @@ pub record HasWatched (tries : ℕ) (old new : Sight) : Type 0 where
   pub few : new.busy + length new.marks ≤ old.busy + length old.marks + tries
 
 -- peeks of what was asked for, which are right in each list that is shown later
-abbrev pub RightPeeks : Asked → Sight → List Peek → Type 0
+abbrev pub RightPeeks : WatchedBytes → Sight → List Peek → Type 0
 RightPeeks a v xs = ArePeeks a.proc a.addr a.len (IsRight v) xs
 
 -- a copy of these bytes, which was taken of a front of the list and found areas
-pub record IsKept (a : Asked) (list : List Entry) (s : Snapshot) : Type 0 where
+pub record IsKept (a : WatchedBytes) (list : List Entry) (s : Snapshot) : Type 0 where
   pub proc_is : s.proc ≡ a.proc
   pub addr_is : s.addr ≡ a.addr
   pub length_is : length s.bytes ≡ a.len
@@ -56,12 +56,12 @@ pub record Checks (v : Sight) (s : Snapshot) (xs : List Peek) (r : Checked) (w :
   pub answer : ChecksTo s seen xs r ys
 
 -- the copy that a try leaves
-abbrev pub HasKept : Asked → List Entry → Tried → Type 0
+abbrev pub HasKept : WatchedBytes → List Entry → Tried → Type 0
 HasKept a list (Tried.Copied s) = IsKept a list s
 HasKept a list (Tried.Kept s) = IsKept a list s
 HasKept a list _ = Unit {0}
 
 -- where the pass was told of no halt, its list is the last that is shown, and a look at it finds the bytes, the last
 -- peek is of the whole list
-abbrev pub LastsTo : Asked → Sight → List Peek → Type 0
+abbrev pub LastsTo : WatchedBytes → Sight → List Peek → Type 0
 LastsTo a w xs = is_halted w.told ≡ false → IsShown w w.list → ReachesEnd a.proc a.addr a.len w.list xs

@@ -10,8 +10,8 @@ use Rattle.hm_turns.specs.Sights.{Desk, Sight, GoesOn, TurnsTo}
 use Rattle.hm_turns.specs.declared.turn.Turn.{Turn}
 use Rattle.hm_turns.specs.declared.turn.Turn.TheVariants.{Busy, Stopped, Halted, Did as Answered}
 use Rattle.hm_workers.specs.declared.workers.Job.{Job}
-use Rattle.hm_workers.specs.declared.workers.Next.{Next}
-use Rattle.hm_workers.specs.declared.workers.Next.TheVariants.{Added, Again, Done}
+use Rattle.hm_workers.specs.declared.workers.AfterTry.{AfterTry}
+use Rattle.hm_workers.specs.declared.workers.AfterTry.TheVariants.{Added, Again, Done}
 
 -- after the list of the pass the actor's operations have ended, or the pass was told of a halt
 abbrev pub IsDone : (Program → List Entry → ℕ → Progress) → ℕ → Sight → Type 0
@@ -23,7 +23,7 @@ Works due actor old new = GoesOn old new × IsDone due actor new
 
 -- what a turn's answer leads to: an entry was added; or nothing was, and there is more to do; or the actor has no
 -- operation left, or a halt was told
-abbrev pub next_of : Turn → Next
+abbrev pub next_of : Turn → AfterTry
 next_of (Answered (Did e)) = Added
 next_of (Answered (Waiting why)) = Again
 next_of (Answered Idle) = Done
@@ -32,7 +32,7 @@ next_of (Stopped e) = Done
 next_of Halted = Done
 
 -- a try of a worker: a turn, and what its answer leads to; or the gate was closed, and nothing was done
-abbrev pub IsTried : (Program → List Entry → Type 0) → (Program → List Entry → ℕ → Progress) → ℕ → Sight → Next
+abbrev pub IsTried : (Program → List Entry → Type 0) → (Program → List Entry → ℕ → Progress) → ℕ → Sight → AfterTry
     → Sight → Type 0
 IsTried legal due actor old next new =
     ((t : Turn) × TurnsTo legal due actor old t new × (next ≡ next_of t)) ⊎ ((new ≡ old) × (next ≡ Again))
@@ -42,7 +42,7 @@ abbrev pub GoesBy : ℕ → Sight → Sight → Type 0
 GoesBy n old new = GoesOn old new × (length new.own ≡ length old.own + n)
 
 -- what one try of a worker leaves
-abbrev pub Tries : (Program → List Entry → ℕ → Progress) → ℕ → Sight → Next → Sight → Type 0
+abbrev pub Tries : (Program → List Entry → ℕ → Progress) → ℕ → Sight → AfterTry → Sight → Type 0
 Tries due actor old Added new = GoesBy 1 old new
 Tries due actor old Again new = GoesBy 0 old new
 Tries due actor old Done new = Works due actor old new

@@ -9,7 +9,7 @@ use crate::gate::Gate;
 use crate::glances::Watched;
 use crate::passes::Passes;
 use crate::peeks::PeekList;
-use crate::watching::{Asked, Signs, watch};
+use crate::watching::{Signs, WatchedBytes, watch};
 use crate::workers::run_actors;
 use hm_base::{NoMemory, Proc};
 use hm_turns::{Looks, Pass, Stepped, Turns};
@@ -61,7 +61,7 @@ pub fn run_peeked<R: Threads + Wait + Sync, S: Stepped + Looks + Send, G: Gate +
     ensures few { IfOk result (λ r. length r.1 ≤ 1000) }
     ensures watcher { HasWatched 100000 watcher.old watcher.new }
 {
-    let asked = Asked { proc, addr, len };
+    let asked = WatchedBytes { proc, addr, len };
     let signs = Signs::new();
     let mut waiting = Some(passes);
     let (peeks, done) = join_mut(

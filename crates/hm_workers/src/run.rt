@@ -11,7 +11,7 @@ use crate::dealing::{deal, gather};
 use crate::gate::Gate;
 use crate::peeked::run_peeked;
 use crate::peeks::PeekList;
-use crate::watching::{Asked, peek_last};
+use crate::watching::{WatchedBytes, peek_last};
 use crate::workers::run_actors;
 use hm_base::{NoMemory, Proc};
 use hm_turns::{Looks, Receipt, Stepped, Turns};
@@ -73,7 +73,7 @@ pub fn peek_all<R: Threads + Wait + Sync, S: Looks + Send, G: Gate + Sync>(
     ensures areas { IfOk result
         (λ r. last_count r.2 ≡ Some (length r.1) → all_have_areas (after r.1).plain proc addr len ≡ true) }
 {
-    let asked = Asked { proc, addr, len };
+    let asked = WatchedBytes { proc, addr, len };
     let (turns, mut whole) = Turns::new(alloc, stepped)?;
     let mut watcher = turns.split(&mut whole);
     let passes = deal(alloc, &turns, &mut whole, actors)?;

@@ -35,7 +35,7 @@ const SLEEP: u64 = 1;
 
 /// Bytes of a process: the address of the first, and how many.
 #[derive(Clone, Copy)]
-pub(crate) struct Asked {
+pub(crate) struct WatchedBytes {
     pub(crate) proc: Proc,
     pub(crate) addr: u64,
     pub(crate) len: u32,
@@ -139,7 +139,7 @@ fn record_peek(
 pub(crate) fn check<S: Stepped>(
     alloc: Global,
     turns: &Turns<S>,
-    asked: &Asked,
+    asked: &WatchedBytes,
     copy: &Snapshot,
     peeks: &mut PeekList,
     pass: &mut Pass,
@@ -168,7 +168,7 @@ pub(crate) fn check<S: Stepped>(
 fn try_copy<S: Stepped>(
     alloc: Global,
     turns: &Turns<S>,
-    asked: &Asked,
+    asked: &WatchedBytes,
     copy: Snapshot,
     peeks: &mut PeekList,
     pass: &mut Pass,
@@ -191,7 +191,7 @@ fn try_copy<S: Stepped>(
 fn try_to_take<S: Looks>(
     alloc: Global,
     turns: &Turns<S>,
-    asked: &Asked,
+    asked: &WatchedBytes,
     pass: &mut Pass,
 ) -> Result<Tried, NoMemory>
     requires own { pass.old.desk ≡ turns.now }
@@ -212,7 +212,7 @@ fn try_to_take<S: Looks>(
 fn try_once<S: Looks>(
     alloc: Global,
     turns: &Turns<S>,
-    asked: &Asked,
+    asked: &WatchedBytes,
     copy: Option<Snapshot>,
     peeks: &mut PeekList,
     pass: &mut Pass,
@@ -254,7 +254,7 @@ pub(crate) fn watch<R: Wait, S: Looks>(
     rt: &R,
     alloc: Global,
     turns: &Turns<S>,
-    asked: &Asked,
+    asked: &WatchedBytes,
     signs: &Signs,
     pass: &mut Pass,
 ) -> Result<PeekList, NoMemory>
@@ -294,7 +294,7 @@ pub(crate) fn watch<R: Wait, S: Looks>(
 pub(crate) fn peek_last<S: Looks>(
     alloc: Global,
     turns: &Turns<S>,
-    asked: &Asked,
+    asked: &WatchedBytes,
     peeks: &mut PeekList,
     whole: &mut Pass,
 ) -> Result<(), NoMemory>

@@ -18,7 +18,7 @@ use std::thread::Threads;
 
 // What comes after a try.
 #[derive(Drop)]
-enum Next {
+enum AfterTry {
     // An entry was added.
     Added,
     // Nothing was, and there is more to do.
@@ -28,16 +28,16 @@ enum Next {
 }
 
 // What a turn's answer leads to.
-fn next_of(turn: Turn) -> Next
+fn next_of(turn: Turn) -> AfterTry
     ensures { result ≡ spec.next_of turn }
 {
     match turn {
-        Turn::Did(Progress::Did(_)) => Next::Added,
-        Turn::Did(Progress::Waiting(_)) => Next::Again,
-        Turn::Did(Progress::Idle) => Next::Done,
-        Turn::Busy => Next::Again,
-        Turn::Stopped(_) => Next::Done,
-        Turn::Halted => Next::Done,
+        Turn::Did(Progress::Did(_)) => AfterTry::Added,
+        Turn::Did(Progress::Waiting(_)) => AfterTry::Again,
+        Turn::Did(Progress::Idle) => AfterTry::Done,
+        Turn::Busy => AfterTry::Again,
+        Turn::Stopped(_) => AfterTry::Done,
+        Turn::Halted => AfterTry::Done,
     }
 }
 
@@ -48,7 +48,7 @@ fn try_once<S: Stepped, G: Gate>(
     pass: &mut Pass,
     worker: (Actor, u64),
     gate: &G,
-) -> Next
+) -> AfterTry
     requires own { pass.old.desk ≡ turns.now }
     requires actor { worker.0 < length turns.now.script.actors }
     requires told { IsAdded first.now.value pass.old worker.1 }
@@ -62,7 +62,7 @@ fn try_once<S: Stepped, G: Gate>(
         next_of(turn)
     } else {
         thread::yield_now();
-        Next::Again
+        AfterTry::Again
     }
 }
 
@@ -82,9 +82,9 @@ fn work<R: Wait, S: Stepped, G: Gate>(
     let mut added = 0u64;
     for _ in rt.forever() {
         match try_once(turns, &first, &mut pass, (actor, added), gate) {
-            Next::Added => added = added.saturating_add(1),
-            Next::Again => (),
-            Next::Done => return pass,
+            AfterTry::Added => added = added.saturating_add(1),
+            AfterTry::Again => (),
+            AfterTry::Done => return pass,
         }
     }
     unreachable!()

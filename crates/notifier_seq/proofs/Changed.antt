@@ -6,7 +6,7 @@ use Rattle.std.proofs.lemmas.List.Sums.{count_by-le-length, sum_by-set, get_or-l
 use Rattle.std.proofs.Math.Seq.{map-set_same}
 use Rattle.std.proofs.Math.ListN.{get_or-map}
 use Rattle.hm_base.specs.Pages.{Pages}
-use Rattle.notifier_seq.specs.declared.interval.Due.TheVariants.{Insert, Remove, Nothing}
+use Rattle.notifier_seq.specs.declared.interval.Settling.TheVariants.{Insert, Remove, Nothing}
 use Rattle.notifier_seq.specs.declared.interval.Interval.{Interval}
 use Rattle.notifier_seq.specs.declared.interval.Stage.{Stage}
 use Rattle.notifier_seq.specs.declared.interval.Stage.TheVariants.{InTree, InsertDeferred, RemoveDeferred, Out}

@@ -3,8 +3,8 @@ use Rattle.std.specs.Prelude.{◌≡◌, ℕ, ◌+◌, ◌≤◌, Bool, false, i
 use Rattle.std.specs.Prelude.{count_by, replicate, slice_index_or, slice_set}
 use Rattle.std.specs.declared.alloc.Global.{Global}
 use Rattle.hm_base.specs.Pages.{Pages}
-use Rattle.notifier_seq.specs.declared.interval.Due.{Due}
-use Rattle.notifier_seq.specs.declared.interval.Due.TheVariants.{Insert, Remove, Nothing}
+use Rattle.notifier_seq.specs.declared.interval.Settling.{Settling}
+use Rattle.notifier_seq.specs.declared.interval.Settling.TheVariants.{Insert, Remove, Nothing}
 use Rattle.notifier_seq.specs.declared.interval.Interval.{Interval}
 use Rattle.notifier_seq.specs.declared.interval.Stage.{Stage}
 use Rattle.notifier_seq.specs.declared.interval.Stage.TheVariants.{InTree, InsertDeferred, RemoveDeferred, Out}
@@ -21,14 +21,14 @@ stage_of None = Out
 stage_of (Some x) = x.stage
 
 -- what is due of an interval when the sequence moves
-abbrev pub due_in : Stage → Pages → Due
+abbrev pub due_in : Stage → Pages → Settling
 due_in InTree w = Nothing
 due_in InsertDeferred w = Insert w
 due_in RemoveDeferred w = Remove
 due_in Out w = Nothing
 
 -- the same of an interval that may not be there
-abbrev pub due : Option Interval → Due
+abbrev pub due : Option Interval → Settling
 due None = Nothing
 due (Some x) = due_in x.stage x.window
 

@@ -28,7 +28,7 @@ pub struct Interval {
 
 // What is due of an interval when the sequence moves.
 #[derive(Clone, Copy)]
-pub enum Due {
+pub enum Settling {
     Insert(Span),
     Remove,
     Nothing,
@@ -52,16 +52,16 @@ pub fn stage_of(interval: &Option<Interval>) -> Stage
     }
 }
 
-pub fn what_is_due(interval: &Option<Interval>) -> Due
+pub fn settling_of(interval: &Option<Interval>) -> Settling
     ensures { result ≡ due interval.now }
 {
     match interval {
         Some(interval) => match interval.stage {
-            Stage::InTree | Stage::Out => Due::Nothing,
-            Stage::InsertDeferred => Due::Insert(interval.window),
-            Stage::RemoveDeferred => Due::Remove,
+            Stage::InTree | Stage::Out => Settling::Nothing,
+            Stage::InsertDeferred => Settling::Insert(interval.window),
+            Stage::RemoveDeferred => Settling::Remove,
         },
-        None => Due::Nothing,
+        None => Settling::Nothing,
     }
 }
 

@@ -5,7 +5,7 @@ ghost use Rattle.notifier_seq.specs.Sequences.{settled, with_seq, with_stage};
 ghost use Rattle.notifier_seq.specs.Kept.{nothing_listed, listed_at, with_listed, listed_with, tree_window, stage_of};
 ghost use Rattle.notifier_seq.specs.declared.interval.Stage.TheVariants.{InTree, InsertDeferred, RemoveDeferred, Out};
 
-use crate::interval::{Due, Interval, Stage, settled, what_is_due, with_seq, with_stage};
+use crate::interval::{Interval, Settling, Stage, settled, settling_of, with_seq, with_stage};
 use hm_base::{MirrorId, NoMemory, Span};
 use interval_tree::IntervalTree;
 use std::alloc::Global;
@@ -156,16 +156,16 @@ impl Subscriptions {
         ensures { self.new ≡ with_listed self.old id (settled (listed_at self.old id)) }
     {
         let at = id.number() as usize;
-        match what_is_due(&self.intervals[at]) {
-            Due::Insert(window) => {
+        match settling_of(&self.intervals[at]) {
+            Settling::Insert(window) => {
                 self.tree.insert_reserved(id, window);
                 self.intervals[at] = settled(&self.intervals[at]);
             }
-            Due::Remove => {
+            Settling::Remove => {
                 self.tree.remove(id);
                 self.intervals[at] = settled(&self.intervals[at]);
             }
-            Due::Nothing => (),
+            Settling::Nothing => (),
         }
     }
 }

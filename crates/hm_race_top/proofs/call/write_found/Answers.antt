@@ -3,7 +3,7 @@ use Rattle.hm_base.specs.Program.{Program}
 use Rattle.hm_race_search.specs.Values.{all_known}
 use Rattle.hm_race_search.proofs.Exploring.{known_length}
 use Rattle.hm_race_states.specs.Keyed.{form_in}
-use Rattle.hm_race_text.specs.declared.block.Block.{Block}
+use Rattle.hm_race_text.specs.declared.block.OutcomeBlock.{OutcomeBlock}
 use Rattle.hm_race_top.specs.Telling.{HasTold, telling, told}
 use Rattle.hm_race_top.proofs.Reporting.{told_same}
 use Rattle.hm_race_top.proofs.call.write_found.Goals as goal
@@ -17,7 +17,7 @@ returns-in-Ok-tell-clause-written g c =
     let xs = c.as_slice-known.result.now in
     subst (λ t. HasTold t (tells c.args.sink.now) (tells c.write_telling.new.sink) c.write_telling.result)
     (c.in-Ok-tell.ensures.telling
-    ∙ ap (λ (bs : List Block). telling s task bs (length xs) end) c.as_slice.ensures
+    ∙ ap (λ (bs : List OutcomeBlock). telling s task bs (length xs) end) c.as_slice.ensures
     ∙ told_same s task (all_known form_in xs) end c.in-Ok.blocks c.len.result (length xs)
     (c.len.ensures ∙ ap (λ (p : Program). length p.actors) c.script.view_is)
     (sym (known_length form_in xs)) c.in-Ok.ensures

@@ -5,7 +5,7 @@ use Rattle.hm_turns.specs.Sights.{Sight, IsShown}
 use Rattle.hm_turns.specs.Stepping.{is_halted}
 use Rattle.hm_workers.specs.Dealing.{HaveEnded, IsGathered}
 use Rattle.hm_workers.specs.Peeking.{ArePeeks, IsPlain, ReachesEnd}
-use Rattle.hm_workers.specs.declared.watching.Asked.{Asked}
+use Rattle.hm_workers.specs.declared.watching.WatchedBytes.{WatchedBytes}
 use Rattle.hm_workers.proofs.Deals.{gathered_on, halts_before, halts_too, true_or, works_ended, works_own, works_shares}
 use Rattle.hm_workers.proofs.Recorded.{last_has_areas, peeks_stay, plain_in}
 use Rattle.hm_workers.proofs.Watched.{joined_shown}
@@ -28,7 +28,7 @@ peek_last-requires-clause-shares g c =
 
 pub peek_last-requires-clause-peeks : goal.peek_last-requires-clause-peeks
 peek_last-requires-clause-peeks g c =
-    let a : Asked = record { proc = c.args.proc; addr = c.args.addr; len = c.args.len } in
+    let a : WatchedBytes = record { proc = c.args.proc; addr = c.args.addr; len = c.args.len } in
     peeks_stay a c.run_peeked.new.watcher c.join.new.pass c.in_ok-passes-2.peeks (joined_shown c.gather.new.whole c.run_peeked.new.watcher c.join.new.pass c.join.ensures.both c.join.ensures.lists.1) c.in_ok-passes-2.ensures.peeks
 
 pub close-stepped-requires-clause-whole : goal.close-stepped-requires-clause-whole
@@ -63,7 +63,7 @@ returns-clause-ended g c =
 
 pub returns-clause-peeks : goal.returns-clause-peeks
 returns-clause-peeks g c =
-    let a : Asked = record { proc = c.args.proc; addr = c.args.addr; len = c.args.len } in
+    let a : WatchedBytes = record { proc = c.args.proc; addr = c.args.addr; len = c.args.len } in
     let w : Sight = c.peek_last.new.whole in
     let shown : IsShown w w.list = record { later = prefix_refl w.list; counted = c.close-stepped.ensures.counted; marked = c.close-stepped.ensures.marked } in
     subst (λ (h : List Entry). ArePeeks a.proc a.addr a.len (IsPlain h) c.peek_last.new.peeks) (sym c.close-stepped.ensures.receipt) (plain_in a w c.peek_last.new.peeks w.list c.peek_last.ensures.peeks shown)
@@ -77,7 +77,7 @@ returns-clause-last g c = λ running.
 
 pub returns-clause-areas : goal.returns-clause-areas
 returns-clause-areas g c =
-    let a : Asked = record { proc = c.args.proc; addr = c.args.addr; len = c.args.len } in
+    let a : WatchedBytes = record { proc = c.args.proc; addr = c.args.addr; len = c.args.len } in
     let w : Sight = c.peek_last.new.whole in
     let shown : IsShown w w.list = record { later = prefix_refl w.list; counted = c.close-stepped.ensures.counted; marked = c.close-stepped.ensures.marked } in
     last_has_areas a.proc a.addr a.len c.close-stepped.result.1 c.peek_last.new.peeks

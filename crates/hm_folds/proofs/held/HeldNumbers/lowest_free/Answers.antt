@@ -1,5 +1,5 @@
 use Rattle.hm_folds.proofs.LeastHeld.{first_free, next_free, none_free}
-use Rattle.hm_folds.proofs.held.Held.lowest_free.Goals as goal
+use Rattle.hm_folds.proofs.held.HeldNumbers.lowest_free.Goals as goal
 
 pub returns-in-Some : goal.returns-in-Some
 returns-in-Some c = let x = c.args.self.now in first_free x.frames x.next x.held x.free c.in-Some.number x.sound c.in-Some.ensures

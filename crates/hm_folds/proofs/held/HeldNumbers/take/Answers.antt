@@ -1,6 +1,6 @@
 use Rattle.std.proofs.Common.{arith}
 use Rattle.hm_folds.proofs.LeastHeld.{taken_next, sound_next}
-use Rattle.hm_folds.proofs.held.Held.take.Goals as goal
+use Rattle.hm_folds.proofs.held.HeldNumbers.take.Goals as goal
 
 pub overflow_add-self : goal.overflow_add-self
 overflow_add-self c =
