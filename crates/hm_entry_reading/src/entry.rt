@@ -5,11 +5,10 @@ ghost use Rattle.hm_entry_reading.specs.Kinds.{entry_at};
 
 use crate::kind_word::KindWord;
 use crate::kinds::EntryWords;
-use crate::line_words::LineWords;
 use crate::words::actor;
 use hm_base::NoMemory;
 use hm_history::Entry;
-use hm_script::Reason;
+use hm_script::{LineWords, Reason};
 use std::alloc::Global;
 
 /// What stands before this end, if the text has it.

@@ -5,14 +5,13 @@ ghost use Rattle.hm_entry_reading.specs.Kinds.{has_bytes, kind_at};
 ghost use Rattle.hm_entry_reading.specs.Words.{bytes_at, framed_place, place_at, why_at};
 
 use crate::kind_word::KindWord;
-use crate::line_words::LineWords;
 use crate::words::{
     actor, byte, bytes, cause, device, frame, kept, mirror, own_place, page, part, proc, right,
     span, system_number, table_right, target, who, writes,
 };
 use hm_base::{Bytes, Frame, NoMemory, Place};
 use hm_history::{KeptWhy, Kind};
-use hm_script::{Reason, address, number};
+use hm_script::{LineWords, Reason, address, number};
 use std::alloc::Global;
 
 /// A place with a frame, of this name.

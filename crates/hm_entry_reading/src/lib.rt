@@ -6,7 +6,6 @@ mod entry;
 mod kind_word;
 mod kinds;
 mod laws;
-mod line_words;
 mod reader;
 mod words;
 

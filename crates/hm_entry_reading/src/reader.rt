@@ -3,13 +3,12 @@ ghost use Rattle.std.specs.Prelude.{◌≡◌, IfOk};
 ghost use Rattle.hm_entry_reading.specs.Entries.{IsEnd, IsRead, IsUnfinished, unfinished_text};
 
 use crate::entry::{read_words, strip_end};
-use crate::line_words::LineWords;
 use crate::words::actor;
 use hm_base::{Actor, NoMemory};
 use hm_history::Entry;
 use hm_report::{Buffer, put_end, put_unfinished_line};
 use hm_report_front::is_line_of;
-use hm_script::number;
+use hm_script::{LineWords, number};
 use std::alloc::Global;
 
 /// An actor with an operation that has not ended.

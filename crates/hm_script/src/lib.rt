@@ -19,6 +19,7 @@ mod words;
 pub use generator::generate;
 pub use keyword::OpWord;
 pub use laws::{is_trial, one_text, upgraded_text, whole_grammar};
+pub use line_words::LineWords;
 pub use lines::cut_line;
 pub use numeral::{address, number};
 pub use printing::{extend_hex, print};

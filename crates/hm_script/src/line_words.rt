@@ -103,12 +103,14 @@ impl<'a> Model for LineWords<'a> {
 }
 
 impl<'a> LineWords<'a> {
+    /// The words of this line, without its end.
     pub fn of(line: &'a [u8]) -> LineWords<'a>
         ensures { result ≡ split line.now }
     {
         LineWords { line }
     }
 
+    /// The word at this place, from 0, and nothing past the last one.
     pub fn get(&self, at: usize) -> &'a [u8]
         ensures { result.now ≡ word at self.now }
     {
