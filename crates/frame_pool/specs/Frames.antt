@@ -19,7 +19,7 @@ pub record IsFrames (f : Frames) : Type 0 where
   pub locks_len : length f.locks ≡ length f.held
   pub few : length f.held < 2 ^ 32
 
--- a pool of so many frames, none of which is held
+-- a pool of this many frames, none of which is held
 abbrev pub fresh : ℕ → Frames
 fresh n =
     record { held = replicate n false; bytes = replicate (n * 4096) 0; locks = replicate n None; withdrawn = false }
@@ -36,11 +36,11 @@ locker f n = slice_index_or f.locks n None
 abbrev pub overwritten : List ℕ → ℕ → List ℕ → List ℕ
 overwritten xs at ys = splice xs at (at + length ys) ys
 
--- so many bytes of the pool
+-- this many bytes of the pool
 abbrev pub part_of : List ℕ → ℕ → ℕ → List ℕ
 part_of xs at n = slice_range xs at (at + n)
 
--- so many bytes: these first, and then zeros
+-- this many bytes: these first, and then zeros
 abbrev pub padded : List ℕ → ℕ → List ℕ
 padded xs n = xs ++ replicate (n - length xs) 0
 

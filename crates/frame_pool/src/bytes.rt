@@ -5,7 +5,7 @@ ghost use Rattle.frame_pool.specs.Frames.{overwritten, padded, part_of};
 /// The bytes of a frame.
 pub const FRAME_BYTES: usize = 4096;
 
-/// Adds zeros at the end, up to so many bytes, for which there is room.
+/// Adds zeros at the end, up to this many bytes, for which there is room.
 pub fn grow(bytes: &mut Vec<u8>, len: usize)
     requires { len ≤ vec_capacity bytes.old }
     ensures items { bytes.new.items ≡ bytes.old.items ++ replicate (len - length bytes.old.items) 0 }
@@ -19,7 +19,7 @@ pub fn grow(bytes: &mut Vec<u8>, len: usize)
     }
 }
 
-/// Fills `into` with the bytes from `at` on, and with zeros where there are none.
+/// Fills `into` with the bytes from `at` on, and with zeros if there are none.
 pub fn read(bytes: &[u8], at: usize, into: &mut [u8])
     requires { at + length into.old < 2 ^ 64 }
     ensures { into.new ≡ padded (part_of bytes.now at (length into.old)) (length into.old) }
@@ -40,7 +40,7 @@ pub fn overwrite(bytes: &mut Vec<u8>, at: usize, from: &[u8])
     bytes[at..at + from.len()].copy_from_slice(from);
 }
 
-/// Writes so many bytes of another block from `from` on over those from `at` on, and zeros where it has none.
+/// Writes this many bytes of another block from `from` on over those from `at` on, and zeros if it has none.
 pub fn read_over(bytes: &mut Vec<u8>, at: usize, count: usize, source: &[u8], from: usize)
     requires target { at + count ≤ length bytes.old.items }
     requires source { from + count < 2 ^ 64 }
@@ -50,7 +50,7 @@ pub fn read_over(bytes: &mut Vec<u8>, at: usize, count: usize, source: &[u8], fr
     read(source, from, &mut bytes[at..at + count]);
 }
 
-/// Writes so many zeros over the bytes from `at` on.
+/// Writes this many zeros over the bytes from `at` on.
 pub fn overwrite_by_zeros(bytes: &mut Vec<u8>, at: usize, count: usize)
     requires { at + count ≤ length bytes.old.items }
     ensures items { bytes.new.items ≡ overwritten bytes.old.items at (replicate count 0) }
@@ -59,7 +59,7 @@ pub fn overwrite_by_zeros(bytes: &mut Vec<u8>, at: usize, count: usize)
     bytes[at..at + count].fill(0);
 }
 
-/// Copies so many bytes from `at` on over those from `to` on.
+/// Copies this many bytes from `at` on over those from `to` on.
 pub fn copy(bytes: &mut Vec<u8>, at: usize, to: usize, count: usize)
     requires source { at + count ≤ length bytes.old.items }
     requires target { to + count ≤ length bytes.old.items }

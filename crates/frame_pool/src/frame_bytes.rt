@@ -54,7 +54,7 @@ impl FrameBytes {
         bytes::overwrite(&mut self.front, at, from);
     }
 
-    /// Writes so many zeros over the bytes from `at` on. Where no byte at or past it was written, there is nothing to
+    /// Writes this many zeros over the bytes from `at` on. Where no byte at or past it was written, there is nothing to
     /// do.
     pub fn zero(&mut self, at: usize, count: usize)
         requires { at + count ≤ length self.old }
@@ -67,7 +67,7 @@ impl FrameBytes {
         bytes::overwrite_by_zeros(&mut self.front, at, count);
     }
 
-    /// Copies so many bytes from `at` on over those from `to` on.
+    /// Copies this many bytes from `at` on over those from `to` on.
     pub fn copy(&mut self, at: usize, to: usize, count: usize)
         requires source { at + count ≤ length self.old }
         requires target { to + count ≤ length self.old }
@@ -78,7 +78,7 @@ impl FrameBytes {
         bytes::copy(&mut self.front, at, to, count);
     }
 
-    /// Copies so many bytes of another row from `at` on over those from `to` on. Where neither row has a byte there
+    /// Copies this many bytes of another row from `at` on over those from `to` on. Where neither row has a byte there
     /// that was written, there is nothing to do.
     pub fn copy_from(&mut self, from: &FrameBytes, at: usize, to: usize, count: usize)
         requires source { at + count ≤ length from.now }

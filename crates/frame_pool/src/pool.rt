@@ -51,8 +51,8 @@ impl Model for Pool {
 }
 
 impl Pool {
-    /// A pool of so many frames, none of which is held. It reserves all the memory that it will need; the machine gives
-    /// that of a frame's bytes when the frame is first taken.
+    /// A pool of this many frames, none of which is held. It reserves all the memory that it will need; the machine
+    /// gives that of a frame's bytes when the frame is first taken.
     pub fn new(alloc: Global, frames: u32) -> Result<Pool, NoMemory>
         ensures { IfOk result (λ pool. pool ≡ fresh frames) }
     {
@@ -237,7 +237,7 @@ pub fn copy_across(from: &Pool, src: u32, to: &mut Pool, dst: u32, piece: Piece)
     to.bytes.copy_from(&from.bytes, at, over, piece.len());
 }
 
-/// The locks of so many frames, which nobody has.
+/// The locks of this many frames, which nobody has.
 fn unlocked_frames(alloc: Global, count: usize) -> Result<Vec<Option<Actor>>, NoMemory>
     ensures { IfOk result (λ locks. locks.items ≡ replicate count None) }
 {

@@ -72,7 +72,7 @@ impl PoolBytes {
         self.pending = Some(at);
     }
 
-    /// Copies so many bytes from `at` on over those from `to` on.
+    /// Copies this many bytes from `at` on over those from `to` on.
     pub fn copy(&mut self, at: usize, to: usize, count: usize)
         requires source { at + count ≤ length self.old }
         requires target { to + count ≤ length self.old }
@@ -87,7 +87,7 @@ impl PoolBytes {
         self.bytes.copy(at, to, count);
     }
 
-    /// Copies so many bytes of a frame of another row from `at` on over those from `to` on.
+    /// Copies this many bytes of a frame of another row from `at` on over those from `to` on.
     pub fn copy_from(&mut self, from: &PoolBytes, at: usize, to: usize, count: usize)
         requires source { at + count ≤ length from.now }
         requires frame { at % 4096 + count ≤ 4096 }
@@ -146,7 +146,7 @@ fn is_pending(pending: Option<usize>, at: usize) -> bool
     }
 }
 
-/// Whether a copy of so many bytes to there goes over the whole frame that is still to be zeroed.
+/// Whether a copy of this many bytes to there goes over the whole frame that is still to be zeroed.
 fn is_copied_over(pending: Option<usize>, to: usize, count: usize) -> bool
     ensures { result ≡ true → (pending ≡ Some to) × (count ≡ 4096) }
 {

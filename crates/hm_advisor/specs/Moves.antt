@@ -16,7 +16,7 @@ to_device c = record { mirror = c.mirror; page = c.page; to_device = true }
 abbrev pub to_system : Count → Move
 to_system c = record { mirror = c.mirror; page = c.page; to_device = false }
 
--- it moves to the device where the device's accesses outweigh the CPU's, and to the system where it is the other way
+-- it moves to the device if the device's accesses outweigh the CPU's, and to the system if it is the other way
 -- round
 abbrev pub moves_of : Count → List Move
 moves_of c =

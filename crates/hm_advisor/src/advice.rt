@@ -60,7 +60,7 @@ fn moves_for<R: LeanRule>(alloc: Global, rule: &R, counts: &[Count]) -> Result<M
 }
 
 /// The counts of a history, as `counts_of` has them, and the moves that the rule asks for: a page moves to the mirror's
-/// device where its accesses outweigh those by the CPU, and to the system where it is the other way round.
+/// device if its accesses outweigh those by the CPU, and to the system if it is the other way round.
 pub fn advise<R: LeanRule>(alloc: Global, history: &History, rule: &R) -> Result<Advice, NoMemory>
     ensures { IfOk result (IsAdvice history.now.entries) }
 {

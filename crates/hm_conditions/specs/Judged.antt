@@ -5,7 +5,7 @@ use Rattle.hm_conditions.specs.declared.condition.Condition.{Condition}
 use Rattle.hm_conditions.specs.declared.condition.Quantifier.{Quantifier}
 use Rattle.hm_conditions.specs.Meets.{meets}
 
--- so many of the outcomes meet the body as the quantifier asks for
+-- this many of the outcomes meet the body as the quantifier asks for
 abbrev pub holds_for : Quantifier → (List ℕ → Bool) → List (List ℕ) → Bool
 holds_for Quantifier.Exists p outcomes = list_any p outcomes
 holds_for Quantifier.Never p outcomes = not (list_any p outcomes)

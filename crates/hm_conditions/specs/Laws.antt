@@ -73,7 +73,7 @@ ListedIsRight =
     (c : Program) (k : Condition) (outcomes : List (List ℕ)) → AllListed c outcomes → witness k outcomes ≡ None
     → IsRight c k outcomes
 
--- where all that is listed are outcomes, what is said with a witness is right
+-- if all that is listed are outcomes, what is said with a witness is right
 abbrev pub RealIsRight : Type 0
 RealIsRight =
     (c : Program) (k : Condition) (outcomes : List (List ℕ)) (at : ℕ) → AllReal c outcomes

@@ -18,11 +18,11 @@ open_text Place.Negated l = codes " not"
 open_text Place.Opened l = literal_text l
 open_text Place.Inside l = literal_text l
 
--- the text of alternatives, each with the word behind it
+-- the text of alternatives, each with the word after it
 abbrev pub ended_text : List (List Literal) → List ℕ
 ended_text body = flat_map (λ ls. all_text ls ++ codes " or") body
 
--- the text of literals, each with the word behind it
+-- the text of literals, each with the word after it
 abbrev pub held_text : List Literal → List ℕ
 held_text ls = flat_map (λ l. literal_text l ++ codes " and") ls
 

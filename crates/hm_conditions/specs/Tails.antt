@@ -1,4 +1,4 @@
--- What is left of a text behind a word.
+-- What is left of a text after a word.
 use Rattle.std.specs.Borrow.{Bor}
 use Rattle.std.specs.Prelude.{ℕ, ◌+◌, Option, Some, None, List, [], ◌∷◌, length}
 use Rattle.hm_script.specs.Splitting.{split}

@@ -39,7 +39,7 @@ fn space_in(text: &[u8]) -> Option<usize>
     text.iter().position(|b| *b == b' ')
 }
 
-/// The first word, and the text after the space behind it, if there is one.
+/// The first word, and the text after the space that follows it, if there is one.
 pub fn cut(text: &[u8]) -> (&[u8], Option<&[u8]>)
     ensures text { text.now ≡ result.0.now ++ tail_of result.1 }
     ensures words { split text.now ≡ result.0.now ∷ words_in result.1 }

@@ -99,7 +99,7 @@ impl HeldFrames {
     }
 }
 
-// How many frames a device of the script has; none where it is not declared.
+// How many frames a device of the script has; none if it is not declared.
 fn frames_of(devices: &DeviceList, number: u64) -> u32
     ensures { result ≡ slice_index_or devices.now number 0 }
 {

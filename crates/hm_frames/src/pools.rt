@@ -349,7 +349,7 @@ fn zero(into: &mut [u8])
     into.fill(0);
 }
 
-/// The pool of the device of this number, without frames where it is not declared.
+/// The pool of the device of this number, without frames if it is not declared.
 fn device_pool(alloc: Global, devices: &DeviceList, number: u64) -> Result<OnePool, NoMemory>
     ensures { IfOk result (λ pool. pool ≡ fresh_pool (frames_of_device devices.now number)) }
 {

@@ -212,7 +212,7 @@ impl Mirrors {
         }
     }
 
-    /// The mirror's process, and process 0 where it has not come.
+    /// The mirror's process, and process 0 if it has not come.
     pub fn mirror_proc(&self, mirror: MirrorId) -> Proc
         ensures { result ≡ proc_of self.now mirror }
     {
@@ -222,7 +222,7 @@ impl Mirrors {
         }
     }
 
-    /// The mirror's device, and device 0 where it has not come.
+    /// The mirror's device, and device 0 if it has not come.
     pub fn mirror_dev(&self, mirror: MirrorId) -> Dev
         ensures { result ≡ device_of self.now mirror }
     {

@@ -1,6 +1,6 @@
 -- States without absolute sequences: of a process's sequence it is asked whether it is odd, of an interval's whether it
 -- is the process's, of a noted one whether it is the interval's. 3 and 2 stand for odd and even; an interval's is 3
--- where it is the process's, and else 1; a noted one is the interval's, or 5 where it is not.
+-- if it is the process's, and else 1; a noted one is the interval's, or 5 if it is not.
 use Rattle.std.specs.Prelude.{ℕ, Bool, ◌==◌, if◌then◌else◌, Option, Some, None, List, [], ◌∷◌}
 use Rattle.hm_base.specs.Program.{Program}
 use Rattle.hm_base.specs.declared.ops.Op.{Op}

@@ -46,14 +46,14 @@ outcomes_of c (n ∷ ns) = if n.ended then outcome c n.form.answers ∷ outcomes
 abbrev pub turns_at : List KnownValue → ℕ → List ℕ
 turns_at ns at = get_or (map (λ n. n.turns) ns) at []
 
--- a known state has this form, and at most so many turns lead to it
+-- a known state has this form, and at most this many turns lead to it
 pub record Within (ns : List KnownValue) (f : Point) (most : ℕ) : Type 0 where
   pub state : KnownValue
   pub listed : IsListed ns state
   pub form : state.form ≡ f
   pub few : length state.turns ≤ most
 
--- the state after what is due to an actor is known, with at most so many turns; so are those of all actors below a
+-- the state after what is due to an actor is known, with at most this many turns; so are those of all actors below a
 -- number, or of all
 abbrev pub GoesOn : Program → List KnownValue → Point → ℕ → ℕ → Type 0
 GoesOn c ns x most a = (e : Entry) → due_in c x.state a ≡ Progress.Did e → Within ns (form_of c (point_next c x e)) most

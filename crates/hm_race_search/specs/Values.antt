@@ -58,7 +58,7 @@ pub record Searching {K : Type 0} (c : Program) (h : List Entry) (form : K → P
   pub deep : AreDeep form ns
   pub fits : Fits form number Valid ns b
 
--- these states, and at most so many more
+-- these states, and at most this many more
 pub record HasGrown {K : Type 0} (old new : List (Known K)) (most : ℕ) : Type 0 where
   pub more : List (Known K)
   pub grown : new ≡ old ++ more

@@ -45,7 +45,7 @@ abbrev pub report_by : Program → List Entry → (ℕ → ℕ) → List ℕ
 report_by c h ended =
     text c ++ (history_line ++ (entry_lines 0 h ++ (unfinished_lines c ended ++ end_line (length h))))
 
--- the number, from 0, of the actor's first operation that has not ended; all have ended where it is their count
+-- the number, from 0, of the actor's first operation that has not ended; all have ended if it is their count
 abbrev pub first_unended : Program → List Entry → ℕ → ℕ
 first_unended c h a = ((state_of c h).going a).index
 

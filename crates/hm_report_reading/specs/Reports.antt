@@ -18,7 +18,7 @@ pub record SharesLines (bytes : List ℕ) (n : ℕ) (c : Program) (h : List Entr
   pub has : HasText c h us
   pub shares : take n (lines (text_of c h us)) ≡ take n (lines bytes)
 
--- no such text has the first n lines of the bytes, and some has any fewer; a line that is missing is bad where no such
+-- no such text has the first n lines of the bytes, and some has any fewer; a line that is missing is bad if no such
 -- text ends before it
 pub record IsFirstBad (bytes : List ℕ) (n : ℕ) : Type 0 where
   pub bad : (c : Program) (h : List Entry) (us : List Unfinished) → SharesLines bytes n c h us → ⊥

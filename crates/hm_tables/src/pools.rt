@@ -30,7 +30,7 @@ pub fn new_pools(alloc: Global, script: &Script) -> Result<Vec<RevMaps>, NoMemor
     Ok(pools)
 }
 
-/// How many frames a pool of the script has; none where the device is not declared.
+/// How many frames a pool of the script has; none if the device is not declared.
 fn frames_of(script: &Script, index: u32) -> u32
     ensures { result ≡ frames_of script.now index }
 {

@@ -102,7 +102,7 @@ impl PageTables {
         set_word(&mut self.tables, proc, page, place);
     }
 
-    /// The process has exited: what its table had room for is given back, where no page has a place any more.
+    /// The process has exited: what its table had room for is given back, if no page has a place any more.
     fn give_back(&mut self, proc: Proc)
         ensures tables { self.new ≡ tables_next (AnyKind.Exited proc) self.old }
         ensures range { TablesRange (AnyKind.Exited proc) }
@@ -221,7 +221,7 @@ fn set_word(tables: &mut Vec<Radix>, proc: Proc, page: Page, place: &Place)
     }
 }
 
-/// Gives back what the table of a process has room for, where it has no word.
+/// Gives back what the table of a process has room for, if it has no word.
 fn give_back(tables: &mut Vec<Radix>, proc: Proc)
     requires { length tables.old.items ≡ 32 }
     ensures tables { let table = slice_index_or tables.old.items proc no_words in

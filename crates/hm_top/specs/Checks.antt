@@ -35,7 +35,7 @@ pub record HasBad (bytes : List ℕ) : Type 0 where
   pub line : ℕ
   pub first : IsFirstBad bytes line
 
--- the bytes are the report in the answer; where the answer has none they have a bad line
+-- the bytes are the report in the answer; if the answer has none they have a bad line
 abbrev pub IsAsAnswered : Option Program → List Entry → List ℕ → Type 0
 IsAsAnswered None h bytes = HasBad bytes
 IsAsAnswered (Some c) h bytes = IsLegalReportOf c h bytes
@@ -80,7 +80,7 @@ pub record WroteFront (Goes : List ℕ → Type 0) (before after : SinkState) : 
   pub goes : Goes text
   pub front : AddsFront before.held after.held text
 
--- a front of what is said of the report in the answer; where the answer has none, of the line on the first bad line
+-- a front of what is said of the report in the answer; if the answer has none, of the line on the first bad line
 abbrev pub WroteFrontFor : (List Entry → List ℕ) → SourceState → Option Program → List Entry → SinkState → SinkState
     → Type 0
 WroteFrontFor say from None h before after = WroteFront (TellsBad from) before after
@@ -115,16 +115,16 @@ pub record SaysOfReport (say : List Entry → List ℕ) (io : Traffic) (ended : 
   -- the line that is told is the first bad one of the bytes. At `WriteFault` it is one of both. `TooLong` tells that
   -- more was there to read than the limit. There are no other statuses but `ReadFault` and `NoMemory`.
   pub read : HasJudged ended.script ended.history.entries io.source io.source_after ended.status
-  -- `ReadFault` comes only where the source counted a fault.
+  -- `ReadFault` comes only if the source counted a fault.
   pub read_faults : ReadFaulted io.source.faults io.source_after.faults ended.status
-  -- The answer has a script and a history that is legal for it at `Done`, and at `WriteFault` where it was the text on
+  -- The answer has a script and a history that is legal for it at `Done`, and at `WriteFault` if it was the text on
   -- a legal report that did not go out; else it has none.
   pub answer : HasReport ended.script ended.history.entries ended.status
   -- At `Done` what is said of the history was written, and at `NotLegal` the line on the first bad line. At
   -- `WriteFault` a front of the text that was due was written; at `NoMemory` nothing, or a front of the text that was
-  -- due where the sink itself wanted memory; nothing at other statuses.
+  -- due if the sink itself ran out of memory; nothing at other statuses.
   pub written : HasTold say io.source ended.script ended.history.entries io.sink io.sink_after ended.status
-  -- `WriteFault` comes only where the sink counted a fault.
+  -- `WriteFault` comes only if the sink counted a fault.
   pub write_faults : WriteFaulted io.sink.faults io.sink_after.faults ended.status
   -- If the text went out whole, the sink sent all of it on.
   pub flushed : IsFlushed io.sink_after.pending ended.status

@@ -9,7 +9,7 @@ use Rattle.hm_top.specs.declared.command.Alone.{Alone}
 use Rattle.hm_top.specs.declared.command.Begin.{Begin}
 use Rattle.hm_top.specs.declared.command.Command.{Command}
 
--- the command that takes a number, where the word spells one: decimal, without leading zeros, below 2 ^ 64
+-- the command that takes a number, if the word spells one: decimal, without leading zeros, below 2 ^ 64
 abbrev pub numbered : (ℕ → Alone) → Result ℕ Reason → Option Command
 numbered command (Ok n) = Some (Command.Alone (command n))
 numbered command (Err why) = None
@@ -29,7 +29,7 @@ abbrev pub numbered_command : List ℕ → List ℕ → Option Command
 numbered_command w n = if bytes_eq w (codes "generate") then numbered Alone.Generate (number n)
     else (if bytes_eq w (codes "trial") then numbered Alone.Trial (number n) else None)
 
--- a peek of so many bytes of a process from an address on: 1 to 256 of them, that end at or below 2 ^ 48
+-- a peek of this many bytes of a process from an address on: 1 to 256 of them, that end at or below 2 ^ 48
 abbrev pub peek_at : ℕ → ℕ → ℕ → Option Command
 peek_at p at n =
     if nat_lt p 32 && (nat_lt 0 n && (nat_le n 256 && nat_le at (281474976710656 - n)))

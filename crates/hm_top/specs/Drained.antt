@@ -11,6 +11,6 @@ use Rattle.hm_script.specs.Built.{has_drain}
 abbrev pub IsDone : Program → List Entry → ℕ → Type 0
 IsDone c h a = (op_at c a ((state_of c h).going a).index ≡ None) × (due c h a ≡ Progress.Idle)
 
--- where the schedule has a `drain`, which is its last line, every actor is done after the history
+-- if the schedule has a `drain`, which is its last line, every actor is done after the history
 abbrev pub IsDrained : Program → List Entry → Type 0
 IsDrained s h = has_drain s.schedule ≡ true → (a : ℕ) → IsDone s h a

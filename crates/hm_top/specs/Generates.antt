@@ -31,7 +31,7 @@ pub record Generates (n : ℕ) (io : Traffic) (ended : Ended) : Type 0 where
   pub unread : io.source_after ≡ io.source
   -- The script is the generated one; the call ends with `Done`, `WriteFault` or `NoMemory`.
   pub made : HasMade (IsAlone (generated n)) ended.script ended.history.entries ended.status
-  -- Its text goes out; a front of it at `WriteFault`, and at `NoMemory` where the sink itself wanted memory.
+  -- Its text goes out; a front of it at `WriteFault`, and at `NoMemory` if the sink itself ran out of memory.
   pub written : HasWritten (text (generated n)) (λ t. t ≡ text (generated n)) io.sink io.sink_after ended.status
   pub write_faults : WriteFaulted io.sink.faults io.sink_after.faults ended.status
   -- If the text went out whole, the sink sent all of it on.
@@ -48,8 +48,8 @@ pub record Tries (n : ℕ) (io : Traffic) (ended : Ended) : Type 0 where
   pub unread : io.source_after ≡ io.source
   -- The script is the generated one, and the history its run; the call ends with `Done`, `WriteFault` or `NoMemory`.
   pub ran : HasMade (IsTried (generated n)) ended.script ended.history.entries ended.status
-  -- The summary of that run goes out; a front of it at `WriteFault`, and at `NoMemory` where the sink itself wanted
-  -- memory.
+  -- The summary of that run goes out; a front of it at `WriteFault`, and at `NoMemory` if the sink itself ran
+  -- out of memory.
   pub written : HasWritten (summary n (generated n) (run (generated n)))
       (λ t. t ≡ summary n (generated n) (run (generated n))) io.sink io.sink_after ended.status
   pub write_faults : WriteFaulted io.sink.faults io.sink_after.faults ended.status

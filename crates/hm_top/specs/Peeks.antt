@@ -29,7 +29,7 @@ abbrev pub peeked_text : List Peek → Program → List Entry → List ℕ
 peeked_text xs s h = report s h ++ flat_map peek_line xs
 
 -- the peeks of a whole run: each has the plain bytes of its process after its count in the history, the counts rise,
--- and the last one is of the whole history exactly where all the bytes have areas at the end
+-- and the last one is of the whole history exactly if all the bytes have areas at the end
 pub record SawAll (p at n : ℕ) (h : List Entry) (xs : List Peek) : Type 0 where
   pub right : ArePeeks p at n (IsPlain h) xs
   pub last : (last_count xs ≡ Some (length h)) ↔ (all_have_areas (after h).plain p at n ≡ true)
@@ -40,7 +40,7 @@ HasSeen p at n h xs Status.Done = SawAll p at n h xs
 HasSeen p at n h xs Status.WriteFault = SawAll p at n h xs ⊎ (xs ≡ [])
 HasSeen p at n h xs _ = xs ≡ []
 
--- where a text went out, or a front of it, the answer has these peeks, and else none
+-- if a text went out, or a front of it, the answer has these peeks, and else none
 abbrev pub AnswersPeeks : List Peek → List Peek → Status → Type 0
 AnswersPeeks saw xs Status.Done = xs ≡ saw
 AnswersPeeks saw xs Status.HistoryFull = xs ≡ saw
@@ -62,6 +62,6 @@ pub record RunsPeeked (p at n : ℕ) (io : Traffic) (ended : Ended) : Type 0 whe
   -- What is read, run and answered is as for `threads`. What is written is the report and a line for each peek in the
   -- answer.
   pub threads : TellsOfThreads (peeked_text ended.peeks) (IsPeekedReport p at n io.source) io ended
-  -- At `Done` the peeks are right, and the last is of the whole history exactly where all the bytes have areas then. At
+  -- At `Done` the peeks are right, and the last is of the whole history exactly if all the bytes have areas then. At
   -- `HistoryFull` there are none.
   pub peeks : HasSeen p at n ended.history.entries ended.peeks ended.status

@@ -27,19 +27,19 @@ pub record IsToldOfRun (tell : Program → List Entry → List ℕ) (from : Sour
 -- A script is read and run by its schedule, and a text that tells of the run goes out.
 pub record TellsOfRun (tell : Program → List Entry → List ℕ) (io : Traffic) (ended : Ended) : Type 0 where
   -- Where the text goes out, the bytes read are the text of the script in the answer, and nothing is left. A script is
-  -- refused exactly where no script has the bytes as its text, with the first bad line and its reason; `TooLong` tells
+  -- refused exactly if no script has the bytes as its text, with the first bad line and its reason; `TooLong` tells
   -- that more was there to read than a script has.
   pub read : HasRead (IsItsText ended.script) io.source io.source_after ended.status
-  -- `ReadFault` comes only where the source counted a fault.
+  -- `ReadFault` comes only if the source counted a fault.
   pub read_faults : ReadFaulted io.source.faults io.source_after.faults ended.status
-  -- Where the text goes out, the history is the script's run, and legal for it. `HistoryFull` comes exactly where a
-  -- turn found an entry due and the history full. At `Done` every actor is done, where the schedule has a `drain`.
+  -- If the text goes out, the history is the script's run, and legal for it. `HistoryFull` comes exactly if a
+  -- turn found an entry due and the history full. At `Done` every actor is done, if the schedule has a `drain`.
   pub ran : HasRun ended.script ended.history.entries ended.status
   -- The bytes written are the text of that script and history; at `WriteFault` a front of it; at `NoMemory` nothing, or
-  -- a front of such a text where the sink itself wanted memory; nothing at other statuses.
+  -- a front of such a text if the sink itself ran out of memory; nothing at other statuses.
   pub written : HasWritten (told_of tell ended.script ended.history.entries) (IsToldOfRun tell io.source) io.sink
       io.sink_after ended.status
-  -- `WriteFault` comes only where the sink counted a fault.
+  -- `WriteFault` comes only if the sink counted a fault.
   pub write_faults : WriteFaulted io.sink.faults io.sink_after.faults ended.status
   -- If the text went out whole, the sink sent all of it on.
   pub flushed : IsFlushed io.sink_after.pending ended.status

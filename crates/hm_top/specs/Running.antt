@@ -15,7 +15,7 @@ pub record IsRun (s : Program) (h : List Entry) : Type 0 where
   pub run_is : h ≡ run s  -- its schedule's turns in order, each adding what is due
   pub legal : Legal s h  -- every entry may follow those before it
 
--- no turn found an entry due and the history full; and every actor is done, where the schedule has a `drain`
+-- no turn found an entry due and the history full; and every actor is done, if the schedule has a `drain`
 pub record RanWhole (s : Program) (h : List Entry) : Type 0 where
   pub ran : IsRun s h
   pub within : overruns s ≡ false

@@ -39,7 +39,7 @@ HasRunThreads script h Status.WriteFault = Answered CameToEnd script h
 HasRunThreads script h (Status.NotLegal n) = ⊥
 HasRunThreads script h _ = AnsweredNone script h
 
--- where a report went out there is a receipt, and its list is the history
+-- if a report went out there is a receipt, and its list is the history
 abbrev pub HasReceipt : Option (List Entry) → List Entry → Status → Type 0
 HasReceipt receipt h Status.Done = receipt ≡ Some h
 HasReceipt receipt h Status.HistoryFull = receipt ≡ Some h
@@ -68,7 +68,7 @@ pub record TellsOfThreads (tell : Program → List Entry → List ℕ) (Goes : L
   pub read : HasRead (IsItsText ended.script) io.source io.source_after ended.status
   pub read_faults : ReadFaulted io.source.faults io.source_after.faults ended.status
   -- Where the text goes out, the history is legal for the script. At `Done` every operation has ended; `HistoryFull`
-  -- comes exactly where a turn found an entry due and the history full.
+  -- comes exactly if a turn found an entry due and the history full.
   pub ran : HasRunThreads ended.script ended.history.entries ended.status
   -- The history is that of the one machine that the workers shared, each of whose turns began with all that the
   -- worker had seen: only the end of such a sharing gives a receipt.

@@ -55,8 +55,8 @@ pub record Upgrades (io : Traffic) (ended : Ended) : Type 0 where
   pub script : HasUpgraded ended.script ended.status
   -- Nothing is run.
   pub history : ended.history.entries ≡ []
-  -- The text of that script goes out; a front of it at `WriteFault`, and at `NoMemory` where the sink itself wanted
-  -- memory.
+  -- The text of that script goes out; a front of it at `WriteFault`, and at `NoMemory` if the sink itself ran
+  -- out of memory.
   pub written : HasWritten (text_for ended.script) (IsUpgradedText io.source) io.sink io.sink_after ended.status
   pub write_faults : WriteFaulted io.sink.faults io.sink_after.faults ended.status
   -- If the text went out whole, the sink sent all of it on.

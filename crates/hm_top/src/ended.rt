@@ -14,7 +14,7 @@ pub struct Ended {
     pub status: Status,
     /// The script that was run, whose text went out, or whose report was checked.
     pub script: Option<Script>,
-    /// Its history, where it was run or its report was checked.
+    /// Its history, if it was run or its report was checked.
     pub history: History,
     /// Where threads made it: that it is the history of the one machine that they shared.
     pub receipt: Option<Receipt>,

@@ -35,7 +35,7 @@ struct Peeked {
     peeks: PeekList,
 }
 
-/// What is told of what was seen: nothing where the history got full.
+/// What is told of what was seen: nothing if the history got full.
 fn to_tell(alloc: Global, full: bool, peeks: PeekList) -> PeekList
     ensures whole { full ≡ false → result ≡ peeks }
     ensures full { full ≡ true → result ≡ [] }

@@ -35,7 +35,8 @@ abbrev pub owned : ℕ → List Knowledge → ℕ
 owned x views = sum_by (λ (v : Knowledge). times x v.own) views
 
 -- what a view knows is so
-pub record Fits (of : Program) (log : List Entry) (stopped : Option StepError) (count : ℕ) (v : Knowledge) : Type 0 where
+pub record Fits (of : Program) (log : List Entry) (stopped : Option StepError) (count : ℕ) (v : Knowledge)
+    : Type 0 where
   pub script_is : 0 < v.shares → v.script ≡ of
   pub seen : IsPrefix v.list log
   pub joined : IsPrefix v.other log
@@ -53,7 +54,7 @@ pub record HasFront (count : ℕ) (views : List Knowledge) : Type 0 where
   pub live : 0 < view.shares
   pub whole : count ≤ length view.list
 
--- the marks of all processes, where the entries from n on are not counted yet
+-- the marks of all processes, if the entries from n on are not counted yet
 pub record MarkFits (log : List Entry) (n k : ℕ) (p : ℕ) : Type 0 where
   pub inside : k ≤ length log
   pub follows : Follows log k p
@@ -68,7 +69,8 @@ abbrev pub MarksFit : List Entry → ℕ → List ℕ → Type 0
 MarksFit log n ws = (p : ℕ) → p < 32 → MarkFits log n (mark_word ws p) p
 
 -- one seat has the value, and what it has seen is the history
-pub record IsOut (log : List Entry) (stopped : Option StepError) (words : List ℕ) (views : List Knowledge) : Type 0 where
+pub record IsOut (log : List Entry) (stopped : Option StepError) (words : List ℕ) (views : List Knowledge)
+    : Type 0 where
   pub seat : ℕ
   pub view : Knowledge
   pub at : get_elem? views seat ≡ some view

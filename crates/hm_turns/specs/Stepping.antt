@@ -32,7 +32,7 @@ abbrev pub IsItsCause : Progress → List Entry → StepError → Type 0
 IsItsCause due before (Full n) = HasNoRoom due before n
 IsItsCause due before NoMemory = Unit {0}
 
--- a step of a value that is not halted answers what is due, and adds it where it is an entry; or it fails, adds
+-- a step of a value that is not halted answers what is due, and adds it if it is an entry; or it fails, adds
 -- nothing, and the value is halted
 abbrev pub Steps : Progress → List Entry → Result Progress StepError → List Entry → Option StepError → Type 0
 Steps due before (Ok p) after halt =

@@ -50,7 +50,7 @@ pub trait Looks: Stepped {
 }
 
 impl<S: Looks> Turns<S> {
-    /// Tries once for the turn, by one compare-exchange, and looks at the bytes where it is free and the value is not
+    /// Tries once for the turn, by one compare-exchange, and looks at the bytes if it is free and the value is not
     /// halted. It adds no entry.
     #[tactic(auto, using(crate::proofs::AfterLooks::goes_looked))]
     pub fn try_look(&self, pass: &mut Pass, proc: Proc, addr: u64, into: &mut [u8]) -> Look

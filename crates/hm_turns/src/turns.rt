@@ -115,7 +115,7 @@ impl<S: Stepped> Turns<S> {
         pass.badge = badge_of(seat);
     }
 
-    /// Tries once for the turn, by one compare-exchange, and makes a step of the actor where it is free and the value
+    /// Tries once for the turn, by one compare-exchange, and makes a step of the actor if it is free and the value
     /// is not halted.
     #[tactic(auto, using(crate::proofs::Owns::goes_turned))]
     pub fn try_turn(&self, pass: &mut Pass, actor: Actor) -> Turn

@@ -12,7 +12,7 @@ use Rattle.hm_history.specs.declared.StepError.{StepError}
 use Rattle.hm_history.specs.declared.Why.{Why}
 use Rattle.hm_turns_tests.specs.declared.toy.Choice.{Choice}
 
--- a script of so many actors, whose frames say how many entries each of them adds
+-- a script of this many actors, whose frames say how many entries each of them adds
 abbrev pub script_of : ℕ → ℕ → Program
 script_of actors entries =
     record { version = One; frames = entries; devices = []; skip = 0; actors = replicate actors []; schedule = [] }

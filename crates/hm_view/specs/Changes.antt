@@ -14,7 +14,7 @@ use Rattle.hm_history.specs.declared.Kind.{Kind}
 use Rattle.hm_history.specs.declared.Entry.{Entry}
 use Rattle.hm_report.specs.Words.{proc_text, mirror_text, actor_text, frame_text}
 
--- the mmap lock that the actor has after its entry, where the entry takes one or lets go of what it has
+-- the mmap lock that the actor has after its entry, if the entry takes one or lets go of what it has
 abbrev pub map_change : ℕ → Kind → List ℕ
 map_change a (Kind.Rlock p) = codes " " ++ (actor_text a ++ (codes "=reads/" ++ proc_text p))
 map_change a (Kind.Wlock p) = codes " " ++ (actor_text a ++ (codes "=writes/" ++ proc_text p))
@@ -30,7 +30,7 @@ abbrev pub listed : Option Frame → List Frame
 listed None = []
 listed (Some f) = f ∷ []
 
--- the frames whose locks an entry may change, where the page had this place
+-- the frames whose locks an entry may change, if the page had this place
 abbrev pub frames_about : Place → Kind → List Frame
 frames_about old (Kind.Take f) = f ∷ []
 frames_about old (Kind.Drop f) = f ∷ []

@@ -24,7 +24,7 @@ page_end = TAIL.now
 unfoldable pub front : Program → List Entry → List ℕ
 front c h = text c ++ (codes "findings\n" ++ findings h (length h))
 
--- the rows before position `to`, of which those from `from` on are shown, and how each actor stands behind them
+-- the rows before position `to`, of which those from `from` on are shown, and how each actor stands after them
 unfoldable pub middle : Program → List Entry → ℕ → ℕ → List ℕ
 middle c h from to = rows_line from ++ (rows c h from to ++ standing_line c (take to h))
 

@@ -112,7 +112,7 @@ fn put_lock_of(out: &mut Buffer, world: &World, frame: &Option<Frame>)
     }
 }
 
-/// Adds who has the frames locked that the entry is about, where the page had this place.
+/// Adds who has the frames locked that the entry is about, if the page had this place.
 fn put_locks(out: &mut Buffer, world: &World, before: &Place, kind: &Kind)
     requires { length out.old ≤ 400 }
     ensures text { out.new

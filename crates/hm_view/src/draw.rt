@@ -50,7 +50,7 @@ fn add_rows_line(text: &mut Text, out: &mut Buffer, from: u64) -> Result<(), NoM
     text.extend(out.as_slice())
 }
 
-/// Adds the rows before a position, of which those from `from` on are shown, and how the actors stand behind them.
+/// Adds the rows before a position, of which those from `from` on are shown, and how the actors stand after them.
 #[tactic(auto, using(std::proofs::Common::append_assoc), unfolding(crate::specs::Page::middle))]
 fn add_middle(
     alloc: Global,

@@ -49,7 +49,7 @@ abbrev pub IsLow : Kind → Type 0
 IsLow (Kind.Loaded x at bs) = at + length bs ≤ 2 ^ 48
 IsLow k = ⊤
 
--- each of so many bytes from an address on has a source
+-- each of this many bytes from an address on has a source
 abbrev pub AllFound : (ℕ → Option ℕ) → ℕ → ℕ → Type 0
 AllFound source at n = (b : ℕ) → at ≤ b → b < at + n → IsSome (source b)
 

@@ -16,7 +16,7 @@ pub data Effect : Type 0 where
   Copies : ℕ → Effect
   Leaves : Effect
 
--- the byte is one of so many from an address on
+-- the byte is one of this many from an address on
 abbrev pub is_among : ℕ → ℕ → ℕ → Bool
 is_among at n b = nat_le at b && nat_lt b (at + n)
 
@@ -57,7 +57,7 @@ kind_at h i = option_map (λ (e : Entry). e.kind) (slice_get h i)
 abbrev pub effect_at : List Entry → ℕ → ℕ → ℕ → Effect
 effect_at h i q b = elim (kind_at h i) [ None ↦ Leaves | Some k ↦ effect (owners_at h i) k q b ]
 
--- the source, where the entry at a position has this effect, from the sources before it
+-- the source, if the entry at a position has this effect, from the sources before it
 abbrev pub source_by : Effect → ℕ → (ℕ → ℕ → Option ℕ) → ℕ → ℕ → Option ℕ
 source_by Gives j before q b = Some j
 source_by (Copies p) j before q b = before p b

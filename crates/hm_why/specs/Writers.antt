@@ -14,12 +14,12 @@ use Rattle.hm_why.specs.declared.writers.Writers.{Writers}
 abbrev pub owner_in : Writers → ℕ → Option ℕ
 owner_in w m = slice_index_or w.owners m None
 
--- the entry that stands for an address, where there are changes
+-- the entry that stands for an address, if there are changes
 abbrev pub entry_among : ℕ → Option Changes → Option ℕ
 entry_among b None = None
 entry_among b (Some t) = entry_for t b
 
--- the changes at a place, where there is one
+-- the changes at a place, if there is one
 abbrev pub changes_at : List Changes → Option ℕ → Option Changes
 changes_at xs None = None
 changes_at xs (Some k) = slice_get xs k

@@ -27,7 +27,7 @@ fn follow(alloc: Global, entries: &[Entry], before: usize) -> Result<Writers, No
     Ok(writers)
 }
 
-/// The sources of so many bytes of a process, in their order.
+/// The sources of this many bytes of a process, in their order.
 fn sources_from(
     alloc: Global,
     writers: &Writers,

@@ -28,7 +28,7 @@ fn add_source(text: &mut Text, out: &mut Buffer, source: Option<u64>) -> Result<
     text.extend(out.as_slice())
 }
 
-/// Adds the sources of so many bytes of a process, in their order.
+/// Adds the sources of this many bytes of a process, in their order.
 fn add_sources(
     text: &mut Text,
     out: &mut Buffer,

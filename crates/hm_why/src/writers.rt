@@ -75,7 +75,7 @@ impl Writers {
         &self.changes[self.slots[proc.number() as usize]]
     }
 
-    /// The entry wrote so many bytes of the process, if there is one.
+    /// The entry wrote this many bytes of the process, if there is one.
     fn write(&mut self, proc: Option<Proc>, addr: u64, len: u64, at: u64) -> Result<(), NoMemory>
         requires { IsSized self.old }
         ensures { OnOk result (IsWritten self.old self.new proc addr len at) }

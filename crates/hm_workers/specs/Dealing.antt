@@ -12,7 +12,7 @@ use Rattle.hm_turns.specs.Sights.{Sight, joined}
 abbrev pub shares_of : List Sight → ℕ
 shares_of ps = sum_by (λ (p : Sight). p.shares) ps
 
--- the pass that so many shares were taken from
+-- the pass that this many shares were taken from
 abbrev pub less_shares : Sight → ℕ → Sight
 less_shares v n = record v { shares = v.shares - n }
 

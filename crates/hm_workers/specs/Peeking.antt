@@ -8,13 +8,13 @@ use Rattle.hm_turns.specs.Sights.{Sight, IsShown}
 use Rattle.hm_turns.specs.declared.looks.Looked.{Looked}
 use Rattle.hm_workers.specs.declared.peeks.Peek.{Peek}
 
--- the peek is of so many bytes of this process, from this address on
+-- the peek is of this many bytes of this process, from this address on
 pub record IsOf (p at n : ℕ) (x : Peek) : Type 0 where
   pub proc_is : x.proc ≡ p
   pub addr_is : x.addr ≡ at
   pub length_is : length x.bytes ≡ n
 
--- after so many entries of the list as the peek counts, its bytes have areas, and are the plain bytes of its process
+-- after this many entries of the list as the peek counts, its bytes have areas, and are the plain bytes of its process
 pub record IsPlain (list : List Entry) (x : Peek) : Type 0 where
   pub inside : x.count ≤ length list
   pub areas : all_have_areas (after (take x.count list)).plain x.proc x.addr (length x.bytes) ≡ true
@@ -42,6 +42,6 @@ last_count xs = option_map (λ (x : Peek). x.count) (slice_get xs (length xs - 1
 abbrev pub is_newer : List Peek → ℕ → Bool
 is_newer xs n = elim (slice_get xs (length xs - 1)) [ None ↦ true | Some x ↦ nat_lt x.count n ]
 
--- where a look at the whole list finds the bytes, the last peek is of the whole list
+-- if a look at the whole list finds the bytes, the last peek is of the whole list
 abbrev pub ReachesEnd : ℕ → ℕ → ℕ → List Entry → List Peek → Type 0
 ReachesEnd p at n list xs = looked_after list p at n ≡ Looked.Filled → last_count xs ≡ Some (length list)

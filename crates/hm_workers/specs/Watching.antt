@@ -13,8 +13,8 @@ use Rattle.seq_copies.specs.Copies.{HaveAreas, IsCopy, checked}
 use Rattle.seq_copies.specs.declared.answers.Snapshot.{Snapshot}
 use Rattle.seq_copies.specs.declared.answers.Still.{Still}
 
--- a pass with which at most so many tries were made: it goes on, adds nothing and forgets nothing, and each try raises
--- one of two numbers by at most one: how often the turn was found held, and how many marks were loaded
+-- a pass with which at most this many tries were made: it goes on, adds nothing and forgets nothing, and each try
+-- raises one of two numbers by at most one: how often the turn was found held, and how many marks were loaded
 pub record HasWatched (tries : ℕ) (old new : Sight) : Type 0 where
   pub goes : GoesOn old new
   pub own : new.own ≡ old.own
@@ -35,11 +35,11 @@ pub record IsKept (a : WatchedBytes) (list : List Entry) (s : Snapshot) : Type 0
   pub copy : IsCopy s list
   pub areas : HaveAreas s s.at list
 
--- the peek of a copy that is current after so many entries
+-- the peek of a copy that is current after this many entries
 abbrev pub peek_of : Snapshot → ℕ → Peek
 peek_of s n = record { proc = s.proc; addr = s.addr; bytes = s.bytes; count = n }
 
--- what follows from the check of a copy: a peek exactly where the copy holds, and no peek has the count
+-- what follows from the check of a copy: a peek exactly if the copy holds, and no peek has the count
 abbrev pub ChecksTo : Snapshot → Still → List Peek → Checked → List Peek → Type 0
 ChecksTo s t xs Checked.Stale ys = (t.holds ≡ false) × (ys ≡ xs)
 ChecksTo s t xs Checked.Same ys = (t.holds ≡ true) × (is_newer xs t.count ≡ false) × (ys ≡ xs)
@@ -61,7 +61,7 @@ HasKept a list (Tried.Copied s) = IsKept a list s
 HasKept a list (Tried.Kept s) = IsKept a list s
 HasKept a list _ = Unit {0}
 
--- where the pass was told of no halt, its list is the last that is shown, and a look at it finds the bytes, the last
+-- if the pass was told of no halt, its list is the last that is shown, and a look at it finds the bytes, the last
 -- peek is of the whole list
 abbrev pub LastsTo : WatchedBytes → Sight → List Peek → Type 0
 LastsTo a w xs = is_halted w.told ≡ false → IsShown w w.list → ReachesEnd a.proc a.addr a.len w.list xs

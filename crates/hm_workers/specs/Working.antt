@@ -37,7 +37,7 @@ abbrev pub IsTried : (Program → List Entry → Type 0) → (Program → List E
 IsTried legal due actor old next new =
     ((t : Turn) × TurnsTo legal due actor old t new × (next ≡ next_of t)) ⊎ ((new ≡ old) × (next ≡ Again))
 
--- the pass goes on, and has so many entries more of its own
+-- the pass goes on, and has this many entries more of its own
 abbrev pub GoesBy : ℕ → Sight → Sight → Type 0
 GoesBy n old new = GoesOn old new × (length new.own ≡ length old.own + n)
 
@@ -47,7 +47,7 @@ Tries due actor old Added new = GoesBy 1 old new
 Tries due actor old Again new = GoesBy 0 old new
 Tries due actor old Done new = Works due actor old new
 
--- so many entries were added with a pass since it was the first, as far as a u64 counts
+-- this many entries were added with a pass since it was the first, as far as a u64 counts
 pub record IsAdded (first now : Sight) (n : ℕ) : Type 0 where
   pub more : length first.own ≤ length now.own
   pub count : n ≡ min (length now.own - length first.own) (2 ^ 64 - 1)

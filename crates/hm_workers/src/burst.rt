@@ -3,10 +3,10 @@ use crate::places::{Places, bit_at, pick};
 use hm_history::Kind;
 use std::sync::atomic::{AtomicU64, Ordering};
 
-/// After one in so many bursts that end where the actor holds nothing, it sleeps.
+/// After one in this many bursts that end where the actor holds nothing, it sleeps.
 const REST: u64 = 32;
 
-/// After one in so many of the other bursts it does.
+/// After one in this many of the other bursts it does.
 const REST_WITHIN: u64 = 1024;
 
 /// The longest burst has 2 to the power of this many entries.
@@ -15,7 +15,7 @@ const LONGEST: u32 = 5;
 /// So many bursts more are made by the actor that goes while no other looks.
 const PATIENCE: u64 = 4;
 
-/// Where looks are of no use, an actor looks in one of so many waits.
+/// Where looks are of no use, an actor looks in one of this many waits.
 const WAITS: u64 = 64;
 
 /// What only the actor that goes reads and changes. It lies apart from the word that others look at.

@@ -9,7 +9,8 @@ use hm_base::NoMemory;
 use hm_turns::{Pass, Stepped, Turns};
 use std::alloc::Global;
 
-/// A pass of one share for each of so many actors. At an `Err` those shares are gone, and the value stays where it is.
+/// A pass of one share for each of this many actors. At an `Err` those shares are gone, and the value stays where it
+/// is.
 pub fn deal<S: Stepped>(
     alloc: Global,
     turns: &Turns<S>,

@@ -14,7 +14,7 @@ pub trait Gate {
     /// Is told how many actors there are, before any worker starts.
     fn begins(&self, _actors: u64) {}
 
-    /// Whether the actor, whose worker has added so many entries, may try for the turn now.
+    /// Whether the actor, whose worker has added this many entries, may try for the turn now.
     fn admits(&self, actor: Actor, added: u64) -> bool;
 
     /// Is told what each admitted try came to. It lets other threads go first if no entry was added.

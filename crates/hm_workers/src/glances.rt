@@ -6,7 +6,7 @@ use hm_turns::Turn;
 use std::sync::atomic::{AtomicU64, Ordering};
 use std::thread;
 
-/// After so many entries the watcher should have made a try.
+/// After this many entries the watcher should have made a try.
 const ENTRIES_A_LOOK: u64 = 32;
 
 /// So often the actor that goes lets other threads go first, if it has not.

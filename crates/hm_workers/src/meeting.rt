@@ -28,7 +28,7 @@ impl Meeting {
         }
     }
 
-    /// Begins, for so many actors.
+    /// Begins, for this many actors.
     pub(crate) fn begin(&self, actors: u64) {
         self.come.store(0, Ordering::SeqCst);
         self.all.store((1 << actors.min(16)) - 1, Ordering::SeqCst);

@@ -43,7 +43,7 @@ fn place_of_holder(why: &Why) -> u64 {
     }
 }
 
-/// Lets one actor go at a time, for as many entries as is drawn: 1 to 32, and half as often where it is twice as many.
+/// Lets one actor go at a time, for as many entries as is drawn: 1 to 32, and half as often if it is twice as many.
 /// Then another goes, if any waits. No actor goes before all have come, or one was long in coming.
 #[derive(Drop)]
 pub struct Mixing<'a, R> {

@@ -4,7 +4,7 @@ ghost use Rattle.hm_workers.specs.Peeking as spec;
 
 use hm_base::{Bytes, ListOf, Proc};
 
-/// Bytes of a process that were checked to be current after so many entries.
+/// Bytes of a process that were checked to be current after this many entries.
 #[derive(Drop)]
 pub struct Peek {
     pub proc: Proc,

@@ -45,7 +45,7 @@ pub fn run_all<R: Threads + Wait + Sync, S: Stepped + Send, G: Gate + Sync>(
 
 /// Does what `run_all` does, with a watcher beside the workers, which looks at 1 to 256 bytes of a process. After the
 /// work one last copy is taken and checked, and its peek follows, unless its count was recorded. There is no last copy
-/// where the value is halted.
+/// if the value is halted.
 pub fn peek_all<R: Threads + Wait + Sync, S: Looks + Send, G: Gate + Sync>(
     rt: &R,
     alloc: Global,
@@ -67,7 +67,7 @@ pub fn peek_all<R: Threads + Wait + Sync, S: Looks + Send, G: Gate + Sync>(
     // Each peek has the plain bytes after its count, and the counts rise.
     ensures peeks { IfOk result (λ r. ArePeeks proc addr len (IsPlain r.1) r.2) }
     ensures most { IfOk result (λ r. length r.2 ≤ 1001) }
-    // The last peek is of the whole history, where a look at its end finds the bytes.
+    // The last peek is of the whole history, if a look at its end finds the bytes.
     ensures last { IfOk result (λ r. is_halted (S.halt r.0) ≡ false → ReachesEnd proc addr len r.1 r.2) }
     // It is only where they have areas then.
     ensures areas { IfOk result

@@ -24,10 +24,10 @@ const MOST_PEEKS: u64 = 1_000;
 /// So many tries make a pause longer by one look at whether the work has ended.
 const TRIES_A_LOOK: u32 = 8;
 
-/// After so many looks a pause lets other threads go first.
+/// After this many looks a pause lets other threads go first.
 const LOOKS_A_YIELD: u32 = 4096;
 
-/// After so many pauses with no new peek the watcher sleeps, since the actors may lack its processor.
+/// After this many pauses with no new peek the watcher sleeps, since the actors may lack its processor.
 const PAUSES_A_SLEEP: u64 = 16;
 
 /// How many microseconds it sleeps. The system makes them about fifty more.
@@ -79,7 +79,7 @@ impl Signs {
         self.bell.wake_all();
     }
 
-    // Counts a pause, after which there are so many peeks. Says whether the watcher is to sleep.
+    // Counts a pause, after which there are this many peeks. Says whether the watcher is to sleep.
     fn is_to_sleep(&self, peeks: u64) -> bool {
         if self.seen.swap(peeks, Ordering::SeqCst) != peeks {
             self.still.store(0, Ordering::SeqCst);
@@ -116,7 +116,7 @@ pub(crate) enum Tried {
     Halted,
 }
 
-// Records that a copy is current after so many entries.
+// Records that a copy is current after this many entries.
 fn record_peek(
     alloc: Global,
     copy: &Snapshot,
@@ -289,7 +289,7 @@ pub(crate) fn watch<R: Wait, S: Looks>(
 }
 
 /// Takes a copy with the pass that has all shares, and checks it, so that the last peek is of the whole history. There
-/// is none where the value is halted, where an actor has the process's mmap lock for writing, or where a byte has no
+/// is none if the value is halted, if an actor has the process's mmap lock for writing, or if a byte has no
 /// area.
 pub(crate) fn peek_last<S: Looks>(
     alloc: Global,

@@ -5,7 +5,7 @@ use Rattle.hm_history.specs.Memory.Contents.{contents_of}
 use Rattle.hm_history.specs.Memory.Plain.{rights_of}
 use Rattle.hm_history.specs.Memory.Words.{page_of}
 
--- from the frame that the page's place stands for, where the page has an area
+-- from the frame that the page's place stands for, if the page has an area
 abbrev pub byte_shown : After → ℕ → ℕ → Option ℕ
 byte_shown s p at =
     if is_some (rights_of s.plain p (page_of at)) then Some

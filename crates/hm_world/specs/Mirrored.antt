@@ -1,4 +1,4 @@
--- What a page is read through, where a mirror's table has an entry for it.
+-- What a page is read through, if a mirror's table has an entry for it.
 use Rattle.std.specs.Prelude.{◌≡◌, Option, Some, None}
 use Rattle.hm_base.specs.declared.Place.{Place}
 use Rattle.hm_history.specs.Memory.Places.{Places, TableEntry}

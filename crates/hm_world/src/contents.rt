@@ -109,7 +109,7 @@ impl World {
         self.place_byte(&self.place(proc, page), addr)
     }
 
-    /// The byte of a frame at an offset, whether a page shows it or not; none where the frame is not held.
+    /// The byte of a frame at an offset, whether a page shows it or not; none if the frame is not held.
     pub fn frame_byte(&self, frame: &Frame, offset: u32) -> Option<u8>
         requires { offset < PAGE_BYTES }
         ensures { result

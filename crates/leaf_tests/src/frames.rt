@@ -76,7 +76,7 @@ fn next_in(plain: &[bool; 130], from: usize, held: bool) -> Option<u32> {
     None
 }
 
-/// The lowest free frame is taken, or the one of this number is given back where it is held.
+/// The lowest free frame is taken, or the one of this number is given back if it is held.
 fn turn(pool: &mut Pool, plain: &mut [bool; 130], x: u64) {
     let number = (x >> 33) % 130;
     if x >> 60 < 9 {

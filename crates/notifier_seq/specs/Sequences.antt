@@ -192,6 +192,6 @@ removal_of s m = if removal_waits s m then WaitFor s.seq else Removed
 abbrev pub removed : Sequences → ℕ → Sequences
 removed s m = at_stage s m (if removal_waits s m then RemoveDeferred else Out)
 
--- a look-up waits exactly where the interval was told in the invalidation under way
+-- a look-up waits exactly if the interval was told in the invalidation under way
 abbrev pub begin_of : Sequences → ℕ → Begin
 begin_of s m = if interval_seq s m == s.seq then Invalidating (interval_seq s m) else Ready (interval_seq s m)

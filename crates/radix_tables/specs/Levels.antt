@@ -48,7 +48,7 @@ pub record IsLevels (l : Levels) : Type 0 where
   pub used : AreBits is_used l.words.items l.used.items
   pub marks : AreBits is_marked l.words.items l.marks.items
 
--- the word of a page, 0 where there is none
+-- the word of a page, 0 if there is none
 abbrev pub word_of : Levels → ℕ → ℕ
 word_of l page = entry_in l.words.items (from_second l) page
 
@@ -56,7 +56,7 @@ word_of l page = entry_in l.words.items (from_second l) page
 abbrev pub room_of : Levels → ℕ → ℕ
 room_of l page = entry_in l.words.room (from_second l) page
 
--- the word of a page where it is marked
+-- the word of a page if it is marked
 abbrev pub marked_of : Levels → ℕ → ℕ
 marked_of l page = marked (word_of l page)
 

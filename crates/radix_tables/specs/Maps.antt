@@ -10,7 +10,7 @@ pub record Map : Type 0 where
   pub words : List (ℕ × ℕ)
   pub room : List ℕ
 
--- the word of a page, 0 where there is none
+-- the word of a page, 0 if there is none
 abbrev pub word_at : Map → ℕ → ℕ
 word_at m page = unwrap_or (sorted.find nat_cmp page m.words) 0
 
@@ -26,7 +26,7 @@ with_word m page word = record m { words = sorted.put nat_cmp page word m.words 
 abbrev pub without_word : Map → ℕ → Map
 without_word m page = record m { words = sorted.where_key nat_cmp (λ v. not (v == page)) m.words }
 
--- the map without its room, where it has no word
+-- the map without its room, if it has no word
 abbrev pub room_left : List (ℕ × ℕ) → List ℕ → List ℕ
 room_left [] room = []
 room_left (_ ∷ _) room = room
@@ -52,7 +52,7 @@ is_marked w = nat_le 5 (w % 16)
 abbrev pub next_marked : Map → ℕ → ℕ → Option (ℕ × ℕ)
 next_marked m page end = before end (find (λ e. nat_le page e.0 && is_marked e.1) m.words)
 
--- a word where it is marked
+-- a word if it is marked
 abbrev pub marked : ℕ → ℕ
 marked w = if is_marked w then w else 0
 

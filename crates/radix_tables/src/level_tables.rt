@@ -107,7 +107,7 @@ fn add_table(entries: &mut Vec<u64>) -> Result<u64, NoMemory>
     Ok(tables as u64)
 }
 
-/// The table that an entry names, which is made where it names none.
+/// The table that an entry names, which is made if it names none.
 pub fn child(entries: &mut Vec<u64>, at: usize, below: &mut Vec<u64>) -> Result<u64, NoMemory>
     requires at { at < length entries.old.items }
     requires below { length below.old.items % 64 ≡ 0 }
@@ -149,7 +149,7 @@ fn add_words(words: &mut WordRows) -> Result<u64, NoMemory>
     Ok(tables as u64)
 }
 
-/// As `child`, where the level below has words.
+/// As `child`, if the level below has words.
 pub fn child_words(entries: &mut Vec<u64>, at: usize, below: &mut WordRows) -> Result<u64, NoMemory>
     requires at { at < length entries.old.items }
     requires long { length below.old.room ≡ length below.old.items }

@@ -37,7 +37,7 @@ impl Radix {
         }
     }
 
-    /// The word of the page, 0 where it has none.
+    /// The word of the page, 0 if it has none.
     pub fn get(&self, page: Page) -> u64
         ensures { result ≡ word_at self.now page }
     {
@@ -74,7 +74,7 @@ impl Radix {
         }
     }
 
-    /// Gives the memory of the tables back where no page has a word, as `free_pgtables` of mm/memory.c does.
+    /// Gives the memory of the tables back if no page has a word, as `free_pgtables` of mm/memory.c does.
     pub fn give_back(&mut self)
         ensures { self.new ≡ given_back self.old }
     {

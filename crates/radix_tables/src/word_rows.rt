@@ -147,7 +147,7 @@ fn word_in(words: &[u64], at: usize) -> u64
     }
 }
 
-/// Adds zeros, until there are so many numbers.
+/// Adds zeros, until there are this many numbers.
 fn add_numbers(rows: &mut Vec<u32>, count: usize) -> Result<(), NoMemory>
     requires { length rows.old.items ≤ count }
     ensures { MatchResult result (λ _. IsLonger rows.old.items rows.new.items × (length rows.new.items ≡ count))

@@ -73,7 +73,7 @@ fn beside(rt: &HostRuntime, stem: &str, ending: &str) -> io::Result<String> {
     }
 }
 
-/// The exit code that this text gives; that of `Done` where it is empty.
+/// The exit code that this text gives; that of `Done` if it is empty.
 fn code(text: &str) -> io::Result<u8> {
     if text.is_empty() {
         return Ok(Status::Done.code());

@@ -3,7 +3,7 @@ use Rattle.std.specs.Prelude.{ℕ, zero, suc, ◌+◌, ◌*◌, if◌then◌else
 use Rattle.hm_base.specs.declared.ops.Op.{Op}
 use Rattle.skip_rules.specs.Rules.{divides}
 
--- 1 where the page is skipped
+-- 1 if the page is skipped
 abbrev pub bit_of : ℕ → ℕ → ℕ
 bit_of every page = if divides every page then 1 else 0
 

@@ -9,7 +9,7 @@ use std::thread;
 /// How often the gate looks before it lets the actor go on.
 const LOOKS: u64 = 1 << 27;
 
-/// After so many looks it lets other threads go first.
+/// After this many looks it lets other threads go first.
 const LOOKS_A_YIELD: u64 = 1 << 16;
 
 /// A value that counts the looks at it.
@@ -54,7 +54,7 @@ impl<S: Looks> Looks for Counted<'_, S> {
     }
 }
 
-/// Holds an actor that has added so many entries or more, once after each of them, until there was a new look.
+/// Holds an actor that has added this many entries or more, once after each of them, until there was a new look.
 #[derive(Drop)]
 pub struct Held<'a> {
     from: u64,
