@@ -1,13 +1,14 @@
 // Who has mmap locks.
 ghost use Rattle.std.specs.Prelude.{◌≡◌, ℕ, true, Some, None};
 ghost use Rattle.hm_history.specs.Memory.Words.{with_at};
-ghost use Rattle.hm_history.specs.Memory.Locks.{releases, locks_start, map_next};
+ghost use Rattle.hm_history.specs.Memory.Locks.{locks_start, map_next};
 ghost use Rattle.hm_race_keys.specs.Arrays.{lock_in, mixed_lock, mixed_locks};
 
 use crate::sparse::mixed;
 use hm_base::{Actor, Proc};
 use hm_history::Kind;
 use hm_history::locks::MapLock;
+use hm_spaces::map_locks::releases;
 
 /// The mmap lock of each actor.
 #[derive(Drop)]
@@ -57,28 +58,6 @@ fn copy_locks(locks: &[Option<MapLock>; 16]) -> [Option<MapLock>; 16]
         copy[at] = locks[at];
     }
     copy
-}
-
-/// Whether the entry releases what its actor holds.
-pub(crate) fn releases(kind: &Kind) -> bool
-    ensures { result ≡ releases kind.now }
-{
-    match kind {
-        Kind::Loaded { .. }
-        | Kind::Stored { .. }
-        | Kind::Failed { .. }
-        | Kind::Refused(..)
-        | Kind::Mapped { .. }
-        | Kind::Unmapped { .. }
-        | Kind::Protected { .. }
-        | Kind::Forked { .. }
-        | Kind::Exited(..)
-        | Kind::Migrated(..)
-        | Kind::Retry(..)
-        | Kind::Excluded { .. }
-        | Kind::Runlock(..) => true,
-        _ => false,
-    }
 }
 
 impl MapLocks {

@@ -10,7 +10,8 @@ use hm_base::{Actor, Proc};
 use hm_history::Kind;
 use hm_history::locks::MapLock;
 
-fn releases(kind: &Kind) -> bool
+/// Whether the entry releases the mmap lock that its actor holds.
+pub fn releases(kind: &Kind) -> bool
     ensures { result ≡ releases kind.now }
 {
     match kind {

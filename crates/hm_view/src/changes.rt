@@ -2,7 +2,6 @@
 ghost use Rattle.std.specs.Prelude.{◌≡◌, ◌+◌, ◌≤◌, ◌∷◌, ◌++◌, [], length, OnOk};
 ghost use Rattle.std.specs.List.{flat_map};
 ghost use Rattle.hm_history.specs.Memory.Words.{names};
-ghost use Rattle.hm_history.specs.Memory.Locks.{releases};
 ghost use Rattle.hm_world.specs.WorldValue.{now};
 ghost use Rattle.hm_view.specs.Changes.{map_change, place_before, listed, frames_about, locker_text, frame_change};
 ghost use Rattle.hm_view.specs.Changes.{proc_change, mirror_change, seq_change};
@@ -13,29 +12,8 @@ use hm_check::put_frame;
 use hm_history::{Entry, Kind};
 use hm_reads::Reads;
 use hm_report::{Buffer, put_decimal};
+use hm_spaces::map_locks::releases;
 use hm_world::World;
-
-/// Whether the entry lets go of the mmap lock that its actor has.
-fn releases(kind: &Kind) -> bool
-    ensures { result ≡ releases kind.now }
-{
-    match kind {
-        Kind::Loaded { .. } => true,
-        Kind::Stored { .. } => true,
-        Kind::Failed { .. } => true,
-        Kind::Refused(_) => true,
-        Kind::Mapped { .. } => true,
-        Kind::Unmapped { .. } => true,
-        Kind::Protected { .. } => true,
-        Kind::Forked { .. } => true,
-        Kind::Exited(_) => true,
-        Kind::Migrated(_) => true,
-        Kind::Retry(_) => true,
-        Kind::Excluded { .. } => true,
-        Kind::Runlock(_) => true,
-        _ => false,
-    }
-}
 
 /// Adds the mmap lock that the actor has after its entry.
 #[tactic(auto, using(std::proofs::Common::append_assoc))]
