@@ -1,5 +1,6 @@
 pub mod Tables
 pub mod RowWords
+pub mod HeadNumbers
 pub mod TableBits
 pub mod Passed
 pub mod Lasts

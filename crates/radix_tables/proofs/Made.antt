@@ -116,7 +116,7 @@ room_whole xs ys at w r a = record {
   empty = λ i b. r.others i (apart i b) ∙ w.empty i b;
 }
   where
-    apart : (i : ℕ) → i < 64 → i / 8 ≢ at / 8
+    apart : (i : ℕ) → i < 64 → i / 64 ≢ at / 64
     apart i b e = absurd (omega arith)
 
 -- a row comes in

@@ -5,14 +5,14 @@ use Rattle.std.proofs.lemmas.Grind.{same_number_lists}
 use Rattle.std.proofs.lemmas.List.{get_or-set_same, get_or-set_other, length-set, get_or_past, length-append, length-replicate}
 use Rattle.std.proofs.lemmas.List.FromFn.{get_or-map-range_with_len, length-map-range_with_len}
 use Rattle.radix_tables.specs.Walks.{IsLonger}
-use Rattle.radix_tables.specs.Rows.{AreRows, IsRoomMade, IsRowAdded, row_at, word_in}
-use Rattle.radix_tables.specs.RowsShown.{over}
+use Rattle.radix_tables.specs.Rows.{AreRows, AreRowsAdded, IsRoomMade, IsRowAdded, IsRowCopied, over, row_at, word_in}
+use Rattle.radix_tables.specs.Heads.{HasOne, IsSpread}
 use Rattle.radix_tables.proofs.Tables.{longer, zeros_added}
 
 pub over_length : (f : ℕ → ℕ) (rows : List ℕ) → length (over f rows) ≡ 8 * length rows
 over_length f rows = length-map-range_with_len f 0 (8 * length rows)
 
-over_at : (f : ℕ → ℕ) (rows : List ℕ) (k : ℕ) → (8 * length rows ≤ k → f k ≡ 0) → get_or (over f rows) k 0 ≡ f k
+pub over_at : (f : ℕ → ℕ) (rows : List ℕ) (k : ℕ) → (8 * length rows ≤ k → f k ≡ 0) → get_or (over f rows) k 0 ≡ f k
 over_at f rows k none = by (cases_lt k (8 * length rows))
   where
     by : (k < 8 * length rows) ⊎ (8 * length rows ≤ k) → get_or (over f rows) k 0 ≡ f k
@@ -33,7 +33,7 @@ room_at rows k = over_at (row_at rows) rows k (row_past rows k)
 pub item_at : (rows words : List ℕ) (k : ℕ) → AreRows rows words → get_or (over (word_in rows words) rows) k 0 ≡ word_in rows words k
 item_at rows words k h = over_at (word_in rows words) rows k (λ l. unroomed rows words k h (row_past rows k l))
 
-longer_by : (xs ys : List ℕ) → length xs ≤ length ys → ((k : ℕ) → get_or ys k 0 ≡ get_or xs k 0) → IsLonger xs ys
+pub longer_by : (xs ys : List ℕ) → length xs ≤ length ys → ((k : ℕ) → get_or ys k 0 ≡ get_or xs k 0) → IsLonger xs ys
 longer_by xs ys l e = record {
   by = length ys - length xs;
   added = same_number_lists ys (xs ++ replicate (length ys - length xs) 0)
@@ -182,7 +182,7 @@ room_added rows words now at row a l none = record {
   long = over_length (row_at (set rows (at / 8) row)) (set rows (at / 8) row) ∙ (ap (λ n. 8 * n) (length-set rows (at / 8) row) ∙ sym (over_length (row_at rows) rows));
   some = λ z. some (sym (get_or-set_same rows (at / 8) row 0 l) ∙ (sym (room_at (set rows (at / 8) row) at) ∙ z));
   kept = λ k d z. kept k (λ w. d (room_at rows k ∙ w)) (cases_eq (k / 8) (at / 8)) (sym (room_at (set rows (at / 8) row) k) ∙ z);
-  others = λ k n. room_at (set rows (at / 8) row) k ∙ (get_or-set_other rows (at / 8) (k / 8) row 0 n ∙ sym (room_at rows k));
+  others = λ k n. room_at (set rows (at / 8) row) k ∙ (get_or-set_other rows (at / 8) (k / 8) row 0 (λ z. n (omega (arith, z))) ∙ sym (room_at rows k));
 }
   where
     some : row ≢ 0
@@ -191,3 +191,92 @@ room_added rows words now at row a l none = record {
     kept : (k : ℕ) → row_at rows k ≢ 0 → (k / 8 ≡ at / 8) ⊎ (k / 8 ≢ at / 8) → row_at (set rows (at / 8) row) k ≢ 0
     kept k d (inl p) z = d (ap (λ i. get_or rows i 0) p ∙ none)
     kept k d (inr n) z = d (sym (get_or-set_other rows (at / 8) (k / 8) row 0 n) ∙ z)
+
+-- ---- a table with one row gets eight
+
+module _ (rows now words more copied : List ℕ) (table which row first : ℕ) (h : AreRows rows words) (one : HasOne rows table which row) (a : AreRowsAdded words more first) (cp : IsRowCopied more copied row (first + which)) (sp : IsSpread rows now table first) where
+  -- a row that was there lies before the new ones
+  before : (i : ℕ) → get_or rows i 0 ≢ 0 → get_or rows i 0 < first
+  before i d = omega (arith, h.inside i d, a.after)
+
+  -- the words of rows that were there
+  kept_word : (r s : ℕ) → s < 8 → r < first → get_or copied (r * 8 + s) 0 ≡ get_or words (r * 8 + s) 0
+  kept_word r s l b = cp.there (r * 8 + s) (λ z. absurd (omega (arith, z, l, b))) ∙ longer a.longer (r * 8 + s)
+
+  pub spread_rows : AreRows now copied
+  spread_rows = record {
+    inside = λ i. inside i (cases_eq (i / 8) table);
+    apart = λ i j. apart i j (cases_eq (i / 8) table) (cases_eq (j / 8) table);
+    empty = λ i b. empty i b;
+    whole = omega (arith, cp.long, a.last);
+    tables = ap (λ n. n % 8) sp.long ∙ h.tables;
+    few = omega (arith, sp.long, h.few);
+  }
+    where
+      inside : (i : ℕ) → (i / 8 ≡ table) ⊎ (i / 8 ≢ table) → get_or now i 0 ≢ 0 → get_or now i 0 * 8 + 8 ≤ length copied
+      inside i (inl e) d = omega (arith, sp.here i e, cp.long, a.last)
+      inside i (inr n) d = omega (arith, sp.there i n, h.inside i (λ z. d (sp.there i n ∙ z)), a.after, cp.long, a.last)
+
+      empty : (i : ℕ) → i < 8 → get_or copied i 0 ≡ 0
+      empty i b = cp.there i (λ z. absurd (omega (arith, z, b, a.some))) ∙ (longer a.longer i ∙ h.empty i b)
+
+      joined : (p q : ℕ) → p / 8 ≡ q / 8 → p % 8 ≡ q % 8 → p ≡ q
+      joined p q x y = omega arith
+
+      apart : (i j : ℕ) → (i / 8 ≡ table) ⊎ (i / 8 ≢ table) → (j / 8 ≡ table) ⊎ (j / 8 ≢ table) → get_or now i 0 ≡ get_or now j 0 → get_or now i 0 ≢ 0 → i ≡ j
+      apart i j (inl e) (inl f) s d = joined i j (e ∙ sym f) (omega (arith, sp.here i e, sp.here j f, s))
+      apart i j (inr m) (inr n) s d = h.apart i j (sym (sp.there i m) ∙ (s ∙ sp.there j n)) (λ z. d (sp.there i m ∙ z))
+      apart i j (inl e) (inr n) s d =
+          let o : get_or rows j 0 ≡ first + i % 8 = sym (sp.there j n) ∙ (sym s ∙ sp.here i e) in
+          absurd (omega (arith, before j (λ z. d (s ∙ (sp.there j n ∙ z))), o))
+      apart i j (inr m) (inl f) s d =
+          let o : get_or rows i 0 ≡ first + j % 8 = sym (sp.there i m) ∙ (s ∙ sp.here j f) in
+          absurd (omega (arith, before i (λ z. d (sp.there i m ∙ z)), o))
+
+  -- a word of the table
+  word_there : (k : ℕ) → (k / 8) / 8 ≡ table → ((k / 8) % 8 ≡ which) ⊎ ((k / 8) % 8 ≢ which) → word_in now copied k ≡ word_in rows words k
+  word_there k e (inl w) =
+      let r : row_at now k ≡ first + (k / 8) % 8 = sp.here (k / 8) e in
+      let o : row_at rows k ≡ row = ap (λ i. get_or rows i 0) (eight k e w) ∙ one.here in
+      ap (λ i. get_or copied (i * 8 + k % 8) 0) (r ∙ ap (λ i. first + i) w)
+      ∙ (cp.here ((first + which) * 8 + k % 8) (omega arith)
+      ∙ (ap (λ i. get_or more (row * 8 + i) 0) (low (first + which) k) ∙ (longer a.longer (row * 8 + k % 8) ∙ sym (ap (λ i. get_or words (i * 8 + k % 8) 0) o))))
+    where
+      eight : (k : ℕ) → (k / 8) / 8 ≡ table → (k / 8) % 8 ≡ which → k / 8 ≡ table * 8 + which
+      eight k e w = omega arith
+
+      low : (n k : ℕ) → (n * 8 + k % 8) % 8 ≡ k % 8
+      low n k = omega arith
+  word_there k e (inr n) =
+      let r : row_at now k ≡ first + (k / 8) % 8 = sp.here (k / 8) e in
+      let o : row_at rows k ≡ 0 = one.others (k / 8) e n in
+      ap (λ i. get_or copied (i * 8 + k % 8) 0) r
+      ∙ (cp.there ((first + (k / 8) % 8) * 8 + k % 8) (λ z. n (omega (arith, z)))
+      ∙ (longer a.longer ((first + (k / 8) % 8) * 8 + k % 8) ∙ (get_or_past words ((first + (k / 8) % 8) * 8 + k % 8) 0 (omega (arith, a.after))
+      ∙ sym (unroomed rows words k h o))))
+
+  -- a word of another table
+  word_elsewhere : (k : ℕ) → (row_at rows k ≡ 0) ⊎ (row_at rows k ≢ 0) → get_or copied (row_at rows k * 8 + k % 8) 0 ≡ word_in rows words k
+  word_elsewhere k (inl z) = kept_word (row_at rows k) (k % 8) (omega arith) (omega (arith, z, a.some))
+  word_elsewhere k (inr d) = kept_word (row_at rows k) (k % 8) (omega arith) (before (k / 8) d)
+
+  word_kept : (k : ℕ) → ((k / 8) / 8 ≡ table) ⊎ ((k / 8) / 8 ≢ table) → word_in now copied k ≡ word_in rows words k
+  word_kept k (inl e) = word_there k e (cases_eq ((k / 8) % 8) which)
+  word_kept k (inr n) = ap (λ i. get_or copied (i * 8 + k % 8) 0) (sp.there (k / 8) n) ∙ word_elsewhere k (cases_eq (row_at rows k) 0)
+
+  pub spread_items : over (word_in now copied) now ≡ over (word_in rows words) rows
+  spread_items = same_number_lists (over (word_in now copied) now) (over (word_in rows words) rows)
+      (over_length (word_in now copied) now ∙ (ap (λ n. 8 * n) sp.long ∙ sym (over_length (word_in rows words) rows)))
+      (λ k m. item_at now copied k spread_rows ∙ (word_kept k (cases_eq ((k / 8) / 8) table) ∙ sym (item_at rows words k h)))
+
+  pub spread_room : (at : ℕ) → at / 64 ≡ table → IsRoomMade (over (row_at rows) rows) (over (row_at now) now) at
+  spread_room at t = record {
+    long = over_length (row_at now) now ∙ (ap (λ n. 8 * n) sp.long ∙ sym (over_length (row_at rows) rows));
+    some = λ z. absurd (omega (arith, sp.here (at / 8) (omega (arith, t)), a.some, sym (room_at now at) ∙ z));
+    kept = λ k d z. kept k (λ w. d (room_at rows k ∙ w)) (cases_eq ((k / 8) / 8) table) (sym (room_at now k) ∙ z);
+    others = λ k n. room_at now k ∙ (sp.there (k / 8) (λ z. n (omega (arith, z, t))) ∙ sym (room_at rows k));
+  }
+    where
+      kept : (k : ℕ) → row_at rows k ≢ 0 → ((k / 8) / 8 ≡ table) ⊎ ((k / 8) / 8 ≢ table) → row_at now k ≢ 0
+      kept k d (inl e) z = absurd (omega (arith, sp.here (k / 8) e, a.some, z))
+      kept k d (inr n) z = d (sym (sp.there (k / 8) n) ∙ z)

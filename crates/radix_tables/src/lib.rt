@@ -4,6 +4,7 @@
 mod level_tables;
 mod levels;
 mod radix;
+mod row_numbers;
 mod word_rows;
 
 pub use radix::Radix;

@@ -1,10 +1,11 @@
-// The words of the tables of the first level. A table is for 64 words, of which eight have memory at a time, so that a
-// page that is alone in its table takes that of eight words.
+// The words of the tables of the first level. A table is for 64 words. At first eight of them have memory, so that a
+// page that is alone in its table takes that of eight words; then all have, side by side.
 ghost use Rattle.std.specs.Prelude.{◌≡◌, ◌≢◌, ℕ, ◌*◌, ◌/◌, ◌+◌, ◌%◌, ◌^◌, ◌<◌, ◌≤◌, [], length, slice_index, slice_set};
 ghost use Rattle.std.specs.Prelude.{MatchResult, OnErr, IfOk};
 ghost use Rattle.radix_tables.specs.Walks.{IsLonger};
-ghost use Rattle.radix_tables.specs.Rows.{AreRows, IsRoomMade, IsRowAdded};
+ghost use Rattle.radix_tables.specs.Rows.{AreRows, AreRowsAdded, IsRoomMade, IsRowAdded, IsRowCopied};
 
+use crate::row_numbers::RowNumbers;
 use hm_base::NoMemory;
 use std::alloc::Global;
 use std::marker::Model;
@@ -12,17 +13,14 @@ use std::marker::Model;
 /// Words of a row.
 const ROW: usize = 8;
 
-/// Rows that a table may have.
-const ROWS: usize = 8;
-
-/// One more than the most tables. More have no number for each of their rows.
-const MOST: usize = 1 << 32;
+/// Words of a table.
+const TABLE: usize = 64;
 
 /// Tables of 64 words. For each eight words there is the number of their row, 0 if they have none and are all 0. Row 0
 /// stays empty.
 #[derive(Drop)]
 pub struct WordRows {
-    rows: Vec<u32>,
+    rows: RowNumbers,
     words: Vec<u64>,
 }
 
@@ -43,7 +41,7 @@ impl WordRows {
         ensures { result ≡ record { items = []; room = [] } }
     {
         WordRows {
-            rows: Vec::new(alloc),
+            rows: RowNumbers::new(alloc),
             words: Vec::new(alloc),
         }
     }
@@ -58,7 +56,7 @@ impl WordRows {
         ensures room { length self.now.room ≡ length self.now.items }
         ensures few { result ≤ 2 ^ 32 }
     {
-        self.rows.len() / ROWS
+        self.rows.tables()
     }
 
     /// There are not too many words for their places, and each that is not 0 has a row.
@@ -71,17 +69,17 @@ impl WordRows {
 
     /// The number of the row that a word has, 0 if it has none.
     #[inline(always)]
-    pub fn row(&self, at: usize) -> u32
+    pub fn row(&self, at: usize) -> u64
         ensures { result ≡ slice_index self.now.room at }
     {
-        row_in(&self.rows, at / ROW)
+        self.rows.get(at / ROW)
     }
 
     #[inline(always)]
     pub fn get(&self, at: usize) -> u64
         ensures { result ≡ slice_index self.now.items at }
     {
-        let row = row_in(&self.rows, at / ROW);
+        let row = self.rows.get(at / ROW);
         word_in(&self.words, row as usize * ROW + at % ROW)
     }
 
@@ -93,14 +91,11 @@ impl WordRows {
             × (length self.new.items ≡ tables * 64) × (length self.new.room ≡ tables * 64))
             (λ _. self.new ≡ self.old) }
     {
-        if tables > MOST {
-            return Err(NoMemory);
-        }
-        add_numbers(&mut self.rows, tables * ROWS)?;
+        self.rows.grow(tables)?;
         Ok(())
     }
 
-    /// Gives a word memory, and those beside it in its row.
+    /// Gives a word memory, and others of its table: those beside it in its row, or all if the table has a row already.
     pub fn reserve(&mut self, at: usize) -> Result<(), NoMemory>
         requires at { at < length self.old.items }
         requires none { slice_index self.old.room at ≡ 0 }
@@ -108,8 +103,17 @@ impl WordRows {
         ensures room { MatchResult result (λ _. IsRoomMade self.old.room self.new.room at)
             (λ _. self.new.room ≡ self.old.room) }
     {
-        let row = add_row(&mut self.words)?;
-        self.rows[at / ROW] = row;
+        match self.rows.only(at / TABLE) {
+            None => {
+                let row = add_row(&mut self.words)?;
+                self.rows.set(at / ROW, row);
+            }
+            Some((which, row)) => {
+                let first = add_rows(&mut self.words)?;
+                copy_row(&mut self.words, row as usize, first as usize + which);
+                self.rows.spread(at / TABLE, first);
+            }
+        }
         Ok(())
     }
 
@@ -120,19 +124,8 @@ impl WordRows {
         ensures items { self.new.items ≡ slice_set self.old.items at word }
         ensures room { self.new.room ≡ self.old.room }
     {
-        let row = row_in(&self.rows, at / ROW);
+        let row = self.rows.get(at / ROW);
         self.words[row as usize * ROW + at % ROW] = word;
-    }
-}
-
-/// The number of a row, 0 if there is none.
-#[inline(always)]
-fn row_in(rows: &[u32], eight: usize) -> u32
-    ensures { result ≡ slice_index rows.now eight }
-{
-    match rows.get(eight) {
-        Some(row) => *row,
-        None => 0,
     }
 }
 
@@ -147,16 +140,6 @@ fn word_in(words: &[u64], at: usize) -> u64
     }
 }
 
-/// Adds zeros, until there are this many numbers.
-fn add_numbers(rows: &mut Vec<u32>, count: usize) -> Result<(), NoMemory>
-    requires { length rows.old.items ≤ count }
-    ensures { MatchResult result (λ _. IsLonger rows.old.items rows.new.items × (length rows.new.items ≡ count))
-        (λ _. rows.new.items ≡ rows.old.items) }
-{
-    rows.resize(count, 0)?;
-    Ok(())
-}
-
 /// Adds an empty row, and gives its number.
 fn add_row(words: &mut Vec<u64>) -> Result<u32, NoMemory>
     requires { length words.old.items % 8 ≡ 0 }
@@ -169,4 +152,27 @@ fn add_row(words: &mut Vec<u64>) -> Result<u32, NoMemory>
     };
     words.resize((row + 1) * ROW, 0)?;
     Ok(number)
+}
+
+/// Adds eight empty rows, and gives the number of the first.
+fn add_rows(words: &mut Vec<u64>) -> Result<u32, NoMemory>
+    requires { length words.old.items % 8 ≡ 0 }
+    ensures { MatchResult result (λ first. AreRowsAdded words.old.items words.new.items first)
+        (λ _. words.new.items ≡ words.old.items) }
+{
+    let first = (words.len() / ROW).max(1);
+    let Ok(number) = u32::try_from(first) else {
+        return Err(NoMemory);
+    };
+    words.resize(first * ROW + TABLE, 0)?;
+    Ok(number)
+}
+
+/// Writes the words of a row over those of another one.
+fn copy_row(words: &mut Vec<u64>, from: usize, to: usize)
+    requires from { from * 8 + 8 ≤ length words.old.items }
+    requires to { to * 8 + 8 ≤ length words.old.items }
+    ensures { IsRowCopied words.old.items words.new.items from to }
+{
+    words.copy_within(from * ROW..from * ROW + ROW, to * ROW);
 }
