@@ -1,12 +1,12 @@
 -- The frames that are free are those that are not held.
-use Rattle.std.proofs.Common.{◌≡◌, ◌≢◌, ◌⊎◌, inl, inr, ℕ, zero, suc, ◌+◌, ◌<◌, ◌≤◌, ◌*◌, ◌^◌, Bool, true, false, not, cond, ltb, Option, Some, None, List, [], ◌∷◌, length, get_or, set, map, replicate, refl, sym, ap, ◌∙◌, arith}
+use Rattle.std.proofs.Common.{◌≡◌, ℕ, zero, suc, ◌+◌, ◌<◌, ◌*◌, ◌^◌, Bool, true, false, not, cond, ltb, Option, Some, None, List, [], ◌∷◌, length, get_or, set, map, replicate, refl, sym, ap, ◌∙◌, arith}
 use Rattle.std.specs.List.{position, position_or_len}
 use Rattle.std.specs.Prelude.{option_map}
-use Rattle.std.proofs.lemmas.List.{length-map, map-set, get_or-map, length-set, length-replicate, get_or-set_same, get_or-set_other, get_or_past}
-use Rattle.std.proofs.lemmas.Bool.{cases_eq, cases_lt, not-true}
+use Rattle.std.proofs.lemmas.List.{length-map, map-set, get_or-map, length-set, length-replicate}
+use Rattle.std.proofs.lemmas.Bool.{not-true}
 use Rattle.std.proofs.lemmas.List.Quantifiers.{position-Some}
 use Rattle.frame_pool.specs.Bits.{next_true}
-use Rattle.frame_pool.specs.Frames.{Frames, IsFrames, fresh, taken, dropped, is_held, lowest_free, lowest_taken, zero_frame, overwritten}
+use Rattle.frame_pool.specs.Frames.{Frames, IsFrames, fresh, taken, dropped, is_held, lowest_free, zero_frame, overwritten}
 use Rattle.frame_pool.proofs.Overwrites.{length-overwritten, zero_frame_length}
 
 pub opposite_set : (free held : List Bool) (n : ℕ) (b : Bool) → free ≡ map not held → set free n (not b) ≡ map not (set held n b)
@@ -74,12 +74,3 @@ is_taken f g n held bytes e p q = rw (p, q) (ap (λ (x : Frames). taken x n) e)
 
 pub live : (withdrawn : Bool) (o : Option ℕ) → withdrawn ≡ false → o ≡ cond withdrawn None o
 live withdrawn o e = rw e refl
-
-pub held_stays : (f g : Frames) (r : Option ℕ) (k : ℕ) → g ≡ lowest_taken f r → is_held f k ≡ true → is_held g k ≡ true
-held_stays f g None k p h = ap (λ (x : Frames). is_held x k) p ∙ h
-held_stays f g (Some n) k p h = ap (λ (x : Frames). is_held x k) p ∙ by (cases_eq k n) (cases_lt k (length f.held))
-  where
-    by : (k ≡ n) ⊎ (k ≢ n) → (k < length f.held) ⊎ (length f.held ≤ k) → get_or (set f.held n true) k false ≡ true
-    by (inl e) (inl l) = rw (← e) (get_or-set_same f.held k true false l)
-    by (inl e) (inr l) = cc (get_or_past f.held k false l, h)
-    by (inr d) l = get_or-set_other f.held n k true false d ∙ h

@@ -102,7 +102,7 @@ next_found words from w b l a e h z = (a, word_bit words w b l ∙ ap (λ n. eqb
         at (inr p) = let e : k ≡ w * 64 + (k - w * 64) = omega arith in
             ap (bit words) e ∙ word_bit words w (k - w * 64) (omega arith) ∙ ap (λ n. eqb n 1) (z (k - w * 64) (omega arith) (omega arith))
 
-pub bit_past : (words : List ℕ) (k : ℕ) → length words ≤ k / 64 → bit words k ≡ false
+bit_past : (words : List ℕ) (k : ℕ) → length words ≤ k / 64 → bit words k ≡ false
 bit_past words k l = rw (get_or_past words (k / 64) 0 l, bit_at-zero (k % 64)) refl
 
 pub next_none : (words : List ℕ) (from w : ℕ) → length words ≤ w → Clear words from (w * 64) → IsNext (bit words) from None

@@ -1,6 +1,6 @@
 -- The next number above one, found by trying the numbers in turn.
 use Rattle.std.proofs.Common.{◌≡◌, ℕ, zero, suc, ◌+◌, ◌<◌, ◌≤◌, Bool, true, false, ◌&&◌, ltb, Option, Some, None, List, [], ◌∷◌, length, get_or, find, ◌∙◌, refl, sym, ◌⊎◌, inl, inr, arith}
-use Rattle.std.proofs.lemmas.Bool.{cases_lt}
+use Rattle.std.proofs.lemmas.Bool.{cases_lt, and_left}
 use Rattle.std.proofs.lemmas.Bool.Decides.{nat_tests}
 use Rattle.hm_base.specs.Pages.{Pages}
 use Rattle.interval_tree.specs.Intervals.{numbers, all_ids, overlaps, is_above, next_overlapping}
@@ -18,15 +18,11 @@ above : (b : Bool) (k m : ℕ) → b ≡ true → k < m → (b && ltb k m) ≡ t
 above true k m e l = grind (arith, nat_tests)
 above false k m e l = absurd (let c : ⊥ = cc in c)
 
-fails : (a b : Bool) → a ≡ false → (a && b) ≡ false
-fails true b e = absurd (let c : ⊥ = cc in c)
-fails false b e = refl
-
 passed : (spans : List (Option Pages)) (s : Pages) (k m : ℕ) → ((j : ℕ) → k < j → j < m → overlaps spans s j ≡ false) → (j : ℕ) → j < m → (overlaps spans s j && ltb k j) ≡ false
 passed spans s k m f j l = by (cases_lt k j)
   where
     by : (k < j) ⊎ (j ≤ k) → (overlaps spans s j && ltb k j) ≡ false
-    by (inl a) = fails (overlaps spans s j) (ltb k j) (f j a l)
+    by (inl a) = and_left (overlaps spans s j) (ltb k j) (f j a l)
     by (inr a) = not_above (overlaps spans s j) k j a
 
 pub found_above : (spans : List (Option Pages)) (s : Pages) (k m : ℕ) → k < m → m < 32 → overlaps spans s m ≡ true → ((j : ℕ) → k < j → j < m → overlaps spans s j ≡ false) → Some m ≡ next_overlapping spans s (Some k)

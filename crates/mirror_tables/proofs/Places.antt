@@ -1,9 +1,9 @@
 -- Edits of the entries at the place of a page.
-use Rattle.std.proofs.Common.{◌≡◌, ◌≢◌, ℕ, zero, suc, ◌+◌, ◌<◌, ◌≤◌, Bool, true, false, not, ◌&&◌, eqb, ltb, leb, cond, Some, None, List, [], ◌∷◌, ◌++◌, length, take, drop, get_or, set, refl, sym, ap, subst, ◌∙◌, arith, Result, Ok, Err, IsOk, is_ok, ◌⊎◌, inl, inr}
+use Rattle.std.proofs.Common.{◌≡◌, ◌≢◌, ℕ, zero, suc, ◌+◌, ◌<◌, ◌≤◌, Bool, true, false, not, ◌&&◌, eqb, ltb, leb, Some, None, List, [], ◌∷◌, ◌++◌, length, take, drop, get_or, set, refl, sym, ap, subst, ◌∙◌, arith, ◌⊎◌, inl, inr}
 use Rattle.std.specs.List.{insert}
 use Rattle.std.specs.Ordering.{nat_cmp}
 use Rattle.std.specs.FinMap.Entries as sorted
-use Rattle.std.proofs.lemmas.Bool.{cases_eq, cases_lt}
+use Rattle.std.proofs.lemmas.Bool.{cases_eq, cases_lt, eq-eqb}
 use Rattle.std.proofs.lemmas.Bool.Decides.{nat_tests}
 use Rattle.hm_base.specs.Pages.{Pages, covers}
 use Rattle.std.proofs.lemmas.List.{get_or-map}
@@ -23,9 +23,6 @@ less a b l = grind (arith, nat_tests)
 not_less : (a b : ℕ) → b ≤ a → ltb a b ≡ false
 not_less a b l = grind (arith, nat_tests)
 
-equal : (a b : ℕ) → a ≡ b → eqb a b ≡ true
-equal a b e = grind (arith, nat_tests)
-
 pub other : (a b : ℕ) → b < a → eqb a b ≡ false
 other a b l = grind (arith, nat_tests)
 
@@ -44,14 +41,14 @@ put_new (x ∷ es) page (suc at) e h d =
 -- a page that has an entry gets another
 pub put_old : (es : List (ℕ × MirrorEntry)) (page at : ℕ) (e : MirrorEntry) → IsPlace es page at → at < length es → get_or (keys es) at 0 ≡ page → sorted.put nat_cmp page e es ≡ set es at (page, e)
 put_old [] page at e h l p = absurd (omega arith)
-put_old (x ∷ es) page zero e h l p = rw (not_less page x.0 (omega arith), equal page x.0 (sym p)) (ap (λ (k : ℕ). (k, e) ∷ es) p)
+put_old (x ∷ es) page zero e h l p = rw (not_less page x.0 (omega arith), eq-eqb page x.0 (sym p)) (ap (λ (k : ℕ). (k, e) ∷ es) p)
 put_old (x ∷ es) page (suc at) e h l p =
     let m : x.0 < page = h.below 0 (omega arith) in
     rw (not_less page x.0 (omega arith), other page x.0 m) (ap (λ l. x ∷ l) (put_old es page at e (further h) (omega arith) p))
 
 pub find_old : (es : List (ℕ × MirrorEntry)) (page at : ℕ) (d : ℕ × MirrorEntry) → IsPlace es page at → at < length es → get_or (keys es) at 0 ≡ page → Some ((get_or es at d).1) ≡ sorted.find nat_cmp page es
 find_old [] page at d h l p = absurd (omega arith)
-find_old (x ∷ es) page zero d h l p = rw (not_less page x.0 (omega arith), equal page x.0 (sym p)) refl
+find_old (x ∷ es) page zero d h l p = rw (not_less page x.0 (omega arith), eq-eqb page x.0 (sym p)) refl
 find_old (x ∷ es) page (suc at) d h l p =
     let m : x.0 < page = h.below 0 (omega arith) in
     rw (not_less page x.0 (omega arith), other page x.0 m) (find_old es page at d (further h) (omega arith) p)
@@ -146,11 +143,6 @@ from_more es page m r b k a l = by (cases_eq k m)
     by : (k ≡ m) ⊎ (k ≢ m) → page ≤ get_or (keys es) k 0
     by (inl e) = rw e b
     by (inr d) = omega (arith, r m k (omega arith) l)
-
--- an edit that succeeded
-pub when_ok : {A T E : Type 0} (r : Result T E) (x a b : A) → IsOk r → x ≡ cond (is_ok r) a b → x ≡ a
-when_ok (Ok y) x a b o e = e
-when_ok (Err y) x a b o e = cc
 
 -- the table after a change of its entries
 pub changed_as : (f g : Block) (es : List (ℕ × MirrorEntry)) (room : ℕ) (to : Block → List (ℕ × MirrorEntry)) → f ≡ g → es ≡ to f → record { entries = es; room = room } ≡ changed g (to g) room

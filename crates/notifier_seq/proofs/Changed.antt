@@ -6,11 +6,11 @@ use Rattle.std.proofs.lemmas.List.Sums.{count_by-le-length, sum_by-set, get_or-l
 use Rattle.std.proofs.Math.Seq.{map-set_same}
 use Rattle.std.proofs.Math.ListN.{get_or-map}
 use Rattle.hm_base.specs.Pages.{Pages}
-use Rattle.notifier_seq.specs.declared.interval.Settling.TheVariants.{Insert, Remove, Nothing}
+use Rattle.notifier_seq.specs.declared.interval.Settling.TheVariants.{Insert, Remove}
 use Rattle.notifier_seq.specs.declared.interval.Interval.{Interval}
 use Rattle.notifier_seq.specs.declared.interval.Stage.{Stage}
 use Rattle.notifier_seq.specs.declared.interval.Stage.TheVariants.{InTree, InsertDeferred, RemoveDeferred, Out}
-use Rattle.notifier_seq.specs.Sequences.{in_tree_state, deferred_state, leaving_state, interval_passes, settled_stage, settled, with_seq, with_stage}
+use Rattle.notifier_seq.specs.Sequences.{in_tree_state, deferred_state, settled_stage, settled, with_seq, with_stage}
 use Rattle.notifier_seq.specs.Kept.{tree_window, is_coming, stage_of, due_in, due, IsKept}
 
 -- as many as still come into the tree
@@ -203,16 +203,6 @@ settled_remove xs windows spare noted room m h l d =
     let i = is_remove v d in
     let moved = kept_moved xs windows spare spare noted noted room room m (settled v) h l (omega (arith, i.is_none)) (λ f. quiet_set xs m (settled v) (h.quiet f) (value_twice v)) in
     rw i.goes at moved
-
-nothing_in : (t : Stage) (x : Interval) → x.stage ≡ t → due_in t x.window ≡ Nothing → settled (Some x) ≡ Some x
-nothing_in InTree x e d = ap (λ (t : Stage). Some (record x { stage = t })) (rw e refl)
-nothing_in InsertDeferred x e d = cc
-nothing_in RemoveDeferred x e d = cc
-nothing_in Out x e d = ap (λ (t : Stage). Some (record x { stage = t })) (rw e refl)
-
-still : (v : Option Interval) → due v ≡ Nothing → settled v ≡ v
-still None d = refl
-still (Some x) d = nothing_in x.stage x refl d
 
 -- a read in range is the same for each default
 pub any_default : (xs : List (Option Interval)) (i : ℕ) (d e : Option Interval) → i < length xs → slice_index_or xs i d ≡ slice_index_or xs i e

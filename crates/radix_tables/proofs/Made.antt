@@ -1,5 +1,5 @@
 -- Tables that are made change no word.
-use Rattle.std.proofs.Common.{true, false, ◌≡◌, ◌≢◌, ℕ, ◌+◌, ◌*◌, ◌/◌, ◌%◌, ◌^◌, ◌<◌, ◌≤◌, List, [], ◌∷◌, ◌++◌, length, eqb, cond, get_or, set, refl, sym, ap, subst, ◌∙◌, arith, ◌⊎◌, inl, inr}
+use Rattle.std.proofs.Common.{true, false, ◌≡◌, ◌≢◌, ℕ, ◌+◌, ◌*◌, ◌/◌, ◌%◌, ◌^◌, ◌<◌, ◌≤◌, List, [], ◌∷◌, ◌++◌, length, eqb, cond, get_or, set, sym, ap, subst, ◌∙◌, arith, ◌⊎◌, inl, inr}
 use Rattle.std.proofs.lemmas.Bool.{cases_eq}
 use Rattle.std.proofs.lemmas.Bool.Decides.{nat_tests}
 use Rattle.std.proofs.Common.{Result, Ok, Err, MatchResult, OnOk, OnErr}
@@ -12,9 +12,6 @@ use Rattle.radix_tables.specs.declared.levels.Levels.{Levels}
 use Rattle.radix_tables.proofs.Tables.{Same, same_with, same_up, child_walk, child_whole, child_above, child_levels, first_above, first_same, deep_same, deep_tables, above_room, above_none, above_some, table_first, table_inside, one_number}
 use Rattle.radix_tables.proofs.RowWords.{within}
 use Rattle.radix_tables.proofs.TableBits.{bits_longer, bits_child}
-
-pub same_itself : (l : Levels) → IsLevels l → IsSame l l
-same_itself l h = record { levels = h; words = λ v. refl; room = λ v. refl }
 
 pub same_over : (l m n : Levels) → IsSame l m → IsSame m n → IsSame l n
 same_over l m n p q = record { levels = q.levels; words = λ v. q.words v ∙ p.words v; room = λ v. q.room v ∙ p.room v }

@@ -4,13 +4,10 @@ use Rattle.std.specs.Prelude.{find, unwrap_or}
 use Rattle.std.specs.List.{filter, list_any, range_with_len}
 use Rattle.std.specs.Ordering.{nat_cmp}
 use Rattle.std.specs.FinMap.Entries as sorted
-use Rattle.std.proofs.lemmas.Bool.{cases_eq, cases_lt}
+use Rattle.std.proofs.lemmas.Bool.{cases_eq, cases_lt, eq-eqb}
 use Rattle.std.proofs.lemmas.Bool.Decides.{nat_tests}
 use Rattle.radix_tables.specs.Maps.{Map, pairs, pages, page_count, map_of, word_at, is_reserved, with_word, without_word, given_back, room_left, before, next_word, is_marked, marked, next_marked}
 use Rattle.radix_tables.specs.Levels.{IsLeast}
-
-same_test : (a b : ℕ) → a ≡ b → eqb a b ≡ true
-same_test a b e = grind (arith, nat_tests)
 
 other_test : (a b : ℕ) → a ≢ b → eqb a b ≡ false
 other_test a b d = grind (arith, nat_tests)
@@ -28,7 +25,7 @@ unfolding found
 unfound k = by (cases_eq k 0)
   where
     by : (k ≡ 0) ⊎ (k ≢ 0) → unwrap_or (cond (eqb k 0) None (Some k)) 0 ≡ k
-    by (inl e) = rw (same_test k 0 e) (sym e)
+    by (inl e) = rw (eq-eqb k 0 e) (sym e)
     by (inr d) = rw (other_test k 0 d) refl
 
 -- a step of a look-up
@@ -86,13 +83,13 @@ put_in f g p w a (suc n) l m d h = by (eqb (f a) 0) refl (cases_eq p a) (λ (z :
     rest_same e = pairs_same f g (a + 1) n (λ q k. h q ∙ rw (other_test q p (λ z. absurd (omega arith))) refl)
 
     here : p ≡ a → pairs g (range_with_len a (suc n)) ≡ (p, w) ∷ pairs f (range_with_len (a + 1) n)
-    here e = let x : g a ≡ w = h a ∙ rw (same_test a p (sym e)) refl in rw (x, other_test w 0 d, rest_same (sym e)) (ap (λ k. (k, w) ∷ pairs f (range_with_len (a + 1) n)) (sym e))
+    here e = let x : g a ≡ w = h a ∙ rw (eq-eqb a p (sym e)) refl in rw (x, other_test w 0 d, rest_same (sym e)) (ap (λ k. (k, w) ∷ pairs f (range_with_len (a + 1) n)) (sym e))
 
     other : p ≢ a → g a ≡ f a
     other d = h a ∙ rw (other_test a p (λ z. d (sym z))) refl
 
     equal : (v : ℕ) (es : List (ℕ × ℕ)) → p ≡ a → sorted.put nat_cmp p w ((a, v) ∷ es) ≡ (p, w) ∷ es
-    equal v es e = let x : ltb p a ≡ false = not_less p a e in let y = same_test p a e in rw (x, y) (ap (λ k. (k, w) ∷ es) (sym e))
+    equal v es e = let x : ltb p a ≡ false = not_less p a e in let y = eq-eqb p a e in rw (x, y) (ap (λ k. (k, w) ∷ es) (sym e))
       where
         not_less : (x y : ℕ) → x ≡ y → ltb x y ≡ false
         not_less x y e = grind (arith, nat_tests)
@@ -134,7 +131,7 @@ next_in f p q a (suc n) l m k d h = by (eqb (f a) 0) refl (cases_eq q a) (λ (z 
 
     skipped : eqb (f a) 0 ≡ false → q ≢ a → (a < p) ⊎ (p ≤ a) → leb p a ≡ false
     skipped e z (inl x) = fails p a x
-    skipped e z (inr x) = cc (e, same_test (f a) 0 (h a x (omega arith)))
+    skipped e z (inr x) = cc (e, eq-eqb (f a) 0 (h a x (omega arith)))
 
     by : (b : Bool) → eqb (f a) 0 ≡ b → (q ≡ a) ⊎ (q ≢ a) → (q ≢ a → Some (q, f q) ≡ find (λ e. leb p e.0) (pairs f (range_with_len (a + 1) n))) → Some (q, f q) ≡ find (λ e. leb p e.0) (cond b [] ((a, f a) ∷ []) ++ pairs f (range_with_len (a + 1) n))
     by true e (inl z) rest = absurd (d (rw z (is_zero (f a) e)))
@@ -156,7 +153,7 @@ none_in f p end a (suc n) h = by (eqb (f a) 0) refl (leb p a) refl (none_in f p 
     fails x y l = grind (arith, nat_tests)
 
     past : eqb (f a) 0 ≡ false → p ≤ a → (a < end) ⊎ (end ≤ a) → ltb a end ≡ false
-    past e l (inl x) = cc (e, same_test (f a) 0 (h a l x))
+    past e l (inl x) = cc (e, eq-eqb (f a) 0 (h a l x))
     past e l (inr x) = fails a end x
 
     by : (b : Bool) → eqb (f a) 0 ≡ b → (c : Bool) → leb p a ≡ c → None ≡ before end (find (λ e. leb p e.0) (pairs f (range_with_len (a + 1) n))) → None ≡ before end (find (λ e. leb p e.0) (cond b [] ((a, f a) ∷ []) ++ pairs f (range_with_len (a + 1) n)))
@@ -178,7 +175,7 @@ any_in test b a zero l m = absurd (omega arith)
 any_in test b a (suc n) l m = by (test a) refl (cases_eq b a) (λ (z : b ≢ a). any_in test b (a + 1) n (omega arith) (omega arith))
   where
     by : (t : Bool) → test a ≡ t → (b ≡ a) ⊎ (b ≢ a) → (b ≢ a → list_any (λ x. eqb x b) (filter test (range_with_len (a + 1) n)) ≡ test b) → list_any (λ x. eqb x b) (cond t (a ∷ filter test (range_with_len (a + 1) n)) (filter test (range_with_len (a + 1) n))) ≡ test b
-    by true e (inl p) rest = rw (same_test a b (sym p)) (sym (ap test p ∙ e))
+    by true e (inl p) rest = rw (eq-eqb a b (sym p)) (sym (ap test p ∙ e))
     by false e (inl p) rest = any_below test b (a + 1) n (omega arith) ∙ sym (ap test p ∙ e)
     by true e (inr p) rest = rw (other_test a b (λ z. p (sym z))) (rest p)
     by false e (inr p) rest = rest p
@@ -252,7 +249,7 @@ pub least_marked : (f t : ℕ → ℕ) (p end : ℕ) (r : Option (ℕ × ℕ)) �
 least_marked f t p end r h l = least_word (λ v. marked (f v)) t p end r h l ∙ ap (before end) (marked_first f p pages)
 
 some_test : (x : ℕ) → not (eqb x 0) ≡ true → x ≢ 0
-some_test x e z = absurd (no (sym e ∙ rw (same_test x 0 z) refl))
+some_test x e z = absurd (no (sym e ∙ rw (eq-eqb x 0 z) refl))
   where
     no : true ≡ false → ⊥
     no e = cc
@@ -298,7 +295,7 @@ none_passes test [] h = refl
 none_passes test (a ∷ ns) h = rw (h a, none_passes test ns h) refl
 
 pub no_words : (f t : ℕ → ℕ) → ((q : ℕ) → f q ≡ 0) → ((b : ℕ) → t b ≡ 0) → map_of f t ≡ record { words = []; room = [] }
-no_words f t h g = rw (none_of f pages h, none_passes (λ b. not (eqb (t b) 0)) pages (λ b. rw (same_test (t b) 0 (g b)) refl)) refl
+no_words f t h g = rw (none_of f pages h, none_passes (λ b. not (eqb (t b) 0)) pages (λ b. rw (eq-eqb (t b) 0 (g b)) refl)) refl
 
 -- a map without words gives its room back
 pub map_empty : (f t g u : ℕ → ℕ) (map : Map) → map_of f t ≡ map → ((q : ℕ) → f q ≡ 0) → ((q : ℕ) → g q ≡ 0) → ((b : ℕ) → u b ≡ 0) → map_of g u ≡ given_back map

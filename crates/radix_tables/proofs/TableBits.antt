@@ -1,24 +1,16 @@
 -- Bits that say of each word whether it passes a test.
-use Rattle.std.proofs.Common.{◌≡◌, ◌≢◌, ℕ, ◌+◌, ◌*◌, ◌/◌, ◌%◌, ◌^◌, ◌<◌, ◌≤◌, Bool, true, false, eqb, cond, Option, Some, None, List, [], length, get_or, set, refl, sym, ap, ◌∙◌, arith, ◌⊎◌, inl, inr}
+use Rattle.std.proofs.Common.{◌≡◌, ◌≢◌, ℕ, ◌+◌, ◌*◌, ◌/◌, ◌%◌, ◌^◌, ◌<◌, ◌≤◌, Bool, true, false, eqb, cond, Option, Some, None, List, length, get_or, set, refl, sym, ap, ◌∙◌, arith, ◌⊎◌, inl, inr}
 use Rattle.std.specs.Option.{MatchOption}
 use Rattle.std.specs.Int.{bit_at}
 use Rattle.std.proofs.lemmas.Bool.{cases_eq}
 use Rattle.std.proofs.lemmas.Bool.Decides.{nat_tests}
-use Rattle.std.proofs.lemmas.List.{get_or-set_same, get_or-set_other, length-set, get_or_past}
-use Rattle.std.proofs.lemmas.Nat.Bits.{bit_at-zero}
+use Rattle.std.proofs.lemmas.List.{get_or-set_same, get_or-set_other, length-set}
 use Rattle.frame_pool.specs.Bits.{bit}
 use Rattle.radix_tables.specs.Maps.{is_marked, marked}
 use Rattle.radix_tables.specs.Walks.{table_in, IsLonger, IsChild}
 use Rattle.radix_tables.specs.Levels.{AreBits, is_used, from_second, word_of}
 use Rattle.radix_tables.specs.declared.levels.Levels.{Levels}
 use Rattle.radix_tables.proofs.Tables.{longer}
-
--- no bit is set past the last word
-bit_past : (bits : List ℕ) (k : ℕ) → length bits ≤ k / 64 → bit bits k ≡ false
-bit_past bits k l = rw (get_or_past bits (k / 64) 0 l, bit_at-zero (k % 64)) refl
-
-pub no_bits : (test : ℕ → Bool) → test 0 ≡ false → AreBits test [] []
-no_bits test e = record { covers = omega arith; each = λ k. bit_past [] k (omega arith) ∙ sym e }
 
 pub bits_set : (test : ℕ → Bool) (words bits now : List ℕ) (at word : ℕ) (b : Bool) → AreBits test words bits → at < length words → length now ≡ length bits → b ≡ test word →
     ((k : ℕ) → bit now k ≡ cond (eqb k at) b (bit bits k)) → AreBits test (set words at word) now
@@ -67,22 +59,6 @@ table_bit bits t k = ap (λ i. eqb (bit_at (get_or bits i 0) ((t * 64 + k % 64) 
 -- the numbers of a table's entries whose bits are not set
 abbrev pub NoBit : List ℕ → ℕ → ℕ → ℕ → Type 0
 NoBit bits t from upto = (k : ℕ) → from ≤ k → k < upto → bit bits (t * 64 + k % 64) ≡ false
-
-pub none_next : (bits : List ℕ) (t n : ℕ) → ((k : ℕ) → n % 64 ≤ k → k < 64 → bit_at (get_or bits t 0) k ≡ 0) → NoBit bits t n ((n / 64 + 1) * 64)
-none_next bits t n z k a b = table_bit bits t k ∙ ap (λ x. eqb x 1) (z (k % 64) (omega arith) (omega arith))
-
-pub some_next : (bits : List ℕ) (t n q found : ℕ) → (n % 64 ≤ q) × (q < 64) × (bit_at (get_or bits t 0) q ≡ 1) × ((k : ℕ) → n % 64 ≤ k → k < q → bit_at (get_or bits t 0) k ≡ 0) → found ≡ n / 64 * 64 + q →
-    (n ≤ found) × (found < (n / 64 + 1) * 64) × (bit bits (t * 64 + found % 64) ≡ true) × NoBit bits t n found
-some_next bits t n q found h e = (omega (arith, h.0), omega (arith, h.1), table_bit bits t found ∙ (ap (λ k. eqb (bit_at (get_or bits t 0) k) 1) within ∙ ap (λ x. eqb x 1) h.2), before)
-  where
-    few : q < 64
-    few = h.1
-
-    within : found % 64 ≡ q
-    within = omega (arith, few)
-
-    before : NoBit bits t n found
-    before k a b = let same : k / 64 ≡ n / 64 = omega (arith, few) in table_bit bits t k ∙ ap (λ x. eqb x 1) (h.3 (k % 64) (omega (arith, same)) (omega (arith, few, same)))
 
 pub found_none : {X : Type 0} {r : Option X} {N : Type 0} (P : X → Type 0) → r ≡ None → N → MatchOption r N P
 found_none {r = None} P e h = h

@@ -1,6 +1,5 @@
 -- Edits of a list at the place of a use.
-use Rattle.std.proofs.Common.{◌≡◌, ℕ, suc, ◌+◌, ◌-◌, ◌<◌, ◌≤◌, Bool, true, false, ◌||◌, cond, List, [], ◌∷◌, length, get_or, set, refl, sym, ap, ◌∙◌, arith}
-use Rattle.std.proofs.Common.{Result, Ok, Err, IsOk, is_ok}
+use Rattle.std.proofs.Common.{◌≡◌, ℕ, suc, ◌+◌, ◌-◌, ◌<◌, ◌≤◌, Bool, true, false, ◌||◌, List, [], ◌∷◌, length, get_or, set, refl, sym, ap, ◌∙◌, arith}
 use Rattle.std.specs.List.{insert, remove, position_or_len}
 use Rattle.std.proofs.lemmas.List.Sums.{position_or_len_is}
 use Rattle.std.proofs.lemmas.Bool.{and_parts}
@@ -68,11 +67,6 @@ position_le test (u ∷ us) = by (test u) refl (position_le test us)
     by : (b : Bool) → test u ≡ b → position_or_len test us ≤ length us → position_or_len test (u ∷ us) ≤ length (u ∷ us)
     by true e r = rw e (omega arith)
     by false e r = rw e (omega arith)
-
--- an edit that succeeded
-pub when_ok : {A T E : Type 0} (r : Result T E) (x a b : A) → IsOk r → x ≡ cond (is_ok r) a b → x ≡ a
-when_ok (Ok y) x a b o e = e
-when_ok (Err y) x a b o e = cc
 
 pub insert_is : (n : Use) (us now : List Use) (at : ℕ) → at ≡ position_or_len (precedes n) us → now ≡ insert us at n → now ≡ with_use n us
 insert_is n us now at p e = e ∙ (ap (λ i. insert us i n) p ∙ inserted n us)

@@ -1,5 +1,5 @@
 -- An area more among areas that rise.
-use Rattle.std.proofs.Common.{◌≡◌, ℕ, ◌+◌, ◌<◌, ◌≤◌, Bool, true, false, List, [], ◌∷◌, length, nat_lt, None, if◌then◌else◌, refl, arith}
+use Rattle.std.proofs.Common.{◌≡◌, ℕ, ◌<◌, ◌≤◌, Bool, true, false, List, [], ◌∷◌, length, nat_lt, None, if◌then◌else◌, refl, arith}
 use Rattle.std.specs.Prelude.{insert}
 use Rattle.std.proofs.lemmas.Bool.Decides.{nat_tests}
 use Rattle.hm_base.specs.Pages.{Pages}
@@ -7,10 +7,6 @@ use Rattle.hm_base.specs.Areas.{last_of, meets, with_area}
 use Rattle.hm_base.specs.declared.area.Area.{Area}
 use Rattle.vm_areas.specs.Order.{IsRising, place_of}
 use Rattle.vm_areas.specs.Refusals.{insert_refusal}
-
-pub length-with_area : (n : Area) (as_ : List Area) → length (with_area n as_) ≡ length as_ + 1
-length-with_area n [] = refl
-length-with_area n (a ∷ as_) = grind (arith, nat_tests, length-with_area n as_)
 
 pub added : (n : Area) (low : ℕ) (as_ : List Area) → IsRising low as_ → 1 ≤ n.span.count → meets n.span as_ ≡ false → insert as_ (place_of n.span.first as_) n ≡ with_area n as_
 added n low [] r s m = refl

@@ -1,5 +1,5 @@
 -- What stands at the place of a page in areas that rise, and what that says of all of them.
-use Rattle.std.proofs.Common.{◌≡◌, ℕ, zero, suc, ◌+◌, ◌<◌, ◌≤◌, Bool, true, false, List, [], ◌∷◌, length, get_or, Some, None, nat_le, nat_lt, refl, ap, arith}
+use Rattle.std.proofs.Common.{◌≡◌, ℕ, zero, suc, ◌+◌, ◌<◌, ◌≤◌, true, false, List, [], ◌∷◌, length, get_or, Some, None, nat_le, nat_lt, refl, ap, arith}
 use Rattle.std.specs.Prelude.{slice_get}
 use Rattle.std.specs.List.Sorted.{IsPartitionPoint, IsPartitionedBy}
 use Rattle.std.proofs.lemmas.Bool.Decides.{nat_tests}
@@ -7,9 +7,6 @@ use Rattle.hm_base.specs.Pages.{Pages}
 use Rattle.hm_base.specs.Areas.{last_of, meets, rights_at}
 use Rattle.hm_base.specs.declared.area.Area.{Area}
 use Rattle.vm_areas.specs.Order.{IsRising, place_of}
-
-abbrev ends : ℕ → Area → Bool
-ends v a = nat_le (last_of a.span) v
 
 ends_above : (low : ℕ) (as_ : List Area) → IsRising low as_ → (j : ℕ) (d : Area) → j < length as_ → low ≤ last_of (get_or as_ j d).span
 ends_above low [] r j d l = absurd (omega arith)

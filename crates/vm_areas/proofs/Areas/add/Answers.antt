@@ -3,8 +3,9 @@ use Rattle.std.specs.Prelude.{insert}
 use Rattle.hm_base.specs.Areas.{with_area, meets}
 use Rattle.hm_base.specs.declared.area.Area.{Area}
 use Rattle.vm_areas.specs.Order.{place_of}
-use Rattle.vm_areas.proofs.Added.{length-with_area, added, rising_added, may_insert}
+use Rattle.vm_areas.proofs.Added.{added, rising_added, may_insert}
 use Rattle.vm_areas.proofs.Areas.add.Goals as goal
+use Rattle.hm_base.proofs.Shared.{length_with_area}
 
 pub invariant_of-self : goal.invariant_of-self
 invariant_of-self c =
@@ -17,7 +18,7 @@ invariant_of-self c =
     let items : c.insert.new.self.items ≡ with_area area areas = c.in-Ok.ensures.items ∙ ap (λ i. insert areas i area) place ∙ added area 0 areas c.self.invariant.areas.rising c.first.ensures.span.some free in
     record {
       areas = record {
-        few = rw (items, length-with_area) (omega arith);
+        few = rw (items, length_with_area) (omega arith);
         rising = rw items (rising_added area 0 areas c.self.invariant.areas.rising (omega arith) c.first.ensures.span.some free);
       };
       fit = omega (arith, c.in-Ok.ensures.capacity, c.self.invariant.fit);

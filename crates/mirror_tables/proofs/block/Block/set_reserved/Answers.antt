@@ -1,8 +1,9 @@
 use Rattle.std.proofs.Common.{IsOk, ap, sym, ◌∙◌, arith}
 use Rattle.mirror_tables.specs.Blocks.{with_entry}
-use Rattle.mirror_tables.proofs.Places.{place_as, has_as, has_not_as, put_old, put_new, when_ok, changed_as}
+use Rattle.mirror_tables.proofs.Places.{place_as, has_as, has_not_as, put_old, put_new, changed_as}
 use Rattle.mirror_tables.proofs.Kept.{set_kept, insert_kept}
 use Rattle.mirror_tables.proofs.block.Block.set_reserved.Goals as goal
+use Rattle.hm_base.proofs.Shared.{when_ok}
 
 pub invariant_of-self : goal.invariant_of-self
 invariant_of-self c =

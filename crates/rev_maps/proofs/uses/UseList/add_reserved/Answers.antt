@@ -2,8 +2,9 @@ use Rattle.std.proofs.Common.{◌∙◌, ap, arith, IsOk}
 use Rattle.std.specs.List.{position_or_len}
 use Rattle.rev_maps.specs.Uses.{precedes, has_use}
 use Rattle.rev_maps.proofs.Rising.{rising_with}
-use Rattle.rev_maps.proofs.Edits.{position_le, when_ok, insert_is, is_added}
+use Rattle.rev_maps.proofs.Edits.{position_le, insert_is, is_added}
 use Rattle.rev_maps.proofs.uses.UseList.add_reserved.Goals as goal
+use Rattle.hm_base.proofs.Shared.{when_ok}
 
 pub insert-requires : goal.insert-requires
 insert-requires c =
