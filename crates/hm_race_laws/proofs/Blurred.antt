@@ -1,4 +1,5 @@
--- States that are equal but for positions and absolute sequences go on alike, as long as the rules of hm_laws hold.
+-- Of states that are equal but for positions and absolute sequences, what is due and what comes next is equal but for
+-- these, as long as the rules of hm_laws hold.
 use Rattle.std.proofs.Common.{◌≡◌, ℕ, ◌+◌, Option, Some, None, List, [], ◌∷◌, ◌++◌, refl, sym, ap, ◌∙◌, subst, fold}
 use mathlib.Core.Path.{fun_ext}
 use Rattle.hm_base.specs.Program.{Program}
@@ -19,14 +20,12 @@ use Rattle.hm_history.specs.declared.phases.Phase.{Phase}
 use Rattle.hm_laws.specs.Past.{Past, past_start}
 use Rattle.hm_laws.specs.Facts.{facts_of, HoldsAll}
 use Rattle.hm_laws.specs.Stands.{Standing}
-use Rattle.hm_laws.proofs.Histories.Sound.{Small, small, turn, turn_of, at_start, standing_after}
-use Rattle.hm_race_laws.specs.Outcomes.{Point, Reached, with_answer, answer_of, answers_next, ended_in}
+use Rattle.hm_laws.proofs.Histories.Sound.{Small, turn, turn_of, at_start, standing_after}
+use Rattle.hm_race_laws.specs.Outcomes.{Point, Reached, with_answer, answer_of, answers_next}
 use Rattle.hm_race_laws.specs.Positions.{forget_touch, forget_phase, forget_stack, forget_state, forget_kind, forget_progress}
 use Rattle.hm_race_laws.specs.Numbers.{small_touch, small_phase, small_stack, mirror_of, small_state, small_kind, small_entry, small_progress}
 use Rattle.hm_race_laws.specs.Blur.{blurred, blurred_entry, blurred_progress}
-use Rattle.hm_race_laws.specs.Laws.{TellsBlurred, BlurredIsComplete}
 use Rattle.hm_race_laws.proofs.Points.{state_after}
-use Rattle.hm_race_laws.proofs.Closed.{Match, Likeness, all_outcomes}
 use Rattle.hm_race_laws.proofs.DuePositions.{due_forgets}
 use Rattle.hm_race_laws.proofs.NextPositions.{next_forgets}
 use Rattle.hm_race_laws.proofs.SmallDues.{Ruled, due_same}
@@ -141,51 +140,5 @@ answer_small _ = refl
 pub answers_like : (f g : ℕ → List Kind) (e d : Entry) → f ≡ g → blurred_entry e ≡ blurred_entry d → answers_next f e ≡ answers_next g d
 answers_like f g e d h k = ap (λ z. with_at f e.actor (with_answer z (f e.actor))) (answer_small e.kind) ∙ (ap (λ (z : Entry). with_at f z.actor (with_answer (answer_of z.kind) (f z.actor))) k ∙ (ap (λ (z : ℕ → List Kind). with_at z d.actor (with_answer (answer_of (forget_kind (small_kind d.kind))) (z d.actor))) h ∙ ap (λ z. with_at g d.actor (with_answer z (g d.actor))) (sym (answer_small d.kind))))
 
-pub record Alike (c : Program) (x y : Point) : Type 0 where
-  pub left : Valid c x.state
-  pub right : Valid c y.state
-  pub states : blurred c x.state ≡ blurred c y.state
-  pub answers : x.answers ≡ y.answers
-
-abbrev entry_of : Entry → Progress → Entry
-entry_of e (Progress.Did d) = d
-entry_of e _ = e
-
-goes_alike : (c : Program) (x y : Point) (e : Entry) → Small c → Alike c x y → due_in c x.state e.actor ≡ Progress.Did e → Match c (Alike c) x y e
-goes_alike c x y e sm h d = by (due_in c y.state e.actor) refl (sym (blurred_due c x.state e.actor h.left ∙ (ap (λ z. blurred_progress (due_in c z e.actor)) h.states ∙ sym (blurred_due c y.state e.actor h.right))) ∙ ap blurred_progress d)
-  where
-    by : (p : Progress) → due_in c y.state e.actor ≡ p → blurred_progress p ≡ Progress.Did (blurred_entry e) → Match c (Alike c) x y e
-    by (Progress.Did z) ez k = record {
-      entry = z;
-      actor = ap (λ (w : Entry). w.actor) same;
-      is_due = own;
-      next = record {
-        left = valid_next c x.state e sm h.left d;
-        right = valid_next c y.state z sm h.right own;
-        states = blurred_next c x.state e sm h.left d ∙ (ap (λ w. blurred c (state_next c w (blurred_entry e))) h.states ∙ (ap (λ w. blurred c (state_next c (blurred c y.state) w)) (sym same) ∙ sym (blurred_next c y.state z sm h.right own)));
-        answers = answers_like x.answers y.answers e z h.answers (sym same);
-      };
-    }
-      where
-        same : blurred_entry z ≡ blurred_entry e
-        same = ap (entry_of (blurred_entry e)) k
-
-        own : due_in c y.state z.actor ≡ Progress.Did z
-        own = ap (due_in c y.state) (ap (λ (w : Entry). w.actor) same) ∙ ez
-    by (Progress.Waiting z) ez k = cc
-    by Progress.Idle ez k = cc
-
 pub reached_valid : (c : Program) (h : List Entry) (x : Point) → Small c → DueFrom c [] h → Reached c h x → Valid c x.state
 reached_valid c h x sm d r = subst (Valid c) (sym (state_after c h r.entries) ∙ ap (λ (z : Point). z.state) r.same) (valid_of c h r.entries sm d r.due)
-
-likeness : (c : Program) (h : List Entry) (key : Point → List ℕ) → Small c → DueFrom c [] h → TellsBlurred c h key → Likeness c h key (Alike c)
-likeness c h key sm d tells = record {
-  by_key = λ x y rx ry e. record { left = reached_valid c h x sm d rx; right = reached_valid c h y sm d ry; states = (tells x y rx ry e).0; answers = (tells x y rx ry e).1 };
-  joined = λ x y z p q. record { left = p.left; right = q.right; states = p.states ∙ q.states; answers = p.answers ∙ q.answers };
-  goes_on = λ x y e p k. goes_alike c x y e sm p k;
-  same_answers = λ x y p. p.answers;
-  same_end = λ x y p. ap (ended_in c) p.states;
-}
-
-pub blurred_is_complete : BlurredIsComplete
-blurred_is_complete c sc h d key ks xs tells s es k en = all_outcomes c h key (Alike c) ks xs (likeness c h key (small c sc) d tells) s es k en

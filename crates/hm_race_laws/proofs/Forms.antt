@@ -2,7 +2,7 @@
 use Rattle.std.proofs.Common.{◌≡◌, ℕ, List, refl, sym, ap, ◌∙◌, subst}
 use Rattle.hm_base.specs.Program.{Program}
 use Rattle.hm_history.specs.Kernel.Due.{due_in}
-use Rattle.hm_history.specs.Kernel.Going.{State, state_next}
+use Rattle.hm_history.specs.Kernel.Going.{state_next}
 use Rattle.hm_history.specs.Kernel.Run.{is_entry}
 use Rattle.hm_history.specs.declared.Kind.{Kind}
 use Rattle.hm_history.specs.declared.Entry.{Entry}
@@ -15,6 +15,7 @@ use Rattle.hm_race_laws.specs.Blur.{blurred, blurred_entry, blurred_progress, un
 use Rattle.hm_race_laws.specs.Forms.{ListsPlaces, opened_form, AddsAlike, Adds, TurnsAlike}
 use Rattle.hm_race_laws.specs.Closed.{IsListed}
 use Rattle.hm_race_laws.specs.Laws.{FormsGoOn, FormsGoAlike, FormsEndAlike, FormsAreAll}
+use Rattle.hm_race_laws.proofs.Points.{point_made}
 use Rattle.hm_race_laws.proofs.Closed.{Match, Met, complete}
 use Rattle.hm_race_laws.proofs.PlacedDues.{Agree, due_relisted, next_relisted}
 use Rattle.hm_race_laws.proofs.Blurred.{Valid, reached_valid, blurred_due, blurred_next, answers_like}
@@ -43,9 +44,6 @@ same_test : (p : Progress) → is_entry (blurred_progress p) ≡ is_entry p
 same_test (Progress.Did e) = refl
 same_test (Progress.Waiting y) = refl
 same_test Progress.Idle = refl
-
-point_made : (u v : State) (f g : ℕ → List Kind) → u ≡ v → f ≡ g → ◌≡◌ {A = Point} (record { state = u; answers = f }) (record { state = v; answers = g })
-point_made u v f g e i = ap {B = Point} (λ (s : State). record { state = s; answers = f }) e ∙ ap {B = Point} (λ (k : ℕ → List Kind). record { state = v; answers = k }) i
 
 module _ (c : Program) (x : Point) (sm : Small c) (valid : Valid c x.state) (pages : List (ℕ × ℕ)) (ok : Agree x.state.after.places.place x.state.after.places.placed pages) (a : ℕ) where
   -- the form, opened

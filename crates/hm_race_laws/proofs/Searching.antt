@@ -1,5 +1,5 @@
 -- The steps of a search keep what it knows.
-use Rattle.std.proofs.Common.{ℕ, ◌⊎◌, inl, inr, List, [], ◌∷◌, ◌++◌, refl, sym, subst}
+use Rattle.std.proofs.Common.{ℕ, ◌⊎◌, inl, inr, List, [], ◌∷◌, ◌++◌, refl, sym}
 use Rattle.std.proofs.lemmas.Option.{slice_get_within}
 use Rattle.std.proofs.Common.{◌≡◌, ◌<◌, zero, suc, Option, Some, None, slice_get, length}
 use Rattle.hm_base.specs.Program.{Program}
@@ -8,11 +8,8 @@ use Rattle.hm_history.specs.Kernel.Going.{State}
 use Rattle.hm_history.specs.Kernel.Due.{due_in, due_top}
 use Rattle.hm_history.specs.declared.Progress.{Progress}
 use Rattle.hm_history.specs.declared.phases.Phase.{Phase}
-use Rattle.hm_history.specs.declared.Kind.{Kind}
 use Rattle.hm_history.specs.declared.Entry.{Entry}
-use Rattle.hm_race_laws.specs.Outcomes.{Point, point_from}
-use Rattle.hm_race_laws.specs.Closed.{IsListed, AreDistinct, Stands, Done, Outcome, Searched}
-use Rattle.hm_race_laws.proofs.Closed.{from_reached}
+use Rattle.hm_race_laws.specs.Closed.{IsListed, AreDistinct}
 
 pub listed_left : {X : Type 0} (xs ys : List X) (x : X) → IsListed xs x → IsListed (xs ++ ys) x
 listed_left [] ys x h = absurd h
@@ -44,51 +41,6 @@ distinct_more (y ∷ xs) x d new = (still, distinct_more xs x d.1 (λ h. new (in
         by (inl k) = d.0 k
         by (inr (inl e)) = new (inl (sym e))
         by (inr (inr k)) = k
-
--- the first key is looked at: it goes to those that are done, and the new ones among its next keys to those that wait
-moved_on : {X : Type 0} (done todo new : List X) (k x : X) → IsListed (done ++ k ∷ todo) x → IsListed ((k ∷ done) ++ (todo ++ new)) x
-moved_on done todo new k x h = by (listed_cases done (k ∷ todo) x h)
-  where
-    by : IsListed done x ⊎ IsListed (k ∷ todo) x → IsListed ((k ∷ done) ++ (todo ++ new)) x
-    by (inl l) = inr (listed_left done (todo ++ new) x l)
-    by (inr (inl e)) = inl e
-    by (inr (inr l)) = inr (listed_right done (todo ++ new) x (listed_left todo new x l))
-
-wider : {K : Type 0} (c : Program) (h : List Entry) (key : Point → K) (ks ls : List K) (xs ys : List (List (List Kind))) (k : K) → ((x : K) → IsListed ks x → IsListed ls x) → ((x : List (List Kind)) → IsListed xs x → IsListed ys x) → Done c h key ks xs k → Done c h key ls ys k
-wider c h key ks ls xs ys k more told d = record { stands = d.stands; onward = λ e due. more _ (d.onward e due); told = λ en. told _ (d.told en) }
-
-pub begun : {K : Type 0} (c : Program) (h : List Entry) (key : Point → K) → Searched c h key [] [] (key (point_from c h) ∷ [])
-begun {K = K} c h key = record { from = inl refl; each = λ k l. absurd l; waiting = first; real = λ x l. absurd l }
-  where
-    first : (k : K) → IsListed (key (point_from c h) ∷ []) k → Stands c h key k
-    first k (inl e) = record { point = point_from c h; reached = from_reached c h; has_key = e }
-    first k (inr l) = absurd l
-
-pub stepped : {K : Type 0} (c : Program) (h : List Entry) (key : Point → K) (xs ys : List (List (List Kind))) (done todo new : List K) (k : K) → Searched c h key xs done (k ∷ todo) → Done c h key ((k ∷ done) ++ (todo ++ new)) (xs ++ ys) k → ((l : K) → IsListed new l → Stands c h key l) → ((x : List (List Kind)) → IsListed ys x → Outcome c h x) → Searched c h key (xs ++ ys) (k ∷ done) (todo ++ new)
-stepped {K = K} c h key xs ys done todo new k s d w r = record {
-  from = moved_on done todo new k _ s.from;
-  each = each;
-  waiting = waiting;
-  real = real;
-}
-  where
-    each : (l : K) → IsListed (k ∷ done) l → Done c h key ((k ∷ done) ++ (todo ++ new)) (xs ++ ys) l
-    each l (inl e) = subst (Done c h key ((k ∷ done) ++ (todo ++ new)) (xs ++ ys)) e d
-    each l (inr i) = wider c h key (done ++ k ∷ todo) ((k ∷ done) ++ (todo ++ new)) xs (xs ++ ys) l (moved_on done todo new k) (listed_left xs ys) (s.each l i)
-
-    waiting : (l : K) → IsListed (todo ++ new) l → Stands c h key l
-    waiting l i = by (listed_cases todo new l i)
-      where
-        by : IsListed todo l ⊎ IsListed new l → Stands c h key l
-        by (inl j) = s.waiting l (inr j)
-        by (inr j) = w l j
-
-    real : (x : List (List Kind)) → IsListed (xs ++ ys) x → Outcome c h x
-    real x i = by (listed_cases xs ys x i)
-      where
-        by : IsListed xs x ⊎ IsListed ys x → Outcome c h x
-        by (inl j) = s.real x j
-        by (inr j) = r x j
 
 -- only the script's actors have anything to do, so a search tries those
 empty_list : (i : ℕ) → ◌≡◌ {A = Option Op} (slice_get [] i) None

@@ -12,7 +12,7 @@ use Rattle.hm_history.specs.declared.Progress.{Progress}
 use Rattle.hm_laws.proofs.Histories.Sound.{Small, small}
 use Rattle.hm_race_laws.specs.Outcomes.{Point, Reached, ended_in}
 use Rattle.hm_race_laws.specs.Blur.{blurred, blurred_entry, blurred_progress, unlisted, tidied, form_of}
-use Rattle.hm_race_laws.specs.Laws.{TidiedIsComplete, FormsAreComplete}
+use Rattle.hm_race_laws.specs.Laws.{BlurredIsComplete, TidiedIsComplete, FormsAreComplete}
 use Rattle.hm_race_laws.proofs.Points.{state_after}
 use Rattle.hm_race_laws.proofs.Closed.{Match, Likeness, all_outcomes}
 use Rattle.hm_race_laws.specs.Forms.{Distinct, restate}
@@ -115,6 +115,10 @@ likeness c h key sm d tells = record {
 
 pub tidied_is_complete : TidiedIsComplete
 tidied_is_complete c sc h d key ks xs tells s es k en = all_outcomes c h key (Alike c) ks xs (likeness c h key (small c sc) d tells) s es k en
+
+-- so are those of which less is left out
+pub blurred_is_complete : BlurredIsComplete
+blurred_is_complete c sc h d key ks xs tells s es k en = all_outcomes c h key (Alike c) ks xs (likeness c h key (small c sc) d (λ x y rx ry e. let same = tells x y rx ry e in (ap unlisted same.0, same.1))) s es k en
 
 pub forms_tell : (c : Program) (h : List Entry) → Tells c h (form_of c)
 forms_tell c h x y rx ry e = (ap (λ (z : Point). z.state) e, ap (λ (z : Point). z.answers) e)

@@ -4,13 +4,11 @@ use Rattle.std.proofs.Common.{append_assoc, append-nil}
 use Rattle.std.proofs.lemmas.List.Sums.{fold-append}
 use Rattle.hm_base.specs.Program.{Program, IsScript}
 use Rattle.hm_history.specs.Kernel.Going.{State, state_start, state_next, state_of, state_of-snoc}
-use Rattle.hm_history.specs.Kernel.Due.{due, due_in, progress}
+use Rattle.hm_history.specs.Kernel.Due.{due, due_in}
 use Rattle.hm_history.specs.Kernel.Run.{added, turn, turns}
 use Rattle.hm_history.specs.Laws.{DueFrom}
 use Rattle.hm_history.specs.declared.Entry.{Entry}
 use Rattle.hm_history.specs.declared.Progress.{Progress}
-use Rattle.hm_history.specs.declared.phases.Next.{Next}
-use Rattle.hm_history.specs.declared.phases.Next.TheVariants.{Do, Wait}
 use Rattle.hm_laws.specs.Past.{Past, past_start, past_next}
 use Rattle.hm_laws.specs.Stands.{Standing}
 use Rattle.hm_laws.proofs.Histories.Sound.{Small, small, at_start, turn as turn_stands}
@@ -20,11 +18,6 @@ use Rattle.hm_quiet_laws.proofs.alone.Ends.{DueAlong}
 use Rattle.hm_quiet_laws.proofs.counts.CountsKept.{counted_next, counted_start}
 use Rattle.hm_history.proofs.Going.{own_actor}
 use Rattle.hm_history.proofs.RunLemmas.{has_room_below}
-
--- who does what is due to an actor is that actor
-actor_is : (a : ℕ) (n : Next) (e : Entry) → progress a n ≡ Progress.Did e → e.actor ≡ a
-actor_is a (Do k) e h = cc
-actor_is a (Wait y) e h = cc
 
 pub due_own : (c : Program) (u : State) (a : ℕ) (e : Entry) → due_in c u a ≡ Progress.Did e → due_in c u e.actor ≡ Progress.Did e
 due_own c u a e h = ap (due_in c u) (own_actor c u a e h) ∙ h

@@ -41,9 +41,6 @@ enough_is = refl
 on_true : (x y : List Entry) (b d : Bool) → b ≡ true → d ≡ true → (elim (b && d) as (λ z. List Entry) [ true ↦ x | false ↦ y ]) ≡ x
 on_true x y b d h k = grind arith
 
-on_false : (x y : List Entry) (b d : Bool) → b ≡ false → (elim (b && d) as (λ z. List Entry) [ true ↦ x | false ↦ y ]) ≡ y
-on_false x y b d h = grind arith
-
 turns_along : (c : Program) (h : List Entry) (a : ℕ) (es : List Entry) (n : ℕ) → DueAlong c (state_of c h) a es → length h + length es ≤ 2000000 → length es ≤ n → is_entry (due c (h ++ es) a) ≡ false → turns_on c h a n ≡ h ++ es
 turns_along c h a [] n d l m e = turns_stop c h a n (subst (λ g. is_entry (due c g a) ≡ false) (append-nil h) e) ∙ sym (append-nil h)
 turns_along c h a (x ∷ es) zero d l m e = absurd (omega arith)
