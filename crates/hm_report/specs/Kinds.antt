@@ -38,3 +38,24 @@ finishes o _ = false
 -- the entry answers no piece of an operation, and ends none
 abbrev pub TellsNothing : Kind → Type 0
 TellsNothing k = (is_answer k ≡ false) × ((o : Op) → finishes o k ≡ false)
+
+-- a step within an operation, which is told to nobody: what is left beside the answers
+abbrev pub is_step : Kind → Bool
+is_step (Kind.Loaded x a bs) = false
+is_step (Kind.Stored x a bs) = false
+is_step (Kind.Failed x a n c) = false
+is_step (Kind.Mapped p r w) = false
+is_step (Kind.Unmapped p r) = false
+is_step (Kind.Protected p r w) = false
+is_step (Kind.Forked p c) = false
+is_step (Kind.Exited p) = false
+is_step (Kind.Attached m d p r q) = false
+is_step (Kind.Detached m) = false
+is_step (Kind.Refused why) = false
+is_step (Kind.Migrated n) = false
+is_step (Kind.Seen m v c) = false
+is_step (Kind.Evicted n) = false
+is_step (Kind.Removed d) = false
+is_step (Kind.Excluded m v) = false
+is_step (Kind.Added m a was now) = false
+is_step _ = true

@@ -1,19 +1,26 @@
 // The words of an entry, written into a buffer.
-ghost use Rattle.std.specs.Prelude.{◌≡◌, ◌+◌, ◌≤◌, ◌∷◌, ◌++◌, length};
+ghost use Rattle.std.specs.Prelude.{◌≡◌, ◌+◌, ◌≤◌, ◌∷◌, ◌++◌, [], codes, length, true};
 ghost use Rattle.std.specs.Fmt.{decimal};
 ghost use Rattle.hm_history.specs.declared.Kind.{Kind as AnyKind};
-ghost use Rattle.hm_report.specs.Words.{place_words, why_words, actor_text, head_words, interval_words};
+ghost use Rattle.hm_script.specs.Spelling.{address_text};
+ghost use Rattle.hm_report.specs.Kinds.{is_step};
+ghost use Rattle.hm_report.specs.Words.{place_words, why_words, actor_text, mirror_text, head_words, interval_words};
 ghost use Rattle.hm_report.specs.Line.{spaced};
 
 use crate::buffer::{Buffer, ROOM};
 use crate::numerals::{put_address, put_decimal};
+use crate::shapes::{
+    put_of_access, put_of_area, put_of_device, put_of_frame, put_of_frames, put_of_guard,
+    put_of_mirror, put_of_mirror_at, put_of_number, put_of_page, put_of_proc, put_of_procs,
+    put_of_span,
+};
 use crate::words::{
     put_actor, put_cause, put_device, put_frame, put_hex, put_kept, put_mirror, put_number,
     put_part, put_proc, put_rights, put_span, put_table_right, put_target, put_who, put_writes,
 };
 use hm_base::frames::{dev_frame, sys_frame};
-use hm_base::{Dev, MirrorId, Place, Proc, Span};
-use hm_history::{Entry, KeptWhy, Kind};
+use hm_base::{Cause, Dev, Frame, MirrorId, Page, Place, Proc, Span};
+use hm_history::{Entry, KeptAt, KeptWhy, Kind, TableRight, Who};
 
 /// Adds the words of a place.
 #[tactic(auto, using(std::proofs::Common::append_assoc))]
@@ -96,6 +103,184 @@ fn put_attached(out: &mut Buffer, mirror: MirrorId, dev: Dev, proc: Proc, window
     put_number(out, seq);
 }
 
+/// Adds the words of an access that failed.
+#[inline(always)]
+#[tactic(auto, using(std::proofs::Common::append_assoc))]
+fn put_failed(out: &mut Buffer, who: Who, addr: u64, len: u64, cause: Cause)
+    requires { length out.old + 1000 ≤ ROOM }
+    ensures text { out.new ≡ out.old ++ spaced (head_words (AnyKind.Failed who addr len cause)) }
+    ensures room { length out.new ≤ length out.old + 1000 }
+{
+    put_of_access(out, b" failed", who, addr);
+    put_number(out, len);
+    put_cause(out, cause);
+}
+
+/// Adds the words of a refusal.
+#[inline(always)]
+#[tactic(auto, using(std::proofs::Common::append_assoc))]
+fn put_refused(out: &mut Buffer, cause: Cause)
+    requires { length out.old + 1000 ≤ ROOM }
+    ensures text { out.new ≡ out.old ++ spaced (head_words (AnyKind.Refused cause)) }
+    ensures room { length out.new ≤ length out.old + 1000 }
+{
+    out.put(b" refused");
+    put_cause(out, cause);
+}
+
+/// Adds the words of a snapshot's code.
+#[inline(always)]
+#[tactic(auto, using(std::proofs::Common::append_assoc))]
+fn put_seen(out: &mut Buffer, mirror: MirrorId, page: Page, code: u8)
+    requires { length out.old + 1000 ≤ ROOM }
+    ensures text { out.new ≡ out.old ++ spaced (head_words (AnyKind.Seen mirror page code)) }
+    ensures room { length out.new ≤ length out.old + 1000 }
+{
+    put_of_mirror_at(out, b" seen", mirror, page.number());
+    put_hex(out, code);
+}
+
+/// Adds the words of an addition.
+#[inline(always)]
+#[tactic(auto, using(std::proofs::Common::append_assoc))]
+fn put_added(out: &mut Buffer, mirror: MirrorId, addr: u64, read: u8, written: u8)
+    requires { length out.old + 1000 ≤ ROOM }
+    ensures text { out.new ≡ out.old ++ spaced (head_words (AnyKind.Added mirror addr read written)) }
+    ensures room { length out.new ≤ length out.old + 1000 }
+{
+    out.put(b" added");
+    put_mirror(out, mirror);
+    put_address(out, addr);
+    put_hex(out, read);
+    put_hex(out, written);
+}
+
+/// Adds the words of a page's place.
+#[inline(always)]
+#[tactic(auto, using(std::proofs::Common::append_assoc))]
+fn put_placed(out: &mut Buffer, proc: Proc, page: Page, place: &Place)
+    requires { length out.old + 1000 ≤ ROOM }
+    ensures text { out.new ≡ out.old ++ spaced (head_words (AnyKind.Place proc page place.now)) }
+    ensures room { length out.new ≤ length out.old + 1000 }
+{
+    put_of_page(out, b" place", proc, page);
+    put_place(out, place);
+}
+
+/// Adds the words of a mirror's being told.
+#[inline(always)]
+#[tactic(auto, using(std::proofs::Common::append_assoc))]
+fn put_told(out: &mut Buffer, mirror: MirrorId, span: Span, seq: u64)
+    requires { length out.old + 1000 ≤ ROOM }
+    ensures text { out.new ≡ out.old ++ spaced (head_words (AnyKind.Told mirror span seq)) }
+    ensures room { length out.new ≤ length out.old + 1000 }
+{
+    out.put(b" told");
+    put_mirror(out, mirror);
+    put_span(out, span);
+    put_number(out, seq);
+}
+
+/// Adds the words of an entry in a mirror's table.
+#[inline(always)]
+#[tactic(auto, using(std::proofs::Common::append_assoc))]
+fn put_set(
+    out: &mut Buffer,
+    mirror: MirrorId,
+    page: Page,
+    target: &Option<Frame>,
+    right: TableRight,
+    since: u64,
+)
+    requires { length out.old + 1000 ≤ ROOM }
+    ensures text { out.new ≡ out.old ++ spaced (head_words (AnyKind.Set mirror page target.now right since)) }
+    ensures room { length out.new ≤ length out.old + 1000 }
+{
+    put_of_mirror_at(out, b" set", mirror, page.number());
+    put_target(out, target);
+    put_table_right(out, right);
+    put_number(out, since);
+}
+
+/// Adds the words of a copy.
+#[inline(always)]
+#[tactic(auto, using(std::proofs::Common::append_assoc))]
+fn put_copied(out: &mut Buffer, from: &Frame, to: &Frame, part: Option<u8>)
+    requires { length out.old + 1000 ≤ ROOM }
+    ensures text { out.new ≡ out.old ++ spaced (head_words (AnyKind.Copied from.now to.now part)) }
+    ensures room { length out.new ≤ length out.old + 1000 }
+{
+    put_of_frames(out, b" copied", from, to);
+    put_part(out, part);
+}
+
+/// Adds the words of what stays where it is.
+#[inline(always)]
+#[tactic(auto, using(std::proofs::Common::append_assoc))]
+fn put_left(out: &mut Buffer, at: &KeptAt, why: &KeptWhy)
+    requires { length out.old + 1000 ≤ ROOM }
+    ensures text { out.new ≡ out.old ++ spaced (head_words (AnyKind.Kept at.now why.now)) }
+    ensures room { length out.new ≤ length out.old + 1000 }
+{
+    out.put(b" kept");
+    put_kept(out, at);
+    put_why(out, why);
+}
+
+/// Adds the words of what an addition read, but for the byte.
+#[inline(always)]
+#[tactic(auto, using(std::proofs::Common::append_assoc))]
+fn put_fetched(out: &mut Buffer, mirror: MirrorId, addr: u64)
+    requires { length out.old + 1000 ≤ ROOM }
+    ensures text { out.new ≡ out.old ++ spaced (codes "fetched" ∷ mirror_text mirror ∷ address_text addr ∷ []) }
+    ensures room { length out.new ≤ length out.old + 1000 }
+{
+    out.put(b" fetched");
+    put_mirror(out, mirror);
+    put_address(out, addr);
+}
+
+/// Adds the words of a step within an operation.
+#[inline(always)]
+#[tactic(auto, using(std::proofs::Common::append_assoc))]
+fn put_step(out: &mut Buffer, kind: &Kind)
+    requires step { is_step kind.now ≡ true }
+    requires room { length out.old + 1000 ≤ ROOM }
+    ensures text { out.new ≡ out.old ++ spaced (head_words kind.now) }
+    ensures room { length out.new ≤ length out.old + 1000 }
+{
+    match kind {
+        Kind::Detaching { mirror, seq } => put_of_mirror_at(out, b" detaching", *mirror, *seq),
+        Kind::Rlock(proc) => put_of_proc(out, b" rlock", *proc),
+        Kind::Runlock(proc) => put_of_proc(out, b" runlock", *proc),
+        Kind::Wlock(proc) => put_of_proc(out, b" wlock", *proc),
+        Kind::Named { parent, child } => put_of_procs(out, b" named", *parent, *child),
+        Kind::Take(frame) => put_of_frame(out, b" take", frame),
+        Kind::Drop(frame) => put_of_frame(out, b" drop", frame),
+        Kind::Place { proc, page, place } => put_placed(out, *proc, *page, place),
+        Kind::Start { proc, span, seq } => put_of_guard(out, b" start", *proc, *span, *seq),
+        Kind::Told { mirror, span, seq } => put_told(out, *mirror, *span, *seq),
+        Kind::End { proc, span, seq } => put_of_guard(out, b" end", *proc, *span, *seq),
+        Kind::Begin { mirror, seq } => put_of_mirror_at(out, b" begin", *mirror, *seq),
+        Kind::Retry(mirror) => put_of_mirror(out, b" retry", *mirror),
+        Kind::Set {
+            mirror,
+            page,
+            target,
+            right,
+            since,
+        } => put_set(out, *mirror, *page, target, *right, *since),
+        Kind::Fresh { proc, page } => put_of_page(out, b" fresh", *proc, *page),
+        Kind::Copied { from, to, part } => put_copied(out, from, to, *part),
+        Kind::Committed { from, to } => put_of_frames(out, b" committed", from, to),
+        Kind::Kept { at, why } => put_left(out, at, why),
+        Kind::Done(frame) => put_of_frame(out, b" done", frame),
+        Kind::Withdrawn(dev) => put_of_device(out, b" withdrawn", *dev),
+        Kind::Fetched { mirror, addr, .. } => put_fetched(out, *mirror, *addr),
+        _ => unreachable!(),
+    }
+}
+
 /// Adds the words of a kind, but for bytes that were read or written.
 #[tactic(auto, using(std::proofs::Common::append_assoc))]
 pub fn put_head(out: &mut Buffer, kind: &Kind)
@@ -104,54 +289,21 @@ pub fn put_head(out: &mut Buffer, kind: &Kind)
     ensures room { length out.new ≤ length out.old + 1000 }
 {
     match kind {
-        Kind::Loaded { who, addr, .. } => {
-            out.put(b" loaded");
-            put_who(out, *who);
-            put_address(out, *addr);
-        }
-        Kind::Stored { who, addr, .. } => {
-            out.put(b" stored");
-            put_who(out, *who);
-            put_address(out, *addr);
-        }
+        Kind::Loaded { who, addr, .. } => put_of_access(out, b" loaded", *who, *addr),
+        Kind::Stored { who, addr, .. } => put_of_access(out, b" stored", *who, *addr),
         Kind::Failed {
             who,
             addr,
             len,
             cause,
-        } => {
-            out.put(b" failed");
-            put_who(out, *who);
-            put_address(out, *addr);
-            put_number(out, *len);
-            put_cause(out, *cause);
-        }
-        Kind::Mapped { proc, span, rights } => {
-            out.put(b" mapped");
-            put_proc(out, *proc);
-            put_span(out, *span);
-            put_rights(out, *rights);
-        }
-        Kind::Unmapped { proc, span } => {
-            out.put(b" unmapped");
-            put_proc(out, *proc);
-            put_span(out, *span);
-        }
+        } => put_failed(out, *who, *addr, *len, *cause),
+        Kind::Mapped { proc, span, rights } => put_of_area(out, b" mapped", *proc, *span, *rights),
+        Kind::Unmapped { proc, span } => put_of_span(out, b" unmapped", *proc, *span),
         Kind::Protected { proc, span, rights } => {
-            out.put(b" protected");
-            put_proc(out, *proc);
-            put_span(out, *span);
-            put_rights(out, *rights);
+            put_of_area(out, b" protected", *proc, *span, *rights)
         }
-        Kind::Forked { parent, child } => {
-            out.put(b" forked");
-            put_proc(out, *parent);
-            put_proc(out, *child);
-        }
-        Kind::Exited(proc) => {
-            out.put(b" exited");
-            put_proc(out, *proc);
-        }
+        Kind::Forked { parent, child } => put_of_procs(out, b" forked", *parent, *child),
+        Kind::Exited(proc) => put_of_proc(out, b" exited", *proc),
         Kind::Attached {
             mirror,
             dev,
@@ -159,160 +311,22 @@ pub fn put_head(out: &mut Buffer, kind: &Kind)
             span,
             seq,
         } => put_attached(out, *mirror, *dev, *proc, *span, *seq),
-        Kind::Detaching { mirror, seq } => {
-            out.put(b" detaching");
-            put_mirror(out, *mirror);
-            put_number(out, *seq);
-        }
-        Kind::Detached(mirror) => {
-            out.put(b" detached");
-            put_mirror(out, *mirror);
-        }
-        Kind::Refused(cause) => {
-            out.put(b" refused");
-            put_cause(out, *cause);
-        }
-        Kind::Migrated(pages) => {
-            out.put(b" migrated");
-            put_number(out, *pages);
-        }
-        Kind::Seen { mirror, page, code } => {
-            out.put(b" seen");
-            put_mirror(out, *mirror);
-            put_number(out, page.number());
-            put_hex(out, *code);
-        }
-        Kind::Evicted(frames) => {
-            out.put(b" evicted");
-            put_number(out, *frames);
-        }
-        Kind::Removed(dev) => {
-            out.put(b" removed");
-            put_device(out, *dev);
-        }
-        Kind::Rlock(proc) => {
-            out.put(b" rlock");
-            put_proc(out, *proc);
-        }
-        Kind::Runlock(proc) => {
-            out.put(b" runlock");
-            put_proc(out, *proc);
-        }
-        Kind::Wlock(proc) => {
-            out.put(b" wlock");
-            put_proc(out, *proc);
-        }
-        Kind::Named { parent, child } => {
-            out.put(b" named");
-            put_proc(out, *parent);
-            put_proc(out, *child);
-        }
-        Kind::Take(frame) => {
-            out.put(b" take");
-            put_frame(out, frame);
-        }
-        Kind::Drop(frame) => {
-            out.put(b" drop");
-            put_frame(out, frame);
-        }
-        Kind::Place { proc, page, place } => {
-            out.put(b" place");
-            put_proc(out, *proc);
-            put_number(out, page.number());
-            put_place(out, place);
-        }
-        Kind::Start { proc, span, seq } => {
-            out.put(b" start");
-            put_proc(out, *proc);
-            put_span(out, *span);
-            put_number(out, *seq);
-        }
-        Kind::Told { mirror, span, seq } => {
-            out.put(b" told");
-            put_mirror(out, *mirror);
-            put_span(out, *span);
-            put_number(out, *seq);
-        }
-        Kind::End { proc, span, seq } => {
-            out.put(b" end");
-            put_proc(out, *proc);
-            put_span(out, *span);
-            put_number(out, *seq);
-        }
-        Kind::Begin { mirror, seq } => {
-            out.put(b" begin");
-            put_mirror(out, *mirror);
-            put_number(out, *seq);
-        }
-        Kind::Retry(mirror) => {
-            out.put(b" retry");
-            put_mirror(out, *mirror);
-        }
-        Kind::Set {
-            mirror,
-            page,
-            target,
-            right,
-            since,
-        } => {
-            out.put(b" set");
-            put_mirror(out, *mirror);
-            put_number(out, page.number());
-            put_target(out, target);
-            put_table_right(out, *right);
-            put_number(out, *since);
-        }
-        Kind::Fresh { proc, page } => {
-            out.put(b" fresh");
-            put_proc(out, *proc);
-            put_number(out, page.number());
-        }
-        Kind::Copied { from, to, part } => {
-            out.put(b" copied");
-            put_frame(out, from);
-            put_frame(out, to);
-            put_part(out, *part);
-        }
-        Kind::Committed { from, to } => {
-            out.put(b" committed");
-            put_frame(out, from);
-            put_frame(out, to);
-        }
-        Kind::Kept { at, why } => {
-            out.put(b" kept");
-            put_kept(out, at);
-            put_why(out, why);
-        }
-        Kind::Done(frame) => {
-            out.put(b" done");
-            put_frame(out, frame);
-        }
-        Kind::Withdrawn(dev) => {
-            out.put(b" withdrawn");
-            put_device(out, *dev);
-        }
+        Kind::Detached(mirror) => put_of_mirror(out, b" detached", *mirror),
+        Kind::Refused(cause) => put_refused(out, *cause),
+        Kind::Migrated(pages) => put_of_number(out, b" migrated", *pages),
+        Kind::Seen { mirror, page, code } => put_seen(out, *mirror, *page, *code),
+        Kind::Evicted(frames) => put_of_number(out, b" evicted", *frames),
+        Kind::Removed(dev) => put_of_device(out, b" removed", *dev),
         Kind::Excluded { mirror, page } => {
-            out.put(b" excluded");
-            put_mirror(out, *mirror);
-            put_number(out, page.number());
-        }
-        Kind::Fetched { mirror, addr, .. } => {
-            out.put(b" fetched");
-            put_mirror(out, *mirror);
-            put_address(out, *addr);
+            put_of_mirror_at(out, b" excluded", *mirror, page.number())
         }
         Kind::Added {
             mirror,
             addr,
-            read: was,
-            written: now,
-        } => {
-            out.put(b" added");
-            put_mirror(out, *mirror);
-            put_address(out, *addr);
-            put_hex(out, *was);
-            put_hex(out, *now);
-        }
+            read,
+            written,
+        } => put_added(out, *mirror, *addr, *read, *written),
+        _ => put_step(out, kind),
     }
 }
 

@@ -10,6 +10,7 @@ mod laws;
 mod numerals;
 mod outlet;
 mod report;
+mod shapes;
 mod totals;
 mod words;
 mod written;

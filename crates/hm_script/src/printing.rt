@@ -3,12 +3,13 @@
 ghost use Rattle.std.specs.Prelude.{◌≡◌, ◌∷◌, ◌++◌, ◌/◌, ◌%◌, ◌<◌, ◌≤◌, false, length, codes, [], OnOk, IfOk, map};
 ghost use Rattle.std.specs.List.{flat_map};
 ghost use Rattle.std.specs.Fmt.{decimal, digits, digit_glyph};
-ghost use Rattle.hm_script.specs.Spelling.{line, text, header_words, op_words, schedule_words, device_lines};
-ghost use Rattle.hm_script.specs.Spelling.{skip_lines, actor_lines, address_text, hex_text, right_text};
+ghost use Rattle.hm_script.specs.Spelling.{line, text, header_words, op_words, schedule_words, device_lines, skip_lines, actor_lines, address_text, hex_text, right_text};
 ghost use Rattle.hm_script.specs.Spaced.{number_word};
+ghost use Rattle.hm_base.specs.declared.ops.Op.{Op as AnyOp};
 
 use hm_base::{
-    Dev, MirrorId, NoMemory, Op, OpList, Proc, Rights, ScheduleLine, Script, Span, Text, Version,
+    Bytes, Dev, MirrorId, NoMemory, Op, OpList, Proc, Rights, ScheduleLine, Script, Span, Text,
+    Version,
 };
 use std::alloc::Global;
 
@@ -130,7 +131,7 @@ fn put_access(
     word: &[u8],
     number: u64,
     address: u64,
-    len: u64,
+    len: u32,
 ) -> Result<(), NoMemory>
     ensures { OnOk result
         (out.new ≡ out.old ++ line (word.now ∷ decimal number ∷ address_text address ∷ decimal len ∷ [])) }
@@ -138,7 +139,7 @@ fn put_access(
     out.extend(word)?;
     put_number(out, number)?;
     put_address(out, address)?;
-    put_number(out, len)?;
+    put_number(out, u64::from(len))?;
     out.push(b'\n')
 }
 
@@ -149,7 +150,7 @@ fn put_store(
     word: &[u8],
     number: u64,
     address: u64,
-    bytes: &[u8],
+    bytes: &Bytes,
 ) -> Result<(), NoMemory>
     ensures { OnOk result
         (out.new ≡ out.old ++ line (word.now ∷ decimal number ∷ address_text address ∷ hex_text bytes.now ∷ [])) }
@@ -157,8 +158,43 @@ fn put_store(
     out.extend(word)?;
     put_number(out, number)?;
     put_address(out, address)?;
-    put_bytes(out, bytes)?;
+    put_bytes(out, bytes.as_slice())?;
     out.push(b'\n')
+}
+
+/// The line of a word, a process, a span and a right.
+fn put_area(
+    out: &mut Text,
+    word: &[u8],
+    proc: Proc,
+    span: Span,
+    rights: Rights,
+) -> Result<(), NoMemory>
+    ensures { OnOk result (out.new ≡ out.old ++ line
+        (word.now ∷ decimal proc ∷ decimal span.first ∷ decimal span.count ∷ right_text rights ∷ [])) }
+{
+    let numbers = [number_of(proc), first_of(span), span.count()];
+    put_rights(out, word, &numbers, rights)
+}
+
+/// The line of an `attach`.
+fn put_attach(
+    out: &mut Text,
+    mirror: MirrorId,
+    dev: Dev,
+    proc: Proc,
+    span: Span,
+) -> Result<(), NoMemory>
+    ensures { OnOk result (out.new ≡ out.old ++ line (op_words (AnyOp.Attach mirror dev proc span))) }
+{
+    let numbers = [
+        mirror_of(mirror),
+        device_of(dev),
+        number_of(proc),
+        first_of(span),
+        span.count(),
+    ];
+    put_line(out, b"attach", &numbers)
 }
 
 /// The line of an operation.
@@ -166,66 +202,43 @@ fn put_op(out: &mut Text, op: &Op) -> Result<(), NoMemory>
     ensures { OnOk result (out.new ≡ out.old ++ line (op_words op.now)) }
 {
     match op {
-        Op::Map { proc, span, rights } => {
-            let numbers = [number_of(*proc), first_of(*span), span.count()];
-            put_rights(out, b"map", &numbers, *rights)
-        }
-        Op::Unmap { proc, span } => {
-            let numbers = [number_of(*proc), first_of(*span), span.count()];
-            put_line(out, b"unmap", &numbers)
-        }
-        Op::Protect { proc, span, rights } => {
-            let numbers = [number_of(*proc), first_of(*span), span.count()];
-            put_rights(out, b"protect", &numbers, *rights)
-        }
-        Op::Load { proc, addr, len } => {
-            put_access(out, b"load", number_of(*proc), *addr, u64::from(*len))
-        }
+        Op::Map { proc, span, rights } => put_area(out, b"map", *proc, *span, *rights),
+        Op::Unmap { proc, span } => put_pages(out, b"unmap", number_of(*proc), *span),
+        Op::Protect { proc, span, rights } => put_area(out, b"protect", *proc, *span, *rights),
+        Op::Load { proc, addr, len } => put_access(out, b"load", number_of(*proc), *addr, *len),
         Op::Store { proc, addr, bytes } => {
-            put_store(out, b"store", number_of(*proc), *addr, bytes.as_slice())
+            put_store(out, b"store", number_of(*proc), *addr, bytes)
         }
-        Op::Fork { proc, child } => {
-            put_line(out, b"fork", &[number_of(*proc), number_of(*child)])
-        }
+        Op::Fork { proc, child } => put_line(out, b"fork", &[number_of(*proc), number_of(*child)]),
         Op::Exit { proc } => put_line(out, b"exit", &[number_of(*proc)]),
         Op::Attach {
             mirror,
             dev,
             proc,
             span,
-        } => {
-            let numbers = [
-                mirror_of(*mirror),
-                device_of(*dev),
-                number_of(*proc),
-                first_of(*span),
-                span.count(),
-            ];
-            put_line(out, b"attach", &numbers)
-        }
+        } => put_attach(out, *mirror, *dev, *proc, *span),
         Op::Detach { mirror } => put_line(out, b"detach", &[mirror_of(*mirror)]),
         Op::DeviceLoad { mirror, addr, len } => {
-            put_access(out, b"dload", mirror_of(*mirror), *addr, u64::from(*len))
+            put_access(out, b"dload", mirror_of(*mirror), *addr, *len)
         }
         Op::DeviceStore {
             mirror,
             addr,
             bytes,
-        } => put_store(out, b"dstore", mirror_of(*mirror), *addr, bytes.as_slice()),
-        Op::ToDevice { mirror, span } => put_span(out, b"todev", *mirror, *span),
-        Op::ToSystem { mirror, span } => put_span(out, b"tosys", *mirror, *span),
-        Op::Snap { mirror, span } => put_span(out, b"snap", *mirror, *span),
+        } => put_store(out, b"dstore", mirror_of(*mirror), *addr, bytes),
+        Op::ToDevice { mirror, span } => put_pages(out, b"todev", mirror_of(*mirror), *span),
+        Op::ToSystem { mirror, span } => put_pages(out, b"tosys", mirror_of(*mirror), *span),
+        Op::Snap { mirror, span } => put_pages(out, b"snap", mirror_of(*mirror), *span),
         Op::Evict { dev } => put_line(out, b"evict", &[device_of(*dev)]),
         Op::Remove { dev } => put_line(out, b"remove", &[device_of(*dev)]),
         Op::Exclusive { mirror, page } => {
-            let numbers = [mirror_of(*mirror), page.number()];
-            put_line(out, b"exclusive", &numbers)
+            put_line(out, b"exclusive", &[mirror_of(*mirror), page.number()])
         }
         Op::Add {
             mirror,
             addr,
             amount,
-        } => { put_access(out, b"dadd", mirror_of(*mirror), *addr, u64::from(*amount)) }
+        } => put_access(out, b"dadd", mirror_of(*mirror), *addr, u32::from(*amount)),
     }
 }
 
@@ -253,16 +266,12 @@ fn first_of(span: Span) -> u64
     span.first().number()
 }
 
-/// A line of a word, a mirror and a span.
-fn put_span(out: &mut Text, word: &[u8], mirror: MirrorId, span: Span) -> Result<(), NoMemory>
+/// A line of a word, a number and a span.
+fn put_pages(out: &mut Text, word: &[u8], number: u64, span: Span) -> Result<(), NoMemory>
     ensures { OnOk result
-        (out.new ≡ out.old ++ line (word.now ∷ decimal mirror ∷ decimal span.first ∷ decimal span.count ∷ [])) }
+        (out.new ≡ out.old ++ line (word.now ∷ decimal number ∷ decimal span.first ∷ decimal span.count ∷ [])) }
 {
-    put_line(
-        out,
-        word,
-        &[mirror_of(mirror), first_of(span), span.count()],
-    )
+    put_line(out, word, &[number, first_of(span), span.count()])
 }
 
 fn put_devices(out: &mut Text, devices: &[u32]) -> Result<(), NoMemory>
