@@ -1,5 +1,6 @@
 // Copies of entries, in memory of their own.
-ghost use Rattle.std.specs.Prelude.{◌≡◌, IfOk};
+ghost use Rattle.std.specs.Prelude.{◌≡◌, true, IfOk};
+ghost use Rattle.hm_machine.specs.Copies.{is_plain, is_plain_step};
 
 use hm_base::{Bytes, NoMemory};
 use hm_history::{Entry, Kind};
@@ -11,10 +12,98 @@ fn copy_bytes(alloc: Global, bytes: &Bytes) -> Result<Bytes, NoMemory>
     Bytes::from_slice(alloc, bytes.as_slice())
 }
 
+// The same kind once more, of a step of an operation that tells no bytes.
+fn copy_step(kind: &Kind) -> Kind
+    requires { is_plain_step kind.now ≡ true }
+    ensures { result ≡ kind.now }
+{
+    match *kind {
+        Kind::Detaching { mirror, seq } => Kind::Detaching { mirror, seq },
+        Kind::Rlock(proc) => Kind::Rlock(proc),
+        Kind::Runlock(proc) => Kind::Runlock(proc),
+        Kind::Wlock(proc) => Kind::Wlock(proc),
+        Kind::Named { parent, child } => Kind::Named { parent, child },
+        Kind::Take(frame) => Kind::Take(frame),
+        Kind::Drop(frame) => Kind::Drop(frame),
+        Kind::Place { proc, page, place } => Kind::Place { proc, page, place },
+        Kind::Start { proc, span, seq } => Kind::Start { proc, span, seq },
+        Kind::Told { mirror, span, seq } => Kind::Told { mirror, span, seq },
+        Kind::End { proc, span, seq } => Kind::End { proc, span, seq },
+        Kind::Begin { mirror, seq } => Kind::Begin { mirror, seq },
+        Kind::Retry(mirror) => Kind::Retry(mirror),
+        Kind::Set {
+            mirror,
+            page,
+            target,
+            right,
+            since,
+        } => Kind::Set {
+            mirror,
+            page,
+            target,
+            right,
+            since,
+        },
+        Kind::Fresh { proc, page } => Kind::Fresh { proc, page },
+        Kind::Copied { from, to, part } => Kind::Copied { from, to, part },
+        Kind::Committed { from, to } => Kind::Committed { from, to },
+        Kind::Kept { at, why } => Kind::Kept { at, why },
+        Kind::Done(frame) => Kind::Done(frame),
+        Kind::Withdrawn(dev) => Kind::Withdrawn(dev),
+        _ => unreachable!(),
+    }
+}
+
+// The same kind once more, of one that tells no bytes and is no access that failed.
+fn copy_plain(kind: &Kind) -> Kind
+    requires { is_plain kind.now ≡ true }
+    ensures { result ≡ kind.now }
+{
+    match *kind {
+        Kind::Mapped { proc, span, rights } => Kind::Mapped { proc, span, rights },
+        Kind::Unmapped { proc, span } => Kind::Unmapped { proc, span },
+        Kind::Protected { proc, span, rights } => Kind::Protected { proc, span, rights },
+        Kind::Forked { parent, child } => Kind::Forked { parent, child },
+        Kind::Exited(proc) => Kind::Exited(proc),
+        Kind::Attached {
+            mirror,
+            dev,
+            proc,
+            span,
+            seq,
+        } => Kind::Attached {
+            mirror,
+            dev,
+            proc,
+            span,
+            seq,
+        },
+        Kind::Detached(mirror) => Kind::Detached(mirror),
+        Kind::Refused(cause) => Kind::Refused(cause),
+        Kind::Migrated(pages) => Kind::Migrated(pages),
+        Kind::Seen { mirror, page, code } => Kind::Seen { mirror, page, code },
+        Kind::Evicted(frames) => Kind::Evicted(frames),
+        Kind::Removed(dev) => Kind::Removed(dev),
+        Kind::Excluded { mirror, page } => Kind::Excluded { mirror, page },
+        Kind::Added {
+            mirror,
+            addr,
+            read,
+            written,
+        } => Kind::Added {
+            mirror,
+            addr,
+            read,
+            written,
+        },
+        _ => copy_step(kind),
+    }
+}
+
 fn copy_kind(alloc: Global, kind: &Kind) -> Result<Kind, NoMemory>
     ensures { IfOk result (λ k. k ≡ kind.now) }
 {
-    let copy = match kind {
+    Ok(match kind {
         Kind::Loaded { who, addr, bytes } => Kind::Loaded {
             who: *who,
             addr: *addr,
@@ -22,6 +111,15 @@ fn copy_kind(alloc: Global, kind: &Kind) -> Result<Kind, NoMemory>
         },
         Kind::Stored { who, addr, bytes } => Kind::Stored {
             who: *who,
+            addr: *addr,
+            bytes: copy_bytes(alloc, bytes)?,
+        },
+        Kind::Fetched {
+            mirror,
+            addr,
+            bytes,
+        } => Kind::Fetched {
+            mirror: *mirror,
             addr: *addr,
             bytes: copy_bytes(alloc, bytes)?,
         },
@@ -36,141 +134,8 @@ fn copy_kind(alloc: Global, kind: &Kind) -> Result<Kind, NoMemory>
             len: *len,
             cause: *cause,
         },
-        Kind::Mapped { proc, span, rights } => Kind::Mapped {
-            proc: *proc,
-            span: *span,
-            rights: *rights,
-        },
-        Kind::Unmapped { proc, span } => Kind::Unmapped {
-            proc: *proc,
-            span: *span,
-        },
-        Kind::Protected { proc, span, rights } => Kind::Protected {
-            proc: *proc,
-            span: *span,
-            rights: *rights,
-        },
-        Kind::Forked { parent, child } => Kind::Forked {
-            parent: *parent,
-            child: *child,
-        },
-        Kind::Exited(x) => Kind::Exited(*x),
-        Kind::Attached {
-            mirror,
-            dev,
-            proc,
-            span,
-            seq,
-        } => Kind::Attached {
-            mirror: *mirror,
-            dev: *dev,
-            proc: *proc,
-            span: *span,
-            seq: *seq,
-        },
-        Kind::Detaching { mirror, seq } => Kind::Detaching {
-            mirror: *mirror,
-            seq: *seq,
-        },
-        Kind::Detached(x) => Kind::Detached(*x),
-        Kind::Refused(x) => Kind::Refused(*x),
-        Kind::Migrated(x) => Kind::Migrated(*x),
-        Kind::Seen { mirror, page, code } => Kind::Seen {
-            mirror: *mirror,
-            page: *page,
-            code: *code,
-        },
-        Kind::Evicted(x) => Kind::Evicted(*x),
-        Kind::Removed(x) => Kind::Removed(*x),
-        Kind::Rlock(x) => Kind::Rlock(*x),
-        Kind::Runlock(x) => Kind::Runlock(*x),
-        Kind::Wlock(x) => Kind::Wlock(*x),
-        Kind::Named { parent, child } => Kind::Named {
-            parent: *parent,
-            child: *child,
-        },
-        Kind::Take(x) => Kind::Take(*x),
-        Kind::Drop(x) => Kind::Drop(*x),
-        Kind::Place { proc, page, place } => Kind::Place {
-            proc: *proc,
-            page: *page,
-            place: *place,
-        },
-        Kind::Start { proc, span, seq } => Kind::Start {
-            proc: *proc,
-            span: *span,
-            seq: *seq,
-        },
-        Kind::Told { mirror, span, seq } => Kind::Told {
-            mirror: *mirror,
-            span: *span,
-            seq: *seq,
-        },
-        Kind::End { proc, span, seq } => Kind::End {
-            proc: *proc,
-            span: *span,
-            seq: *seq,
-        },
-        Kind::Begin { mirror, seq } => Kind::Begin {
-            mirror: *mirror,
-            seq: *seq,
-        },
-        Kind::Retry(x) => Kind::Retry(*x),
-        Kind::Set {
-            mirror,
-            page,
-            target,
-            right,
-            since,
-        } => Kind::Set {
-            mirror: *mirror,
-            page: *page,
-            target: *target,
-            right: *right,
-            since: *since,
-        },
-        Kind::Fresh { proc, page } => Kind::Fresh {
-            proc: *proc,
-            page: *page,
-        },
-        Kind::Copied { from, to, part } => Kind::Copied {
-            from: *from,
-            to: *to,
-            part: *part,
-        },
-        Kind::Committed { from, to } => Kind::Committed {
-            from: *from,
-            to: *to,
-        },
-        Kind::Kept { at, why } => Kind::Kept { at: *at, why: *why },
-        Kind::Done(x) => Kind::Done(*x),
-        Kind::Withdrawn(x) => Kind::Withdrawn(*x),
-        Kind::Excluded { mirror, page } => Kind::Excluded {
-            mirror: *mirror,
-            page: *page,
-        },
-        Kind::Fetched {
-            mirror,
-            addr,
-            bytes,
-        } => Kind::Fetched {
-            mirror: *mirror,
-            addr: *addr,
-            bytes: copy_bytes(alloc, bytes)?,
-        },
-        Kind::Added {
-            mirror,
-            addr,
-            read,
-            written,
-        } => Kind::Added {
-            mirror: *mirror,
-            addr: *addr,
-            read: *read,
-            written: *written,
-        },
-    };
-    Ok(copy)
+        _ => copy_plain(kind),
+    })
 }
 
 /// The same entry. It takes memory for the bytes that the entry tells, and for nothing else.

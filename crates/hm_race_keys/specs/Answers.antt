@@ -1,7 +1,16 @@
--- Numbers made of answers.
-use Rattle.std.specs.Prelude.{ℕ, List, [], ◌∷◌, length}
+-- Which entries are answers to accesses and snapshots, and numbers made of answers.
+use Rattle.std.specs.Prelude.{ℕ, Bool, true, false, List, [], ◌∷◌, length}
 use Rattle.hm_history.specs.declared.Kind.{Kind}
 use Rattle.hm_race_keys.specs.Sparse.{mixed}
+
+-- an entry is no answer to an access or a snapshot
+abbrev pub is_plain : Kind → Bool
+is_plain (Kind.Loaded x at bs) = false
+is_plain (Kind.Stored x at bs) = false
+is_plain (Kind.Failed x at n c) = false
+is_plain (Kind.Seen m v c) = false
+is_plain (Kind.Added m at was now) = false
+is_plain _ = true
 
 -- a sum with bytes mixed in
 abbrev pub mixed_bytes : ℕ → List ℕ → ℕ

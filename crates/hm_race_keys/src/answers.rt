@@ -1,16 +1,51 @@
 // Answers, copied and compared.
 ghost use Rattle.std.specs.Prelude.{◌≡◌, true, Some, IfOk};
 ghost use Rattle.hm_race_laws.specs.Outcomes.{answer_of};
+ghost use Rattle.hm_race_keys.specs.Answers.{is_plain};
 
 use hm_base::{Bytes, NoMemory};
 use hm_history::Kind;
 use std::alloc::Global;
 
+// What an entry answers, if it is no answer to an access or a snapshot.
+fn plain_answer(kind: &Kind) -> Option<Kind>
+    requires { is_plain kind.now ≡ true }
+    ensures { result ≡ answer_of kind.now }
+{
+    match *kind {
+        Kind::Mapped { proc, span, rights } => Some(Kind::Mapped { proc, span, rights }),
+        Kind::Unmapped { proc, span } => Some(Kind::Unmapped { proc, span }),
+        Kind::Protected { proc, span, rights } => Some(Kind::Protected { proc, span, rights }),
+        Kind::Forked { parent, child } => Some(Kind::Forked { parent, child }),
+        Kind::Exited(proc) => Some(Kind::Exited(proc)),
+        Kind::Attached {
+            mirror,
+            dev,
+            proc,
+            span,
+            seq: _,
+        } => Some(Kind::Attached {
+            mirror,
+            dev,
+            proc,
+            span,
+            seq: 0,
+        }),
+        Kind::Detached(mirror) => Some(Kind::Detached(mirror)),
+        Kind::Refused(cause) => Some(Kind::Refused(cause)),
+        Kind::Migrated(pages) => Some(Kind::Migrated(pages)),
+        Kind::Evicted(frames) => Some(Kind::Evicted(frames)),
+        Kind::Removed(dev) => Some(Kind::Removed(dev)),
+        Kind::Excluded { mirror, page } => Some(Kind::Excluded { mirror, page }),
+        _ => None,
+    }
+}
+
 // What an entry answers, if it answers anything; of an `attached` its sequence is left out.
 pub(crate) fn answer_of(alloc: Global, kind: &Kind) -> Result<Option<Kind>, NoMemory>
     ensures { IfOk result (λ o. o ≡ answer_of kind.now) }
 {
-    let answer = match kind {
+    Ok(match kind {
         Kind::Loaded { who, addr, bytes } => Some(Kind::Loaded {
             who: *who,
             addr: *addr,
@@ -32,51 +67,10 @@ pub(crate) fn answer_of(alloc: Global, kind: &Kind) -> Result<Option<Kind>, NoMe
             len: *len,
             cause: *cause,
         }),
-        Kind::Mapped { proc, span, rights } => Some(Kind::Mapped {
-            proc: *proc,
-            span: *span,
-            rights: *rights,
-        }),
-        Kind::Unmapped { proc, span } => Some(Kind::Unmapped {
-            proc: *proc,
-            span: *span,
-        }),
-        Kind::Protected { proc, span, rights } => Some(Kind::Protected {
-            proc: *proc,
-            span: *span,
-            rights: *rights,
-        }),
-        Kind::Forked { parent, child } => Some(Kind::Forked {
-            parent: *parent,
-            child: *child,
-        }),
-        Kind::Exited(x) => Some(Kind::Exited(*x)),
-        Kind::Attached {
-            mirror,
-            dev,
-            proc,
-            span,
-            seq: _,
-        } => Some(Kind::Attached {
-            mirror: *mirror,
-            dev: *dev,
-            proc: *proc,
-            span: *span,
-            seq: 0,
-        }),
-        Kind::Detached(x) => Some(Kind::Detached(*x)),
-        Kind::Refused(x) => Some(Kind::Refused(*x)),
-        Kind::Migrated(x) => Some(Kind::Migrated(*x)),
         Kind::Seen { mirror, page, code } => Some(Kind::Seen {
             mirror: *mirror,
             page: *page,
             code: *code,
-        }),
-        Kind::Evicted(x) => Some(Kind::Evicted(*x)),
-        Kind::Removed(x) => Some(Kind::Removed(*x)),
-        Kind::Excluded { mirror, page } => Some(Kind::Excluded {
-            mirror: *mirror,
-            page: *page,
         }),
         Kind::Added {
             mirror,
@@ -89,9 +83,59 @@ pub(crate) fn answer_of(alloc: Global, kind: &Kind) -> Result<Option<Kind>, NoMe
             read: *read,
             written: *written,
         }),
-        _ => None,
-    };
-    Ok(answer)
+        _ => plain_answer(kind),
+    })
+}
+
+// Whether the two are the same, of answers to no access and no snapshot.
+fn same_plain(one: &Kind, other: &Kind) -> bool
+    ensures yes { result ≡ true → one.now ≡ other.now }
+    ensures no { is_plain one.now ≡ true → answer_of one.now ≡ Some one.now
+        → one.now ≡ other.now → result ≡ true }
+{
+    match (one, other) {
+        (Kind::Mapped { proc, span, rights }, _) => {
+            let one = (*proc, *span, *rights);
+            matches!(other, Kind::Mapped { proc, span, rights } if one == (*proc, *span, *rights))
+        }
+        (Kind::Unmapped { proc, span }, _) => {
+            let one = (*proc, *span);
+            matches!(other, Kind::Unmapped { proc, span } if one == (*proc, *span))
+        }
+        (Kind::Protected { proc, span, rights }, _) => {
+            let one = (*proc, *span, *rights);
+            matches!(other, Kind::Protected { proc, span, rights } if one == (*proc, *span, *rights))
+        }
+        (Kind::Forked { parent, child }, _) => {
+            let one = (*parent, *child);
+            matches!(other, Kind::Forked { parent, child } if one == (*parent, *child))
+        }
+        (Kind::Exited(x), Kind::Exited(y)) => x == y,
+        (
+            Kind::Attached {
+                mirror,
+                dev,
+                proc,
+                span,
+                seq,
+            },
+            _,
+        ) => {
+            let one = (*mirror, *dev, *proc, *span, *seq);
+            matches!(other, Kind::Attached { mirror, dev, proc, span, seq }
+                if one == (*mirror, *dev, *proc, *span, *seq))
+        }
+        (Kind::Detached(x), Kind::Detached(y)) => x == y,
+        (Kind::Refused(x), Kind::Refused(y)) => x == y,
+        (Kind::Migrated(x), Kind::Migrated(y)) => x == y,
+        (Kind::Evicted(x), Kind::Evicted(y)) => x == y,
+        (Kind::Removed(x), Kind::Removed(y)) => x == y,
+        (Kind::Excluded { mirror, page }, _) => {
+            let one = (*mirror, *page);
+            matches!(other, Kind::Excluded { mirror, page } if one == (*mirror, *page))
+        }
+        _ => false,
+    }
 }
 
 // Whether the two answers are the same.
@@ -100,168 +144,38 @@ pub(crate) fn same_kind(one: &Kind, other: &Kind) -> bool
     ensures no { answer_of one.now ≡ Some one.now → one.now ≡ other.now → result ≡ true }
 {
     match one {
-        Kind::Loaded {
-            who: who1,
-            addr: addr1,
-            bytes: bytes1,
-        } => match other {
-            Kind::Loaded {
-                who: who2,
-                addr: addr2,
-                bytes: bytes2,
-            } => who1 == who2 && addr1 == addr2 && bytes1.as_slice() == bytes2.as_slice(),
-            _ => false,
-        },
-        Kind::Stored {
-            who: who1,
-            addr: addr1,
-            bytes: bytes1,
-        } => match other {
-            Kind::Stored {
-                who: who2,
-                addr: addr2,
-                bytes: bytes2,
-            } => who1 == who2 && addr1 == addr2 && bytes1.as_slice() == bytes2.as_slice(),
-            _ => false,
-        },
+        Kind::Loaded { who, addr, bytes } => {
+            let one = (*who, *addr);
+            let read = bytes.as_slice();
+            matches!(other, Kind::Loaded { who, addr, bytes } if one == (*who, *addr) && read == bytes.as_slice())
+        }
+        Kind::Stored { who, addr, bytes } => {
+            let one = (*who, *addr);
+            let stored = bytes.as_slice();
+            matches!(other, Kind::Stored { who, addr, bytes } if one == (*who, *addr) && stored == bytes.as_slice())
+        }
         Kind::Failed {
-            who: who1,
-            addr: addr1,
-            len: len1,
-            cause: cause1,
-        } => match other {
-            Kind::Failed {
-                who: who2,
-                addr: addr2,
-                len: len2,
-                cause: cause2,
-            } => who1 == who2 && addr1 == addr2 && len1 == len2 && cause1 == cause2,
-            _ => false,
-        },
-        Kind::Mapped {
-            proc: proc1,
-            span: span1,
-            rights: rights1,
-        } => match other {
-            Kind::Mapped {
-                proc: proc2,
-                span: span2,
-                rights: rights2,
-            } => proc1 == proc2 && span1 == span2 && rights1 == rights2,
-            _ => false,
-        },
-        Kind::Unmapped {
-            proc: proc1,
-            span: span1,
-        } => match other {
-            Kind::Unmapped {
-                proc: proc2,
-                span: span2,
-            } => proc1 == proc2 && span1 == span2,
-            _ => false,
-        },
-        Kind::Protected {
-            proc: proc1,
-            span: span1,
-            rights: rights1,
-        } => match other {
-            Kind::Protected {
-                proc: proc2,
-                span: span2,
-                rights: rights2,
-            } => proc1 == proc2 && span1 == span2 && rights1 == rights2,
-            _ => false,
-        },
-        Kind::Forked {
-            parent: parent1,
-            child: child1,
-        } => match other {
-            Kind::Forked {
-                parent: parent2,
-                child: child2,
-            } => parent1 == parent2 && child1 == child2,
-            _ => false,
-        },
-        Kind::Exited(x) => match other {
-            Kind::Exited(y) => x == y,
-            _ => false,
-        },
-        Kind::Attached {
-            mirror: mirror1,
-            dev: dev1,
-            proc: proc1,
-            span: span1,
-            seq: seq1,
-        } => match other {
-            Kind::Attached {
-                mirror: mirror2,
-                dev: dev2,
-                proc: proc2,
-                span: span2,
-                seq: seq2,
-            } => mirror1 == mirror2
-                && dev1 == dev2
-                && proc1 == proc2
-                && span1 == span2
-                && seq1 == seq2,
-            _ => false,
-        },
-        Kind::Detached(x) => match other {
-            Kind::Detached(y) => x == y,
-            _ => false,
-        },
-        Kind::Refused(x) => match other {
-            Kind::Refused(y) => x == y,
-            _ => false,
-        },
-        Kind::Migrated(x) => match other {
-            Kind::Migrated(y) => x == y,
-            _ => false,
-        },
-        Kind::Seen {
-            mirror: mirror1,
-            page: page1,
-            code: code1,
-        } => match other {
-            Kind::Seen {
-                mirror: mirror2,
-                page: page2,
-                code: code2,
-            } => mirror1 == mirror2 && page1 == page2 && code1 == code2,
-            _ => false,
-        },
-        Kind::Evicted(x) => match other {
-            Kind::Evicted(y) => x == y,
-            _ => false,
-        },
-        Kind::Removed(x) => match other {
-            Kind::Removed(y) => x == y,
-            _ => false,
-        },
-        Kind::Excluded {
-            mirror: mirror1,
-            page: page1,
-        } => match other {
-            Kind::Excluded {
-                mirror: mirror2,
-                page: page2,
-            } => mirror1 == mirror2 && page1 == page2,
-            _ => false,
-        },
+            who,
+            addr,
+            len,
+            cause,
+        } => {
+            let one = (*who, *addr, *len, *cause);
+            matches!(other, Kind::Failed { who, addr, len, cause } if one == (*who, *addr, *len, *cause))
+        }
+        Kind::Seen { mirror, page, code } => {
+            let one = (*mirror, *page, *code);
+            matches!(other, Kind::Seen { mirror, page, code } if one == (*mirror, *page, *code))
+        }
         Kind::Added {
-            mirror: mirror1,
-            addr: addr1,
-            read: read1,
-            written: written1,
-        } => match other {
-            Kind::Added {
-                mirror: mirror2,
-                addr: addr2,
-                read: read2,
-                written: written2,
-            } => mirror1 == mirror2 && addr1 == addr2 && read1 == read2 && written1 == written2,
-            _ => false,
-        },
-        _ => false,
+            mirror,
+            addr,
+            read,
+            written,
+        } => {
+            let one = (*mirror, *addr, *read, *written);
+            matches!(other, Kind::Added { mirror, addr, read, written } if one == (*mirror, *addr, *read, *written))
+        }
+        _ => same_plain(one, other),
     }
 }

@@ -1,5 +1,6 @@
 // Copies of scripts, in memory of their own.
-ghost use Rattle.std.specs.Prelude.{◌≡◌, IfOk};
+ghost use Rattle.std.specs.Prelude.{◌≡◌, false, IfOk};
+ghost use Rattle.hm_race_run.specs.Copies.{is_store};
 
 use hm_base::{ActorLists, Bytes, DeviceList, ListOf, NoMemory, Op, OpList, Schedule, Script};
 use std::alloc::Global;
@@ -10,55 +11,58 @@ fn copy_bytes(alloc: Global, bytes: &Bytes) -> Result<Bytes, NoMemory>
     Bytes::from_slice(alloc, bytes.as_slice())
 }
 
-fn copy_op(alloc: Global, op: &Op) -> Result<Op, NoMemory>
-    ensures { IfOk result (λ o. o ≡ op.now) }
+// The same operation once more, of one that stores no bytes.
+fn copy_plain(op: &Op) -> Op
+    requires { is_store op.now ≡ false }
+    ensures { result ≡ op.now }
 {
-    let copy = match op {
-        Op::Map { proc, span, rights } => Op::Map {
-            proc: *proc,
-            span: *span,
-            rights: *rights,
-        },
-        Op::Unmap { proc, span } => Op::Unmap {
-            proc: *proc,
-            span: *span,
-        },
-        Op::Protect { proc, span, rights } => Op::Protect {
-            proc: *proc,
-            span: *span,
-            rights: *rights,
-        },
-        Op::Load { proc, addr, len } => Op::Load {
-            proc: *proc,
-            addr: *addr,
-            len: *len,
-        },
-        Op::Store { proc, addr, bytes } => Op::Store {
-            proc: *proc,
-            addr: *addr,
-            bytes: copy_bytes(alloc, bytes)?,
-        },
-        Op::Fork { proc, child } => Op::Fork {
-            proc: *proc,
-            child: *child,
-        },
-        Op::Exit { proc } => Op::Exit { proc: *proc },
+    match *op {
+        Op::Map { proc, span, rights } => Op::Map { proc, span, rights },
+        Op::Unmap { proc, span } => Op::Unmap { proc, span },
+        Op::Protect { proc, span, rights } => Op::Protect { proc, span, rights },
+        Op::Load { proc, addr, len } => Op::Load { proc, addr, len },
+        Op::Fork { proc, child } => Op::Fork { proc, child },
+        Op::Exit { proc } => Op::Exit { proc },
         Op::Attach {
             mirror,
             dev,
             proc,
             span,
         } => Op::Attach {
-            mirror: *mirror,
-            dev: *dev,
-            proc: *proc,
-            span: *span,
+            mirror,
+            dev,
+            proc,
+            span,
         },
-        Op::Detach { mirror } => Op::Detach { mirror: *mirror },
-        Op::DeviceLoad { mirror, addr, len } => Op::DeviceLoad {
-            mirror: *mirror,
+        Op::Detach { mirror } => Op::Detach { mirror },
+        Op::DeviceLoad { mirror, addr, len } => Op::DeviceLoad { mirror, addr, len },
+        Op::ToDevice { mirror, span } => Op::ToDevice { mirror, span },
+        Op::ToSystem { mirror, span } => Op::ToSystem { mirror, span },
+        Op::Snap { mirror, span } => Op::Snap { mirror, span },
+        Op::Evict { dev } => Op::Evict { dev },
+        Op::Remove { dev } => Op::Remove { dev },
+        Op::Exclusive { mirror, page } => Op::Exclusive { mirror, page },
+        Op::Add {
+            mirror,
+            addr,
+            amount,
+        } => Op::Add {
+            mirror,
+            addr,
+            amount,
+        },
+        _ => unreachable!(),
+    }
+}
+
+fn copy_op(alloc: Global, op: &Op) -> Result<Op, NoMemory>
+    ensures { IfOk result (λ o. o ≡ op.now) }
+{
+    Ok(match op {
+        Op::Store { proc, addr, bytes } => Op::Store {
+            proc: *proc,
             addr: *addr,
-            len: *len,
+            bytes: copy_bytes(alloc, bytes)?,
         },
         Op::DeviceStore {
             mirror,
@@ -69,35 +73,8 @@ fn copy_op(alloc: Global, op: &Op) -> Result<Op, NoMemory>
             addr: *addr,
             bytes: copy_bytes(alloc, bytes)?,
         },
-        Op::ToDevice { mirror, span } => Op::ToDevice {
-            mirror: *mirror,
-            span: *span,
-        },
-        Op::ToSystem { mirror, span } => Op::ToSystem {
-            mirror: *mirror,
-            span: *span,
-        },
-        Op::Snap { mirror, span } => Op::Snap {
-            mirror: *mirror,
-            span: *span,
-        },
-        Op::Evict { dev } => Op::Evict { dev: *dev },
-        Op::Remove { dev } => Op::Remove { dev: *dev },
-        Op::Exclusive { mirror, page } => Op::Exclusive {
-            mirror: *mirror,
-            page: *page,
-        },
-        Op::Add {
-            mirror,
-            addr,
-            amount,
-        } => Op::Add {
-            mirror: *mirror,
-            addr: *addr,
-            amount: *amount,
-        },
-    };
-    Ok(copy)
+        _ => copy_plain(op),
+    })
 }
 
 fn copy_ops(alloc: Global, ops: &OpList) -> Result<OpList, NoMemory>

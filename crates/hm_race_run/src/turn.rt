@@ -20,51 +20,20 @@ pub struct Turned {
     pub state: RaceState,
 }
 
-fn blurred_kind(kind: Kind) -> Kind
+fn blurred_kind(mut kind: Kind) -> Kind
     ensures { result ≡ forget_kind (small_kind kind) }
 {
-    match kind {
-        Kind::Set {
-            mirror,
-            page,
-            target,
-            right,
-            since: _,
-        } => Kind::Set {
-            mirror,
-            page,
-            target,
-            right,
-            since: 0,
-        },
-        Kind::Attached {
-            mirror,
-            dev,
-            proc,
-            span,
-            seq: _,
-        } => Kind::Attached {
-            mirror,
-            dev,
-            proc,
-            span,
-            seq: 0,
-        },
-        Kind::Detaching { mirror, seq: _ } => Kind::Detaching { mirror, seq: 0 },
-        Kind::Start { proc, span, seq: _ } => Kind::Start { proc, span, seq: 0 },
-        Kind::Told {
-            mirror,
-            span,
-            seq: _,
-        } => Kind::Told {
-            mirror,
-            span,
-            seq: 0,
-        },
-        Kind::End { proc, span, seq: _ } => Kind::End { proc, span, seq: 0 },
-        Kind::Begin { mirror, seq: _ } => Kind::Begin { mirror, seq: 1 },
-        other => other,
+    match &mut kind {
+        Kind::Set { since, .. } => *since = 0,
+        Kind::Attached { seq, .. } => *seq = 0,
+        Kind::Detaching { seq, .. } => *seq = 0,
+        Kind::Start { seq, .. } => *seq = 0,
+        Kind::Told { seq, .. } => *seq = 0,
+        Kind::End { seq, .. } => *seq = 0,
+        Kind::Begin { seq, .. } => *seq = 1,
+        _ => (),
     }
+    kind
 }
 
 fn blurred_entry(entry: Entry) -> Entry

@@ -10,5 +10,7 @@ pub mod Ranges
 pub mod MirrorsRead
 pub mod Goings
 pub mod Compared
+pub mod Derived
+pub mod PhaseTests
 pub mod Readings
 pub mod Alike
