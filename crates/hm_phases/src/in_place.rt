@@ -71,6 +71,31 @@ fn finish_ends(to: &Option<Frame>, kind: &Kind) -> bool
 }
 
 impl Stack {
+    // What comes after the entry at a top phase that it replaces: of most of these, without the rest of `moved`.
+    #[inline(always)]
+    fn after_other(&mut self, op: &Op, kind: &Kind, seen: &Seen)
+        requires some { 0 < length self.old }
+        requires room { length (spec.stack_after op.now self.old kind.now seen.now) ≤ 3 }
+        requires counted { IsTrue (below_takes_count self.old) }
+        ensures { self.new ≡ spec.stack_after op.now self.old kind.now seen.now }
+    {
+        match &self.top {
+            Phase::Piece { piece } => {
+                let piece = *piece;
+                after_first(self, op, piece, kind, seen);
+            }
+            Phase::Decide { touch } => {
+                let touch = *touch;
+                after_decide(self, op, &touch, kind, seen);
+            }
+            Phase::Moves { step, .. } => {
+                let step = *step;
+                after_migration(self, step, kind, seen);
+            }
+            _ => moved(self, op, kind, seen),
+        }
+    }
+
     /// What comes after the entry at the top phase. What most entries do is here, and asks once what the phase is; it
     /// has no large values, which would be paid for by each entry. All the rest is in `moved`.
     #[inline(always)]
@@ -111,19 +136,7 @@ impl Stack {
                     moved(self, op, kind, seen);
                 }
             }
-            Phase::Piece { piece } => {
-                let piece = *piece;
-                after_first(self, op, piece, kind, seen);
-            }
-            Phase::Decide { touch } => {
-                let touch = *touch;
-                after_decide(self, op, &touch, kind, seen);
-            }
-            Phase::Moves { step, .. } => {
-                let step = *step;
-                after_migration(self, step, kind, seen);
-            }
-            _ => moved(self, op, kind, seen),
+            _ => self.after_other(op, kind, seen),
         }
     }
 }
