@@ -15,7 +15,7 @@ The other parts count, and tools/house_limits.tsv has how many there may be of e
     functions   functions of more than 40 lines, outside tests
     comments    definitions of specs/ with no comment
     lemmas      statements of lemmas that stand more than once, up to the names of variables
-    uncited     lemmas and helpers of proofs/ that nothing names
+    uncited     lemmas and helpers of proofs/ that nothing names, but for computed examples (`NAME = refl`)
     unused      public items that no other code names
 
 Ends with status 1 if the map is wrong, or there is more of something than there may be. It reads text and proves
@@ -212,19 +212,46 @@ def lemmas():
 
 
 NAME = re.compile(r"[\w'\-]+")
+IMPORT = re.compile(r'^\s*(?:pub |ghost )*use Rattle\.([\w.]+?)(?:\.\{([^}]*)\}|\.\*| as \w+)?;?$')
+PATH = re.compile(r"\b(\w+)::proofs::([\w:]+)::([\w'\-]+)")
+
+
+def cited():
+    """The names that files import from each module, and all (`*`) where they import the module."""
+    names = collections.defaultdict(set)
+    for crate, _, text in files(('.rt', '.antt')):
+        for line in text.split('\n'):
+            found = IMPORT.match(line)
+            if found:
+                given = found.group(2)
+                names[found.group(1)].update(['*'] if given is None else [n.split()[0] for n in given.split(',')])
+        for low, module, name in PATH.findall(text):
+            names[f'{crate if low == "crate" else low}.proofs.{module.replace("::", ".")}'].add(name)
+    return names
+
+
+def end_of(lines, at, name):
+    """The line after the declaration of a name, which begins at a line."""
+    for n in range(at + 1, len(lines)):
+        part = lines[n].startswith((' ', '}', 'unfolding')) or re.match(re.escape(name) + r'(\s|$)', lines[n])
+        after = next((line for line in lines[n:] if line.strip()), '')
+        if not part and (lines[n].strip() or not after.startswith(' ')):
+            return n
+    return len(lines)
 
 
 def uncited():
-    named = collections.Counter()
-    for _, _, text in files(('.rt', '.antt')):
-        named.update(NAME.findall(text))
-    rows = []
+    """Lemmas that their own file names nowhere else, and no other file takes from it, but for computed examples."""
+    rows, names = [], cited()
     for path, text in lemma_files():
         lines = text.split('\n')
-        for line, name, _ in statements(lines):
-            after = next((n for n in range(line, len(lines)) if not lines[n].strip()), len(lines))
-            own = NAME.findall('\n'.join(lines[line - 1:after])).count(name)
-            rows += [] if named[name] > own else [f'{path}:{line} {name}']
+        body = NAME.findall('\n'.join(line for line in lines if not line.startswith(('use ', 'pub use ', '--'))))
+        taken, times = names[path[:-len('.antt')].replace('/', '.')], collections.Counter(body)
+        for line, name, statement in statements(lines):
+            own = lines[line - 1:end_of(lines, line - 1, name)]
+            computed = own[1:] == [f'{name} = refl'] and ' → ' not in statement
+            if not computed and times[name] <= NAME.findall('\n'.join(own)).count(name) and not taken & {name, '*'}:
+                rows.append(f'{path}:{line} {name}')
     return rows
 
 

@@ -1,15 +1,14 @@
 -- The actors go on showing where the state has them.
-use Rattle.std.proofs.Common.{◌≡◌, ℕ, zero, suc, ◌<◌, ◌≤◌, Option, Some, None, List, [], ◌∷◌, ◌++◌, length, refl, sym, ap, ◌∙◌, subst, arith, slice_set, slice_get, slice_index_or, ◌⊎◌, inl, inr}
+use Rattle.std.proofs.Common.{◌≡◌, ℕ, zero, suc, ◌<◌, ◌≤◌, Option, Some, None, List, [], ◌∷◌, ◌++◌, length, refl, sym, ap, ◌∙◌, subst, arith, slice_set, slice_index_or, ◌⊎◌, inl, inr}
 use Rattle.std.proofs.lemmas.Bool.{cases_eq, cases_lt}
 use Rattle.std.proofs.lemmas.Bool.Decides.{nat_tests}
 use Rattle.std.proofs.lemmas.List.{length-map, get_or-map}
-use Rattle.std.proofs.lemmas.Option.{slice_get_past}
 use Rattle.std.proofs.lemmas.Grind.{elements, common_steps}
 use Rattle.hm_base.specs.Program.{Program}
 use Rattle.hm_base.specs.declared.ops.Op.{Op}
 use Rattle.hm_history.specs.Memory.Words.{with_at}
 use Rattle.hm_history.specs.Memory.After.{After}
-use Rattle.hm_history.specs.Kernel.Going.{State, Going, going_next, going_top, going_seen, op_at, ops_of, state_start, state_next}
+use Rattle.hm_history.specs.Kernel.Going.{State, Going, going_next, going_top, going_seen, op_at, state_start, state_next}
 use Rattle.hm_history.specs.declared.Kind.{Kind}
 use Rattle.hm_history.specs.declared.phases.Seen.{Seen}
 use Rattle.hm_history.specs.declared.phases.Phase.{Phase}
@@ -94,14 +93,3 @@ actors_fit c a k seen n going x h f = by (cases_lt a n)
     by : (a < n) ⊎ (n ≤ a) → ActorsFit c a (going_of x a) k seen
     by (inl l) = subst (λ (g : Going). ActorsFit c a g k seen) (sym (h.at a l)) f
     by (inr l) = subst (λ (d : TaskValue). ActorsFit c a d.going k seen) (sym (nobody_past x a (omega (arith, h.len)))) (λ o e. record { few = omega arith; counted = refl })
-
--- an actor that has an operation is one of the script's
-no_ops : (c : Program) (a i : ℕ) → length c.actors ≤ a → op_at c a i ≡ None
-no_ops c a i l = let e : slice_get c.actors a ≡ None = slice_get_past c.actors a l in rw (op_at, ops_of, e) refl
-
-pub op_below : (c : Program) (a i : ℕ) (o : Op) → op_at c a i ≡ Some o → a < length c.actors
-op_below c a i o e = by (cases_lt a (length c.actors))
-  where
-    by : (a < length c.actors) ⊎ (length c.actors ≤ a) → a < length c.actors
-    by (inl l) = l
-    by (inr l) = let q : op_at c a i ≡ None = no_ops c a i l in cc

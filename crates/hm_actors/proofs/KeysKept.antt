@@ -1,5 +1,5 @@
 -- The keys of the tasks fit the slab, and a change of one task's item shows in no other.
-use Rattle.std.proofs.Common.{◌≡◌, ℕ, zero, suc, ◌<◌, ◌⊎◌, inl, inr, Option, Some, None, IsSome, List, [], ◌∷◌, ◌++◌, length, refl, sym, ap, ◌∙◌, subst, arith, slice_set, slice_index_or, map}
+use Rattle.std.proofs.Common.{◌≡◌, ℕ, ◌<◌, ◌⊎◌, inl, inr, Option, Some, None, IsSome, List, length, refl, sym, ap, ◌∙◌, subst, arith, slice_set, slice_index_or, map}
 use Rattle.std.proofs.Math.Seq.{map-set_same}
 use Rattle.std.proofs.lemmas.Bool.{cases_eq}
 use Rattle.std.proofs.lemmas.List.{ext_get_or, length-map, length-set, set-get_or}
@@ -110,24 +110,3 @@ module _ (xs : List Task) (old new : Slab RecordsValue) (a : ℕ) (t u : Task) (
 -- tasks without a migration
 abbrev pub NoKeys : List Task → Type 0
 NoKeys xs = (a : ℕ) → key_of xs a ≡ None
-
-pub no_keys_fit : (xs : List Task) (m : Slab RecordsValue) → NoKeys xs → KeysFit xs m
-no_keys_fit xs m h = record {
-  held = λ a key p. absurd (some_none key (sym p ∙ h a));
-  own = λ a b key p q. absurd (some_none key (sym p ∙ h a));
-}
-  where
-    some_none : (key : ℕ) → Some key ≡ None → ⊥
-    some_none key e = cc
-
-pub one_more : (xs : List Task) (t : Task) → NoKeys xs → t.migration ≡ None → NoKeys (xs ++ (t ∷ []))
-one_more [] t h e zero = e
-one_more [] t h e (suc a) = refl
-one_more (x ∷ xs) t h e zero = h 0
-one_more (x ∷ xs) t h e (suc a) = one_more xs t (λ b. h (suc b)) e a
-
-pub without_keys : (xs : List Task) (m n : Slab RecordsValue) → NoKeys xs → map (task_shown m) xs ≡ map (task_shown n) xs
-without_keys [] m n h = refl
-without_keys (x ∷ xs) m n h = let e : task_shown m x ≡ task_shown n x = shown_same n m x (λ k p. absurd (let q : Some k ≡ None = sym p ∙ h 0 in cc)) in
-    let d : map (task_shown m) xs ≡ map (task_shown n) xs = without_keys xs m n (λ b. h (suc b)) in
-    rw (e, d) refl

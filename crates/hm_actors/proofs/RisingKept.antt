@@ -12,6 +12,7 @@ use Rattle.hm_history.specs.Kernel.Going.{with_record}
 use Rattle.hm_history.specs.declared.phases.Migrating.{Migrating}
 use Rattle.hm_actors.specs.Coming.{first_from}
 use Rattle.hm_actors.specs.Rising.{Rises, IsBefore, EndsBelow}
+use Rattle.hm_history.proofs.Records.{page_stays}
 
 -- records below the page are passed over
 not_here : (next : ℕ) (test : Migrating → Bool) (x : Migrating) (xs : List Migrating) (b : Bool) → (nat_le next x.page && test x) ≡ b → b ≡ false → first_from test next (x ∷ xs) ≡ first_from test next xs
@@ -34,13 +35,6 @@ passed_over test next n xs l h = ap (λ (z : List Migrating). first_from test ne
 -- the page of a record stays
 with_at : (m : Migrating) (xs : List Migrating) (i : ℕ) (d : Migrating) → i < length xs → slice_index_or (with_record m xs) i d ≡ (if (slice_index_or xs i d).page == m.page then m else slice_index_or xs i d)
 with_at m xs i d l = get_or-map (λ (y : Migrating). if y.page == m.page then m else y) xs i d d l
-
-page_stays : (m y : Migrating) → (if y.page == m.page then m else y).page ≡ y.page
-page_stays m y = by (cases_eq y.page m.page)
-  where
-    by : (y.page ≡ m.page) ⊎ (y.page ≡ m.page → ⊥) → (if y.page == m.page then m else y).page ≡ y.page
-    by (inl e) = grind (arith, nat_tests)
-    by (inr e) = grind (arith, nat_tests)
 
 pub rises_with : (m : Migrating) (xs : List Migrating) → Rises xs → Rises (with_record m xs)
 rises_with m xs h i j d l k =

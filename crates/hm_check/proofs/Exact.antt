@@ -1,6 +1,5 @@
 -- A verdict is right: the report is legal, or the line is the first that no legal report has there.
 use Rattle.std.proofs.Common.{◌≡◌, ℕ, suc, ◌+◌, ◌≤◌, List, [], ◌∷◌, ◌++◌, length, take, sym, subst, ap, ◌∙◌, arith, append_assoc, append-nil, length-append}
-use Rattle.std.specs.Prelude.{Result, Ok, Err, IfOk}
 use Rattle.hm_base.specs.Program.{Program, IsScript}
 use Rattle.hm_history.specs.Laws.{DueFrom}
 use Rattle.hm_history.specs.declared.Entry.{Entry}
@@ -178,7 +177,3 @@ judged_good law whole bytes rest tail c d h t is same parts =
 -- `history`, and what follows
 pub judged_behind : (whole rest : List ℕ) (c : Program) (first : ℕ) (v : Verdict) → IsHead whole c first rest → JudgedBehind c first rest v → Judged whole v
 judged_behind whole rest c first v h judged = judged whole h.lines_are h.number
-
-pub on_ok : {A E : Type 0} (r : Result A E) (P Q : A → Type 0) → ((a : A) → P a → Q a) → IfOk r P → IfOk r Q
-on_ok (Ok a) P Q f h = f a h
-on_ok (Err e) P Q f h = tt

@@ -1,5 +1,5 @@
 -- How far the loops over entries and actors have come.
-use Rattle.std.proofs.Common.{◌≡◌, ℕ, suc, ◌+◌, ◌<◌, ◌≤◌, None, List, [], ◌∷◌, ◌++◌, length, refl, sym, ap, ◌∙◌, arith, append_assoc}
+use Rattle.std.proofs.Common.{◌≡◌, ℕ, suc, ◌+◌, ◌<◌, ◌≤◌, None, List, [], ◌∷◌, ◌++◌, length, sym, ap, ◌∙◌, arith, append_assoc}
 use Rattle.hm_base.specs.Program.{Program}
 use Rattle.hm_history.specs.declared.Entry.{Entry}
 use Rattle.hm_script.specs.Automaton.{lines}
@@ -8,9 +8,9 @@ use Rattle.hm_report.specs.Counted.{EndsAreCounted}
 use Rattle.hm_report.specs.Ended.{ended_after}
 use Rattle.hm_report.specs.Report.{entry_line, unfinished_line, unfinished_among, unfinished_lines, end_line, first_unended}
 use Rattle.hm_report.proofs.Lines.{among_more, unfinished_same}
-use Rattle.hm_world.specs.WorldValue.{WorldValue, opening}
+use Rattle.hm_world.specs.WorldValue.{WorldValue}
 use Rattle.hm_report_front.specs.Parts.{entry_list}
-use Rattle.hm_check.specs.Parts.{BeginsNoEntry, IsNoEntry, Added, TakesAll, tail_of}
+use Rattle.hm_check.specs.Parts.{Added, tail_of}
 
 -- ---- the entries
 
@@ -19,11 +19,6 @@ pub record Taking (t u : WorldValue) (bytes rest : List ℕ) : Type 0 where
   pub same : u.script ≡ t.script
   pub running : u.halted ≡ None
   pub parts : lines bytes ≡ entry_list 0 u.history ++ lines rest
-
-pub taking_none : (t : WorldValue) (bytes : List ℕ) → t ≡ opening t.script → Taking t t bytes bytes
-taking_none t bytes e =
-    let empty : t.history ≡ [] = ap (λ (z : WorldValue). z.history) e in
-    record { same = refl; running = ap (λ (z : WorldValue). z.halted) e; parts = ap (λ (z : List Entry). entry_list 0 z ++ lines bytes) (sym empty) }
 
 entry_list_more : (at : ℕ) (h : List Entry) (e : Entry) → entry_list at (h ++ e ∷ []) ≡ entry_list at h ++ entry_line (at + length h) e ∷ []
 entry_list_more at [] e = let z : at ≡ at + 0 = omega arith in ap (λ (k : ℕ). entry_line k e ∷ []) z
@@ -42,16 +37,6 @@ taking_more t u w bytes rest line after k cut added =
       running = ap (λ (x : WorldValue). x.halted) added.grown ∙ k.running;
       parts = k.parts ∙ ap (λ (x : List (List ℕ)). entry_list 0 u.history ++ x) cut ∙ sym (append_assoc (entry_list 0 u.history) (line ∷ []) (lines after)) ∙ ap (λ (x : List (List ℕ)). x ++ lines after) (sym (ap (entry_list 0) history ∙ more));
     }
-
-begins_with : (c : Program) (h : List Entry) (ls : List (List ℕ)) (line : List ℕ) (more : List (List ℕ)) → ls ≡ line ∷ more → IsNoEntry c h line → BeginsNoEntry c h ls
-begins_with c h ls line more e none = rw e none
-
-pub takes_all : (t u w : WorldValue) (bytes rest line after : List ℕ) → Taking t u bytes rest → lines rest ≡ line ∷ lines after → (w ≡ u) × IsNoEntry u.script u.history line → TakesAll t w bytes rest
-takes_all t u w bytes rest line after k cut none = rw none.0 (record { same = k.same; lines_are = k.parts; ends = begins_with u.script u.history (lines rest) line (lines after) cut none.1 })
-
-pub takes_every : (t u : WorldValue) (bytes rest : List ℕ) → Taking t u bytes rest → length rest ≡ 0 → TakesAll t u bytes rest
-takes_every t u bytes [] k e = record { same = k.same; lines_are = k.parts; ends = tt }
-takes_every t u bytes (b ∷ rest) k e = absurd (omega arith)
 
 -- ---- the end
 

@@ -19,9 +19,6 @@ pub record SoFar (ts : List (List ℕ)) (i : ℕ) (qs : List Question) : Type 0 
   pub each : (q : Question) → IsListed qs q → IsQuestion q
   pub good : bad_question 1 ts ≡ bad_question (i + 1) (drop i ts)
 
-pub none_yet : (ts : List (List ℕ)) (qs : List Question) → qs ≡ [] → SoFar ts 0 qs
-none_yet ts qs e = subst (SoFar ts 0) (sym e) (record { texts_are = refl; each = λ q l. absurd l; good = refl })
-
 -- the word that is bad
 pub bad_word : (o : Option ℕ) (e : BadCondition) (w : ℕ) → e ≡ BadCondition.Word w → IsBad o e → o ≡ Some w
 bad_word o (BadCondition.Word v) w same bad = bad ∙ ap (λ (n : ℕ). Some n) (let x : v ≡ w = cc in x)

@@ -1,13 +1,11 @@
 -- When a line is a text and a line feed.
 use Rattle.std.proofs.Common.{◌≡◌, ℕ, Bool, true, false, List, [], ◌∷◌, ◌++◌, refl, sym, ap, ◌∙◌}
 use Rattle.std.specs.Prelude.{◌||◌}
-use Rattle.std.specs.List.{list_any}
 use Rattle.std.specs.Str.{bytes_eq}
 use Rattle.std.proofs.lemmas.Bool.Decides.{same_from_decides, Decides-at}
 use Rattle.std.proofs.lemmas.List.{append_cancel_right}
 use Rattle.std.proofs.lemmas.Slice.Eq.{bytes_eq-Decides}
-use Rattle.hm_script.specs.Automaton.{lines}
-use Rattle.hm_conditions.specs.Meets.{is_ended, has_line}
+use Rattle.hm_conditions.specs.Meets.{is_ended}
 
 pub ended_same : (line text front : List ℕ) (r : Bool) → line ≡ front ++ 10 ∷ [] → r ≡ bytes_eq front text → r ≡ is_ended text line
 ended_same line text front r is e =
@@ -21,9 +19,3 @@ not_ended line text other = by (is_ended text line) refl
     by : (t : Bool) → is_ended text line ≡ t → false ≡ t
     by true e = absurd (other text ((bytes_eq-Decides line (text ++ 10 ∷ [])).0 e))
     by false e = refl
-
-pub one_line : (rest line after text : List ℕ) → lines rest ≡ line ∷ lines after → has_line rest text ≡ (is_ended text line || has_line after text)
-one_line rest line after text cut = ap (list_any (is_ended text)) cut
-
-pub no_line : (rest text : List ℕ) → rest ≡ [] → has_line rest text ≡ false
-no_line rest text e = ap (λ (z : List ℕ). has_line z text) e

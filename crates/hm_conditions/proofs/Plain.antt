@@ -26,9 +26,6 @@ word_alone xs i e =
 
 -- ---- one word more
 
-onto_more : (x : ℕ) (p w : List ℕ) (ps : List (List ℕ)) → onto_first x ((p ∷ ps) ++ w ∷ []) ≡ onto_first x (p ∷ ps) ++ w ∷ []
-onto_more x p w ps = refl
-
 pub split_more : (line word : List ℕ) → split word ≡ word ∷ [] → split (line ++ 32 ∷ word) ≡ split line ++ word ∷ []
 split_more [] word alone = ap (λ (z : List (List ℕ)). [] ∷ z) alone
 split_more (b ∷ line) word alone = by (is_space b) (split line) refl (split_more line word alone)

@@ -1,5 +1,3 @@
-pub mod Beginning
 pub mod Came
-pub mod NotRead
 mod Saying
 pub mod Sending

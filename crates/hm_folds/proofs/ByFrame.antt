@@ -1,12 +1,11 @@
 -- What is kept by frame, in five lists by pool: a write of one, and what five alike show.
-use Rattle.std.proofs.Common.{◌≡◌, ◌≢◌, ℕ, zero, suc, ◌<◌, ◌⊎◌, inl, inr, Bool, true, false, ◌==◌, ◌&&◌, Option, Some, None, List, [], ◌∷◌, length, slice_set, get_or, refl, sym, ap, ◌∙◌, arith}
+use Rattle.std.proofs.Common.{◌≡◌, ◌≢◌, ℕ, ◌<◌, ◌⊎◌, Bool, true, false, ◌==◌, ◌&&◌, Option, Some, List, [], ◌∷◌, length, slice_set, get_or, refl, sym, ap, ◌∙◌, arith}
 use Rattle.std.specs.Prelude.{if◌then◌else◌, slice_get}
 use Rattle.std.proofs.lemmas.Grind.{elements}
 use Rattle.std.proofs.lemmas.Bool.Decides.{nat_tests}
 use Rattle.hm_base.specs.declared.PoolId.{PoolId}
 use Rattle.hm_base.specs.declared.Frame.{Frame}
 use Rattle.hm_base.specs.PlaceWords.{pool_index, same_pool, same_frame, with_frame}
-use Rattle.hm_history.proofs.Frames.{frame_tells, frame_turned}
 use Rattle.hm_folds.specs.TableMap.{pool_of, dev_of_pool}
 use Rattle.hm_folds.specs.Shares.{less, shares_in, shares_of, shares_at}
 use Rattle.hm_folds.specs.Commits.{frame_in, frame_of, committed_at}
@@ -46,24 +45,6 @@ pool_set of xs i f y z e l h g = ap (of g.number) (get_set xs i (pool_index g.po
     by false a s =
         let other : same_pool g.pool f.pool ≡ false = sym s ∙ sym index ∙ a in
         sym (ap (λ b. if b && (g.number == f.number) then z else of g.number (slice_get xs (pool_index g.pool))) other)
-
--- five that show the same
-pub five_alike : {X Y : Type 0} (of : Option X → Y) (a b c d e : X) (z : Y) → of (Some a) ≡ z → of (Some b) ≡ z → of (Some c) ≡ z → of (Some d) ≡ z → of (Some e) ≡ z → of None ≡ z →
-    (i : ℕ) → of (slice_get (a ∷ b ∷ c ∷ d ∷ e ∷ []) i) ≡ z
-five_alike of a b c d e z p q r s t u zero = p
-five_alike of a b c d e z p q r s t u (suc zero) = q
-five_alike of a b c d e z p q r s t u (suc (suc zero)) = r
-five_alike of a b c d e z p q r s t u (suc (suc (suc zero))) = s
-five_alike of a b c d e z p q r s t u (suc (suc (suc (suc zero)))) = t
-five_alike of a b c d e z p q r s t u (suc (suc (suc (suc (suc i))))) = u
-
--- a change by the value that was there
-pub one_changed : {X : Type 0} (F : Frame → X) (g : X → X) (k f : Frame) → with_frame F k (g (F k)) f ≡ (if same_frame k f then g (F f) else F f)
-one_changed F g k f = by (frame_tells f k)
-  where
-    by : ((same_frame f k ≡ true) × (f ≡ k)) ⊎ ((same_frame f k ≡ false) × (f ≢ k)) → with_frame F k (g (F k)) f ≡ (if same_frame k f then g (F f) else F f)
-    by (inl e) = ap (λ b. if b then g (F k) else F f) e.0 ∙ ap (λ z. g (F z)) (sym e.1) ∙ sym (ap (λ b. if b then g (F f) else F f) (frame_turned k f ∙ e.0))
-    by (inr e) = ap (λ b. if b then g (F k) else F f) e.0 ∙ sym (ap (λ b. if b then g (F f) else F f) (frame_turned k f ∙ e.0))
 
 -- of shares
 pub lowered : (xs : List PoolShares) (i k : ℕ) (f : Frame) (d y : PoolShares) (fewer : Shares) → i ≡ pool_index f.pool → i < length xs → k ≡ f.number →

@@ -7,10 +7,7 @@ use Rattle.hm_spaces.proofs.Least.{least_at, least_found, least_none}
 use Rattle.hm_folds.specs.Numbers.{has_number, IsLeast, IsFirstNumber}
 use Rattle.hm_folds.specs.Held.{IsHeld}
 use Rattle.hm_folds.specs.declared.numbers.Numbers.{Numbers}
-
-none_from : (t : ℕ → Bool) (from n : ℕ) → ((k : ℕ) → from ≤ k → k < from + n → t k ≡ false) → least t from n ≡ None
-none_from t from zero h = refl
-none_from t from (suc n) h = rw (h from (omega arith) (omega arith), least) (none_from t (from + 1) n (λ k a b. h k (omega arith) (omega arith)))
+use Rattle.hm_history.proofs.Least.{none_from}
 
 -- what the least number is
 pub record Found (t : ℕ → Bool) (from n i : ℕ) : Type 0 where

@@ -15,6 +15,7 @@ use Rattle.hm_folds.specs.Shares.{has_one_writer}
 use Rattle.hm_folds.specs.Standing.{pages_where, shares_where, is_backed}
 use Rattle.hm_folds.proofs.Counts.{one_if}
 use Rattle.hm_folds.proofs.PlacedCounts.{count_cons}
+use Rattle.hm_history.proofs.Placed.{counted as one_more}
 
 -- the page is in the list
 abbrev pub is_in : ℕ × ℕ → List (ℕ × ℕ) → Bool
@@ -65,9 +66,6 @@ some_counted t (y ∷ ys) = by (t y) refl (some_counted t ys)
     by true e r = inr (y, listed_first y ys, e)
     by false e (inl z) = inl (count_cons t y ys ∙ ap (λ b. one_if b + count_by t ys) e ∙ omega (arith, z))
     by false e (inr z) = inr (z.0, listed_later z.0 y ys z.1, z.2)
-
-one_more : (t : ℕ × ℕ → Bool) (y : ℕ × ℕ) (ys : List (ℕ × ℕ)) → t y ≡ true → count_by t (y ∷ ys) ≡ 1 + count_by t ys
-one_more t y ys e = count_cons t y ys ∙ ap (λ b. one_if b + count_by t ys) e
 
 no_more : (t : ℕ × ℕ → Bool) (y : ℕ × ℕ) (ys : List (ℕ × ℕ)) → count_by t ys ≤ count_by t (y ∷ ys)
 no_more t y ys = omega (arith, count_cons t y ys)

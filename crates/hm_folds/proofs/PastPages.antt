@@ -1,13 +1,12 @@
 -- No page past the last has a place.
-use Rattle.std.proofs.Common.{◌≡◌, ℕ, ◌^◌, ◌≤◌, Bool, true, false, not, ◌==◌, ◌&&◌, nat_lt, nat_le, Option, Some, None, List, [], ◌∷◌, refl, sym, ap, ◌∙◌, subst, arith}
-use Rattle.std.specs.Prelude.{find, option_map, if◌then◌else◌}
-use Rattle.std.specs.List.{list_all, list_any}
+use Rattle.std.proofs.Common.{◌≡◌, ℕ, ◌^◌, ◌≤◌, Bool, true, false, not, ◌==◌, ◌&&◌, nat_le, Option, Some, None, [], ◌∷◌, refl, sym, ap, ◌∙◌, subst, arith}
+use Rattle.std.specs.Prelude.{option_map, if◌then◌else◌}
+use Rattle.std.specs.List.{list_any}
 use Rattle.std.proofs.lemmas.Bool.{and_parts}
 use Rattle.std.proofs.lemmas.Bool.Decides.{nat_tests}
 use Rattle.hm_base.specs.Program.{Program}
 use Rattle.hm_base.specs.declared.Place.{Place}
 use Rattle.hm_base.specs.PlaceWords.{is_empty_place, writable}
-use Rattle.hm_history.specs.Memory.Words.{page_of}
 use Rattle.hm_history.specs.Memory.Places.{Places, is_page, lowest, next_page, is_used, table_reads, table_writes, table_sole, entry_passes, TableEntry, may_read, may_write, is_sole, is_target, is_exclusive, is_exclusive_of, stands_for}
 use Rattle.hm_history.proofs.Tests.{true_false}
 use Rattle.hm_tables.specs.Values.{Tables, place_of_word}
@@ -15,6 +14,7 @@ use Rattle.hm_tables.specs.Shown.{TablesShown}
 use Rattle.hm_tables.specs.declared.places.PageTest.{PageTest}
 use Rattle.hm_tables.proofs.ReadsShown.{next_page_shown}
 use Rattle.hm_tables.proofs.Lowest.{IsLowest, lowest_is}
+use Rattle.hm_history.proofs.Pages.{none_past, empty_is}
 
 -- what a table allows on a page with that place
 abbrev pub by_entry : Places → Option TableEntry → Place → Bool → Bool
@@ -22,29 +22,8 @@ by_entry s o x w =
     let reads = entry_passes (λ y. may_read y.right && (is_target (stands_for s x) y.target && not (is_exclusive x))) o in
     if w then reads && (entry_passes (λ y. may_write y.right) o && writable x) else reads
 
-none_from : (test : ℕ × ℕ → Bool) (from : ℕ) (ws : List (ℕ × ℕ)) → 2 ^ 36 ≤ from → list_all (λ e. nat_lt e.0 (2 ^ 36)) ws ≡ true → find (λ e. nat_le from e.0 && test e) ws ≡ None
-none_from test from [] l h = refl
-none_from test from (w ∷ ws) l h = rw (find, not_here) (none_from test from ws l (and_parts (nat_lt w.0 (2 ^ 36)) _ h).1)
-  where
-    below : nat_lt w.0 (2 ^ 36) ≡ true
-    below = (and_parts (nat_lt w.0 (2 ^ 36)) _ h).0
-
-    past : nat_le from w.0 ≡ false
-    past = grind (arith, nat_tests, below)
-
-    not_here : (nat_le from w.0 && test w) ≡ false
-    not_here = ap (λ b. b && test w) past
-
 pub past_end : (c : Program) (s : Places) (x : Tables) (p from : ℕ) → TablesShown c s.place s.placed x → 2 ^ 36 ≤ from → None ≡ next_page s is_used p from
-past_end c s x p from h l = sym (ap (option_map (λ e. e.0)) (none_from (λ e. is_used (place_of_word e.1)) from _ l (h.tables.ordered p).below)) ∙ next_page_shown c s x h PageTest.Used p from
-
-empty_is : (x : Place) → is_empty_place x ≡ true → Place.Empty ≡ x
-empty_is Place.Empty e = refl
-empty_is Place.Zero e = cc
-empty_is (Place.Sys n w) e = cc
-empty_is (Place.Own d n w) e = cc
-empty_is (Place.Moving f w) e = cc
-empty_is (Place.Exclusive n a) e = cc
+past_end c s x p from h l = sym (ap (option_map (λ e. e.0)) (none_past (λ e. is_used (place_of_word e.1)) from _ l (h.tables.ordered p).below)) ∙ next_page_shown c s x h PageTest.Used p from
 
 from_here : (p v : ℕ) (b : Bool) → ((p == p) && (nat_le v v && not b)) ≡ false → b ≡ true
 from_here p v true h = refl
@@ -69,9 +48,6 @@ past_place c s x p v h l = by (lowest test s.placed) (past_end c s x p v h l) (l
     by : (o : Option (ℕ × ℕ)) → None ≡ page o → IsLowest test o → Place.Empty ≡ s.place p v
     by None e k = empty_is (s.place p v) (from_here p v (is_empty_place (s.place p v)) (k p v))
     by (Some z) e k = absurd (let b : ⊥ = cc in b)
-
-pub address_past : (a : ℕ) → 2 ^ 48 ≤ a → 2 ^ 36 ≤ page_of a
-address_past a l = omega (arith, l)
 
 -- nor does a table allow anything there
 past_entry : (s : Places) (o : Option TableEntry) (w : Bool) (x : Place) → Place.Empty ≡ x → false ≡ by_entry s o x w

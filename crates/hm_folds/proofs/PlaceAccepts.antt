@@ -25,6 +25,7 @@ use Rattle.hm_folds.specs.declared.places.PlaceState.{PlaceState}
 use Rattle.hm_folds.proofs.LeastHeld.{least_is}
 use Rattle.hm_folds.proofs.PastPages.{by_entry}
 use Rattle.hm_folds.proofs.PlaceSteps.{place_decided, commit_decided}
+use Rattle.std.proofs.Math.Bool.{and-true}
 
 -- frames
 pub free_shown : (c : Program) (s : Places) (x : PlaceState) → PlacesShown c s x → (pool : PoolId) →
@@ -90,14 +91,10 @@ swapped true false true w = and_false w
 swapped true false false w = refl
 swapped false t e w = refl
 
-all_true : (b : Bool) → (b && true) ≡ b
-all_true true = refl
-all_true false = refl
-
 -- the tests of an entry in the order in which the fold makes them
 pub entry_form : (s : Places) (e : TableEntry) (x : Place) (w : Bool) →
     ((if w then may_write e.right else may_read e.right) && ((not (is_exclusive x) && (if w then writable x else true)) && is_target (stands_for s x) e.target)) ≡ entry_allows s e x w
-entry_form s e x false = swapped (may_read e.right) (is_target (stands_for s x) e.target) (not (is_exclusive x)) true ∙ all_true (may_read e.right && (is_target (stands_for s x) e.target && not (is_exclusive x)))
+entry_form s e x false = swapped (may_read e.right) (is_target (stands_for s x) e.target) (not (is_exclusive x)) true ∙ and-true (may_read e.right && (is_target (stands_for s x) e.target && not (is_exclusive x)))
 entry_form s e x true = by e.right
   where
     by : (r : TableRight) → (may_write r && ((not (is_exclusive x) && writable x) && is_target (stands_for s x) e.target)) ≡ ((may_read r && (is_target (stands_for s x) e.target && not (is_exclusive x))) && (may_write r && writable x))
@@ -154,7 +151,7 @@ others_step s (Kind.Removed x) a b d e f g = absurd (g x refl)
 others_step s k a b d e f g = refl
 
 pub and_last : (a b : Bool) → b ≡ true → a ≡ (a && b)
-and_last a b e = sym (all_true a) ∙ ap (λ z. a && z) (sym e)
+and_last a b e = sym (and-true a) ∙ ap (λ z. a && z) (sym e)
 
 -- the frame that the next `take` gives is free
 pub free_of : (c : Program) (s : Places) (x : PlaceState) → PlacesShown c s x → (f : Frame) → least (λ n. not (held_at x.held.pools (frame_of f.pool n))) 0 (frames_in x.held.pools f.pool) ≡ Some f.number → s.held f ≡ false

@@ -18,8 +18,10 @@ use Rattle.hm_folds.specs.Shares.{plus, less, has_one_writer}
 use Rattle.hm_folds.specs.Standing.{pages_where, shares_where, is_backed, is_moving_of, backing_by, share_of, one_writer_after}
 use Rattle.hm_folds.specs.declared.shares.Shares.{Shares}
 use Rattle.hm_folds.proofs.Counts.{one_if}
-use Rattle.hm_folds.proofs.PlacedCounts.{count_alike, count_placed, count_two, count_and, once_more, count_cons}
+use Rattle.hm_folds.proofs.PlacedCounts.{count_alike, count_placed, count_two, count_and, count_cons}
 use Rattle.hm_folds.proofs.OneWriter.{one_writer_at, one_writer_all, writer_of, one_decides}
+use Rattle.std.proofs.Math.Bool.{and-true}
+use Rattle.hm_tables.proofs.TablesKept.{once_next}
 
 -- only where frames were committed to counts
 pub backed_by : (to : Frame → Option Frame) (s : Places) → ((f : Frame) → to f ≡ s.committed_to f) → (x : Place) → backing_by to x ≡ backing s x
@@ -86,9 +88,6 @@ one_part : (o w : Bool) → one_if (o && w) ≡ part o (if w then 1 else 0)
 one_part true w = refl
 one_part false w = refl
 
-all_or_none : (o : Bool) → one_if o ≡ part o 1
-all_or_none o = refl
-
 place_settled : (s : Places) → is_once s.placed ≡ true → Listed s → (test : Place → Bool) → test Empty ≡ false → (p v : ℕ) (x : Place) →
     Settled (shares_where s test) (shares_where (places_next s (Kind.Place p v x)) test) (share_of x) (share_of (s.place p v)) (test x) (test (s.place p v))
 place_settled s once listed test none p v x = record {
@@ -140,18 +139,14 @@ commit_moves s f g t (Moving h r) w = by (same_frame h f) refl
     by true e = flip (same_frame (target_of s f) t) (same_frame g t) w ∙ ap (λ k. one_if (same_frame (target_of s k) t && w) + one_if ((true && w) && same_frame g t)) (sym (frame_same h f e))
     by false e = refl
 
-and_true : (b : Bool) → (b && true) ≡ b
-and_true true = refl
-and_true false = refl
-
 commit_pages : (s : Places) (f g t : Frame) (x : Place) →
     one_if (is_backed (committed s f g) t x) + one_if (is_moving_of f x && same_frame (target_of s f) t) ≡ one_if (is_backed s t x) + one_if (is_moving_of f x && same_frame g t)
 commit_pages s f g t x =
-    ap (λ b. one_if b + one_if (is_moving_of f x && same_frame (target_of s f) t)) (sym (and_true (is_backed (committed s f g) t x)))
-    ∙ ap (λ b. one_if (is_backed (committed s f g) t x && true) + one_if (b && same_frame (target_of s f) t)) (sym (and_true (is_moving_of f x)))
+    ap (λ b. one_if b + one_if (is_moving_of f x && same_frame (target_of s f) t)) (sym (and-true (is_backed (committed s f g) t x)))
+    ∙ ap (λ b. one_if (is_backed (committed s f g) t x && true) + one_if (b && same_frame (target_of s f) t)) (sym (and-true (is_moving_of f x)))
     ∙ commit_moves s f g t x true
-    ∙ ap (λ b. one_if (is_backed s t x && true) + one_if (b && same_frame g t)) (and_true (is_moving_of f x))
-    ∙ ap (λ b. one_if b + one_if (is_moving_of f x && same_frame g t)) (and_true (is_backed s t x))
+    ∙ ap (λ b. one_if (is_backed s t x && true) + one_if (b && same_frame g t)) (and-true (is_moving_of f x))
+    ∙ ap (λ b. one_if b + one_if (is_moving_of f x && same_frame g t)) (and-true (is_backed s t x))
 
 -- a migration entry stands for its frame's target
 moving_backs : (s : Places) (f t : Frame) (x : Place) (w : Bool) → one_if ((is_moving_of f x && w) && same_frame (target_of s f) t) ≤ one_if (is_backed s t x && w)
@@ -207,7 +202,7 @@ commit_settled s f g t = record {
     few_writers = count_le _ _ s.placed (λ y. moving_backs s f t (at y) (writable (at y)))
 
     few_at : (x : Place) → one_if (is_moving_of f x && same_frame (target_of s f) t) ≤ one_if (is_backed s t x)
-    few_at x = subst (λ b. one_if (is_moving_of f x && same_frame (target_of s f) t) ≤ one_if b) (and_true (is_backed s t x)) (subst (λ b. one_if (b && same_frame (target_of s f) t) ≤ one_if (is_backed s t x && true)) (and_true (is_moving_of f x)) (moving_backs s f t x true))
+    few_at x = subst (λ b. one_if (is_moving_of f x && same_frame (target_of s f) t) ≤ one_if b) (and-true (is_backed s t x)) (subst (λ b. one_if (b && same_frame (target_of s f) t) ≤ one_if (is_backed s t x && true)) (and-true (is_moving_of f x)) (moving_backs s f t x true))
 
     few : count_by (λ y. is_moving_of f (at y) && same_frame (target_of s f) t) s.placed ≤ count_by (λ y. is_backed s t (at y)) s.placed
     few = count_le _ _ s.placed (λ y. few_at (at y))
@@ -253,7 +248,7 @@ pub place_decided : (s : Places) → is_once s.placed ≡ true → Listed s → 
 place_decided s once listed one F kept to same p v x =
     ap (λ o. one_writer_after F o (share_of x) (backing_by to (s.place p v)) (share_of (s.place p v))) (backed_by to s same x)
     ∙ ap (λ o. one_writer_after F (backing s x) (share_of x) o (share_of (s.place p v))) (backed_by to s same (s.place p v))
-    ∙ decided (places_next s (Kind.Place p v x)) (once_more p v s.placed once) F (all_one_writer s once one F kept) (backing s x) (share_of x) (backing s (s.place p v)) (share_of (s.place p v))
+    ∙ decided (places_next s (Kind.Place p v x)) (once_next p v s.placed once) F (all_one_writer s once one F kept) (backing s x) (share_of x) (backing s (s.place p v)) (share_of (s.place p v))
     (λ f. ap (λ a. after_more (is_backed s f x) (after_less (is_backed s f (s.place p v)) a (share_of (s.place p v))) (share_of x)) (kept f) ∙ less_then_more _ _ _ _ _ _ (place_settled s once listed (is_backed s f) refl p v x))
 
 pub commit_decided : (s : Places) → is_once s.placed ≡ true → one_writer s ≡ true → (F : Frame → Shares) → Kept s F → (to : Option Frame) (f g : Frame) (m : Shares) → to ≡ s.committed_to f → m ≡ shares_where s (is_moving_of f) →
@@ -316,11 +311,6 @@ kept_commit s f g t target m a b d et em ea eb ed =
     ∙ ap (λ k. after_less (same_frame k t) (after_more (same_frame g t) (shares_where s (is_backed s t)) m) m) et
     ∙ ap (λ k. after_less (same_frame (target_of s f) t) (after_more (same_frame g t) (shares_where s (is_backed s t)) k) k) em
     ∙ commit_stepped s f g t
-
--- more and then less of the same is as before
-pub undone : (b : Bool) (a m : Shares) → after_less b (after_more b a m) m ≡ a
-undone true a m = same_shares _ a (omega arith) (omega arith)
-undone false a m = refl
 
 -- what places name is held
 pub named_placed : (s : Places) → Named s → (p v : ℕ) (x : Place) → holds_target s (names x) ≡ true → Named (places_next s (Kind.Place p v x))

@@ -10,6 +10,7 @@ use Rattle.hm_base.specs.declared.Place.{Place}
 use Rattle.hm_history.specs.Memory.Places.{is_page, with_page, with_place}
 use Rattle.hm_tables.specs.Shown.{is_once}
 use Rattle.hm_folds.proofs.Counts.{one_if}
+use Rattle.std.proofs.Math.Bool.{and-true, and-false}
 
 pub count_cons : (t : ℕ × ℕ → Bool) (x : ℕ × ℕ) (xs : List (ℕ × ℕ)) → count_by t (x ∷ xs) ≡ one_if (t x) + count_by t xs
 count_cons t x xs = sum_by-cons (λ y. one_if (t y)) x xs
@@ -101,22 +102,6 @@ count_none : (xs : List (ℕ × ℕ)) → count_by (λ y. false) xs ≡ 0
 count_none [] = refl
 count_none (y ∷ ys) = count_cons (λ z. false) y ys ∙ omega (arith, count_none ys)
 
-and_true : (b : Bool) → (b && true) ≡ b
-and_true true = refl
-and_true false = refl
-
-and_false : (b : Bool) → (b && false) ≡ false
-and_false true = refl
-and_false false = refl
-
 pub count_and : (t : ℕ × ℕ → Bool) (b : Bool) (xs : List (ℕ × ℕ)) → count_by (λ y. t y && b) xs ≡ (if b then count_by t xs else 0)
-count_and t true xs = count_alike (λ y. t y && true) t xs (λ y. and_true (t y))
-count_and t false xs = count_alike (λ y. t y && false) (λ y. false) xs (λ y. and_false (t y)) ∙ count_none xs
-
--- each page once, with one more
-pub once_more : (p v : ℕ) (xs : List (ℕ × ℕ)) → is_once xs ≡ true → is_once (with_page p v xs) ≡ true
-once_more p v xs h = by (list_any (is_page p v) xs) refl
-  where
-    by : (b : Bool) → list_any (is_page p v) xs ≡ b → is_once (cond b xs ((p, v) ∷ xs)) ≡ true
-    by true e = h
-    by false e = grind (arith, nat_tests)
+count_and t true xs = count_alike (λ y. t y && true) t xs (λ y. and-true (t y))
+count_and t false xs = count_alike (λ y. t y && false) (λ y. false) xs (λ y. and-false (t y)) ∙ count_none xs

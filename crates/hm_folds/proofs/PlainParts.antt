@@ -79,7 +79,7 @@ been_alone : (s : Plain) (k : Kind) → been_next s.been k ≡ (plain_next s k).
 been_alone s (Kind.Forked p child) = refl
 been_alone s k = refl
 
-mirrors_alone : (s : Plain) (k : Kind) → mirrors_next s.mirrors k ≡ (plain_next s k).mirrors
+pub mirrors_alone : (s : Plain) (k : Kind) → mirrors_next s.mirrors k ≡ (plain_next s k).mirrors
 mirrors_alone s (Kind.Attached m d p r q) = refl
 mirrors_alone s (Kind.Detaching m q) = refl
 mirrors_alone s (Kind.Detached m) = refl

@@ -16,9 +16,7 @@ use Rattle.std.proofs.lemmas.List.{length-replicate, get_or-replicate}
 use Rattle.std.proofs.Math.ListN.{get_or-eq_default}
 use Rattle.hm_folds.proofs.Writes.{shown}
 use Rattle.hm_folds.proofs.Counts.{count_begun, count_ended, count_same, guard_was}
-
-abbrev made : (ℕ → ℕ) → (ℕ → ℕ) → (ℕ → Option Interval) → (ℕ → Option Guarded) → Sequences
-made f g h i = record { seq = f; active = g; interval = h; guard = i }
+use Rattle.hm_history.proofs.Intervals.{made}
 
 -- two states with the same parts
 pub same_state : (s t : Sequences) → s.seq ≡ t.seq → s.active ≡ t.active → s.interval ≡ t.interval → s.guard ≡ t.guard → s ≡ t
@@ -28,9 +26,6 @@ same_state s t a b c d =
 
 pub equal_from : (q n : ℕ) → (q == n) ≡ true → q ≡ n
 equal_from q n h = grind (arith, nat_tests)
-
-begun : ℕ → Pages → List Bool → KeptGuard
-begun p r met = record { proc = p; span = r; met = met; told = replicate 32 false }
 
 pub start_kept : (x : SeqState) (i j p a q : ℕ) (r : Pages) (met : List Bool) → i ≡ p → j ≡ a → p < length x.seqs → a < length x.guards → mirrors_of met ≡ overlapping (sequences_of x) p r
     → sequences_accept (sequences_of x) a (Kind.Start p r q) ≡ true

@@ -1,8 +1,7 @@
 -- The pools of the tables keep their sizes, whatever is placed.
-use Rattle.std.proofs.Common.{◌≡◌, ℕ, ◌<◌, ◌≤◌, ◌⊎◌, inl, inr, Bool, true, false, eqb, cond, Option, Some, None, List, [], length, get_or, set, refl, sym, ap, ◌∙◌, subst, arith}
+use Rattle.std.proofs.Common.{◌≡◌, ℕ, ◌<◌, ◌≤◌, ◌⊎◌, inl, inr, Bool, true, false, eqb, cond, Option, Some, None, List, [], length, get_or, set, refl, sym, ap, ◌∙◌, subst, arith, length-set}
 use Rattle.std.proofs.lemmas.Bool.{cases_lt}
 use Rattle.std.proofs.lemmas.Bool.Decides.{nat_tests}
-use Rattle.std.proofs.lemmas.Grind.{elements}
 use Rattle.std.proofs.lemmas.List.{set_past}
 use Rattle.hm_base.specs.declared.PoolId.{PoolId}
 use Rattle.hm_base.specs.declared.Frame.{Frame}
@@ -18,12 +17,7 @@ use Rattle.hm_folds.specs.HeldFrames.{frames_in}
 use Rattle.hm_folds.specs.Places.{HoldsNamed}
 use Rattle.hm_folds.specs.declared.held.HeldNumbers.{HeldNumbers}
 use Rattle.hm_folds.proofs.HeldPools.{held_within}
-
-length_set : {X : Type 0} (xs : List X) (i : ℕ) (x : X) → length (set xs i x) ≡ length xs
-length_set xs i x = grind (arith, elements)
-
-get_set : {X : Type 0} (xs : List X) (i : ℕ) (x : X) (j : ℕ) (d : X) → i < length xs → get_or (set xs i x) j d ≡ cond (eqb j i) x (get_or xs j d)
-get_set xs i x j d l = grind (arith, nat_tests, elements)
+use Rattle.hm_tables.proofs.PoolUses.{get_set}
 
 kept_length : (xs : List (List Uses)) (i j : ℕ) (y : List Uses) → length y ≡ length (get_or xs i []) → length (get_or (set xs i y) j []) ≡ length (get_or xs j [])
 kept_length xs i j y e = by (cases_lt i (length xs))
@@ -40,7 +34,7 @@ kept_length xs i j y e = by (cases_lt i (length xs))
     by (inr l) = ap (λ (zs : List (List Uses)). length (get_or zs j [])) (set_past xs i y l)
 
 size_with : (pools : List (List Uses)) (f : Frame) (uses : Uses) (pool : PoolId) → size_in (with_uses pools f uses) pool ≡ size_in pools pool
-size_with pools f uses pool = kept_length pools (pool_field f.pool) (pool_field pool) (set (pool_in pools f.pool) f.number uses) (length_set (pool_in pools f.pool) f.number uses)
+size_with pools f uses pool = kept_length pools (pool_field f.pool) (pool_field pool) (set (pool_in pools f.pool) f.number uses) (length-set (pool_in pools f.pool) f.number uses)
 
 size_mark : (p v : ℕ) (o : Option Frame) (pools : List (List Uses)) (pool : PoolId) → size_in (with_mark_of p v o pools) pool ≡ size_in pools pool
 size_mark p v None pools pool = refl

@@ -2,7 +2,7 @@
 use Rattle.std.proofs.Common.{◌≡◌, ◌≢◌, ℕ, zero, suc, ◌+◌, ◌-◌, ◌*◌, ◌%◌, ◌<◌, ◌≤◌, Some, None, List, [], ◌∷◌, length, get_or, take, drop, replicate, refl, sym, ap, ◌∙◌, arith, ◌⊎◌, inl, inr}
 use Rattle.std.proofs.lemmas.Bool.{cases_eq, cases_lt}
 use Rattle.std.proofs.lemmas.Bool.Decides.{nat_tests}
-use Rattle.std.proofs.lemmas.List.{get_or-take, get_or-drop, length-take, length-drop}
+use Rattle.std.proofs.lemmas.List.{get_or-take, get_or-drop}
 use Rattle.hm_history.specs.Memory.Words.{with_at, bytes_from, page_of}
 use Rattle.hm_history.specs.Memory.Plain.{with_bytes}
 use Rattle.hm_history.specs.Memory.Contents.{with_piece, with_part_copied, zeros}
@@ -87,9 +87,6 @@ stored f at bs o = ap (λ i. with_bytes (λ x. f o) i bs (page_of at * 4096 + o)
 -- so many bytes from there on
 pub get_part : (xs : List ℕ) (at n k : ℕ) → k < n → get_or (part_of xs at n) k 0 ≡ get_or xs (at + k) 0
 get_part xs at n k l = let e : at + n - at ≡ n = omega arith in ap (λ i. get_or (take i (drop at xs)) k 0) e ∙ get_or-take n (drop at xs) k 0 l ∙ get_or-drop at xs k 0
-
-pub length_part : (xs : List ℕ) (at n : ℕ) → at + n ≤ length xs → length (part_of xs at n) ≡ n
-length_part xs at n l = omega (arith, length-take (at + n - at) (drop at xs), length-drop at xs)
 
 -- a piece that was copied
 pub copied_whole : (f g : ℕ → ℕ) (ys : List ℕ) (o : ℕ) → length ys ≡ 4096 → o < 4096 → ((k : ℕ) → k < 4096 → get_or ys k 0 ≡ f k) → with_part_copied f g None o ≡ with_bytes g 0 ys o

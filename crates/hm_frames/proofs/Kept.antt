@@ -21,10 +21,11 @@ use Rattle.hm_history.specs.declared.Kind.{Kind}
 use Rattle.frame_pool.specs.Frames.{Frames, part_of, IsPiece}
 use Rattle.hm_frames.specs.Pools.{PoolState, PoolsState, fresh_pools, fresh_pool, pool_at, with_pool, pool_taken, pool_dropped, pool_locked, pool_unlocked, pool_written, pool_committed, pool_settled, pool_frozen, withdrawn_in, backing_in, placed_in, locked_in, stored_in, piece_of_part, copied_in, frames_next}
 use Rattle.hm_frames.specs.Shown.{PoolShown, PoolsShown, FramesShown, FramesFit, StepFits, entry_place}
-use Rattle.hm_frames.proofs.Bytes.{stored, get_part, length_part, copied_whole, copied_part}
+use Rattle.hm_frames.proofs.Bytes.{stored, get_part, copied_whole, copied_part}
 use Rattle.hm_frames.proofs.PoolKept.{shown_as, held_below, locked_below, fresh_shown, taken_shown, dropped_shown, locked_shown, unlocked_shown, written_shown, committed_shown, withdrawn_shown}
 use Rattle.hm_frames.proofs.Updates.{at_pool, at_other, pool_below, same_pools, replaced, closed}
 use Rattle.hm_frames.proofs.Shows.{held_shown, lock_shown, lowest_number, lowest_free_shown, backing_shown}
+use Rattle.frame_pool.proofs.Pending.{part_length}
 
 -- a held frame is one of its pool
 number_below : {c : Program} {h : Frame → Bool} {m : Frame → Option Frame} {w g : ℕ → Bool} {l : Frame → Option ℕ} {b : Frame → ℕ → ℕ} (x : PoolsState) (f : Frame) → PoolsShown c h m w g l b x → h f ≡ true → f.number < length (pool_at x f.pool).frames.held
@@ -151,7 +152,7 @@ copies {c} {h} {m} {w} {g} {l} {b} x f to part s ef et is = by part is
     inside = omega (arith, number_below x f s ef, (s.pool f.pool).fits.frames.bytes_len)
 
     len : (start n : ℕ) → start + n ≤ 4096 → length (part_of y.bytes (f.number * 4096 + start) n) ≡ n
-    len start n lies = length_part y.bytes (f.number * 4096 + start) n (omega (arith, inside))
+    len start n lies = part_length y.bytes (f.number * 4096 + start) n (omega (arith, inside))
 
     by : (part : Option ℕ) → IsPiece (piece_of_part part) → PoolsShown c h m w g l (with_frame b to (with_part_copied (b f) (b to) part)) (copied_in x f to (piece_of_part part))
     by None is = wrote x to 0 (part_of y.bytes (f.number * 4096 + 0) 4096) (with_part_copied (b f) (b to) None) s et (omega (arith, len 0 4096 (omega arith)))

@@ -13,14 +13,15 @@ use Rattle.hm_history.specs.Memory.Words.{least, bytes_from}
 use Rattle.hm_history.specs.Memory.Places.{frame_of, pool_size, is_withdrawn, lowest_free, held_from, stands_for}
 use Rattle.hm_history.specs.Memory.Contents.{backing, contents_of, shown_by, zeros}
 use Rattle.hm_history.specs.Memory.After.{After}
-use Rattle.frame_pool.specs.Frames.{Frames, is_held, locker, part_of}
+use Rattle.frame_pool.specs.Frames.{Frames, part_of}
 use Rattle.frame_pool.specs.Frames as pool
 use Rattle.frame_pool.proofs.Free.{lowest_is}
 use Rattle.hm_frames.specs.Pools.{PoolState, PoolsState, fresh_pool, pool_at, is_held_in, locker_in, committed_to_in, lowest_free_in, frame_in, held_from_in, bytes_in, shown_by_in, shown_in, stands_for_in, backing_in}
 use Rattle.hm_frames.specs.Shown.{PoolsShown, FramesShown}
 use Rattle.hm_frames.proofs.Searches.{next_least, free_least}
-use Rattle.hm_frames.proofs.Bytes.{get_part, length_part, bytes_are}
+use Rattle.hm_frames.proofs.Bytes.{get_part, bytes_are}
 use Rattle.hm_frames.proofs.PoolKept.{held_below}
+use Rattle.frame_pool.proofs.Pending.{part_length}
 
 pub held_shown : {c : Program} {h : Frame → Bool} {m : Frame → Option Frame} {w g : ℕ → Bool} {l : Frame → Option ℕ} {b : Frame → ℕ → ℕ} (x : PoolsState) (f : Frame) → PoolsShown c h m w g l b x → is_held_in x f ≡ h f
 held_shown x f s = (s.pool f.pool).held f.number
@@ -113,7 +114,7 @@ read_shown c s x f offset n h held lies = bytes_are (s.contents f) (part_of y.by
     inside = omega (arith, held_below y f.number held, (h.pool f.pool).fits.frames.bytes_len)
 
     len : length (part_of y.bytes base n) ≡ n
-    len = length_part y.bytes base n (omega (arith, inside))
+    len = part_length y.bytes base n (omega (arith, inside))
 
     each : (k : ℕ) → k < length (part_of y.bytes base n) → get_or (part_of y.bytes base n) k 0 ≡ s.contents f (offset + k)
     each k l = let below : k < n = omega (arith, len) in let e : base + k ≡ f.number * 4096 + (offset + k) = omega arith in

@@ -14,8 +14,11 @@ use Rattle.hm_machine.specs.Turning.{Adds, CameTo, with_history}
 use Rattle.hm_machine.proofs.Fullness.{quiet_turn}
 use Rattle.hm_machine.proofs.Lines.{line_at}
 use Rattle.hm_machine.proofs.Short.{short_here, short_of}
-use Rattle.hm_machine.proofs.Rounds.{enough_left, grows_added, grows_all, grows_drained, grows_on, has_none, none_left, added_none, and_false, on_quiet, on_next, still_round, drained_still, drained_next, actor_at, no_actor}
+use Rattle.hm_machine.proofs.Rounds.{enough_left, has_none, none_left, added_none, on_next, still_round, drained_still, drained_next, actor_at, no_actor}
 use Rattle.hm_machine.proofs.Turns.{or_true, or_false}
+use Rattle.std.proofs.Math.Bool.{and-false}
+use Rattle.hm_history.proofs.RunLemmas.{turns_stop}
+use Rattle.hm_history.proofs.Growing.{grows_added, grows_on, grows_all, grows_drained}
 
 -- what is left comes to this history
 pub record Left (s t : WorldValue) (rest : List Entry → List Entry) (h : List Entry) : Type 0 where
@@ -44,7 +47,7 @@ pub turn_rests : (s t u : WorldValue) (a n : ℕ) (h : List Entry) → Left s t 
 turn_rests s t u a n h before adds =
     let quiet = adds.2 refl in
     let here = subst (λ c. is_entry (due c t.history a) ≡ false) (same_script s t (λ g. turns_on s.script g a n) h before) quiet in
-    adds.0 ∙ ap (with_history t) (quiet_turn t.script t.history a quiet) ∙ ended s t (λ g. turns_on s.script g a n) h before (on_quiet s.script t.history a n here)
+    adds.0 ∙ ap (with_history t) (quiet_turn t.script t.history a quiet) ∙ ended s t (λ g. turns_on s.script g a n) h before (turns_stop s.script t.history a n here)
 
 pub turn_goes : (s t u : WorldValue) (a i : ℕ) (more : Bool) (h : List Entry) → Left s t (λ g. turns_on s.script g a (enough - i)) h → i < 2000000 → has_room t.history ≡ true → Adds t a (Ok more) u → Left s u (λ g. turns_on s.script g a (enough - (i + 1))) h
 turn_goes s t u a i more h before few room adds =
@@ -53,13 +56,13 @@ turn_goes s t u a i more h before few room adds =
     let rest : List Entry → List Entry = λ g. turns_on c g a (enough - i) in
     let same = same_script s t rest h before in
     let step : turns_on c t.history a (enough - i) ≡ turns_on c (turn t.script t.history a) a k = ap (turns_on c t.history a) (enough_left i few) ∙ on_next c t.history a k room ∙ ap (λ d. turns_on c (turn d t.history a) a k) (sym same) in
-    goes s t u (turn t.script t.history a) h rest (λ g. turns_on c g a k) before adds.0 step (grows_added t.history (due t.script t.history a)).begins
+    goes s t u (turn t.script t.history a) h rest (λ g. turns_on c g a k) before adds.0 step (grows_added t.history (due t.script t.history a))
 
 -- memory ran out in a turn where there was room
 pub turn_fails : (s t u : WorldValue) (a n : ℕ) (e : StepError) (h : List Entry) → Left s t (λ g. turns_on s.script g a n) h → has_room t.history ≡ true → Adds t a (Err e) u → CameTo s h false (Err e) u
 turn_fails s t u a n (StepError.Full m) h before room adds = let never : true ≡ false = sym room ∙ has_none t.history adds.1 in cc
 turn_fails s t u a n StepError.NoMemory h before room adds =
-    short_of s t u t.history h before.same before.later (short_here t u adds) (subst (IsPrefix t.history) before.left (grows_on s.script t.history a n).begins)
+    short_of s t u t.history h before.same before.later (short_here t u adds) (subst (IsPrefix t.history) before.left (grows_on s.script t.history a n))
 
 pub turns_end : (s t : WorldValue) (a i : ℕ) (h : List Entry) → Left s t (λ g. turns_on s.script g a (enough - i)) h → 2000000 ≤ i → t ≡ with_history s h
 turns_end s t a i h before many = ended s t (λ g. turns_on s.script g a (enough - i)) h before (ap (turns_on s.script t.history a) (none_left i many))
@@ -78,14 +81,14 @@ round_step s t a i h before few is =
 
 pub round_goes : (s t u : WorldValue) (a i : ℕ) (x : ⊤) (h : List Entry) → Left s t (from_actor s.script i) h → i < length s.script.actors → a ≡ i → CameTo t (turns_on t.script t.history a enough) false (Ok x) u → Left s u (from_actor s.script (i + 1)) h
 round_goes s t u a i x h before few is came =
-    goes s t u (turns_on t.script t.history a enough) h (from_actor s.script i) (from_actor s.script (i + 1)) before came.0 (round_step s t a i h before few is) (grows_on t.script t.history a enough).begins
+    goes s t u (turns_on t.script t.history a enough) h (from_actor s.script i) (from_actor s.script (i + 1)) before came.0 (round_step s t a i h before few is) (grows_on t.script t.history a enough)
 
 pub round_fails : (s t u : WorldValue) (a i : ℕ) (e : StepError) (h : List Entry) → Left s t (from_actor s.script i) h → i < length s.script.actors → a ≡ i → CameTo t (turns_on t.script t.history a enough) false (Err e) u → CameTo s h false (Err e) u
 round_fails s t u a i (StepError.Full m) h before few is came = cc
 round_fails s t u a i StepError.NoMemory h before few is came =
     let g = turns_on t.script t.history a enough in
     let whole : from_actor s.script (i + 1) g ≡ h = sym (round_step s t a i h before few is) ∙ before.left in
-    short_of s t u g h before.same before.later came (subst (IsPrefix g) whole (grows_all s.script (drop (i + 1) (actors_of s.script)) g).begins)
+    short_of s t u g h before.same before.later came (subst (IsPrefix g) whole (grows_all s.script (drop (i + 1) (actors_of s.script)) g))
 
 pub round_ends : (s t : WorldValue) (i : ℕ) (h : List Entry) → Left s t (from_actor s.script i) h → length s.script.actors ≤ i → t ≡ with_history s h
 round_ends s t i h before many = ended s t (from_actor s.script i) h before (ap (fold (λ g a. turns_on s.script g a enough) t.history) (no_actor s.script i many))
@@ -102,14 +105,14 @@ pub rounds_go : (s t u : WorldValue) (i : ℕ) (x : ⊤) (h : List Entry) → Le
 rounds_go s t u i x h before few came =
     let rest : List Entry → List Entry = λ g. drained s.script g (enough - i) in
     let less : List Entry → List Entry = λ g. drained s.script g (enough - (i + 1)) in
-    goes s t u (round t.script t.history) h rest less before came.0 (rounds_step s t i h before few) (grows_all t.script (actors_of t.script) t.history).begins
+    goes s t u (round t.script t.history) h rest less before came.0 (rounds_step s t i h before few) (grows_all t.script (actors_of t.script) t.history)
 
 pub rounds_fail : (s t u : WorldValue) (i : ℕ) (e : StepError) (h : List Entry) → Left s t (λ g. drained s.script g (enough - i)) h → i < 2000000 → CameTo t (round t.script t.history) false (Err e) u → CameTo s h false (Err e) u
 rounds_fail s t u i (StepError.Full m) h before few came = cc
 rounds_fail s t u i StepError.NoMemory h before few came =
     let g = round t.script t.history in
     let whole : drained s.script g (enough - (i + 1)) ≡ h = sym (rounds_step s t i h before few) ∙ before.left in
-    short_of s t u g h before.same before.later came (subst (IsPrefix g) whole (grows_drained s.script g (enough - (i + 1))).begins)
+    short_of s t u g h before.same before.later came (subst (IsPrefix g) whole (grows_drained s.script g (enough - (i + 1))))
 
 -- a round that adds nothing is the last
 pub rounds_rest : (s t u : WorldValue) (n : ℕ) (x : ⊤) (h : List Entry) → Left s t (λ g. drained s.script g n) h → CameTo t (round t.script t.history) false (Ok x) u → length u.history ≡ length t.history → u ≡ with_history s h
@@ -152,7 +155,7 @@ beyond_ends s t i b same before many = (same, sym before ∙ ap (some_overruns s
 within : (c : Program) (h : List Entry) (as_ : List ℕ) → has_room h ≡ true → some_overruns c h as_ ≡ false
 within c h [] room = refl
 within c h (a ∷ as_) room =
-    let here : overruns_turn c h a ≡ false = ap (λ b. is_entry (due c h a) && not b) room ∙ and_false (is_entry (due c h a)) in
+    let here : overruns_turn c h a ≡ false = ap (λ b. is_entry (due c h a) && not b) room ∙ and-false (is_entry (due c h a)) in
     or_false (overruns_turn c h a) (some_overruns c h as_) here ∙ within c h as_ room
 
 pub drained_within : (s t : WorldValue) (h : List Entry) → t ≡ with_history s h → has_room t.history ≡ true → some_overruns s.script h (actors_of s.script) ≡ false

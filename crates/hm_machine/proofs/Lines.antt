@@ -10,9 +10,10 @@ use Rattle.hm_history.specs.declared.StepError.{StepError}
 use Rattle.hm_world.specs.WorldValue.{WorldValue, halted_by}
 use Rattle.hm_history.specs.Kernel.Overrun.{overruns_line, overruns_lines}
 use Rattle.hm_machine.specs.Turning.{CameTo, with_history}
-use Rattle.hm_machine.proofs.Rounds.{full_lines, grows_line, grows_lines}
+use Rattle.hm_machine.proofs.Rounds.{full_lines}
 use Rattle.hm_machine.proofs.Short.{short_of}
 use Rattle.hm_machine.proofs.Turns.{or_true, or_false}
+use Rattle.hm_history.proofs.Growing.{grows_line, grows_lines}
 
 -- the lines from a position on are that line and those after it
 split_at : {X : Type 0} (xs : List X) (i : ℕ) (x : X) → slice_get xs i ≡ Some x → drop i xs ≡ x ∷ drop (suc i) xs
@@ -48,7 +49,7 @@ lines_fail ls s t u i l e h b before at came = by t.history e before.left before
         let more = drop (i + 1) ls in
         let k = line_run s.script g l in
         let whole : fold (line_run s.script) k more ≡ h = sym (ap (fold (line_run s.script) g) (line_at ls i l at)) ∙ left in
-        short_of s (with_history s g) u k h refl later came (subst (IsPrefix k) whole (grows_lines s.script more k).begins)
+        short_of s (with_history s g) u k h refl later came (subst (IsPrefix k) whole (grows_lines s.script more k))
 
 -- else a line less is left
 pub lines_go : (ls : List ScheduleLine) (s t u : WorldValue) (i : ℕ) (l : ScheduleLine) (x : ⊤) (h : List Entry) (b : Bool) → Left ls s t i h b → slice_get ls i ≡ Some l → CameTo t (line_run t.script t.history l) (overruns_line t.script t.history l) (Ok x) u → Left ls s u (i + 1) h b
@@ -63,7 +64,7 @@ lines_go ls s t u i l x h b before at came = by t.history before.left before.bey
           same = came.0 ∙ ap (with_history s) (sym now);
           left = ap (λ y. fold (line_run s.script) y more) now ∙ sym (ap (fold (line_run s.script) g) split) ∙ left;
           beyond = ap (λ y. overruns_lines s.script y more) now ∙ sym (or_false (overruns_line s.script g l) _ came.1) ∙ sym (ap (overruns_lines s.script g) split) ∙ beyond;
-          later = subst (IsPrefix s.history) (sym now) (prefix_trans s.history g (line_run s.script g l) later (grows_line s.script g l).begins);
+          later = subst (IsPrefix s.history) (sym now) (prefix_trans s.history g (line_run s.script g l) later (grows_line s.script g l));
         }
 
 -- the script's own lines

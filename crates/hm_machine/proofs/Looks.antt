@@ -127,13 +127,6 @@ none_shown s p x e = by (is_some (rights_of s.plain p (page_of x))) refl e
     by true is e = cc
     by false is e = is
 
-pub some_shown : (s : After) (p x b : ℕ) → byte_shown s p x ≡ Some b → (is_some (rights_of s.plain p (page_of x)) ≡ true) × (b ≡ shown_at s p x)
-some_shown s p x b e = by (is_some (rights_of s.plain p (page_of x))) refl e
-  where
-    by : (y : Bool) → is_some (rights_of s.plain p (page_of x)) ≡ y → ◌≡◌ {A = Option ℕ} (if y then Some (shown_at s p x) else None) (Some b) → (is_some (rights_of s.plain p (page_of x)) ≡ true) × (b ≡ shown_at s p x)
-    by true is e = (is, cc)
-    by false is e = cc
-
 -- what a look finds after a history, by what was read of the state after it
 pub after_now : (t : WorldValue) → Stands t.script t.history → (now t).after ≡ after t.history
 unfolding now

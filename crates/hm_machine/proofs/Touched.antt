@@ -80,7 +80,3 @@ touches h e at =
 pub last_touches : (t : WorldValue) (e : Entry) → slice_get t.history (length t.history - 1) ≡ Some e → touched (now t).after.plain e.kind ≡ last_touched t.history
 unfolding now
 last_touches t e at = ap (λ s. touched s.plain e.kind) (after_is t.script t.history) ∙ touches t.history e at
-
-pub none_touches : (h : List Entry) → slice_get h (length h - 1) ≡ None → last_touched h ≡ None
-unfolding touched_after
-none_touches h at = ap (touched_after (take (length h - 1) h)) at

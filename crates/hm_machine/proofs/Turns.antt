@@ -10,9 +10,9 @@ use Rattle.hm_history.specs.declared.StepError.{StepError}
 use Rattle.hm_world.specs.WorldValue.{WorldValue, halted_by}
 use Rattle.hm_history.specs.Kernel.Overrun.{overruns_turn, overruns_turns}
 use Rattle.hm_machine.specs.Turning.{Adds, CameTo, with_history}
-use Rattle.hm_machine.proofs.Rounds.{grows_added, grows_turns}
 use Rattle.hm_machine.proofs.Short.{short_here, short_of}
 use Rattle.hm_machine.proofs.Fullness.{full_turns, quiet_turn, quiet_within, still_turns}
+use Rattle.hm_history.proofs.Growing.{grows_added, grows_turns}
 
 pub or_true : (x y : Bool) → x ≡ true → (x || y) ≡ true
 or_true x y e = ap (λ z. z || y) e
@@ -37,7 +37,7 @@ turns_fail s t u a n k e h b less before adds = by t.history e before.left befor
         let over : overruns_turns s.script g a (suc k) ≡ true = or_true (overruns_turn s.script g a) _ adds.2 in
         (adds.0, sym (ap length here) ∙ adds.1, adds.3 ∙ ap (λ x. halted_by (with_history s x) (StepError.Full m)) here, sym beyond ∙ ap (overruns_turns s.script g a) less ∙ over)
     by g StepError.NoMemory left beyond later adds =
-        short_of s (with_history s g) u g h refl later (short_here (with_history s g) u adds) (subst (IsPrefix g) left (grows_turns s.script g a n).begins)
+        short_of s (with_history s g) u g h refl later (short_here (with_history s g) u adds) (subst (IsPrefix g) left (grows_turns s.script g a n))
 
 -- so does a turn that adds none
 pub turns_rest : (s t u : WorldValue) (a n : ℕ) (h : List Entry) (b : Bool) → Left s t a n h b → Adds t a (Ok false) u → (u ≡ with_history s h) × (b ≡ false)
@@ -61,5 +61,5 @@ turns_go s t u a n k more h b less before adds = by t.history before.left before
           same = adds.0 ∙ ap (with_history s) (sym now);
           left = ap (λ x. turns s.script x a k) now ∙ sym (ap (turns s.script g a) less) ∙ left;
           beyond = ap (λ x. overruns_turns s.script x a k) now ∙ sym rest ∙ sym (ap (overruns_turns s.script g a) less) ∙ beyond;
-          later = subst (IsPrefix s.history) (sym now) (prefix_trans s.history g (turn s.script g a) later (grows_added g (due s.script g a)).begins);
+          later = subst (IsPrefix s.history) (sym now) (prefix_trans s.history g (turn s.script g a) later (grows_added g (due s.script g a)));
         }

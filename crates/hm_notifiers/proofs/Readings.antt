@@ -9,7 +9,7 @@ use Rattle.interval_tree.specs.Intervals as tree
 use Rattle.interval_tree.specs.Intervals.{all_ids}
 use Rattle.notifier_seq.specs.declared.interval.Interval.{Interval as Kept}
 use Rattle.notifier_seq.specs.Sequences as one
-use Rattle.hm_notifiers.specs.NotifiersValue.{NotifiersValue, of_proc, of_mirror, proc_of, seq_of, next_told_of, some_overlap_of, seq_started_of, seq_ended_of, interval_inserted_of}
+use Rattle.hm_notifiers.specs.NotifiersValue.{NotifiersValue, of_proc, proc_of, seq_of, next_told_of, some_overlap_of, seq_started_of, seq_ended_of, interval_inserted_of}
 use Rattle.hm_notifiers.specs.Shown.{kept_of, interval_of, NotifiersValueShown}
 use Rattle.hm_notifiers.proofs.Intervals.{mine, in_tree_position}
 
@@ -33,23 +33,6 @@ its n s x m y h e =
       proc = proc_shown n s x m h l.0 ∙ ap (λ (o : Option Interval). elim o [ None ↦ 0 | Some y ↦ y.proc ]) e;
       at = h.intervals y.proc m l.1 l.0 ∙ ap (interval_of y.proc) e ∙ mine y.proc y refl;
     }
-
--- where it is not there process 0 has none
-pub not_there : (n : ℕ) (s : Sequences) (x : NotifiersValue) (m : ℕ) → NotifiersValueShown n s.seq s.active s.interval x → m < 32 → s.interval m ≡ None → one.interval_at (of_mirror x m) m ≡ None
-not_there n s x m h l e =
-    let none : proc_of x m ≡ 0 = proc_shown n s x m h l ∙ ap (λ (o : Option Interval). elim o [ None ↦ 0 | Some y ↦ y.proc ]) e in
-    ap (λ p. one.interval_at (of_proc x p) m) none ∙ h.intervals 0 m (omega arith) l ∙ ap (interval_of 0) e
-
--- a read of a mirror's interval
-read : {X : Type 0} (f : Option Kept → X) (g : Option Interval → X) → f None ≡ g None → ((y : Interval) → f (Some (kept_of y)) ≡ g (Some y)) → (n : ℕ) (s : Sequences) (x : NotifiersValue) (m : ℕ) → NotifiersValueShown n s.seq s.active s.interval x → m < 32
-    → f (one.interval_at (of_mirror x m) m) ≡ g (s.interval m)
-read f g a b n s x m h l = by (s.interval m) refl
-  where
-    by : (o : Option Interval) → s.interval m ≡ o → f (one.interval_at (of_mirror x m) m) ≡ g (s.interval m)
-    by None e = ap f (not_there n s x m h l e) ∙ a ∙ sym (ap g e)
-    by (Some y) e =
-        let i = its n s x m y h e in
-        ap (λ p. f (one.interval_at (of_proc x p) m)) i.proc ∙ ap f i.at ∙ b y ∙ sym (ap g e)
 
 -- the mirrors that overlap a span
 same_numbers : (from n : ℕ) → tree.numbers from n ≡ numbers from n

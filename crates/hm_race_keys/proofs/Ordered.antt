@@ -6,6 +6,7 @@ use Rattle.std.specs.List.Sorted.{IsPartitionPoint, IsPartitionedBy}
 use Rattle.std.proofs.lemmas.Bool.Decides.{nat_tests}
 use Rattle.hm_race_keys.specs.Sparse.{stands_at, stands_before, rising_from, place_of, is_found, put, found, IsNextIn}
 use Rattle.hm_race_keys.specs.declared.sparse.Item.{Item}
+use Rattle.std.proofs.lemmas.Bool.{and_parts}
 
 -- a number of a row is no lower than another
 abbrev pub IsUnder : ℕ → ℕ → ℕ → ℕ → Type 0
@@ -33,10 +34,6 @@ before_at r k w e = grind (arith, nat_tests)
 next_before : {V : Type 0} (r k : ℕ) (v w : Item V) → stands_before r k w ≡ true → stands_before v.row (suc v.number) w ≡ false → stands_before r k v ≡ true
 next_before r k v w e f = grind (arith, nat_tests)
 
-split : (a b : Bool) → (a && b) ≡ true → (a ≡ true) × (b ≡ true)
-split true b e = (refl, e)
-split false b e = (e, cc)
-
 pub under : {V : Type 0} (r k : ℕ) (w : Item V) → stands_before r k w ≡ false → IsUnder r k w.row (suc w.number)
 under r k w e = grind (arith, nat_tests)
 
@@ -45,10 +42,10 @@ not-true true e = cc
 not-true false e = refl
 
 pub head : {V : Type 0} (r k : ℕ) (w : Item V) (ws : List (Item V)) → rising_from r k (w ∷ ws) ≡ true → stands_before r k w ≡ false
-head r k w ws e = not-true _ (split _ _ e).0
+head r k w ws e = not-true _ (and_parts _ _ e).0
 
 pub tail : {V : Type 0} (r k : ℕ) (w : Item V) (ws : List (Item V)) → rising_from r k (w ∷ ws) ≡ true → rising_from w.row (suc w.number) ws ≡ true
-tail r k w ws e = (split _ _ e).1
+tail r k w ws e = (and_parts _ _ e).1
 
 joined : (a b : Bool) → a ≡ false → b ≡ true → (not a && b) ≡ true
 joined a b e f = rw (e, f)
@@ -211,7 +208,7 @@ kept_found {V} t [] r k = by (t r k)
 kept_found t (w ∷ ws) r k = by (kept_found t ws r k) (t w.row w.number) refl (stands_at r k w) refl
   where
     same : stands_at r k w ≡ true → t r k ≡ t w.row w.number
-    same e = let s : ((r == w.row) ≡ true) × ((k == w.number) ≡ true) = split _ _ e in let q : r ≡ w.row = grind (arith, nat_tests) in let j : k ≡ w.number = grind (arith, nat_tests) in ap (λ n. t n k) q ∙ ap (t w.row) j
+    same e = let s : ((r == w.row) ≡ true) × ((k == w.number) ≡ true) = and_parts _ _ e in let q : r ≡ w.row = grind (arith, nat_tests) in let j : k ≡ w.number = grind (arith, nat_tests) in ap (λ n. t n k) q ∙ ap (t w.row) j
 
     by : found (filter (λ v. not (t v.row v.number)) ws) r k ≡ (if t r k then None else found ws r k) → (b : Bool) → t w.row w.number ≡ b → (s : Bool) → stands_at r k w ≡ s → found (if not b then w ∷ filter (λ v. not (t v.row v.number)) ws else filter (λ v. not (t v.row v.number)) ws) r k ≡ (if t r k then None else (if s then Some w.value else found ws r k))
     by rest true b true s = rest ∙ rw (same s ∙ b)
@@ -298,7 +295,7 @@ item_of n r v = record { number = n; row = r; value = v }
 
 same_item : {V : Type 0} (x y : Item V) → stands_at x.row x.number y ≡ true → x.value ≡ y.value → x ≡ y
 same_item {V} x y s e =
-    let both : ((x.row == y.row) ≡ true) × ((x.number == y.number) ≡ true) = split _ _ s in
+    let both : ((x.row == y.row) ≡ true) × ((x.number == y.number) ≡ true) = and_parts _ _ s in
     let r : x.row ≡ y.row = grind (arith, nat_tests) in
     let n : x.number ≡ y.number = grind (arith, nat_tests) in
     ap (λ k. item_of k x.row x.value) n ∙ (ap (λ k. item_of y.number k x.value) r ∙ ap (λ (v : V). item_of y.number y.row v) e)

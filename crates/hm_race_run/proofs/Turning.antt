@@ -1,13 +1,11 @@
 -- A turn at a state that a race has come to.
-use Rattle.std.proofs.Common.{◌≡◌, ℕ, zero, suc, ◌+◌, append-nil, append_assoc, ◌<◌, false, Some, None, List, [], ◌∷◌, ◌++◌, length, get_or, take, refl, sym, ap, ◌∙◌, subst, arith}
+use Rattle.std.proofs.Common.{◌≡◌, ℕ, ◌+◌, ◌<◌, false, Some, None, List, [], ◌∷◌, ◌++◌, length, get_or, take, refl, sym, ap, ◌∙◌, subst}
 use Rattle.std.proofs.lemmas.List.{take_more}
 use Rattle.hm_base.specs.Program.{Program, IsScript}
-use Rattle.hm_history.proofs.RunLemmas.{DueFrom-append}
+use Rattle.hm_history.proofs.RunLemmas.{DueFrom-append, DueFrom-join, due_at}
 use Rattle.hm_history.specs.Kernel.Due.{due, due_in}
-use Rattle.std.specs.Prelude.{fold}
-use Rattle.std.proofs.lemmas.List.Sums.{fold-append}
 use Rattle.hm_history.specs.Memory.After.{after}
-use Rattle.hm_history.specs.Kernel.Going.{State, state_next, state_of, state_of-snoc, state_start}
+use Rattle.hm_history.specs.Kernel.Going.{State, state_next, state_of, state_of-snoc}
 use Rattle.hm_history.specs.Laws.{DueFrom}
 use Rattle.hm_history.specs.Kernel.Run.{is_entry}
 use Rattle.hm_history.specs.declared.Kind.{Kind}
@@ -15,7 +13,7 @@ use Rattle.hm_history.specs.declared.Entry.{Entry}
 use Rattle.hm_history.specs.declared.Progress.{Progress}
 use Rattle.hm_laws.specs.Stands as laws
 use Rattle.hm_laws.proofs.Histories.Stands.{history_stands}
-use Rattle.hm_race_laws.specs.Outcomes.{Point, Reached, point_after, point_next, answer_of, with_answer, answers_next, no_answers}
+use Rattle.hm_race_laws.specs.Outcomes.{Point, Reached, point_after, answer_of, with_answer, answers_next}
 use Rattle.hm_history.specs.Memory.Words.{with_at}
 use Rattle.hm_race_laws.specs.Positions.{forget_kind}
 use Rattle.hm_race_laws.specs.Numbers.{small_kind}
@@ -33,17 +31,7 @@ use Rattle.hm_race_run.specs.Turns.{Shows, IsTurned}
 use Rattle.hm_race_run.specs.declared.turn.Turned.{Turned}
 use Rattle.hm_race_run.proofs.Lows.{known_short, tidied_short, stays_low}
 use Rattle.hm_history.proofs.Going.{own_actor}
-
-along : (c : Program) (x : Point) (es : List Entry) → (fold (point_next c) x es).state ≡ fold (state_next c) x.state es
-along c x [] = refl
-along c x (e ∷ es) = along c (point_next c x e) es
-
--- where the race is after these entries
-pub state_there : (c : Program) (h es : List Entry) → (point_after c h es).state ≡ state_of c (h ++ es)
-state_there c h es = along c (record { state = state_of c h; answers = no_answers }) es ∙ sym (fold-append (state_next c) (state_start c) h es)
-
-point_made : (u v : State) (f g : ℕ → List Kind) → u ≡ v → f ≡ g → ◌≡◌ {A = Point} (record { state = u; answers = f }) (record { state = v; answers = g })
-point_made u v f g e i = ap {B = Point} (λ (s : State). record { state = s; answers = f }) e ∙ ap {B = Point} (λ (k : ℕ → List Kind). record { state = v; answers = k }) i
+use Rattle.hm_race_laws.proofs.Points.{state_after, point_made}
 
 -- the point after a history, which is all of the race
 here : (c : Program) (h : List Entry) → DueFrom c [] h → Reached c [] (point_after c [] h)
@@ -60,7 +48,7 @@ module _ (law : FormsGoOn) (c : Program) (sc : IsScript c) (h : List Entry) (x :
   form = record { state = unlisted u; answers = at.answers }
 
   pub there : at.state ≡ state_of c h
-  there = state_there c [] h
+  there = state_after c [] h
 
   pub formed : form_of c at ≡ form
   formed = ap {B = Point} (λ (v : State). record { state = tidied c v; answers = at.answers }) there ∙ ap {B = Point} (λ (v : State). record { state = v; answers = at.answers }) (sym shows.same)
@@ -129,14 +117,6 @@ same_did : (e d : Entry) → Progress.Did e ≡ Progress.Did d → e ≡ d
 unfolding did_of
 same_did e d k = ap (did_of e) k
 
--- the entry at a position was due after those before it
-due_at : (c : Program) (g h : List Entry) (i : ℕ) (d : Entry) → i < length h → DueFrom c g h → due c (g ++ take i h) (get_or h i d).actor ≡ Progress.Did (get_or h i d)
-due_at c g [] i d below l = absurd (omega (arith, below))
-due_at c g (e ∷ h) zero d below l = subst (λ (y : List Entry). due c y e.actor ≡ Progress.Did e) (sym (append-nil g)) l.0
-due_at c g (e ∷ h) (suc i) d below l =
-    subst (λ (y : List Entry). due c y (get_or h i d).actor ≡ Progress.Did (get_or h i d)) (append_assoc g (e ∷ []) (take i h))
-    (due_at c (g ++ e ∷ []) h i d (omega (arith, below)) l.1)
-
 -- a set-up made again, entry by entry
 pub set_up_on : (c : Program) (h : List Entry) (i : ℕ) (d : Entry) (t : Turned) → DueFrom c [] h → i < length h → d ≡ get_or h i d → IsTurned c (take i h) d.actor (Some t) → Shows c (take (i + 1) h) t.state
 set_up_on c h i d t dues below is turned = subst (λ es. Shows c es t.state) more turned.3
@@ -149,10 +129,6 @@ set_up_on c h i d t dues below is turned = subst (λ es. Shows c es t.state) mor
 
     more : take i h ++ turned.0 ∷ [] ≡ take (i + 1) h
     more = ap (λ e. take i h ++ e ∷ []) this ∙ sym (take_more h i d below)
-
-joined : (c : Program) (g h es : List Entry) → DueFrom c g h → DueFrom c (g ++ h) es → DueFrom c g (h ++ es)
-joined c g [] es d after = subst (λ l. DueFrom c l es) (append-nil g) after
-joined c g (x ∷ h) es d after = (d.0, joined c (g ++ x ∷ []) h es d.1 (subst (λ l. DueFrom c l es) (sym (append_assoc g (x ∷ []) h)) after))
 
 -- answers have neither positions nor sequences
 answer_blurred : (k : Kind) → answer_of (forget_kind (small_kind k)) ≡ answer_of k
@@ -171,11 +147,11 @@ answers_blurred f e = ap (λ o. with_at f e.actor (with_answer o (f e.actor))) (
 -- a key of a point to which a race has come
 module _ (c : Program) (h : List Entry) (dues : DueFrom c [] h) (x : Point) (r : Reached c h x) (k : StateKey) (has : form_of c x ≡ form_in k) where
   pub far : x.state ≡ state_of c (h ++ r.entries)
-  far = ap (λ (y : Point). y.state) (sym r.same) ∙ state_there c h r.entries
+  far = ap (λ (y : Point). y.state) (sym r.same) ∙ state_after c h r.entries
 
   pub shown : Shows c (h ++ r.entries) k.state
   shown = record {
-    due = joined c [] h r.entries dues r.due;
+    due = DueFrom-join c [] h r.entries dues r.due;
     same = sym (ap (λ (y : Point). y.state) has) ∙ ap (tidied c) far;
   }
 

@@ -1,22 +1,21 @@
 -- Lists of actors, one more at a time.
-use Rattle.std.proofs.Common.{Global, get_or, option_map, ◌≡◌, ℕ, ◌+◌, ◌<◌, ◌≤◌, ◌⊎◌, inl, inr, Option, Some, None, List, [], ◌∷◌, ◌++◌, length, map, slice_get, refl, sym, ap, ◌∙◌, arith}
+use Rattle.std.proofs.Common.{Global, get_or, option_map, ◌≡◌, ℕ, ◌+◌, ◌<◌, ◌≤◌, ◌⊎◌, inl, inr, Some, List, [], ◌∷◌, ◌++◌, length, map, slice_get, refl, sym, ap, ◌∙◌, arith}
 use Rattle.std.proofs.lemmas.Bool.{cases_eq, cases_lt}
 use Rattle.std.proofs.lemmas.Bool.Decides.{nat_tests}
 use Rattle.std.proofs.lemmas.Grind.{elements}
-use Rattle.std.proofs.lemmas.List.{map-append, length-map}
+use Rattle.std.proofs.lemmas.List.{map-append}
 use Rattle.std.proofs.lemmas.Option.{slice_get_past, slice_get-map, slice_get_read}
 use Rattle.std.specs.Rc.{rc_value}
 use Rattle.std.specs.declared.rc.Rc.{Rc}
 use Rattle.hm_base.specs.Program.{Program}
-use Rattle.hm_base.specs.declared.ops.Op.{Op}
-use Rattle.hm_actors.proofs.ActorsKept.{op_below}
 use Rattle.hm_history.specs.Memory.Words.{with_at}
 use Rattle.hm_history.specs.Memory.Sequences.{Sequences}
-use Rattle.hm_history.specs.Kernel.Going.{Going, first_stack, going_from, op_at}
+use Rattle.hm_history.specs.Kernel.Going.{Going, first_stack, going_from}
 use Rattle.hm_race_states.specs.Tasks.{going_in}
 use Rattle.hm_race_states.specs.States.{going_at, goings_in}
 use Rattle.hm_race_states.specs.Goings.{blurred_goings, goings_with}
 use Rattle.hm_race_states.specs.declared.tasks.RaceTask.{RaceTask}
+use Rattle.hm_history.proofs.Going.{no_op}
 
 end_get : (xs : List RaceTask) (g : RaceTask) (n a : ℕ) → length xs ≡ n → n ≡ a → slice_get (xs ++ g ∷ []) a ≡ Some g
 end_get xs g n a l e = grind (arith, elements)
@@ -47,14 +46,6 @@ all_there c s ts xs b g n k l low below a = by (cases_lt a n)
     by (inl j) = below a j
     by (inr j) = past xs a (omega (arith, j, l)) ∙ sym (ap (λ f. blurred_goings c s (λ i. f) a) (there (goings_in ts) b g a (omega (arith, j, low)) ∙ past ts a (omega (arith, j, k))))
 
--- an actor that the script has not
-no_op : (c : Program) (a i : ℕ) → length c.actors ≤ a → op_at c a i ≡ None
-no_op c a i l = by (op_at c a i) refl
-  where
-    by : (x : Option Op) → op_at c a i ≡ x → op_at c a i ≡ None
-    by None e = e
-    by (Some o) e = absurd (omega (arith, op_below c a i o e, l))
-
 -- all actors before their first entries
 pub all_first : (c : Program) (xs : List RaceTask) (n : ℕ) → length c.actors ≤ n → length xs ≡ n → ((a : ℕ) → a < n → goings_in xs a ≡ going_from c a 0) → (a : ℕ) → goings_in xs a ≡ going_from c a 0
 all_first c xs n few l below a = by (cases_lt a n)
@@ -72,9 +63,6 @@ one_more xs ys t n e l = ap length (mapped_more xs ys t e) ∙ longer (map rc_va
   where
     longer : (zs : List RaceTask) (z : RaceTask) (n : ℕ) → length zs ≡ n → length (zs ++ z ∷ []) ≡ n + 1
     longer zs z n l = grind (arith, elements)
-
-pub mapped_length : (xs : List (Rc RaceTask Global)) (n : ℕ) → length xs ≡ n → length (map rc_value xs) ≡ n
-mapped_length xs n l = length-map xs rc_value ∙ l
 
 pub task_there : (xs : List (Rc RaceTask Global)) (n i : ℕ) (t : Rc RaceTask Global) → n ≡ i → i < length xs → t ≡ get_or xs n t → goings_in (map rc_value xs) i ≡ going_in t.value
 task_there xs n i t e l is = ap going_at (slice_get-map rc_value xs i ∙ ap (option_map rc_value) (slice_get_read xs (length xs) i t refl l (is ∙ ap (λ k. get_or xs k t) e)))

@@ -38,6 +38,7 @@ use Rattle.hm_race_states.specs.States.{goings_in, state_in}
 use Rattle.hm_race_states.specs.declared.state.RaceState.{RaceState}
 use Rattle.hm_race_states.proofs.Blurring.{unguarded_going}
 use Rattle.hm_race_states.proofs.Seens.{orphans}
+use Rattle.hm_folds.proofs.PlainParts.{mirrors_alone}
 
 -- a state that has these parts
 abbrev state_by : Plain → (ℕ → ℕ → ℕ) → (ℕ → Option MirrorState) → (ℕ → ℕ → Place) → (Frame → Bool) → (ℕ → Bool) → (ℕ → Bool) → (ℕ → ℕ → Option TableEntry) → Sequences → (ℕ → Option MapLock) → (Frame → Option ℕ) → (ℕ → Going) → State
@@ -94,12 +95,6 @@ bytes_go s (Kind.Stored x at bs) = ap (λ o. written_for s.bytes o at bs) (owner
 bytes_go s (Kind.Added m at was now) = refl
 bytes_go s (Kind.Forked p child) = refl
 bytes_go s _ = refl
-
-mirrors_go : (s : Plain) (k : Kind) → mirrors_next s.mirrors k ≡ (plain_next s k).mirrors
-mirrors_go s (Kind.Attached m d p r q) = refl
-mirrors_go s (Kind.Detaching m q) = refl
-mirrors_go s (Kind.Detached m) = refl
-mirrors_go s _ = refl
 
 place_goes : (t : Places) (k : Kind) → place_next t.place k ≡ (places_next t k).place
 place_goes t (Kind.Place p v x) = refl
@@ -232,7 +227,7 @@ module _ (c : Program) (x : RaceState) (e : Entry) (y : RaceState) (p : PartsGo 
   parts_on = same_by
       (p.spaces ∙ spaces_go u.after.plain e.kind)
       (p.bytes ∙ bytes_go u.after.plain e.kind)
-      (p.mirrors ∙ mirrors_go u.after.plain e.kind)
+      (p.mirrors ∙ mirrors_alone u.after.plain e.kind)
       (p.place ∙ place_goes u.after.places e.kind)
       (p.held ∙ held_goes u.after.places e.kind)
       (p.withdrawn ∙ withdrawn_goes u.after.places e.kind)

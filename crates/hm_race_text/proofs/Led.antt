@@ -1,15 +1,14 @@
 -- Turns lead by entries that are due to the point that is known of them.
 use Rattle.std.proofs.Common.{◌≡◌, ℕ, ◌<◌, ◌≤◌, Bool, true, false, List, [], ◌∷◌, ◌++◌, length, refl, sym, ap, ◌∙◌, subst, fold, arith, append_assoc, append-nil}
-use Rattle.std.proofs.lemmas.Bool.Decides.{nat_tests}
 use Rattle.std.proofs.lemmas.List.Sums.{fold-append}
 use Rattle.hm_base.specs.Program.{Program}
 use Rattle.hm_history.specs.Kernel.Due.{due, due_in}
 use Rattle.hm_history.specs.Kernel.Going.{State, state_of, state_next, state_of-snoc}
 use Rattle.hm_history.specs.Laws.{DueFrom}
-use Rattle.hm_history.specs.Kernel.Run.{has_room, added}
+use Rattle.hm_history.specs.Kernel.Run.{added}
 use Rattle.hm_history.specs.declared.Entry.{Entry}
 use Rattle.hm_history.specs.declared.Progress.{Progress}
-use Rattle.hm_history.proofs.RunLemmas.{due_own, DueFrom-append}
+use Rattle.hm_history.proofs.RunLemmas.{due_own, DueFrom-append, has_room_below}
 use Rattle.hm_race_laws.specs.Outcomes.{Point, point_next, point_from, point_turned, point_turn, answers_of, answers_next, no_answers, raced}
 use Rattle.hm_race_text.specs.Laws.{PointsAreLed}
 use Rattle.hm_history.proofs.Going.{lengths}
@@ -33,9 +32,6 @@ all_grow c x (a ∷ turns) =
     let one = grows c x (due_in c x.state a) in
     let more = all_grow c (point_turn c x a) turns in
     omega (arith, one, more)
-
-room_below : (h : List Entry) → length h < 2000000 → has_room h ≡ true
-room_below h below = grind (arith, nat_tests)
 
 -- the point stands for the history that goes on by these entries
 record At (c : Program) (h es : List Entry) (x : Point) : Type 0 where
@@ -73,7 +69,7 @@ led_from c h es x (a ∷ turns) at room = by (λ fs y. led_from c h fs y turns) 
         let own : due_in c x.state e.actor ≡ Progress.Did e = subst (λ (u : State). due_in c u e.actor ≡ Progress.Did e) at.state (due_own c (h ++ es) a e (now ∙ d)) in
         let rest = go (es ++ e ∷ []) (point_next c x e) (more_at c h es x e at own) room in
         let adds : added (h ++ es) (due c (h ++ es) a) ≡ h ++ (es ++ e ∷ []) =
-        ap (added (h ++ es)) (now ∙ d) ∙ ap (λ (b : Bool). elim b as (λ _. List Entry) [ true ↦ (h ++ es) ++ e ∷ [] | false ↦ h ++ es ]) (room_below (h ++ es) below) ∙ append_assoc h es (e ∷ []) in
+        ap (added (h ++ es)) (now ∙ d) ∙ ap (λ (b : Bool). elim b as (λ _. List Entry) [ true ↦ (h ++ es) ++ e ∷ [] | false ↦ h ++ es ]) (has_room_below (h ++ es) below) ∙ append_assoc h es (e ∷ []) in
         (rest.0, ap (λ (g : List Entry). raced c g turns) adds ∙ rest.1, rest.2)
     by go (Progress.Waiting why) d room =
         let rest = go es x at room in

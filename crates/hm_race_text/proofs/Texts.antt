@@ -1,9 +1,9 @@
 -- Texts that grow by one block, or by one actor's lines.
-use Rattle.std.proofs.Common.{◌≡◌, ℕ, zero, suc, ◌+◌, ◌<◌, ◌≤◌, List, [], ◌∷◌, ◌++◌, map, length, get_or, take, refl, sym, ap, ◌∙◌, arith, append_assoc, append-nil, add-zero}
+use Rattle.std.proofs.Common.{◌≡◌, ℕ, suc, ◌+◌, ◌<◌, ◌≤◌, List, [], ◌∷◌, ◌++◌, map, length, get_or, take, sym, ap, ◌∙◌, arith, append_assoc, append-nil, add-zero}
 use Rattle.std.proofs.lemmas.List.{take_more, length-take-le, map-append, length-map}
 use Rattle.hm_history.specs.Memory.Words.{numbers}
 use Rattle.hm_history.specs.declared.Kind.{Kind}
-use Rattle.hm_history.proofs.Numbers.{numbers_append}
+use Rattle.hm_history.proofs.Numbers.{numbers_append, number_count}
 use Rattle.hm_race_text.specs.Answers.{actor_lines, lines_from, answer_lines}
 use Rattle.hm_race_text.specs.Text.{block_text, blocks_text}
 use Rattle.hm_race_text.specs.declared.block.OutcomeBlock.{OutcomeBlock}
@@ -31,14 +31,10 @@ lines_append a (x ∷ xs) ys =
     ap (λ (z : List ℕ). actor_lines a x ++ z) (lines_append (a + 1) xs ys ∙ ap (λ k. lines_from (a + 1) xs ++ lines_from k ys) more)
     ∙ sym (append_assoc (actor_lines a x) (lines_from (a + 1) xs) (lines_from (a + suc (length xs)) ys))
 
-count_numbers : (from n : ℕ) → length (numbers from n) ≡ n
-count_numbers from zero = refl
-count_numbers from (suc n) = ap (λ k. suc k) (count_numbers (from + 1) n)
-
 pub one_actor : (f : ℕ → List Kind) (k : ℕ) (ks : List Kind) (text new : List ℕ) → text ≡ answer_lines (map f (numbers 0 k)) → ks ≡ f k → new ≡ text ++ actor_lines k ks → new ≡ answer_lines (map f (numbers 0 (k + 1)))
 one_actor f k ks text new so is next =
     let here : 0 + k ≡ k = omega arith in
-    let at : 0 + length (map f (numbers 0 k)) ≡ k = omega (arith, length-map (numbers 0 k) f, count_numbers 0 k) in
+    let at : 0 + length (map f (numbers 0 k)) ≡ k = omega (arith, length-map (numbers 0 k) f, number_count 0 k) in
     let all : map f (numbers 0 (k + 1)) ≡ map f (numbers 0 k) ++ f k ∷ [] =
     ap (λ (ns : List ℕ). map f ns) (numbers_append 0 k 1 ∙ ap (λ n. numbers 0 k ++ n ∷ []) here) ∙ map-append f (numbers 0 k) (k ∷ []) in
     next ∙ ap (λ (z : List ℕ). z ++ actor_lines k ks) so ∙ ap (λ (l : List Kind). answer_lines (map f (numbers 0 k)) ++ actor_lines k l) is

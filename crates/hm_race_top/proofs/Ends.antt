@@ -1,9 +1,8 @@
 -- Where the schedules lead that are told.
-use Rattle.std.proofs.Common.{◌≡◌, ℕ, ◌≤◌, true, false, List, [], ◌∷◌, ◌++◌, length, refl, sym, ap, ◌∙◌, subst, append_assoc, append-nil}
+use Rattle.std.proofs.Common.{◌≡◌, ℕ, ◌≤◌, true, false, List, [], ◌∷◌, ◌++◌, length, refl, sym, ap, ◌∙◌, subst}
 use Rattle.hm_base.specs.Program.{Program, IsScript, run_lines}
-use Rattle.hm_history.specs.Laws.{DueFrom, RunsAreDue}
+use Rattle.hm_history.specs.Laws.{RunsAreDue}
 use Rattle.hm_history.specs.Kernel.Run.{run}
-use Rattle.hm_history.specs.declared.Entry.{Entry}
 use Rattle.hm_laws.specs.Laws.{HistoryIsLegal}
 use Rattle.hm_race_laws.specs.Outcomes.{Point, point_at, outcome, ended_in, raced}
 use Rattle.hm_race_search.specs.Known.{KnownValue, IsKnown}
@@ -14,10 +13,7 @@ use Rattle.hm_script.specs.Built.{has_drain}
 use Rattle.hm_race_top.specs.Laws.{KnownIsTrue}
 use Rattle.hm_race_top.specs.Ways.{way_by, ways_of, EndsSo}
 use Rattle.hm_race_top.proofs.WaysKnown.{came_from}
-
-dues_join : (c : Program) (g h es : List Entry) → DueFrom c g h → DueFrom c (g ++ h) es → DueFrom c g (h ++ es)
-dues_join c g [] es d more = subst (λ (l : List Entry). DueFrom c l es) (append-nil g) more
-dues_join c g (e ∷ h) es d more = (d.0, dues_join c (g ++ e ∷ []) h es d.1 (subst (λ (l : List Entry). DueFrom c l es) (sym (append_assoc g (e ∷ []) h)) more))
+use Rattle.hm_history.proofs.RunLemmas.{DueFrom-join}
 
 -- the laws that this rests on
 pub record Rests : Type 0 where
@@ -35,7 +31,7 @@ ends_with by c script n k e turns same stands = record {
   entries = led.entries;
   run_is = by.lead c turns ∙ same ∙ led.same;
   due = led.due;
-  legal = (by.same_legal c turns (run c ++ led.entries)).1 (by.legal c script (run c ++ led.entries) (dues_join c [] (run c) led.entries (by.due c) led.due));
+  legal = (by.same_legal c turns (run c ++ led.entries)).1 (by.legal c script (run c ++ led.entries) (DueFrom-join c [] (run c) led.entries (by.due c) led.due));
   ended = ap (ended_in c) led.state ∙ sym k.ended ∙ e;
   answers = ap (outcome c) (led.answers ∙ ap (λ (x : Point). x.answers) (sym k.form));
   script = stands;

@@ -9,7 +9,7 @@ adds_none : (held : Option (List ℕ)) → Adds held held []
 adds_none None = tt
 adds_none (Some held) = ap Some (sym (append-nil held))
 
-adds_more : (before mid after : Option (List ℕ)) (xs ys : List ℕ) → Adds before mid xs → Adds mid after ys → Adds before after (xs ++ ys)
+pub adds_more : (before mid after : Option (List ℕ)) (xs ys : List ℕ) → Adds before mid xs → Adds mid after ys → Adds before after (xs ++ ys)
 adds_more None mid after xs ys first more = tt
 adds_more (Some held) mid after xs ys first more =
     let at : Adds (Some (held ++ xs)) after ys = rw first at more in

@@ -1,5 +1,5 @@
 -- How far the loops over lines have come.
-use Rattle.std.proofs.Common.{◌≡◌, ℕ, ◌+◌, ◌-◌, ◌<◌, Bool, true, false, not, Some, None, Bor, List, [], ◌∷◌, ◌++◌, length, take, refl, sym, ap, ◌∙◌, arith, append_assoc, append-nil, length-append}
+use Rattle.std.proofs.Common.{◌≡◌, ℕ, ◌+◌, ◌-◌, ◌<◌, Bool, true, false, not, Some, Bor, List, [], ◌∷◌, ◌++◌, length, take, refl, sym, ap, ◌∙◌, arith, append_assoc, length-append}
 use Rattle.std.specs.List.{list_all}
 use Rattle.std.specs.Str.{bytes_eq}
 use Rattle.std.proofs.lemmas.Bool.{false≢true}
@@ -55,13 +55,6 @@ front_found bytes rest script line after count p is cut found =
 
 pub front_count : (bytes rest script : List ℕ) (count : ℕ) → Passed bytes rest count → script ≡ take (length bytes - length rest) bytes → count ≡ length (lines script)
 front_count bytes rest script count p is = p.many ∙ ap length (sym (script_is bytes rest script count p is))
-
-nothing_left : (bytes rest : List ℕ) (count : ℕ) (p : Passed bytes rest count) → length rest ≡ 0 → lines bytes ≡ p.before
-nothing_left bytes [] count p e = p.parts ∙ append-nil p.before
-nothing_left bytes (b ∷ rest) count p e = absurd (omega arith)
-
-pub front_all : (bytes rest : List ℕ) (count : ℕ) → Passed bytes rest count → length rest ≡ 0 → FrontOf bytes bytes None
-front_all bytes rest count p e = record { none = ap (list_all is_script_line) (nothing_left bytes rest count p e) ∙ p.none; goes_on = refl }
 
 -- ---- two texts
 

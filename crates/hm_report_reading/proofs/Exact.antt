@@ -13,7 +13,7 @@ use Rattle.hm_report_front.specs.Parts.{entry_list, Differ}
 use Rattle.hm_report_front.proofs.Scripts.{OneText, same_script, cons_take}
 use Rattle.hm_report_front.proofs.Shared.{one_lines, shares_behind, cancel}
 use Rattle.hm_report_front.proofs.TextLines.{entry_list_length}
-use Rattle.hm_report_reading.specs.Reports.{BeginsNoUnfinished, IsFirstBad, unfinished_list}
+use Rattle.hm_report_reading.specs.Reports.{BeginsNoUnfinished, IsFirstUnread, unfinished_list}
 use Rattle.hm_report_reading.specs.Texts.{HasText, text_of}
 use Rattle.hm_report_reading.proofs.Following.{first_passes, rest_pass, follow}
 use Rattle.hm_report_reading.proofs.TextLines.{body, end_no_entry, end_no_unfinished, text_lines, unfinished_length, unfinished_no_entry}
@@ -133,7 +133,7 @@ same_text one whole c d h g us vs n ls read yours same =
     record { script = script; parts = same_parts c d h g us vs n ls read.has yours read.entries_end read.unfinished_end (cons_take (length h + (length us + suc n)) history_line history_line (body g vs) mine behind).1 }
 
 -- the line after those that are shared is the first bad one
-pub first_bad : (one : OneText) (whole : List ℕ) (c : Program) (h : List Entry) (us : List Unfinished) (n : ℕ) (ls : List (List ℕ)) → ReadTo whole c h us ls → Differ (end_line (length h) ∷ []) ls n → IsFirstBad whole (past c h us n)
+pub first_bad : (one : OneText) (whole : List ℕ) (c : Program) (h : List Entry) (us : List Unfinished) (n : ℕ) (ls : List (List ℕ)) → ReadTo whole c h us ls → Differ (end_line (length h) ∷ []) ls n → IsFirstUnread whole (past c h us n)
 first_bad one whole c h us n ls read differ = record {
   bad = λ d g vs x. no_other (same_text one whole c d h g us vs n ls read x.has x.shares);
   before = λ k lt. (c, h, us, record { has = read.has; shares = ap (take k) mine ∙ shares_behind k n begun (end_line (length h) ∷ []) ls differ.same (omega (arith, long)) ∙ ap (take k) (sym theirs) });

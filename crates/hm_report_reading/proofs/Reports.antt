@@ -1,6 +1,6 @@
 -- A report that was read, or its first bad line.
 use Rattle.std.proofs.Common.{◌≡◌, ℕ, ◌+◌, ◌⊎◌, Bool, true, false, cond, eqb, List, [], ◌∷◌, ◌++◌, length, take, refl, sym, subst, ap, ◌∙◌, arith, append_assoc, append-nil}
-use Rattle.std.specs.Prelude.{Result, Ok, Err, IfOk}
+use Rattle.std.specs.Prelude.{Result, Ok, Err}
 use Rattle.std.specs.List.{flat_map}
 use Rattle.std.proofs.lemmas.List.Elements.{All-nil}
 use Rattle.hm_base.specs.Program.{Program, IsScript}
@@ -15,7 +15,7 @@ use Rattle.hm_report_front.specs.Parts.{entry_list, Differ}
 use Rattle.hm_report_front.specs.declared.head.BadLine.{BadLine}
 use Rattle.hm_report_front.proofs.Scripts.{OneText}
 use Rattle.hm_report_front.proofs.TextLines.{lines_entries}
-use Rattle.hm_report_reading.specs.Reports.{IsFirstBad, IsReadBehind, IsReadOf, IsThis, ReadsUnfinished, unfinished_list}
+use Rattle.hm_report_reading.specs.Reports.{IsFirstUnread, IsReadBehind, IsReadOf, IsThis, ReadsUnfinished, unfinished_list}
 use Rattle.hm_report_reading.specs.Texts.{HasText, text_of, unended, unended_of, unfinished_texts}
 use Rattle.hm_report_reading.specs.declared.reading.WholeReport.{WholeReport}
 use Rattle.hm_report_reading.proofs.Exact.{EndsEntries, ReadTo, first_bad, is_text, one_text_of, past}
@@ -38,11 +38,11 @@ read_to whole bytes middle rest c h us s es u parts = record {
 }
 
 pub bad_behind : (one : OneText) (whole bytes middle rest end : List ℕ) (c : Program) (h : List Entry) (us : List Unfinished) (first n k : ℕ) → IsScript c → ReadsAll bytes h middle → ReadsUnfinished middle us rest → end ≡ end_line (length h) → Differ (lines end) (lines rest) n
-    → k ≡ first + (length h + length us) + n → lines whole ≡ lines_behind c (lines bytes) → first ≡ length (lines (text c)) + 2 → IsFirstBad whole k
+    → k ≡ first + (length h + length us) + n → lines whole ≡ lines_behind c (lines bytes) → first ≡ length (lines (text c)) + 2 → IsFirstUnread whole k
 bad_behind one whole bytes middle rest end c h us first n k s es u is differ at parts number =
     let other : Differ (end_line (length h) ∷ []) (lines rest) n = subst (λ (z : List (List ℕ)). Differ z (lines rest) n) (ap lines is ∙ lines_end (length h)) differ in
     let line : past c h us n ≡ k = omega (arith, number, at) in
-    subst (IsFirstBad whole) line (first_bad one whole c h us n (lines rest) (read_to whole bytes middle rest c h us s es u parts) other)
+    subst (IsFirstUnread whole) line (first_bad one whole c h us n (lines rest) (read_to whole bytes middle rest c h us s es u parts) other)
 
 pub good_behind : (whole bytes middle rest end : List ℕ) (c : Program) (h : List Entry) (us : List Unfinished) → IsScript c → ReadsAll bytes h middle → ReadsUnfinished middle us rest → end ≡ end_line (length h) → end ≡ rest
     → lines whole ≡ lines_behind c (lines bytes) → HasText c h us × (whole ≡ text_of c h us)
@@ -54,7 +54,7 @@ good_behind whole bytes middle rest end c h us s es u is same parts =
 -- ---- the whole
 
 -- a bad line of the script, or no `history`
-pub bad_head : (whole : List ℕ) (n : ℕ) → IsBadHead whole n → IsFirstBad whole n
+pub bad_head : (whole : List ℕ) (n : ℕ) → IsBadHead whole n → IsFirstUnread whole n
 bad_head whole n h = record {
   bad = λ c es us x. h.bad c (body es us) x.has.script (ap (take n) (sym (text_lines c es us)) ∙ x.shares);
   before = λ k lt. let b = h.before k lt in (b.0, [], [], record { has = record { script = b.1; entries = All-nil _; few = omega arith; unfinished = All-nil _ }; shares = ap (take k) (text_lines b.0 [] []) ∙ b.2 (body [] []) });
@@ -66,10 +66,6 @@ read_whole whole rest c first r h read = read whole h.lines_are h.number
 pub is_this : (one : OneText) (bytes : List ℕ) (r : Result WholeReport BadLine) (c : Program) (h : List Entry) (us : List Unfinished) → IsReadOf bytes r → HasText c h us → bytes ≡ text_of c h us → IsThis c h us r
 is_this one bytes (Ok r) c h us read has is = let o = one_text_of one r.script c r.history.entries h r.unfinished.items us read.0 has (sym read.1 ∙ is) in (o.0, o.1, o.2)
 is_this one bytes (Err bad) c h us read has is = absurd (read.bad c h us (record { has = has; shares = ap (λ (z : List ℕ). take bad.0 (lines z)) (sym is) }))
-
-pub on_ok : {A E : Type 0} (r : Result A E) (P Q : A → Type 0) → ((a : A) → P a → Q a) → IfOk r P → IfOk r Q
-on_ok (Ok a) P Q f h = f a h
-on_ok (Err e) P Q f h = tt
 
 -- ---- the report of a history
 

@@ -20,7 +20,7 @@ pub record SharesLines (bytes : List ℕ) (n : ℕ) (c : Program) (h : List Entr
 
 -- no such text has the first n lines of the bytes, and some has any fewer; a line that is missing is bad if no such
 -- text ends before it
-pub record IsFirstBad (bytes : List ℕ) (n : ℕ) : Type 0 where
+pub record IsFirstUnread (bytes : List ℕ) (n : ℕ) : Type 0 where
   pub bad : (c : Program) (h : List Entry) (us : List Unfinished) → SharesLines bytes n c h us → ⊥
   pub before : (k : ℕ) → k < n
       → (c : Program) × (h : List Entry) × (us : List Unfinished) × SharesLines bytes k c h us
@@ -31,7 +31,7 @@ pub record IsFirstBad (bytes : List ℕ) (n : ℕ) : Type 0 where
 abbrev pub IsReadOf : List ℕ → Result WholeReport BadLine → Type 0
 IsReadOf bytes (Ok r) = HasText r.script r.history.entries r.unfinished.items
     × (bytes ≡ text_of r.script r.history.entries r.unfinished.items)
-IsReadOf bytes (Err bad) = IsFirstBad bytes bad.0
+IsReadOf bytes (Err bad) = IsFirstUnread bytes bad.0
 
 -- what was read is this
 abbrev pub IsThis : Program → List Entry → List Unfinished → Result WholeReport BadLine → Type 0

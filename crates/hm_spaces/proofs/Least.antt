@@ -2,6 +2,7 @@
 use Rattle.std.proofs.Common.{◌≡◌, ℕ, zero, suc, ◌+◌, ◌<◌, ◌≤◌, Bool, true, false, Some, None, ◌⊎◌, inl, inr, refl, sym, arith}
 use Rattle.std.proofs.lemmas.Bool.{cases_eq}
 use Rattle.hm_history.specs.Memory.Words.{least}
+use Rattle.hm_history.proofs.Least.{none_from}
 
 step_true : (t : ℕ → Bool) (from n : ℕ) (b : Bool) → t from ≡ b → b ≡ true → least t from (suc n) ≡ Some from
 step_true t from n true p q = rw (p, least) refl
@@ -22,12 +23,8 @@ least_at t from (suc n) i a b h e = by (cases_eq from i) (λ p q. least_at t (fr
 pub least_found : (t : ℕ → Bool) (n i : ℕ) → i < n → ((k : ℕ) → k < i → t k ≡ false) → t i ≡ true → Some i ≡ least t 0 n
 least_found t n i b h e = sym (least_at t 0 n i (omega arith) (omega arith) (λ k l m. h k m) e)
 
-least_no : (t : ℕ → Bool) (from n : ℕ) → ((k : ℕ) → from ≤ k → k < from + n → t k ≡ false) → least t from n ≡ None
-least_no t from zero h = refl
-least_no t from (suc n) h = rw (step_false t from n (t from) refl (h from (omega arith) (omega arith))) (least_no t (from + 1) n (λ k a b. h k (omega arith) (omega arith)))
-
 pub least_none : (t : ℕ → Bool) (n : ℕ) → ((k : ℕ) → k < n → t k ≡ false) → None ≡ least t 0 n
-least_none t n h = sym (least_no t 0 n (λ k a b. h k (omega arith)))
+least_none t n h = sym (none_from t 0 n (λ k a b. h k (omega arith)))
 
 -- two tests that agree
 pub least_same : (t u : ℕ → Bool) (from n : ℕ) → ((k : ℕ) → k < from + n → t k ≡ u k) → least t from n ≡ least u from n

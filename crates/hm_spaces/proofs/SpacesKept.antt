@@ -105,7 +105,7 @@ spaces_fit s map (Kind.Unmapped p r) x h f = λ l. rw (h.areas_at p l) (f l)
 spaces_fit s map (Kind.Protected p r w) x h f = λ l. rw (h.areas_at p l) (f l)
 spaces_fit s map k x h f = f
 
-none_of : {X : Type 0} (b : Bool) (x : Option X) → (b && is_none x) ≡ true → x ≡ None
+pub none_of : {X : Type 0} (b : Bool) (x : Option X) → (b && is_none x) ≡ true → x ≡ None
 none_of true None e = refl
 none_of true (Some n) e = cc
 none_of false x e = cc

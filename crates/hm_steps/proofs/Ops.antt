@@ -1,19 +1,11 @@
 -- An operation of a script is in range.
-use Rattle.std.proofs.Common.{◌≡◌, ℕ, zero, suc, Bool, true, false, ◌&&◌, Option, Some, None, List, [], ◌∷◌, length, refl, arith}
+use Rattle.std.proofs.Common.{◌≡◌, ℕ, Bool, true, false, ◌&&◌, Option, Some, None, List, [], ◌∷◌, length, refl}
 use Rattle.std.specs.Prelude.{slice_get}
 use Rattle.std.specs.List.{list_all}
 use Rattle.hm_base.specs.Program.{Program, IsScript, op_fits, op_in_range}
 use Rattle.hm_base.specs.declared.ops.Op.{Op}
 use Rattle.hm_history.specs.Kernel.Going.{op_at}
-
-each_passes : {X : Type 0} (t : X → Bool) (xs : List X) (i : ℕ) (x : X) → list_all t xs ≡ true → slice_get xs i ≡ Some x → t x ≡ true
-each_passes t [] i x h e = cc
-each_passes t (y ∷ xs) zero x h e = grind arith
-each_passes t (y ∷ xs) (suc i) x h e = each_passes t xs i x (rest (t y) h) e
-  where
-    rest : (b : Bool) → (b && list_all t xs) ≡ true → list_all t xs ≡ true
-    rest true k = k
-    rest false k = cc
+use Rattle.hm_base.proofs.Shared.{each_passes}
 
 op_passes : (c : Program) (t : Op → Bool) (a i : ℕ) (o : Op) → list_all (list_all t) c.actors ≡ true → op_at c a i ≡ Some o → t o ≡ true
 op_passes c t a i o h e = by (slice_get c.actors a) refl e

@@ -9,7 +9,7 @@ use Rattle.hm_base.specs.declared.Place.{Place}
 use Rattle.hm_base.specs.declared.Place.TheVariants.{Empty, Zero, Sys, Own, Moving, Exclusive}
 use Rattle.hm_base.specs.PlaceWords.{writable}
 use Rattle.entry_words.specs.Reading.{field, pool_from, place_from}
-use Rattle.radix_tables.specs.Maps.{Map, before, next_word, is_marked}
+use Rattle.radix_tables.specs.Maps.{Map, before, is_marked}
 use Rattle.hm_tables.specs.Values.{place_of_word}
 use Rattle.hm_tables.specs.Sound.{IsOrdered}
 use Rattle.hm_tables.specs.Reads.{page_test, is_likely, first_passing, next_in_table, next_in_span, next_likely}
@@ -65,18 +65,6 @@ writable_marked w h = by (eqb w 0) (eqb w 1) h
 likely : (t : PageTest) → Implies (passing (page_test t)) (is_likely t)
 likely Used w h = refl
 likely Writable w h = writable_marked w h
-
--- every word may be that of a used page
-and_true : (b : Bool) → (b && true) ≡ b
-and_true true = refl
-and_true false = refl
-
-pub used_likely : (m : Map) (from end : ℕ) → next_word m from end ≡ before end (next_likely m Used from)
-used_likely m from end = ap (before end) (all m.words)
-  where
-    all : (es : List (ℕ × ℕ)) → find (λ e. leb from e.0) es ≡ find (λ e. leb from e.0 && true) es
-    all [] = refl
-    all (e ∷ es) = ap (λ b. cond b (Some e) (find (λ e. leb from e.0) es)) (sym (and_true (leb from e.0))) ∙ ap (cond (leb from e.0 && true) (Some e)) (all es)
 
 -- what lies before the end was found, and lies there
 record Within (end : ℕ) (z : ℕ × ℕ) (o : Option (ℕ × ℕ)) : Type 0 where

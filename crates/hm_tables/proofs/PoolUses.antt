@@ -1,5 +1,5 @@
 -- The uses of each frame after those of one frame were changed.
-use Rattle.std.proofs.Common.{◌≡◌, ℕ, ◌<◌, ◌≤◌, ◌⊎◌, inl, inr, Bool, true, false, ◌&&◌, eqb, cond, List, [], length, get_or, set, refl, sym, ap, ◌∙◌, subst, arith}
+use Rattle.std.proofs.Common.{◌≡◌, ℕ, ◌<◌, ◌≤◌, ◌⊎◌, inl, inr, Bool, true, false, ◌&&◌, eqb, cond, List, [], length, get_or, set, refl, sym, ap, ◌∙◌, subst, arith, length-set}
 use Rattle.std.proofs.lemmas.Bool.{cases_lt}
 use Rattle.std.proofs.lemmas.Bool.Decides.{nat_tests}
 use Rattle.std.proofs.lemmas.Grind.{elements}
@@ -51,17 +51,14 @@ uses_with pools f uses g l = ap (λ us. uses_of us g.number) (pool_with pools f 
         ∙ ap (λ pool. cond (eqb g.number f.number) uses (uses_of (pool_in pools pool) g.number)) (sym (pool_same g.pool f.pool e))
     by false e = refl
 
-length_set : {X : Type 0} (xs : List X) (i : ℕ) (x : X) → length (set xs i x) ≡ length xs
-length_set xs i x = grind (arith, elements)
-
 pub count_with : (pools : List (List Uses)) (f : Frame) (uses : Uses) → length (with_uses pools f uses) ≡ length pools
-count_with pools f uses = length_set pools (pool_field f.pool) (set (pool_in pools f.pool) f.number uses)
+count_with pools f uses = length-set pools (pool_field f.pool) (set (pool_in pools f.pool) f.number uses)
 
 pub size_with : (pools : List (List Uses)) (f : Frame) (uses : Uses) (pool : PoolId) → f.number < size_in pools f.pool → size_in (with_uses pools f uses) pool ≡ size_in pools pool
 size_with pools f uses pool l = ap length (pool_with pools f uses pool l) ∙ by (same_pool pool f.pool) refl
   where
     by : (b : Bool) → same_pool pool f.pool ≡ b → length (cond b (set (pool_in pools f.pool) f.number uses) (pool_in pools pool)) ≡ size_in pools pool
-    by true e = length_set (pool_in pools f.pool) f.number uses ∙ ap (size_in pools) (sym (pool_same pool f.pool e))
+    by true e = length-set (pool_in pools f.pool) f.number uses ∙ ap (size_in pools) (sym (pool_same pool f.pool e))
     by false e = refl
 
 -- a frame with a use is one of its pool

@@ -19,6 +19,7 @@ use Rattle.hm_tables.proofs.Lowest.{one_lowest, lowest_same, lowest_is}
 use Rattle.hm_tables.proofs.FirstUse.{mark_passes, first_lowest}
 use Rattle.hm_tables.proofs.Counts.{count_is}
 use Rattle.hm_tables.proofs.NextWord.{page_passes, next_lowest}
+use Rattle.std.proofs.Math.Bool.{and-true}
 
 -- a place that has a mark is one
 pub marked_used : (test : Bool → Bool) (x : Place) (f : Frame) → mark_passes test (mark_of x f) ≡ true → is_empty_place x ≡ false
@@ -44,28 +45,24 @@ by_mark : (test : Bool → Bool) (b m : Bool) → mark_passes test (cond b (Some
 by_mark test true m = refl
 by_mark test false m = refl
 
-all_of : (b : Bool) → (b && true) ≡ b
-all_of true = refl
-all_of false = refl
-
 direct_mark : (f : Frame) (y : Place) → mark_passes not (mark_of y f) ≡ is_frame (names_directly y) f
 direct_mark f Empty = refl
 direct_mark f Zero = refl
-direct_mark f (Sys n w) = by_mark not (is_frame (names (Sys n w)) f) false ∙ all_of (is_frame (names (Sys n w)) f)
-direct_mark f (Own d n w) = by_mark not (is_frame (names (Own d n w)) f) false ∙ all_of (is_frame (names (Own d n w)) f)
+direct_mark f (Sys n w) = by_mark not (is_frame (names (Sys n w)) f) false ∙ and-true (is_frame (names (Sys n w)) f)
+direct_mark f (Own d n w) = by_mark not (is_frame (names (Own d n w)) f) false ∙ and-true (is_frame (names (Own d n w)) f)
 direct_mark f (Moving g w) = by_mark not (is_frame (names (Moving g w)) f) true ∙ (and_right (is_frame (names (Moving g w)) f) false refl)
-direct_mark f (Exclusive n a) = by_mark not (is_frame (names (Exclusive n a)) f) false ∙ all_of (is_frame (names (Exclusive n a)) f)
+direct_mark f (Exclusive n a) = by_mark not (is_frame (names (Exclusive n a)) f) false ∙ and-true (is_frame (names (Exclusive n a)) f)
 
 moving_mark : (f : Frame) (y : Place) → mark_passes (λ moving. moving) (mark_of y f) ≡ is_frame (moving_frame y) f
 moving_mark f Empty = refl
 moving_mark f Zero = refl
 moving_mark f (Sys n w) = by_mark (λ moving. moving) (is_frame (names (Sys n w)) f) false ∙ (and_right (is_frame (names (Sys n w)) f) false refl)
 moving_mark f (Own d n w) = by_mark (λ moving. moving) (is_frame (names (Own d n w)) f) false ∙ (and_right (is_frame (names (Own d n w)) f) false refl)
-moving_mark f (Moving g w) = by_mark (λ moving. moving) (is_frame (names (Moving g w)) f) true ∙ all_of (is_frame (names (Moving g w)) f)
+moving_mark f (Moving g w) = by_mark (λ moving. moving) (is_frame (names (Moving g w)) f) true ∙ and-true (is_frame (names (Moving g w)) f)
 moving_mark f (Exclusive n a) = by_mark (λ moving. moving) (is_frame (names (Exclusive n a)) f) false ∙ (and_right (is_frame (names (Exclusive n a)) f) false refl)
 
 pub named_mark : (f : Frame) (y : Place) → mark_passes (λ moving. true) (mark_of y f) ≡ is_frame (names y) f
-named_mark f y = by_mark (λ moving. true) (is_frame (names y) f) (is_moving y) ∙ all_of (is_frame (names y) f)
+named_mark f y = by_mark (λ moving. true) (is_frame (names y) f) (is_moving y) ∙ and-true (is_frame (names y) f)
 
 pub lowest_direct_shown : (c : Program) (s : Places) (x : Tables) → TablesShown c s.place s.placed x → (f : Frame) → lowest_of x not f ≡ lowest_direct s f
 lowest_direct_shown c s x h f = lowest_shown c s x h not f (λ y. is_frame (names_directly y) f) (direct_mark f)

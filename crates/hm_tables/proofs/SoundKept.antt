@@ -1,6 +1,5 @@
 -- The reverse maps go on saying what the tables say.
-use Rattle.std.proofs.Common.{◌≡◌, ℕ, ◌^◌, ◌<◌, Bool, true, false, ◌&&◌, eqb, cond, List, length, set, refl, sym, ap, ◌∙◌, subst, arith}
-use Rattle.std.proofs.lemmas.Grind.{elements}
+use Rattle.std.proofs.Common.{◌≡◌, ℕ, ◌^◌, ◌<◌, Bool, true, false, ◌&&◌, eqb, cond, length, refl, sym, ap, ◌∙◌, subst, length-set}
 use Rattle.std.proofs.lemmas.Bool.{eqb-true}
 use Rattle.hm_base.specs.declared.PoolId.{PoolId}
 use Rattle.hm_base.specs.declared.Frame.{Frame}
@@ -32,12 +31,9 @@ place_next x h p v y l w q u = ap (λ m. place_in_table m u) (table_next x h p v
 pub sizes_next : (x : Tables) → IsTables x → (p v : ℕ) (y : Place) → FrameFits (size_in x.pools) (names y) → (pool : PoolId) → size_in (tables_next (Kind.Place p v y) x).pools pool ≡ size_in x.pools pool
 sizes_next x h p v y l pool = size_next x.pools p v (place_of x p v) y (h.exact p v) l pool
 
-pub length_set : {X : Type 0} (xs : List X) (i : ℕ) (x : X) → length (set xs i x) ≡ length xs
-length_set xs i x = grind (arith, elements)
-
 pub tables_sound : (x : Tables) → IsTables x → (p v : ℕ) (y : Place) → p < 32 → v < 2 ^ 36 → has_word y ≡ true → FrameFits (size_in x.pools) (names y) → IsTables (tables_next (Kind.Place p v y) x)
 tables_sound x h p v y l m w fits = record {
-  processes = length_set x.processes p (table_with (table_of x p) v y) ∙ h.processes;
+  processes = length-set x.processes p (table_with (table_of x p) v y) ∙ h.processes;
   pools = count_next x.pools p v (place_of x p v) y ∙ h.pools;
   ordered = λ q. subst IsOrdered (sym (table_next x h p v y l q)) (ordered q (eqb q p));
   rising = rising_next x.pools p v (place_of x p v) y (h.exact p v) fits h.rising;

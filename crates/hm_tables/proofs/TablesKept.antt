@@ -1,5 +1,5 @@
 -- The tables go on showing the places of the history.
-use Rattle.std.proofs.Common.{◌≡◌, ℕ, ◌<◌, inl, inr, Bool, true, false, not, ◌&&◌, eqb, cond, Option, Some, None, List, ◌∷◌, set, refl, sym, ap, ◌∙◌, subst, ◌^◌}
+use Rattle.std.proofs.Common.{◌≡◌, ℕ, ◌<◌, inl, inr, Bool, true, false, not, ◌&&◌, eqb, cond, Option, Some, None, List, ◌∷◌, set, refl, sym, ap, ◌∙◌, subst, ◌^◌, length-set}
 use Rattle.std.specs.Prelude.{unwrap_or, nat_lt}
 use Rattle.std.specs.List.{list_any, list_all}
 use Rattle.std.specs.Ordering.{nat_cmp}
@@ -19,7 +19,7 @@ use Rattle.hm_tables.specs.Sound.{IsTables}
 use Rattle.hm_tables.specs.Shown.{is_once, TablesShown}
 use Rattle.hm_tables.specs.Steps.{tables_next, FrameFits, TablesFit, TablesRange, SameTables}
 use Rattle.hm_tables.proofs.PoolUses.{get_set}
-use Rattle.hm_tables.proofs.SoundKept.{length_set, place_next, sizes_next, tables_sound}
+use Rattle.hm_tables.proofs.SoundKept.{place_next, sizes_next, tables_sound}
 use Rattle.hm_history.proofs.Placed.{listed_more}
 
 frame_shown : (c : Program) (x : Tables) → ((pool : PoolId) → size_in x.pools pool ≡ pool_size c pool) → (o : Option Frame) → FrameFits (pool_size c) o → FrameFits (size_in x.pools) o
@@ -40,7 +40,7 @@ listed_next place placed listed p v y q u k = by (eqb q p && eqb u v) refl k
     by true e k = listed_more p v q u placed (inl e)
     by false e k = listed_more p v q u placed (inr (listed q u k))
 
-once_next : (p v : ℕ) (xs : List (ℕ × ℕ)) → is_once xs ≡ true → is_once (with_page p v xs) ≡ true
+pub once_next : (p v : ℕ) (xs : List (ℕ × ℕ)) → is_once xs ≡ true → is_once (with_page p v xs) ≡ true
 once_next p v xs h = by (list_any (is_page p v) xs) refl
   where
     by : (b : Bool) → list_any (is_page p v) xs ≡ b → is_once (cond b xs ((p, v) ∷ xs)) ≡ true
@@ -63,10 +63,6 @@ same_sound x y same h = record {
   exact = λ p v f. ap (mark_by p v) (same.pools.lists f) ∙ h.exact p v f ∙ ap (λ z. mark_of z f) (sym (same_words x y same p v));
 }
 
-frame_same : (x y : Tables) → SameTables x y → (o : Option Frame) → FrameFits (size_in x.pools) o → FrameFits (size_in y.pools) o
-frame_same x y same None l = tt
-frame_same x y same (Some f) l = subst (λ n. f.number < n) (sym (same.pools.sizes f.pool)) l
-
 pub shown_same : (c : Program) (place : ℕ → ℕ → Place) (placed : List (ℕ × ℕ)) (x y : Tables) → SameTables x y → TablesShown c place placed x → TablesShown c place placed y
 shown_same c place placed x y same h = record {
   tables = same_sound x y same h.tables;
@@ -79,7 +75,7 @@ shown_same c place placed x y same h = record {
 -- the room of a process that has exited
 pub same_given_back : (x : Tables) → IsTables x → (p : ℕ) → p < 32 → SameTables x (tables_next (Kind.Exited p) x)
 same_given_back x h p l = record {
-  processes = length_set x.processes p (given_back (table_of x p));
+  processes = length-set x.processes p (given_back (table_of x p));
   words = λ q. ap (λ (m : Map). m.words) (get_set x.processes p (given_back (table_of x p)) q no_words (subst (λ n. p < n) (sym h.processes) l)) ∙ by q (eqb q p) refl;
   pools = record { count = refl; sizes = λ pool. refl; lists = λ f. refl };
 }

@@ -1,5 +1,5 @@
 -- What a call with the word `check` or `why` comes to.
-use Rattle.std.proofs.Common.{◌≡◌, ℕ, ◌≤◌, ◌<◌, inl, inr, Some, None, Option, List, [], length, refl, sym, ◌∙◌, ap, subst, arith}
+use Rattle.std.proofs.Common.{◌≡◌, ℕ, ◌≤◌, ◌<◌, inl, inr, Some, None, Option, List, [], length, refl, sym, ◌∙◌, ap, subst}
 use Rattle.std.specs.Prelude.{IfSome}
 use Rattle.hm_base.specs.Program.{Program}
 use Rattle.hm_check.specs.FirstBad.{IsFirstBad, IsLegalReport}
@@ -12,79 +12,14 @@ use Rattle.hm_io.specs.Streams.{Adds, AddsFront, SinkState, SourceState}
 use Rattle.hm_top.specs.Checks.{SaysOfReport, Finds, HasJudged, HasReport, HasTold, IsAsAnswered, IsItsReport, IsJudged, Tells, TellsBad, WroteFrontFor, bad_line}
 use Rattle.hm_check.specs.Judging.{IsLegalReportOf, IsVerdictOn}
 use Rattle.hm_edge.specs.Traffic.{NoFault, Traffic}
-use Rattle.hm_top.specs.Ran.{HasNothing}
-use Rattle.hm_edge.specs.Reading.{HasNotJudged, ReadAs, ReadFaulted}
-use Rattle.hm_top.specs.Running.{Answered, AnsweredNone}
+use Rattle.hm_edge.specs.Reading.{ReadAs, ReadFaulted}
+use Rattle.hm_top.specs.Running.{Answered}
 use Rattle.hm_edge.specs.Input.{CameWhole}
 use Rattle.hm_top.specs.Verdicts.{EndsAt, HasReportOf, verdict_text}
 use Rattle.hm_edge.specs.Writing.{HasWritten, IsFlushed, WriteFaulted}
 use Rattle.hm_top.specs.declared.ended.Ended.{Ended}
 use Rattle.hm_edge.specs.declared.status.Status.{Status}
-use Rattle.hm_check.proofs.NotJudged.{none_failed, none_flushed, short_of_memory}
 use Rattle.hm_edge.proofs.Came.{came_as, came_bytes, given}
-
--- ---- where there is no verdict
-
-not_judged : (script : Option Program) (h : List Entry) (b a : SourceState) (status : Status) → HasNotJudged b a status → HasJudged script h b a status
-not_judged script h b a Status.Done n = absurd n
-not_judged script h b a (Status.NotLegal l) n = absurd n
-not_judged script h b a Status.WriteFault n = absurd n
-not_judged script h b a Status.HistoryFull n = n
-not_judged script h b a Status.Usage n = n
-not_judged script h b a (Status.Refused r) n = n
-not_judged script h b a Status.ReportTooLong n = n
-not_judged script h b a Status.ScriptTooLong n = n
-not_judged script h b a Status.NoRows n = n
-not_judged script h b a Status.TooManyRows n = n
-not_judged script h b a (Status.Race end) n = n
-not_judged script h b a Status.ReadFault n = n
-not_judged script h b a Status.NoMemory n = n
-
-none_answered : (b a : SourceState) (script : Option Program) (h : List Entry) (status : Status) → HasNotJudged b a status → AnsweredNone script h → HasReport script h status
-none_answered b a script h Status.Done n none = absurd n
-none_answered b a script h (Status.NotLegal l) n none = none
-none_answered b a script h Status.WriteFault n none = absurd n
-none_answered b a script h Status.HistoryFull n none = none
-none_answered b a script h Status.Usage n none = none
-none_answered b a script h (Status.Refused r) n none = none
-none_answered b a script h Status.ReportTooLong n none = none
-none_answered b a script h Status.ScriptTooLong n none = none
-none_answered b a script h Status.NoRows n none = none
-none_answered b a script h Status.TooManyRows n none = none
-none_answered b a script h (Status.Race end) n none = none
-none_answered b a script h Status.ReadFault n none = none
-none_answered b a script h Status.NoMemory n none = none
-
-none_told : (say : List Entry → List ℕ) (b a from : SourceState) (script : Option Program) (h : List Entry) (k k' : SinkState) (status : Status) → HasNotJudged b a status → k' ≡ k → HasTold say from script h k k' status
-none_told say b a from script h k k' Status.Done n same = absurd n
-none_told say b a from script h k k' (Status.NotLegal l) n same = absurd n
-none_told say b a from script h k k' Status.WriteFault n same = absurd n
-none_told say b a from script h k k' Status.HistoryFull n same = absurd n
-none_told say b a from script h k k' Status.Usage n same = absurd n
-none_told say b a from script h k k' (Status.Refused r) n same = absurd n
-none_told say b a from script h k k' Status.ReportTooLong n same = ap (λ x. x.held) same
-none_told say b a from script h k k' Status.ScriptTooLong n same = absurd n
-none_told say b a from script h k k' Status.NoRows n same = absurd n
-none_told say b a from script h k k' Status.TooManyRows n same = absurd n
-none_told say b a from script h k k' (Status.Race end) n same = absurd n
-none_told say b a from script h k k' Status.ReadFault n same = ap (λ x. x.held) same
-none_told say b a from script h k k' Status.NoMemory n same = inl (ap (λ x. x.held) same)
-
--- it had nothing to tell
-pub stopped : (say : List Entry → List ℕ) (io : Traffic) (e : Ended) → HasNotJudged io.source io.source_after e.status → ReadFaulted io.source.faults io.source_after.faults e.status → HasNothing e → io.sink_after ≡ io.sink → SaysOfReport say io e
-stopped say io e n faults none same = record {
-  read = not_judged e.script e.history.entries io.source io.source_after e.status n;
-  read_faults = faults;
-  answer = none_answered io.source io.source_after e.script e.history.entries e.status n none.none;
-  written = none_told say io.source io.source_after io.source e.script e.history.entries io.sink io.sink_after e.status n same;
-  write_faults = none_failed io.source io.source_after io.sink.faults io.sink_after.faults e.status n (ap (λ k. k.faults) same);
-  flushed = none_flushed io.source io.source_after io.sink_after.pending e.status n;
-  receipt = none.receipt_is;
-  complete = λ no_fault. given io.source.left (λ bytes at short. subst IsJudged (sym (short_of_memory io.source io.source_after e.status bytes n faults no_fault.reads at short)) tt);
-  finds = λ no_fault. given io.source.left (λ bytes at short c h is. subst (Finds c h e) (sym (short_of_memory io.source io.source_after e.status bytes n faults no_fault.reads at short)) tt);
-}
-
--- ---- where there is one
 
 came_rest : (left after : Option (List ℕ)) (bytes : List ℕ) → CameWhole left after bytes → IfSome left (λ l. after ≡ Some [])
 came_rest None after bytes came = tt

@@ -2,7 +2,7 @@
 use Rattle.std.proofs.Common.{◌≡◌, ℕ, zero, suc, ◌+◌, ◌<◌, ◌≤◌, ◌⊎◌, inl, inr, Bool, true, false, Option, None, Some, List, [], ◌∷◌, length, refl, sym, ap, ◌∙◌, subst, arith}
 use Rattle.std.specs.Prelude.{not, ◌&&◌, ◌||◌, fold, is_some}
 use Rattle.std.specs.List.{list_all}
-use Rattle.std.proofs.lemmas.Bool.{and_parts, cases_eq}
+use Rattle.std.proofs.lemmas.Bool.{and_parts, cases_eq, or_parts}
 use Rattle.hm_base.specs.Program.{Program, IsScript, schedule_fits}
 use Rattle.hm_base.specs.declared.ops.Op.{Op}
 use Rattle.hm_base.specs.declared.ops.ScheduleLine.{ScheduleLine}
@@ -12,8 +12,7 @@ use Rattle.hm_history.specs.Laws.{DueFrom}
 use Rattle.hm_history.specs.Kernel.Run.{enough, has_room, is_entry, is_idle, actors_of, drained, line_run, run}
 use Rattle.hm_history.specs.Memory.Words.{numbers}
 use Rattle.hm_history.specs.declared.Entry.{Entry}
-use Rattle.hm_history.specs.declared.Progress.{Progress}
-use Rattle.hm_history.proofs.RunLemmas.{line_due}
+use Rattle.hm_history.proofs.RunLemmas.{line_due, idle_quiet}
 use Rattle.hm_laws.specs.NeverStuck.{NeverStuck}
 use Rattle.hm_history.specs.Kernel.Overrun.{overruns_turn, some_overruns, overruns_line, overruns_lines, overruns}
 use Rattle.hm_script.specs.Built.{has_drain}
@@ -24,11 +23,6 @@ use Rattle.hm_laws.proofs.Rounds.{Ends, below, drains_end}
 abbrev pub NoneDue : Program → List Entry → Type 0
 NoneDue c h = (a : ℕ) → a < length c.actors → is_entry (due c h a) ≡ false
 
-idle_quiet : (p : Progress) → is_idle p ≡ true → is_entry p ≡ false
-idle_quiet (Progress.Did e) idle = cc
-idle_quiet (Progress.Waiting why) idle = refl
-idle_quiet Progress.Idle idle = refl
-
 none_by_idle : (c : Program) (h : List Entry) (first n a : ℕ) → list_all (λ b. is_idle (due c h b)) (numbers first n) ≡ true → first ≤ a → a < first + n → is_entry (due c h a) ≡ false
 none_by_idle c h first zero a idle low high = absurd (omega arith)
 none_by_idle c h first (suc n) a idle low high = by (λ above. none_by_idle c h (first + 1) n a (and_parts _ _ idle).1 above (omega arith)) (cases_eq first a)
@@ -36,10 +30,6 @@ none_by_idle c h first (suc n) a idle low high = by (λ above. none_by_idle c h 
     by : (first + 1 ≤ a → is_entry (due c h a) ≡ false) → (first ≡ a) ⊎ (first ≡ a → ⊥) → is_entry (due c h a) ≡ false
     by rest (inl here) = subst (λ b. is_entry (due c h b) ≡ false) here (idle_quiet (due c h first) (and_parts _ _ idle).0)
     by rest (inr other) = rest (omega (arith, other))
-
-or_parts : (x y : Bool) → (x || y) ≡ false → (x ≡ false) × (y ≡ false)
-or_parts true y e = cc
-or_parts false y e = (refl, e)
 
 quiet_full : (x y : Bool) → y ≡ false → (x && not y) ≡ false → x ≡ false
 quiet_full false y full e = refl

@@ -2,7 +2,6 @@ pub mod Drains
 pub mod Room
 pub mod Trial
 pub mod Idle
-pub mod Calls
 pub mod Advising
 pub mod Replaying
 pub mod Peeking

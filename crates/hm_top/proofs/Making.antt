@@ -1,55 +1,21 @@
 -- What the calls with `generate N` and `trial N` come to.
-use Rattle.std.proofs.Common.{◌≡◌, ℕ, inl, Bool, true, false, Some, None, Option, List, refl, sym, ◌∙◌, ap, subst}
+use Rattle.std.proofs.Common.{◌≡◌, ℕ, Bool, true, false, Some, None, Option, List, refl, sym, ◌∙◌, ap, subst}
 use Rattle.hm_base.specs.Program.{Program}
 use Rattle.hm_history.specs.Kernel.Overrun.{overruns}
 use Rattle.hm_history.specs.Kernel.Run.{run}
 use Rattle.hm_history.specs.declared.Entry.{Entry}
-use Rattle.hm_io.specs.Streams.{SinkState}
 use Rattle.hm_report.specs.Summary.{summary}
 use Rattle.hm_script.specs.Generator.{generated}
 use Rattle.hm_script.specs.Spelling.{text}
 use Rattle.hm_top.specs.Generates.{Generates, HasMade, IsAlone, IsTried, Tries}
-use Rattle.hm_top.specs.Ran.{HasNothing, IsRan}
-use Rattle.hm_top.specs.Running.{Answered, AnsweredNone, RanFull, RanWhole}
+use Rattle.hm_top.specs.Ran.{IsRan}
+use Rattle.hm_top.specs.Running.{Answered, RanFull, RanWhole}
 use Rattle.hm_edge.specs.Traffic.{Traffic}
 use Rattle.hm_edge.specs.Writing.{HasWritten, IsFlushed, WriteFaulted}
 use Rattle.hm_top.specs.declared.ended.Ended.{Ended}
 use Rattle.hm_top.specs.declared.schedule.Ran.{Ran}
 use Rattle.hm_edge.specs.declared.status.Status.{Status}
 use Rattle.hm_top.proofs.Trial.{trial_fits}
-
--- memory ran out before anything was written
-made_none : (Is : Program → List Entry → Type 0) (script : Option Program) (h : List Entry) (status : Status) → status ≡ Status.NoMemory → AnsweredNone script h → HasMade Is script h status
-made_none Is script h status e none = subst (HasMade Is script h) (sym e) none
-
-none_written : (text : List ℕ) (Goes : List ℕ → Type 0) (k k' : SinkState) (status : Status) → status ≡ Status.NoMemory → k' ≡ k → HasWritten text Goes k k' status
-none_written text Goes k k' status e same = subst (HasWritten text Goes k k') (sym e) (inl (ap (λ x. x.held) same))
-
-none_failed : (n n' : ℕ) (status : Status) → status ≡ Status.NoMemory → n' ≡ n → WriteFaulted n n' status
-none_failed n n' status e same = subst (WriteFaulted n n') (sym e) same
-
-none_flushed : (pending : Bool) (status : Status) → status ≡ Status.NoMemory → IsFlushed pending status
-none_flushed pending status e = subst (IsFlushed pending) (sym e) tt
-
-pub no_text : (n : ℕ) (io : Traffic) (e : Ended) → io.source_after ≡ io.source → io.sink_after ≡ io.sink → e.status ≡ Status.NoMemory → HasNothing e → Generates n io e
-no_text n io e unread same none answer = record {
-  unread = unread;
-  made = made_none (IsAlone (generated n)) e.script e.history.entries e.status none answer.none;
-  written = none_written (text (generated n)) (λ t. t ≡ text (generated n)) io.sink io.sink_after e.status none same;
-  write_faults = none_failed io.sink.faults io.sink_after.faults e.status none (ap (λ k. k.faults) same);
-  flushed = none_flushed io.sink_after.pending e.status none;
-  receipt = answer.receipt_is;
-}
-
-pub no_trial : (n : ℕ) (io : Traffic) (e : Ended) → io.source_after ≡ io.source → io.sink_after ≡ io.sink → e.status ≡ Status.NoMemory → HasNothing e → Tries n io e
-no_trial n io e unread same none answer = record {
-  unread = unread;
-  ran = made_none (IsTried (generated n)) e.script e.history.entries e.status none answer.none;
-  written = none_written (summary n (generated n) (run (generated n))) (λ t. t ≡ summary n (generated n) (run (generated n))) io.sink io.sink_after e.status none same;
-  write_faults = none_failed io.sink.faults io.sink_after.faults e.status none (ap (λ k. k.faults) same);
-  flushed = none_flushed io.sink_after.pending e.status none;
-  receipt = answer.receipt_is;
-}
 
 -- the script's text was written
 pub texts : (n : ℕ) (io : Traffic) (e : Ended) (s : Program) → s ≡ generated n → io.source_after ≡ io.source → HasMade (IsAlone s) e.script e.history.entries e.status

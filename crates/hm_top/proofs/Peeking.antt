@@ -5,9 +5,9 @@ use Rattle.hm_history.specs.Memory.After.{after}
 use Rattle.hm_history.specs.Laws.{DueFrom}
 use Rattle.hm_history.specs.Memory.Locks.{writer}
 use Rattle.hm_history.specs.declared.Entry.{Entry}
-use Rattle.hm_io.specs.Streams.{Adds, AddsFront, SinkState, SourceState}
+use Rattle.hm_io.specs.Streams.{Adds, AddsFront, SinkState}
 use Rattle.hm_machine.proofs.Unlocked.{nobody_writes}
-use Rattle.hm_report.specs.Written.{FaultCause, ReportWants, TextWants, Writes}
+use Rattle.hm_report.specs.Written.{ReportWants, Writes}
 use Rattle.hm_report.specs.declared.written.Written.{Written}
 use Rattle.hm_turns.specs.Looking.{all_have_areas, looked_after}
 use Rattle.hm_turns.specs.Stepping.{is_halted}
@@ -16,69 +16,30 @@ use Rattle.hm_workers.specs.Peeking.{ArePeeks, IsPlain, ReachesEnd, last_count}
 use Rattle.hm_workers.specs.declared.peeks.Peek.{Peek}
 use Rattle.hm_world.specs.WorldValue.{WorldValue}
 use Rattle.hm_top.specs.Peeks.{AnswersPeeks, HasSeen, IsPeekedReport, RunsPeeked, SawAll, peeked_text}
-use Rattle.hm_top.specs.Ran.{HasNothing, Shows, ShowsAt, shown_status}
-use Rattle.hm_edge.specs.Reading.{HasNotRead, IsTextOf, ReadAs, ReadFaulted}
+use Rattle.hm_top.specs.Ran.{Shows, ShowsAt, shown_status}
+use Rattle.hm_edge.specs.Reading.{IsTextOf, ReadAs}
 use Rattle.hm_top.specs.RunsThreads.{AllEnded, StoppedFull}
 use Rattle.hm_edge.specs.Traffic.{Traffic}
 use Rattle.hm_edge.specs.Writing.{HasWritten, IsFlushed, WriteFaulted}
 use Rattle.hm_top.specs.declared.ended.Ended.{Ended}
 use Rattle.hm_top.specs.declared.schedule.Ran.{Ran}
 use Rattle.hm_edge.specs.declared.status.Status.{Status}
-use Rattle.hm_top.proofs.Threading.{came, shown_for, stopped}
-
--- ---- nothing was run
-
-none_seen : (p at n : ℕ) (h : List Entry) (xs : List Peek) (b a : SourceState) (status : Status) → HasNotRead b a status → xs ≡ [] → HasSeen p at n h xs status
-none_seen p at n h xs b a Status.Done read none = absurd read
-none_seen p at n h xs b a Status.HistoryFull read none = none
-none_seen p at n h xs b a Status.WriteFault read none = inr none
-none_seen p at n h xs b a Status.Usage read none = none
-none_seen p at n h xs b a (Status.NotLegal l) read none = none
-none_seen p at n h xs b a (Status.Refused r) read none = none
-none_seen p at n h xs b a Status.ScriptTooLong read none = none
-none_seen p at n h xs b a Status.ReportTooLong read none = none
-none_seen p at n h xs b a Status.NoRows read none = none
-none_seen p at n h xs b a Status.TooManyRows read none = none
-none_seen p at n h xs b a (Status.Race end) read none = none
-none_seen p at n h xs b a Status.ReadFault read none = none
-none_seen p at n h xs b a Status.NoMemory read none = none
-
--- it had nothing to show
-pub none_peeked : (p at n : ℕ) (io : Traffic) (e : Ended) → HasNotRead io.source io.source_after e.status → ReadFaulted io.source.faults io.source_after.faults e.status → HasNothing e → io.sink_after ≡ io.sink → e.peeks ≡ [] → RunsPeeked p at n io e
-none_peeked p at n io e read faults none same no_peeks = record {
-  threads = stopped (peeked_text e.peeks) (IsPeekedReport p at n io.source) io e read faults none same;
-  peeks = none_seen p at n e.history.entries e.peeks io.source io.source_after e.status read no_peeks;
-}
+use Rattle.hm_top.proofs.Threading.{came, shown_for}
+use Rattle.hm_report.proofs.Sending.{adds_more}
 
 -- ---- the texts
 
-more_added : (k k' k'' : Option (List ℕ)) (xs ys : List ℕ) → Adds k k' xs → Adds k' k'' ys → Adds k k'' (xs ++ ys)
-more_added None k' k'' xs ys one two = tt
-more_added (Some held) k' k'' xs ys one two = subst (λ l. k'' ≡ Some l) (append_assoc held xs ys) (by k' one two)
-  where
-    by : (k' : Option (List ℕ)) → k' ≡ Some (held ++ xs) → Adds k' k'' ys → k'' ≡ Some ((held ++ xs) ++ ys)
-    by None one two = cc
-    by (Some l) one two = let same : l ≡ held ++ xs = cc in subst (λ l. k'' ≡ Some (l ++ ys)) same two
-
 front_added : (k k' k'' : Option (List ℕ)) (xs ys : List ℕ) → Adds k k' xs → AddsFront k' k'' ys → AddsFront k k'' (xs ++ ys)
-front_added k k' k'' xs ys one front = (xs ++ front.0, front.1, ap (λ l. xs ++ l) front.2 ∙ sym (append_assoc xs front.0 front.1), more_added k k' k'' xs front.0 one front.3)
+front_added k k' k'' xs ys one front = (xs ++ front.0, front.1, ap (λ l. xs ++ l) front.2 ∙ sym (append_assoc xs front.0 front.1), adds_more k k' k'' xs front.0 one front.3)
 
 pub front_longer : (k k' : Option (List ℕ)) (xs ys : List ℕ) → AddsFront k k' xs → AddsFront k k' (xs ++ ys)
 front_longer k k' xs ys front = (front.0, front.1 ++ ys, ap (λ l. l ++ ys) front.2 ∙ append_assoc front.0 front.1 ys, front.3)
 
 -- one text after another
 pub then_written : (k k' k'' : Option (List ℕ)) (xs ys : List ℕ) (w : Written) → Writes k k' xs Written.Done → Writes k' k'' ys w → Writes k k'' (xs ++ ys) w
-then_written k k' k'' xs ys Written.Done one two = more_added k k' k'' xs ys one two
+then_written k k' k'' xs ys Written.Done one two = adds_more k k' k'' xs ys one two
 then_written k k' k'' xs ys Written.Fault one two = front_added k k' k'' xs ys one two
 then_written k k' k'' xs ys Written.NoMemory one two = front_added k k' k'' xs ys one two
-
-pub then_faults : (a b c : ℕ) (w : Written) → FaultCause a b Written.Done → FaultCause b c w → FaultCause a c w
-then_faults a b c w one two = subst (λ x. FaultCause x c w) one two
-
-pub then_wants : (s t u : SinkState) (w : Written) → ReportWants s t Written.Done → TextWants t.wants u.wants w → ReportWants s u w
-then_wants s t u Written.Done one two = two ∙ one
-then_wants s t u Written.Fault one two = two ∙ one
-then_wants s t u Written.NoMemory one two = inr (subst (λ x. TextWants x u.wants Written.NoMemory) one two)
 
 -- the text of a run and what was seen of it was written so
 pub peeked_so : (saw xs : List Peek) (s : Program) (h : List Entry) (k k' : SinkState) (w : Written) (full : Bool) (status : Status) → status ≡ shown_status w full → AnswersPeeks saw xs status

@@ -9,8 +9,8 @@ use Rattle.hm_quiet_laws.specs.Quiet.{DrainAloneHasRoom}
 use Rattle.hm_script.specs.Spelling.{text}
 use Rattle.hm_top.specs.Complete.{IsComplete}
 use Rattle.hm_edge.specs.Traffic.{NoFault, Traffic}
-use Rattle.hm_top.specs.Ran.{HasAll, HasNothing, Shows, ShowsAt}
-use Rattle.hm_edge.specs.Reading.{HasNotRead, HasRead, IsTextOf, ReadAs, ReadFaulted}
+use Rattle.hm_top.specs.Ran.{HasAll, Shows, ShowsAt}
+use Rattle.hm_edge.specs.Reading.{HasRead, IsTextOf, ReadAs, ReadFaulted}
 use Rattle.hm_top.specs.Replays.{IsItsText, IsToldOfRun, TellsOfRun}
 use Rattle.hm_top.specs.Running.{Answered, HasRun, RanFull, RanSo, RanWhole, told_of}
 use Rattle.hm_edge.specs.Writing.{HasWritten, IsFlushed, WriteFaulted}
@@ -18,22 +18,7 @@ use Rattle.hm_top.specs.declared.ended.Ended.{Ended}
 use Rattle.hm_top.specs.declared.schedule.Ran.{Ran}
 use Rattle.hm_edge.specs.declared.status.Status.{Status}
 use Rattle.hm_edge.proofs.Came.{given}
-use Rattle.hm_edge.proofs.NotRead.{none_failed, none_flushed, none_written}
-use Rattle.hm_top.proofs.Calls.{none_run, not_read, short_of_memory}
 use Rattle.hm_top.proofs.Room.{room_fits}
-
--- it had nothing to show
-pub stopped : (tell : Program → List Entry → List ℕ) (io : Traffic) (e : Ended) → HasNotRead io.source io.source_after e.status → ReadFaulted io.source.faults io.source_after.faults e.status → HasNothing e → io.sink_after ≡ io.sink → TellsOfRun tell io e
-stopped tell io e n faults none same = record {
-  read = not_read (IsItsText e.script) io.source io.source_after e.status n;
-  read_faults = faults;
-  ran = none_run io.source io.source_after e.script e.history.entries e.status n none.none;
-  written = none_written io.source io.source_after (told_of tell e.script e.history.entries) (IsToldOfRun tell io.source) io.sink io.sink_after e.status n same;
-  write_faults = none_failed io.source io.source_after io.sink.faults io.sink_after.faults e.status n (ap (λ k. k.faults) same);
-  flushed = none_flushed io.source io.source_after io.sink_after.pending e.status n;
-  receipt = none.receipt_is;
-  complete = λ no_fault. given io.source.left (λ bytes at s is_given room. short_of_memory io e.status bytes s at n faults no_fault is_given);
-}
 
 pub read_shown : (r : Ran) (e : Ended) (b a : SourceState) (status : Status) → ShowsAt r e status → ReadAs 4194304 (IsTextOf r.script) b a → HasRead (IsItsText e.script) b a status
 read_shown r e b a Status.Done shows read = subst (λ x. ReadAs 4194304 (IsItsText x) b a) (sym shows.1.script_is) read

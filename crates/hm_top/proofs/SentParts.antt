@@ -302,9 +302,6 @@ each_phase = (
   ),
 )
 
-pub phase : IsSend Phase.the_row
-phase = recorded_send _ _ _ (Phase.the_type).to_one (enum_send (shape Phase.the_type) each_phase)
-
 pub migrating : IsSend Migrating.the_row
 migrating = search (page, frame, sendable, crosses) depth 60 fits 8000
 

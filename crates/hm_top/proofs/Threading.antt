@@ -3,12 +3,9 @@ use Rattle.std.proofs.Common.{◌≡◌, ℕ, inl, inr, Bool, true, false, Some,
 use Rattle.hm_base.specs.Program.{Program}
 use Rattle.hm_history.specs.declared.Entry.{Entry}
 use Rattle.hm_report.specs.Report.{report}
-use Rattle.hm_top.specs.Complete.{IsComplete}
 use Rattle.hm_edge.specs.Traffic.{NoFault, Traffic}
-use Rattle.hm_top.specs.Ran.{HasAll, HasNothing, Shows, ShowsAt}
-use Rattle.hm_edge.specs.Reading.{HasNotRead, IsTextOf, ReadAs, ReadFaulted}
-use Rattle.hm_top.specs.Replays.{IsItsText}
-use Rattle.hm_top.specs.Running.{told_of}
+use Rattle.hm_top.specs.Ran.{HasAll, Shows, ShowsAt}
+use Rattle.hm_edge.specs.Reading.{IsTextOf, ReadAs}
 use Rattle.hm_top.specs.RunsThreads.{AllEnded, CameToEnd, HasReceipt, HasRunThreads, IsCompleteOrFull, IsThreadsReport, StoppedFull, TellsOfThreads}
 use Rattle.hm_io.specs.Streams.{SourceState}
 use Rattle.hm_edge.specs.Writing.{HasWritten, IsFlushed, WriteFaulted}
@@ -16,67 +13,7 @@ use Rattle.hm_top.specs.declared.ended.Ended.{Ended}
 use Rattle.hm_top.specs.declared.schedule.Ran.{Ran}
 use Rattle.hm_edge.specs.declared.status.Status.{Status}
 use Rattle.hm_edge.proofs.Came.{given}
-use Rattle.hm_edge.proofs.NotRead.{none_failed, none_flushed, none_written}
-use Rattle.hm_top.proofs.Calls.{not_read, short_of_memory}
 use Rattle.hm_top.proofs.Replaying.{answered, faults_shown, read_shown, text_shown}
-
-none_run : (b a : SourceState) (e : Ended) (status : Status) → HasNotRead b a status → HasNothing e → HasRunThreads e.script e.history.entries status
-none_run b a e Status.Done n none = absurd n
-none_run b a e Status.HistoryFull n none = absurd n
-none_run b a e Status.WriteFault n none = absurd n
-none_run b a e Status.Usage n none = none.none
-none_run b a e (Status.NotLegal l) n none = absurd n
-none_run b a e (Status.Refused r) n none = none.none
-none_run b a e Status.ScriptTooLong n none = none.none
-none_run b a e Status.ReportTooLong n none = none.none
-none_run b a e Status.NoRows n none = none.none
-none_run b a e Status.TooManyRows n none = none.none
-none_run b a e (Status.Race end) n none = none.none
-none_run b a e Status.ReadFault n none = none.none
-none_run b a e Status.NoMemory n none = none.none
-
-none_received : (b a : SourceState) (e : Ended) (status : Status) → HasNotRead b a status → HasNothing e → HasReceipt e.receipt e.history.entries status
-none_received b a e Status.Done n none = absurd n
-none_received b a e Status.HistoryFull n none = absurd n
-none_received b a e Status.WriteFault n none = absurd n
-none_received b a e Status.Usage n none = none.receipt_is
-none_received b a e (Status.NotLegal l) n none = none.receipt_is
-none_received b a e (Status.Refused r) n none = none.receipt_is
-none_received b a e Status.ScriptTooLong n none = none.receipt_is
-none_received b a e Status.ReportTooLong n none = none.receipt_is
-none_received b a e Status.NoRows n none = none.receipt_is
-none_received b a e Status.TooManyRows n none = none.receipt_is
-none_received b a e (Status.Race end) n none = none.receipt_is
-none_received b a e Status.ReadFault n none = none.receipt_is
-none_received b a e Status.NoMemory n none = none.receipt_is
-
-or_full : (status : Status) → IsComplete status → IsCompleteOrFull status
-or_full Status.Done e = tt
-or_full Status.NoMemory e = tt
-or_full Status.HistoryFull e = tt
-or_full Status.WriteFault e = e
-or_full Status.Usage e = e
-or_full (Status.NotLegal l) e = e
-or_full (Status.Refused r) e = e
-or_full Status.ScriptTooLong e = e
-or_full Status.ReportTooLong e = e
-or_full Status.NoRows e = e
-or_full Status.TooManyRows e = e
-or_full (Status.Race end) e = e
-or_full Status.ReadFault e = e
-
--- it had nothing to show
-pub stopped : (tell : Program → List Entry → List ℕ) (Goes : List ℕ → Type 0) (io : Traffic) (e : Ended) → HasNotRead io.source io.source_after e.status → ReadFaulted io.source.faults io.source_after.faults e.status → HasNothing e → io.sink_after ≡ io.sink → TellsOfThreads tell Goes io e
-stopped tell Goes io e n faults none same = record {
-  read = not_read (IsItsText e.script) io.source io.source_after e.status n;
-  read_faults = faults;
-  ran = none_run io.source io.source_after e e.status n none;
-  receipt = none_received io.source io.source_after e e.status n none;
-  written = none_written io.source io.source_after (told_of tell e.script e.history.entries) Goes io.sink io.sink_after e.status n same;
-  write_faults = none_failed io.source io.source_after io.sink.faults io.sink_after.faults e.status n (ap (λ k. k.faults) same);
-  flushed = none_flushed io.source io.source_after io.sink_after.pending e.status n;
-  complete = λ no_fault. given io.source.left (λ bytes at s is_given. or_full e.status (short_of_memory io e.status bytes s at n faults no_fault is_given));
-}
 
 pub came : (s : Program) (h : List Entry) (full : Bool) → (full ≡ false → AllEnded s h) → (full ≡ true → StoppedFull s h) → CameToEnd s h
 came s h false whole over = inl (whole refl)

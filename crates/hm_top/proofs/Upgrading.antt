@@ -8,45 +8,13 @@ use Rattle.hm_script.specs.Spelling.{text}
 use Rattle.hm_top.specs.Complete.{IsComplete}
 use Rattle.hm_edge.specs.Traffic.{NoFault, Traffic}
 use Rattle.hm_top.specs.Generates.{HasMade, IsAlone}
-use Rattle.hm_edge.specs.Reading.{HasNotRead, HasRead, IsTextOf, ReadAs, ReadFaulted}
-use Rattle.hm_top.specs.Ran.{HasNothing}
+use Rattle.hm_edge.specs.Reading.{HasRead, IsTextOf, ReadAs, ReadFaulted}
 use Rattle.hm_top.specs.Running.{Answered}
 use Rattle.hm_top.specs.Upgrades.{HasUpgraded, IsItsUpgrade, IsUpgradedText, IsUpgradeOf, Upgrades, text_for, upgraded}
 use Rattle.hm_edge.specs.Writing.{HasWritten, IsFlushed, WriteFaulted}
 use Rattle.hm_top.specs.declared.ended.Ended.{Ended}
 use Rattle.hm_edge.specs.declared.status.Status.{Status}
 use Rattle.hm_edge.proofs.Came.{given}
-use Rattle.hm_edge.proofs.NotRead.{none_failed, none_flushed, none_written}
-use Rattle.hm_top.proofs.Calls.{not_read, short_of_memory}
-
-none_upgraded : (b a : SourceState) (script : Option Program) (status : Status) → HasNotRead b a status → script ≡ None → HasUpgraded script status
-none_upgraded b a script Status.Done n e = absurd n
-none_upgraded b a script Status.HistoryFull n e = n
-none_upgraded b a script Status.WriteFault n e = absurd n
-none_upgraded b a script Status.Usage n e = n
-none_upgraded b a script (Status.NotLegal l) n e = n
-none_upgraded b a script (Status.Refused r) n e = e
-none_upgraded b a script Status.ScriptTooLong n e = e
-none_upgraded b a script Status.ReportTooLong n e = absurd n
-none_upgraded b a script Status.NoRows n e = absurd n
-none_upgraded b a script Status.TooManyRows n e = absurd n
-none_upgraded b a script (Status.Race end) n e = absurd n
-none_upgraded b a script Status.ReadFault n e = e
-none_upgraded b a script Status.NoMemory n e = e
-
--- it had nothing to show
-pub stopped : (io : Traffic) (e : Ended) → HasNotRead io.source io.source_after e.status → ReadFaulted io.source.faults io.source_after.faults e.status → HasNothing e → io.sink_after ≡ io.sink → Upgrades io e
-stopped io e n faults none same = record {
-  read = not_read (IsItsUpgrade e.script) io.source io.source_after e.status n;
-  read_faults = faults;
-  script = none_upgraded io.source io.source_after e.script e.status n none.none.script_is;
-  history = none.none.history_is;
-  written = none_written io.source io.source_after (text_for e.script) (IsUpgradedText io.source) io.sink io.sink_after e.status n same;
-  write_faults = none_failed io.source io.source_after io.sink.faults io.sink_after.faults e.status n (ap (λ k. k.faults) same);
-  flushed = none_flushed io.source io.source_after io.sink_after.pending e.status n;
-  receipt = none.receipt_is;
-  complete = λ no_fault. given io.source.left (λ bytes at s is_given. short_of_memory io e.status bytes s at n faults no_fault is_given);
-}
 
 the_script : (u : Program) (script : Option Program) (h : List Entry) → Answered (IsAlone u) script h → script ≡ Some u
 the_script u None h a = absurd a

@@ -1,5 +1,5 @@
 -- Marks, and what entries touch.
-use Rattle.std.proofs.Common.{◌≡◌, ℕ, ◌+◌, ◌-◌, ◌<◌, ◌≤◌, true, false, List, [], ◌∷◌, ◌++◌, length, get_or, set, Option, Some, None, sym, refl, ap, ◌∙◌, subst, inl, inr, ⊎_elim, arith, get_or-set_other, get_or-set_same, is_none}
+use Rattle.std.proofs.Common.{◌≡◌, ℕ, ◌+◌, ◌-◌, ◌<◌, ◌≤◌, true, false, List, [], ◌∷◌, ◌++◌, length, get_or, set, Option, Some, None, sym, refl, ap, ◌∙◌, subst, inl, inr, ⊎_elim, arith, get_or-set_other, get_or-set_same, is_none, slice_get, take}
 use mathlib.Core.Logic.{dite}
 use mathlib.Core.List.{IsPrefix}
 use native.Mathlib.Decide.{ℕ_discrete}
@@ -13,6 +13,11 @@ use Rattle.hm_turns.proofs.Sums.{prefix_length, get_append}
 
 touch_append : (xs ys : List Entry) (i : ℕ) → i < length xs → touch_at (xs ++ ys) i ≡ touch_at xs i
 touch_append xs ys i lt = let before = take-append-le i xs ys (omega arith) in let here = get_append xs ys i lt in λ k. touched_after (before k) (here k)
+
+-- a history with no last entry touches nothing
+pub none_touches : (h : List Entry) → slice_get h (length h - 1) ≡ None → last_touched h ≡ None
+unfolding touched_after
+none_touches h at = ap (touched_after (take (length h - 1) h)) at
 
 pub touch_same : (xs ys : List Entry) (i : ℕ) → IsPrefix xs ys → i < length xs → touch_at ys i ≡ touch_at xs i
 touch_same xs ys i p lt = ap (λ (l : List Entry). touch_at l i) (sym p.1) ∙ touch_append xs p.0 i lt

@@ -11,6 +11,7 @@ use Rattle.hm_history.specs.declared.StepError.{StepError}
 use Rattle.hm_turns.specs.Touching.{touched_after, last_touched}
 use Rattle.hm_turns_tests.specs.declared.toy.Choice.{Choice}
 use Rattle.hm_turns_tests.specs.Toys.{entry_of, decided, progress_of, due_of, LegalFrom, IsLegal, IsSound, Shown, touch_of}
+use Rattle.hm_turns.proofs.Marks.{none_touches}
 
 legal_more : (s : Program) (before es : List Entry) (e : Entry) → LegalFrom s before es → Did e ≡ due_of s (before ++ es) e.actor → LegalFrom s before (es ++ e ∷ [])
 legal_more s before [] e l d = (d ∙ ap (λ (h : List Entry). due_of s h e.actor) (append-nil before), tt)
@@ -39,10 +40,6 @@ unfolding touched_after
 last_of s h e l at = let before = take (length h - 1) h in
     ap (touched_after before) at ∙ (ap (λ (z : Entry). touched (after before).plain z.kind) (each_entry_is s [] h (length h - 1) e l at) ∙ kind_touches (after before).plain e.actor (e.actor == 0))
 
-last_none : (h : List Entry) → slice_get h (length h - 1) ≡ None → last_touched h ≡ None
-unfolding touched_after
-last_none h at = ap (touched_after (take (length h - 1) h)) at
-
 -- what the last entry touches, of a value that shows as `now` and whose entries were read
 pub shown_last : (s : Program) (h seen : List Entry) (halt : Option StepError) (now : Shown) (e : Entry) → record { script = s; history = h; halt = halt } ≡ now → seen ≡ h → IsLegal s h
     → Some e ≡ slice_get seen (length seen - 1) → touch_of e.actor ≡ last_touched now.history
@@ -50,4 +47,4 @@ shown_last s h seen halt now e is same l at = sym (last_of s h e l (ap (λ (xs :
 
 pub shown_none : (s : Program) (h seen : List Entry) (halt : Option StepError) (now : Shown) → record { script = s; history = h; halt = halt } ≡ now → seen ≡ h
     → None ≡ slice_get seen (length seen - 1) → None ≡ last_touched now.history
-shown_none s h seen halt now is same at = sym (last_none h (ap (λ (xs : List Entry). slice_get xs (length xs - 1)) (sym same) ∙ sym at)) ∙ ap (λ (v : Shown). last_touched v.history) is
+shown_none s h seen halt now is same at = sym (none_touches h (ap (λ (xs : List Entry). slice_get xs (length xs - 1)) (sym same) ∙ sym at)) ∙ ap (λ (v : Shown). last_touched v.history) is

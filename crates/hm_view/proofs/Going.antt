@@ -9,8 +9,8 @@ use Rattle.hm_history.specs.declared.Entry.{Entry}
 use Rattle.hm_history.specs.declared.Progress.{Progress}
 use Rattle.hm_world.specs.WorldValue.{WorldValue, grown}
 use Rattle.hm_view.specs.Rows.{row, rows}
-use Rattle.hm_view.proofs.Dues.{due_at}
 use Rattle.hm_view.proofs.Texts.{one_row}
+use Rattle.hm_history.proofs.RunLemmas.{due_at}
 
 -- it has gone on so far, and the rows so far were added
 pub record SoFar (c : Program) (h : List Entry) (from at : ℕ) (old new : List ℕ) (w : WorldValue) : Type 0 where

@@ -1,5 +1,3 @@
 pub mod Texts
-pub mod Dues
-pub mod Viewing
 pub mod Told
 pub mod Going

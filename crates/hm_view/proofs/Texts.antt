@@ -1,6 +1,6 @@
 -- Texts that grow by one piece at a time.
-use Rattle.std.proofs.Common.{◌≡◌, ℕ, zero, suc, ◌+◌, ◌<◌, ◌≤◌, Option, Some, None, List, [], ◌∷◌, ◌++◌, length, get_or, take, refl, sym, ap, ◌∙◌, subst, arith, append_assoc, append-nil}
-use Rattle.std.specs.Prelude.{slice_get, nat_le}
+use Rattle.std.proofs.Common.{◌≡◌, ℕ, suc, ◌+◌, ◌<◌, ◌≤◌, Option, Some, None, List, [], ◌∷◌, ◌++◌, length, get_or, take, sym, ap, ◌∙◌, subst, arith, append_assoc, append-nil}
+use Rattle.std.specs.Prelude.{nat_le}
 use Rattle.std.specs.List.{flat_map}
 use Rattle.std.proofs.lemmas.Grind.{flat_map-append}
 use Rattle.std.proofs.lemmas.Option.{slice_get-get_or}
@@ -53,9 +53,3 @@ one_row c h from i d old text new below so next =
 
     is : row_at c h from i ≡ row c (take i h) (nat_le from i) (get_or h i d)
     is = ap (λ (y : Option Entry). elim y as (λ _. List ℕ) [ None ↦ [] | Some e ↦ row c (take i h) (nat_le from i) e ]) (slice_get-get_or h i d below)
-
--- three pieces, one after the other
-pub three_pieces : (old one two new a b d : List ℕ) → one ≡ old ++ a → two ≡ one ++ b → new ≡ two ++ d → new ≡ old ++ (a ++ (b ++ d))
-three_pieces old one two new a b d first second third =
-    third ∙ ap (λ (xs : List ℕ). xs ++ d) (second ∙ ap (λ (xs : List ℕ). xs ++ b) first)
-    ∙ append_assoc (old ++ a) b d ∙ append_assoc old a (b ++ d)

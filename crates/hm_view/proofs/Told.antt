@@ -9,24 +9,21 @@ use Rattle.hm_base.specs.declared.Frame.{Frame}
 use Rattle.hm_base.specs.declared.Place.{Place}
 use Rattle.hm_history.specs.Memory.Words.{with_at, with_frame, same_frame, sys_frame, names}
 use Rattle.hm_history.specs.Memory.Places.{Places, lowest_named, places_next}
-use Rattle.hm_history.specs.Memory.Sequences.{Sequences, Stage, Interval, applied, applied_stage, with_stage, is_last_end, interval_seq, sequences_next}
+use Rattle.hm_history.specs.Memory.Sequences.{Sequences, Stage, Interval, applied, with_stage, is_last_end, interval_seq, sequences_next}
 use Rattle.hm_history.specs.Memory.Locks.{Locks, releases, map_next, left_behind, with_lock, is_locker, frame_placed, frame_next}
-use Rattle.hm_history.specs.Memory.After.{After, after_entry}
+use Rattle.hm_history.specs.Memory.After.{After}
 use Rattle.hm_history.specs.declared.locks.MapLock.{MapLock}
 use Rattle.hm_history.specs.declared.Kind.{Kind}
 use Rattle.hm_history.specs.declared.Entry.{Entry}
 use Rattle.hm_report.specs.Words.{actor_text}
-use Rattle.hm_view.specs.Changes.{map_change, place_before, listed, frames_about}
-use Rattle.hm_view.specs.Laws.{procs_about, mirrors_about, IsOther, map_text, TellsMap, TellsAll, ChangesAreTold}
+use Rattle.hm_view.specs.Changes.{place_before, listed, frames_about}
+use Rattle.hm_view.specs.Laws.{procs_about, mirrors_about, IsOther, map_text, TellsMap, ChangesAreTold}
+use Rattle.std.proofs.lemmas.Bool.{or_parts}
+use Rattle.hm_history.proofs.Updates.{here_at}
+use Rattle.hm_history.proofs.Intervals.{settled_seq, seq_in}
 
 other_at : {X : Type 0} (f : ℕ → X) (k : ℕ) (x : X) (q : ℕ) → (q == k) ≡ false → with_at f k x q ≡ f q
 other_at f k x q h = rw h refl
-
-here_at : {X : Type 0} (f : ℕ → X) (k : ℕ) (x : X) → with_at f k x k ≡ x
-here_at f k x = rw same refl
-  where
-    same : (k == k) ≡ true
-    same = grind (arith, nat_tests)
 
 other_frame : {X : Type 0} (f : Frame → X) (k : Frame) (x : X) (q : Frame) → same_frame q k ≡ false → with_frame f k x q ≡ f q
 other_frame f k x q h = rw h refl
@@ -57,13 +54,8 @@ map_told s e = by e.actor e.kind
 
 -- ---- locks of frames
 
--- where none of the numbers is meant, the first is not
-or_none : (a b : Bool) → (a || b) ≡ false → (a ≡ false) × (b ≡ false)
-or_none false b h = (refl, h)
-or_none true b h = cc
-
 head_other : {X : Type 0} (test : X → Bool) (x : X) (xs : List X) → list_any test (x ∷ xs) ≡ false → test x ≡ false
-head_other test x xs h = (or_none (test x) (list_any test xs) h).0
+head_other test x xs h = (or_parts (test x) (list_any test xs) h).0
 
 with_orphan : (g : Frame → Option ℕ) (s : Locks) (after : Places) (y : Option Frame) (a : ℕ) (f : Frame) → list_any (same_frame f) (listed y) ≡ false → with_lock g (left_behind s after y) (Some a) f ≡ g f
 with_orphan g s after None a f h = refl
@@ -96,7 +88,7 @@ frames_stay s a (Kind.Place p v x) f h =
     ∙ placed_stays s.locks (s.places.place p v) a x f both.1
   where
     both : (list_any (same_frame f) (listed (names (s.places.place p v))) ≡ false) × (list_any (same_frame f) (listed (names x)) ≡ false)
-    both = or_none _ _ (sym (list_any-append (same_frame f) (listed (names (s.places.place p v))) (listed (names x))) ∙ h)
+    both = or_parts _ _ (sym (list_any-append (same_frame f) (listed (names (s.places.place p v))) (listed (names x))) ∙ h)
 frames_stay s a k f h = refl
 
 -- ---- sequences
@@ -106,18 +98,6 @@ procs_stay s a (Kind.Start q r n) p h = other_at s.seq q _ p (head_other (λ i. 
 procs_stay s a (Kind.End q r n) p h = other_at s.seq q _ p (head_other (λ i. p == i) q [] h)
 procs_stay s a (Kind.Attached m d q r n) p h = other_at s.seq q _ p (head_other (λ i. p == i) q [] h)
 procs_stay s a k p h = refl
-
--- the sequence of an interval
-abbrev seq_in : Option Interval → ℕ
-seq_in y = elim y [ None ↦ 0 | Some x ↦ x.seq ]
-
-applied_seq : (p : ℕ) (y : Option Interval) → seq_in (applied p y) ≡ seq_in y
-applied_seq p None = refl
-applied_seq p (Some x) = by (x.proc == p)
-  where
-    by : (t : Bool) → seq_in (if t then Some (record x { stage = applied_stage x.stage }) else Some x) ≡ x.seq
-    by true = refl
-    by false = refl
 
 staged_seq : (t : Stage) (y : Option Interval) → seq_in (with_stage t y) ≡ seq_in y
 staged_seq t None = refl
@@ -133,17 +113,24 @@ staged_stays s k t m = by (m == k) refl
     by true h = staged_seq t (s.interval k) ∙ ap (λ (i : ℕ). seq_in (s.interval i)) (sym (same h))
     by false h = refl
 
-mirrors_stay : (s : Sequences) (a : ℕ) (k : Kind) (m : ℕ) → IsOther (mirrors_about k) m → interval_seq (sequences_next s a k) m ≡ interval_seq s m
-mirrors_stay s a (Kind.Told i r n) m h = ap seq_in (other_at s.interval i _ m (head_other (λ j. m == j) i [] h))
-mirrors_stay s a (Kind.Attached i d q r n) m h = ap seq_in (other_at s.interval i _ m (head_other (λ j. m == j) i [] h))
-mirrors_stay s a (Kind.End p r n) m h = by (is_last_end s p)
+stays_in : (s : Sequences) (a : ℕ) (k : Kind) (m : ℕ) → IsOther (mirrors_about k) m → seq_in ((sequences_next s a k).interval m) ≡ seq_in (s.interval m)
+stays_in s a (Kind.Told i r n) m h = ap seq_in (other_at s.interval i _ m (head_other (λ j. m == j) i [] h))
+stays_in s a (Kind.Attached i d q r n) m h = ap seq_in (other_at s.interval i _ m (head_other (λ j. m == j) i [] h))
+stays_in s a (Kind.End p r n) m h = by (is_last_end s p)
   where
     by : (t : Bool) → seq_in (if t then applied p (s.interval m) else s.interval m) ≡ seq_in (s.interval m)
-    by true = applied_seq p (s.interval m)
+    by true = settled_seq p (s.interval m)
     by false = refl
-mirrors_stay s a (Kind.Detaching i n) m h = staged_stays s i Stage.RemoveDeferred m
-mirrors_stay s a (Kind.Detached i) m h = staged_stays s i Stage.Out m
-mirrors_stay s a k m h = refl
+stays_in s a (Kind.Detaching i n) m h = staged_stays s i Stage.RemoveDeferred m
+stays_in s a (Kind.Detached i) m h = staged_stays s i Stage.Out m
+stays_in s a k m h = refl
+
+read_in : (y : Option Interval) → elim y as (λ x. ℕ) [ None ↦ 0 | Some x ↦ x.seq ] ≡ seq_in y
+read_in None = refl
+read_in (Some x) = refl
+
+mirrors_stay : (s : Sequences) (a : ℕ) (k : Kind) (m : ℕ) → IsOther (mirrors_about k) m → interval_seq (sequences_next s a k) m ≡ interval_seq s m
+mirrors_stay s a k m h = read_in ((sequences_next s a k).interval m) ∙ (stays_in s a k m h ∙ sym (read_in (s.interval m)))
 
 pub changes_are_told : ChangesAreTold
 changes_are_told s e = record {

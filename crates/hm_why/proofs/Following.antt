@@ -11,13 +11,10 @@ use Rattle.hm_history.specs.declared.Kind.{Kind}
 use Rattle.hm_history.specs.declared.Entry.{Entry}
 use Rattle.hm_why.specs.Sources.{Effect, Gives, Copies, Leaves, effect, owners_at, source_by, source_of}
 use Rattle.hm_why.specs.Laws.{process_at}
-use Rattle.hm_why.specs.Writers.{owner_in, source_in, process_in, owners_next, IsSized, IsFresh, IsNoted}
+use Rattle.hm_why.specs.Writers.{owner_in, source_in, process_in, owners_next, IsNoted}
 use Rattle.hm_why.specs.Follows.{Follows}
 use Rattle.hm_why.specs.declared.writers.Writers.{Writers}
 use Rattle.hm_why.proofs.Values.{after_next}
-
-pub at_first : (h : List Entry) (w : Writers) → IsSized w → IsFresh w → Follows w h 0
-at_first h w z f = record { sized = z; owners = f.owners; sources = λ q b low. f.sources q b }
 
 stays : (t : Attachment) (x : Option MirrorState) → option_map (λ (y : MirrorState). y.proc) (with_attachment t x) ≡ option_map (λ (y : MirrorState). y.proc) x
 stays t None = refl

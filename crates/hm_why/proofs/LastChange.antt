@@ -83,6 +83,3 @@ kept f addr (suc b) l none = by (cases_eq addr (suc b)) (λ m. kept f addr b m (
     by : (addr ≡ suc b) ⊎ (addr ≡ suc b → ⊥) → (addr ≤ b → last_change f b ≡ last_change f addr) → last_change f (suc b) ≡ last_change f addr
     by (inl e) more = ap (λ k. last_change f k) (sym e)
     by (inr ne) more = ap (λ y. unwrap_or y (last_change f b)) (none (suc b) (omega arith) (omega arith)) ∙ more (omega arith)
-
-pub last_at : (f : ℕ → Option (Option ℕ)) (b : ℕ) (v : Option ℕ) → f b ≡ Some v → last_change f b ≡ v
-last_at f b v e = last_is f b b v (omega arith) e (λ k l m. absurd (omega arith))

@@ -30,6 +30,7 @@ use Rattle.hm_laws.specs.Allowed.{InPage}
 use Rattle.hm_laws.proofs.Due.Good.{either, either_option}
 use Rattle.hm_laws.proofs.Due.Access.{bytes_length}
 use Rattle.hm_laws.proofs.State.Pieces.{piece_in_page}
+use Rattle.hm_base.proofs.Shared.{few_bytes, few_device_bytes}
 
 -- if the entry is a load, its bytes are of one page
 abbrev pub Reads : Kind → Type 0
@@ -71,21 +72,15 @@ reads_add s a o m at = either Next_reads (in_window s.plain m (one_page (page_of
 few_load : (n p a k : ℕ) → op_fits n (Op.Load p a k) ≡ true → k ≤ 256
 few_load n p a k h = grind (arith, nat_tests)
 
-few_store : (n p a : ℕ) (bs : List ℕ) → op_fits n (Op.Store p a bs) ≡ true → length bs ≤ 256
-few_store n p a bs h = grind (arith, nat_tests)
-
 few_device_load : (n m a k : ℕ) → op_fits n (Op.DeviceLoad m a k) ≡ true → k ≤ 256
 few_device_load n m a k h = grind (arith, nat_tests)
-
-few_device_store : (n m a : ℕ) (bs : List ℕ) → op_fits n (Op.DeviceStore m a bs) ≡ true → length bs ≤ 256
-few_device_store n m a bs h = grind (arith, nat_tests)
 
 reads_piece : (n : ℕ) (s : After) (a : ℕ) (o : Op) (k : ℕ) → op_fits n o ≡ true → Next_reads (due_piece s a o k)
 reads_piece n s a (Op.Add m at x) k h = reads_add s a (Op.Add m at x) m at
 reads_piece n s a (Op.DeviceLoad m at x) k h = reads_mirror s (Op.DeviceLoad m at x) k m (piece_in_page at x k (few_device_load n m at x h))
-reads_piece n s a (Op.DeviceStore m at bs) k h = reads_mirror s (Op.DeviceStore m at bs) k m (piece_in_page at (length bs) k (few_device_store n m at bs h))
+reads_piece n s a (Op.DeviceStore m at bs) k h = reads_mirror s (Op.DeviceStore m at bs) k m (piece_in_page at (length bs) k (few_device_bytes n m at bs h))
 reads_piece n s a (Op.Load p at x) k h = reads_cpu s (Op.Load p at x) k p (piece_in_page at x k (few_load n p at x h))
-reads_piece n s a (Op.Store p at bs) k h = reads_cpu s (Op.Store p at bs) k p (piece_in_page at (length bs) k (few_store n p at bs h))
+reads_piece n s a (Op.Store p at bs) k h = reads_cpu s (Op.Store p at bs) k p (piece_in_page at (length bs) k (few_bytes n p at bs h))
 reads_piece n s a o k h = tt
 
 reads_fetched : (s : After) (a : ℕ) (o : Op) (old : ℕ) → Next_reads (due_fetched s a o old)

@@ -7,19 +7,17 @@ use Rattle.std.proofs.lemmas.Option.{slice_get_within, slice_get-get_or}
 use Rattle.std.proofs.Math.Seq.{take-length}
 use Rattle.hm_base.specs.Program.{Program}
 use Rattle.hm_history.specs.Memory.After.{after}
-use Rattle.hm_history.specs.Memory.Locks.{writer}
 use Rattle.hm_history.specs.declared.Entry.{Entry}
 use Rattle.hm_turns.proofs.Sums.{get_last}
-use Rattle.hm_turns.specs.Looking.{all_have_areas, looked_after}
+use Rattle.hm_turns.specs.Looking.{all_have_areas}
 use Rattle.hm_turns.specs.Sights.{Sight, AreMarks, IsShown, all_shares}
-use Rattle.hm_turns.specs.declared.looks.Looked.{Looked}
-use Rattle.hm_workers.specs.Peeking.{ArePeeks, CountsRise, IsOf, IsPlain, IsRight, ReachesEnd, is_newer, last_count}
+use Rattle.hm_workers.specs.Peeking.{ArePeeks, CountsRise, IsOf, IsPlain, IsRight, is_newer, last_count}
 use Rattle.hm_workers.specs.Watching.{Checks, ChecksTo, IsKept, LastsTo, RightPeeks, peek_of}
 use Rattle.hm_workers.specs.declared.peeks.Peek.{Peek}
 use Rattle.hm_workers.specs.declared.watching.WatchedBytes.{WatchedBytes}
 use Rattle.hm_workers.specs.declared.watching.Checked.{Checked}
 use Rattle.seq_copies.proofs.Current.{filled_has_areas, last_mark}
-use Rattle.seq_copies.specs.Copies.{IsCurrent, StillHaveAreas, TakesTo, checked}
+use Rattle.seq_copies.specs.Copies.{IsCurrent, StillHaveAreas, TakesTo}
 use Rattle.seq_copies.specs.declared.answers.Snapshot.{Snapshot}
 use Rattle.seq_copies.specs.declared.answers.Still.{Still}
 use Rattle.seq_copies.specs.declared.answers.Taken.{Taken}
@@ -104,15 +102,6 @@ current_right s w n loaded current areas later shown = record {
   bytes_are = current later shown;
 }
 
--- after a check
-pub checks_stay : (a : WatchedBytes) (v w : Sight) (s : Snapshot) (t : Still) → w ≡ checked v s.proc t → IsKept a v.list s → IsKept a w.list s
-checks_stay a v w s t is kept = subst (λ l. IsKept a l s) (sym (ap (λ (z : Sight). z.list) is)) kept
-
-pub checks_more : (xs ys : List Peek) (s : Snapshot) (t : Still) (r : Checked) → ChecksTo s t xs r ys → length ys ≤ length xs + 1
-checks_more xs ys s t Checked.Stale c = let e = ap (λ (l : List Peek). length l) c.1 in omega (arith, e)
-checks_more xs ys s t Checked.Same c = let e = ap (λ (l : List Peek). length l) c.2 in omega (arith, e)
-checks_more xs ys s t Checked.New c = let e = ap (λ (l : List Peek). length l) c.2 in let more = length-append xs (peek_of s t.count ∷ []) in omega (arith, e, more)
-
 -- no peek counts more than a list that is shown, so one that is not older is of the whole list
 not_newer : (a : WatchedBytes) (w : Sight) (xs : List Peek) → RightPeeks a w xs → IsShown w w.list → is_newer xs (length w.list) ≡ false → last_count xs ≡ Some (length w.list)
 not_newer a w xs are shown old = by (slice_get xs (length xs - 1)) refl old
@@ -175,12 +164,3 @@ last_has_areas p at n list xs are e = by (slice_get xs (length xs - 1)) refl e
         let count : z.count ≡ length list = cc in
         let whole : take z.count list ≡ list = ap (λ k. take k list) count ∙ take-length list in
         sym (λ j. all_have_areas (after (whole j)).plain (found.0.proc_is j) (found.0.addr_is j) (found.0.length_is j)) ∙ found.1.areas
-
--- where nobody has the lock for writing, the last peek is of the whole list exactly where the bytes have areas then
-pub last_exactly : (p at n : ℕ) (list : List Entry) (xs : List Peek) → ArePeeks p at n (IsPlain list) xs → ReachesEnd p at n list xs → writer (after list).locks p ≡ None → (last_count xs ≡ Some (length list)) ↔ (all_have_areas (after list).plain p at n ≡ true)
-last_exactly p at n list xs are ends none = (last_has_areas p at n list xs are, λ all. ends (found all))
-  where
-    found : all_have_areas (after list).plain p at n ≡ true → looked_after list p at n ≡ Looked.Filled
-    found all =
-        ap (λ w. elim w [ Some by ↦ Looked.Locked by | None ↦ if all_have_areas (after list).plain p at n then Looked.Filled else Looked.Unmapped ]) none
-        ∙ ap (λ x. if x then Looked.Filled else Looked.Unmapped) all

@@ -22,17 +22,6 @@ pub marks_back : (list : List Entry) (ms ns : List Marked) → AreMarks list (ms
 marks_back list [] ns are = are
 marks_back list (m ∷ ms) ns are = marks_back list ms ns are.1
 
--- no try, and some tries after others
-pub watched_none : (v : Sight) → HasWatched 0 v v
-watched_none v = record {
-  goes = record { desk = refl; shares = refl; later = prefix_refl v.list };
-  own = refl;
-  stops = refl;
-  told = λ e t. t;
-  shown = λ later s. s;
-  few = omega arith;
-}
-
 pub watched_more : (a b n : ℕ) (u v w : Sight) → a + b ≤ n → HasWatched a u v → HasWatched b v w → HasWatched n u w
 watched_more a b n u v w le x y = record {
   goes = record {

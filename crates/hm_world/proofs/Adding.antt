@@ -1,5 +1,5 @@
 -- An entry that is due is added: room is made for it, each structure takes it, and the world stands.
-use Rattle.std.proofs.Common.{◌≡◌, ℕ, ◌<◌, Option, None, List, length, refl, sym, subst}
+use Rattle.std.proofs.Common.{◌≡◌, ℕ, ◌<◌, Option, None, List, length, sym, subst}
 use Rattle.hm_base.specs.Program.{Program}
 use Rattle.hm_base.specs.declared.Frame.{Frame}
 use Rattle.hm_base.specs.declared.Place.{Place}
@@ -47,10 +47,6 @@ fits_at t x s a k n = fits_due t x s a k n.few n.is_due
 pub tables_ready : (t : WorldValue) (x : Parts) → Stands t x → (a : ℕ) (k : Kind) → IsNext t a k → TablesFit (size_in x.tables.pools) k
 tables_ready t x s a k n = fits_shown t.script _ _ x.tables s.shows.tables k (fits_at t x s a k n).tables
 
--- with other room
-pub with_history : WorldValue → List Entry → WorldValue
-with_history t h = record { script = t.script; history = h; halted = t.halted }
-
 pub reserved_stands : (c : Program) (g h : List Entry) (z : Option StepError) (x : Parts) → Stands (record { script = c; history = g; halted = z }) x → h ≡ g → (tables : Tables) → SameTables x.tables tables → (room : List ℕ) (k : Kind) (ms : List (Option Mirror)) → ms ≡ mirrors.reserved room k x.mirrors → (ts : List TaskValue) → goings ts ≡ goings x.actors → (ns : NotifiersValue) → SameNotifiers x.notifiers ns →
     Stands (record { script = c; history = h; halted = z }) (record { frames = x.frames; tables = tables; spaces = x.spaces; notifiers = ns; mirrors = ms; actors = ts })
 reserved_stands c g h z x s e tables st room k ms em ts et ns sn = subst (λ l. Stands (record { script = c; history = l; halted = z }) (record { frames = x.frames; tables = tables; spaces = x.spaces; notifiers = ns; mirrors = ms; actors = ts })) (sym e) (record {
@@ -67,9 +63,6 @@ reserved_stands c g h z x s e tables st room k ms em ts et ns sn = subst (λ l. 
     actors = goings_shown _ _ ts x.actors et s.shows.actors;
   };
 })
-
-pub notifiers_stay : (x : NotifiersValue) → SameNotifiers x x
-notifiers_stay x = record { procs = refl; count = refl; seqs = λ p. refl; actives = λ p. refl; intervals = λ p. refl }
 
 -- what the steps ask
 pub actors_ready : (t : WorldValue) (x : Parts) → Stands t x → (a : ℕ) (k : Kind) → IsNext t a k → (seen : Seen) → IsSeen t.script (now t).after a ((now t).going a) k seen → ActorsFit t.script a (going_of x.actors a) k seen

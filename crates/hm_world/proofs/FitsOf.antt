@@ -27,6 +27,7 @@ use Rattle.hm_notifiers.specs.Shown.{NotifiersValueFit}
 use Rattle.hm_notifiers.proofs.Fits.{told_fits, detaching_fits, detached_fits}
 use Rattle.hm_mirrors.specs.Shown.{MirrorsFit}
 use Rattle.hm_mirrors.specs.Entries.{is_kept_right}
+use Rattle.hm_spaces.proofs.SpacesKept.{none_of}
 
 pub backs_held : (c : Program) (s : After) (t : Past) → Sound c s t → (p v : ℕ) (f : Frame) → backing s.places (s.places.place p v) ≡ Some f → s.places.held f ≡ true
 backs_held c s t so p v f e = so.frames.stands_held p v f (sym (backing_is s.places (s.places.place p v)) ∙ e)
@@ -66,15 +67,10 @@ tables_fit c s t a (Kind.Place p v y) so ok = by (names y) (λ f e. so.pools.bel
     by (Some f) h = h f refl
 tables_fit c s t a k so ok = tt
 
-not_refused : {X : Type 0} (b : Bool) (x : Option X) → (b && is_none x) ≡ true → x ≡ None
-not_refused true None e = refl
-not_refused true (Some n) e = cc
-not_refused false x e = cc
-
 pub spaces_fit : (c : Program) (s : After) (t : Past) (a : ℕ) (k : Kind) → Allowed c s t a k → SpacesFit s.plain k
-spaces_fit c s t a (Kind.Mapped p r w) ok = λ l. not_refused (s.plain.there p) (area_refusal s.plain (Op.Map p r w)) ok.2
-spaces_fit c s t a (Kind.Unmapped p r) ok = λ l. not_refused (s.plain.there p) (area_refusal s.plain (Op.Unmap p r)) ok.3
-spaces_fit c s t a (Kind.Protected p r w) ok = λ l. not_refused (s.plain.there p) (area_refusal s.plain (Op.Protect p r w)) ok.3
+spaces_fit c s t a (Kind.Mapped p r w) ok = λ l. none_of (s.plain.there p) (area_refusal s.plain (Op.Map p r w)) ok.2
+spaces_fit c s t a (Kind.Unmapped p r) ok = λ l. none_of (s.plain.there p) (area_refusal s.plain (Op.Unmap p r)) ok.3
+spaces_fit c s t a (Kind.Protected p r w) ok = λ l. none_of (s.plain.there p) (area_refusal s.plain (Op.Protect p r w)) ok.3
 spaces_fit c s t a k ok = tt
 
 -- a mirror that is attached, or leaves, has an interval that stands so

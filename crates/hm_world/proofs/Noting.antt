@@ -1,8 +1,7 @@
 -- What is noted of an entry is what the stack of phases sees.
-use Rattle.std.proofs.Common.{◌≡◌, ℕ, Bool, true, Option, Some, refl, sym, subst, length}
+use Rattle.std.proofs.Common.{◌≡◌, ℕ, Bool, Option, Some, refl, sym, subst, length}
 use Rattle.std.specs.Prelude.{IsTrue}
-use Rattle.std.proofs.lemmas.Bool.{and_parts}
-use Rattle.hm_base.specs.Program.{Program, op_in_range, op_fits}
+use Rattle.hm_base.specs.Program.{Program, op_in_range}
 use Rattle.hm_base.specs.declared.Frame.{Frame}
 use Rattle.hm_base.specs.declared.Place.{Place}
 use Rattle.hm_base.specs.declared.ops.Op.{Op}
@@ -16,9 +15,7 @@ use Rattle.hm_actors.specs.Actors.{IsSeen}
 use Rattle.hm_world.specs.Noted.{IsPlaceSeen, IsPageSeen}
 use Rattle.hm_world.specs.WorldValue.{WorldValue, now}
 use Rattle.hm_world.specs.Stands.{Parts, Stands}
-
-in_range : (n : ℕ) (o : Op) → op_fits n o ≡ true → IsTrue (op_in_range o)
-in_range n o h = (and_parts (op_in_range o) _ h).0
+use Rattle.hm_base.proofs.Shared.{in_range}
 
 range_at : (t : WorldValue) (x : Parts) → Stands t x → (a : ℕ) (o : Op) → Some o ≡ op_at t.script a ((now t).going a).index → IsTrue (op_in_range o)
 range_at t x s a o e = in_range (length t.script.devices) o ((small t.script s.script).ops a ((now t).going a).index o (sym e))

@@ -1,12 +1,12 @@
 -- What pages show: by their places, and through a mirror's table.
-use Rattle.std.proofs.Common.{◌≡◌, ℕ, zero, suc, ◌+◌, ◌%◌, ◌^◌, ◌<◌, ◌≤◌, Bool, true, false, Option, Some, None, is_some, unwrap_or, Result, Ok, Err, List, slice_index_or, refl, sym, ap, ◌∙◌, arith, subst, IfOk}
+use Rattle.std.proofs.Common.{◌≡◌, ℕ, zero, suc, ◌+◌, ◌%◌, ◌^◌, ◌<◌, ◌≤◌, Bool, true, false, Option, Some, None, is_some, unwrap_or, List, slice_index_or, refl, sym, ap, ◌∙◌, arith, subst}
 use Rattle.std.proofs.lemmas.Bool.{and_parts}
 use Rattle.hm_base.specs.Program.{Program}
 use Rattle.hm_base.specs.declared.Frame.{Frame}
 use Rattle.hm_base.specs.declared.Place.{Place}
 use Rattle.hm_history.specs.Memory.Words.{page_of, bytes_from, is_empty_place}
 use Rattle.hm_history.specs.Memory.Plain.{MirrorState, mirror_proc, mirror_passes, is_attached_state}
-use Rattle.hm_history.specs.Memory.Places.{Places, TableEntry, cpu_reads, is_exclusive_by, is_sole, may_read, entry_passes}
+use Rattle.hm_history.specs.Memory.Places.{Places, TableEntry, is_exclusive_by, is_sole, may_read, entry_passes}
 use Rattle.hm_history.specs.Memory.Contents.{backing, contents_of, shown_by}
 use Rattle.hm_history.specs.Memory.After.{After}
 use Rattle.hm_history.specs.Kernel.Due.{is_usable, has_exclusive}
@@ -21,15 +21,7 @@ use Rattle.hm_world.specs.Mirrored.{MirroredBy}
 use Rattle.hm_world.proofs.FitsOf.{backs_held}
 use Rattle.hm_world.proofs.Standing.{Lawful, lawful}
 use Rattle.hm_history.proofs.Tests.{some_none, true_false}
-
--- a page past the last has no place
-empty_is : (x : Place) → is_empty_place x ≡ true → Place.Empty ≡ x
-empty_is Place.Empty e = refl
-empty_is Place.Zero e = cc
-empty_is (Place.Sys n w) e = cc
-empty_is (Place.Own d n w) e = cc
-empty_is (Place.Moving f w) e = cc
-empty_is (Place.Exclusive n a) e = cc
+use Rattle.hm_history.proofs.Pages.{address_past, empty_is}
 
 past_page : (c : Program) (s : After) (t : Past) → Sound c s t → (p v : ℕ) → 2 ^ 36 ≤ v → Place.Empty ≡ s.places.place p v
 past_page c s t so p v l = by (is_empty_place (s.places.place p v)) refl
@@ -37,9 +29,6 @@ past_page c s t so p v l = by (is_empty_place (s.places.place p v)) refl
     by : (b : Bool) → is_empty_place (s.places.place p v) ≡ b → Place.Empty ≡ s.places.place p v
     by true e = empty_is (s.places.place p v) e
     by false e = absurd (omega (arith, so.places.ranged p v e, l))
-
-address_past : (a : ℕ) → 2 ^ 48 ≤ a → 2 ^ 36 ≤ page_of a
-address_past a l = omega (arith, l)
 
 pub no_page : (t u : WorldValue) → t ≡ u → (x : Parts) → Stands t x → (p a : ℕ) → 2 ^ 48 ≤ a → Place.Empty ≡ (now u).after.places.place p (page_of a)
 no_page t u e x s p a l = subst (λ v. Place.Empty ≡ (now v).after.places.place p (page_of a)) e
@@ -84,15 +73,6 @@ page_shows c s t so p a n h l = bytes_as _ (s.plain.bytes p) (a % 4096) a n each
         sym (ap (shown_by s.contents (stood s.places.committed_to (s.places.place p (page_of a)))) e.1)
         ∙ sym (ap (λ v. shown_by s.contents (stood s.places.committed_to (s.places.place p v)) ((a + i) % 4096)) e.0)
         ∙ so.reads.reads p (a + i) h.there (ap (λ v. is_empty_place (s.places.place p v)) e.0 ∙ h.used)
-
--- by the CPU
-pub cpu_used : (x : Place) → cpu_reads x ≡ true → is_empty_place x ≡ false
-cpu_used Place.Empty h = cc
-cpu_used Place.Zero h = refl
-cpu_used (Place.Sys n w) h = refl
-cpu_used (Place.Own d n w) h = refl
-cpu_used (Place.Moving f w) h = refl
-cpu_used (Place.Exclusive n a) h = refl
 
 -- through a mirror's entry
 fits_stood : (to : Frame → Option Frame) (t : Option Frame) (w : Bool) (x : Place) → Fits to t w x → (stood to x ≡ t) × (is_empty_place x ≡ false)
@@ -160,10 +140,6 @@ mirrored_is t x e y i h = by (subst (λ z. MirroredBy z y) i h)
   where
     by : MirroredBy (Some e) y → backing t y ≡ e.target
     by k = k t
-
-pub ok_as : {A B : Type 0} (r : Result A B) (P Q : A → Type 0) → ((x : A) → P x → Q x) → IfOk r P → IfOk r Q
-ok_as (Ok x) P Q f h = f x h
-ok_as (Err e) P Q f h = tt
 
 -- the same of a world's state
 law_of : (t u : WorldValue) → t ≡ u → (x : Parts) → Stands t x → (p : Past) × Sound u.script (now u).after p

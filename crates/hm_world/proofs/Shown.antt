@@ -1,40 +1,26 @@
 -- What the structures show of the state of a world.
-use Rattle.std.proofs.Common.{◌≡◌, ℕ, ◌+◌, ◌<◌, ◌≤◌, ◌⊎◌, inl, inr, Option, Some, None, List, [], ◌∷◌, length, refl, sym, ap, ◌∙◌, arith, subst}
+use Rattle.std.proofs.Common.{◌≡◌, ℕ, ◌+◌, ◌<◌, ◌≤◌, ◌⊎◌, inl, inr, List, [], ◌∷◌, length, refl, sym, ap, ◌∙◌, arith, subst}
 use Rattle.std.proofs.lemmas.Bool.{cases_lt, cases_eq}
 use Rattle.std.proofs.lemmas.Bool.Decides.{nat_tests}
 use Rattle.std.specs.Prelude.{fold}
 use Rattle.hm_base.specs.Program.{Program}
-use Rattle.hm_base.specs.declared.ops.Op.{Op}
 use Rattle.hm_history.specs.Memory.Words.{with_at}
 use Rattle.hm_history.specs.Memory.After.{After}
-use Rattle.hm_history.specs.Kernel.Going.{State, Going, state_start, state_next, going_next, going_from, op_at}
+use Rattle.hm_history.specs.Kernel.Going.{State, Going, state_start, state_next, going_next, going_from}
 use Rattle.hm_history.specs.declared.Kind.{Kind}
 use Rattle.hm_history.specs.declared.Entry.{Entry}
 use Rattle.hm_actors.specs.Actors.{TaskValue, ActorsShown, going_of, nobody}
 use Rattle.hm_actors.proofs.TaskKept.{nobody_past}
-use Rattle.hm_actors.proofs.ActorsKept.{op_below}
 use Rattle.hm_world.specs.WorldValue.{WorldValue, now}
 use Rattle.hm_world.specs.Stands.{Parts, Shows, Stands}
+use Rattle.hm_history.proofs.Going.{no_op, lengths}
 
 pub shown : (t u : WorldValue) → t ≡ u → (x : Parts) → Stands t x → Shows u.script (now u) x
 shown t u e x s = subst (λ v. Shows v.script (now v) x) e s.shows
 
--- the length of the history
-lengths : (c : Program) (s : State) (h : List Entry) → (fold (state_next c) s h).after.length ≡ s.after.length + length h
-lengths c s [] = omega arith
-lengths c s (e ∷ h) = lengths c (state_next c s e) h ∙ omega arith
-
 pub now_length : (t : WorldValue) → (now t).after.length ≡ length t.history
 unfolding now
 now_length t = lengths t.script (state_start t.script) t.history ∙ omega arith
-
--- an actor that the script has not stays where it is
-no_op : (c : Program) (a i : ℕ) → length c.actors ≤ a → op_at c a i ≡ None
-no_op c a i l = by (op_at c a i) refl
-  where
-    by : (x : Option Op) → op_at c a i ≡ x → op_at c a i ≡ None
-    by None e = e
-    by (Some o) e = absurd (omega (arith, op_below c a i o e, l))
 
 stays : (c : Program) (s : After) (a : ℕ) (g : Going) (k : Kind) → length c.actors ≤ a → going_next c s a g k ≡ g
 stays c s a g k l = rw (going_next, no_op c a g.index l) refl

@@ -3,9 +3,10 @@ use Rattle.hm_history.specs.Memory.Words.{page_of}
 use Rattle.hm_history.specs.Memory.Places.{TableEntry, entry_passes, is_sole, is_exclusive_of}
 use Rattle.hm_folds.specs.TableMap.{entry_of}
 use Rattle.hm_folds.specs.MirrorTables.{tables_of}
-use Rattle.hm_folds.proofs.PastPages.{past_sole, address_past}
+use Rattle.hm_folds.proofs.PastPages.{past_sole}
 use Rattle.hm_folds.proofs.PlaceAccepts.{and_then}
 use Rattle.hm_folds.proofs.places.PlaceState.table_is_sole.Goals as goal
+use Rattle.hm_history.proofs.Pages.{address_past}
 
 pub returns-then-addr : goal.returns-then-addr
 returns-then-addr c = λ p s h. past_sole p s _ c.args.actor c.args.mirror c.args.proc (page_of c.args.addr) h.tables (address_past c.args.addr (omega arith))

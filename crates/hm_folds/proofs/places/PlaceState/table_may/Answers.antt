@@ -4,9 +4,10 @@ use Rattle.hm_history.specs.Memory.Places.{TableEntry}
 use Rattle.hm_folds.specs.TableMap.{entry_of}
 use Rattle.hm_folds.specs.MirrorTables.{tables_of}
 use Rattle.hm_folds.specs.Standing.{entry_allows}
-use Rattle.hm_folds.proofs.PastPages.{past_table, address_past}
+use Rattle.hm_folds.proofs.PastPages.{past_table}
 use Rattle.hm_folds.proofs.PlaceAccepts.{table_form}
 use Rattle.hm_folds.proofs.places.PlaceState.table_may.Goals as goal
+use Rattle.hm_history.proofs.Pages.{address_past}
 
 pub returns-then-addr : goal.returns-then-addr
 returns-then-addr c = λ p s h. past_table p s _ c.args.mirror c.args.proc (page_of c.args.addr) c.args.writes h.tables (address_past c.args.addr (omega arith))
