@@ -93,44 +93,41 @@ fn same_plain(one: &Kind, other: &Kind) -> bool
     ensures no { is_plain one.now ≡ true → answer_of one.now ≡ Some one.now
         → one.now ≡ other.now → result ≡ true }
 {
-    match (one, other) {
-        (Kind::Mapped { proc, span, rights }, _) => {
+    match one {
+        Kind::Mapped { proc, span, rights } => {
             let one = (*proc, *span, *rights);
             matches!(other, Kind::Mapped { proc, span, rights } if one == (*proc, *span, *rights))
         }
-        (Kind::Unmapped { proc, span }, _) => {
+        Kind::Unmapped { proc, span } => {
             let one = (*proc, *span);
             matches!(other, Kind::Unmapped { proc, span } if one == (*proc, *span))
         }
-        (Kind::Protected { proc, span, rights }, _) => {
+        Kind::Protected { proc, span, rights } => {
             let one = (*proc, *span, *rights);
             matches!(other, Kind::Protected { proc, span, rights } if one == (*proc, *span, *rights))
         }
-        (Kind::Forked { parent, child }, _) => {
+        Kind::Forked { parent, child } => {
             let one = (*parent, *child);
             matches!(other, Kind::Forked { parent, child } if one == (*parent, *child))
         }
-        (Kind::Exited(x), Kind::Exited(y)) => x == y,
-        (
-            Kind::Attached {
-                mirror,
-                dev,
-                proc,
-                span,
-                seq,
-            },
-            _,
-        ) => {
+        Kind::Exited(x) => matches!(other, Kind::Exited(y) if x == y),
+        Kind::Attached {
+            mirror,
+            dev,
+            proc,
+            span,
+            seq,
+        } => {
             let one = (*mirror, *dev, *proc, *span, *seq);
             matches!(other, Kind::Attached { mirror, dev, proc, span, seq }
                 if one == (*mirror, *dev, *proc, *span, *seq))
         }
-        (Kind::Detached(x), Kind::Detached(y)) => x == y,
-        (Kind::Refused(x), Kind::Refused(y)) => x == y,
-        (Kind::Migrated(x), Kind::Migrated(y)) => x == y,
-        (Kind::Evicted(x), Kind::Evicted(y)) => x == y,
-        (Kind::Removed(x), Kind::Removed(y)) => x == y,
-        (Kind::Excluded { mirror, page }, _) => {
+        Kind::Detached(x) => matches!(other, Kind::Detached(y) if x == y),
+        Kind::Refused(x) => matches!(other, Kind::Refused(y) if x == y),
+        Kind::Migrated(x) => matches!(other, Kind::Migrated(y) if x == y),
+        Kind::Evicted(x) => matches!(other, Kind::Evicted(y) if x == y),
+        Kind::Removed(x) => matches!(other, Kind::Removed(y) if x == y),
+        Kind::Excluded { mirror, page } => {
             let one = (*mirror, *page);
             matches!(other, Kind::Excluded { mirror, page } if one == (*mirror, *page))
         }
