@@ -1,7 +1,6 @@
 // Processes, areas, plain bytes and mirrors: what the memory of a process is, wherever its pages lie.
 ghost use Rattle.std.specs.Prelude.{◌≡◌, ◌==◌, ◌&&◌, ◌||◌, ℕ, ◌<◌, ◌≤◌, ◌^◌, ◌+◌, not, true, is_none, is_some, is_ok};
 ghost use Rattle.std.specs.Prelude.{false, length, nat_lt, IfOk, OnOk, OnErr, None, []};
-ghost use Rattle.hm_folds.specs.Memory.{bytes_of};
 ghost use Rattle.hm_history.specs.Memory.Words.{page_of, same_bytes, bytes_from};
 ghost use Rattle.hm_history.specs.Memory.Plain.{plain_start, plain_next, plain_accepts, rights_of, area_refusal};
 ghost use Rattle.hm_history.specs.Memory.Plain.{cause_at, outside_cause, is_cause, may_fail, owner, owned, proc_of};
@@ -82,13 +81,6 @@ impl PlainState {
         ensures { (p : ℕ) → 32 ≤ p → (plain_of self.now).areas p ≡ [] }
     {
         let _ = &self.spaces;
-    }
-
-    /// The bytes, and drops the rest.
-    pub fn into_memory(self) -> Memory
-        ensures { bytes_of result.processes.items ≡ (plain_of self).bytes }
-    {
-        self.memory
     }
 
     /// Why a `map`, `unmap` or `protect` is refused now; others never are.

@@ -1,5 +1,5 @@
 // What pages show: the bytes of frames.
-ghost use Rattle.std.specs.Prelude.{◌≡◌, ◌+◌, ◌%◌, ◌≤◌, ◌^◌, ◌<◌, if◌then◌else◌, true, Some, None, is_some, length};
+ghost use Rattle.std.specs.Prelude.{◌≡◌, ◌+◌, ◌%◌, ◌≤◌, ◌^◌, ◌<◌, true, Some, None, is_some, length};
 ghost use Rattle.std.specs.Prelude.{replicate, IfOk};
 ghost use Rattle.hm_base.specs.declared.Frame.{Frame as AnyFrame};
 ghost use Rattle.hm_base.specs.declared.limits.TheConstants.{PAGE_BYTES};
@@ -13,7 +13,7 @@ ghost use Rattle.hm_world.specs.WorldValue.{now};
 ghost use Rattle.hm_world.specs.Mirrored.{MirroredBy};
 
 use crate::World;
-use hm_base::{Actor, Bytes, Frame, MirrorId, NoMemory, PAGE_BYTES, Page, Place, Proc};
+use hm_base::{Actor, Bytes, MirrorId, NoMemory, PAGE_BYTES, Page, Place, Proc};
 use hm_reads::{Reads, operations};
 use mirror_tables::Target;
 use std::alloc::Global;
@@ -107,22 +107,6 @@ impl World {
         // hands the prover the world's invariant
         let _ = &self.history;
         self.place_byte(&self.place(proc, page), addr)
-    }
-
-    /// The byte of a frame at an offset, whether a page shows it or not; none if the frame is not held.
-    pub fn frame_byte(&self, frame: &Frame, offset: u32) -> Option<u8>
-        requires { offset < PAGE_BYTES }
-        ensures { result
-            ≡
-            (if (now self.now).after.places.held frame.now then Some
-            ((now self.now).after.contents frame.now offset) else None) }
-    {
-        if !self.frames.is_held(frame) {
-            return None;
-        }
-        let mut byte = [0; 1];
-        self.frames.read(frame, offset, &mut byte);
-        Some(byte[0])
     }
 
     /// The place that an entry of a mirror's table stands for: a mapping of its frame, or of the zero page.
