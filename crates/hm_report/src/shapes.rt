@@ -90,7 +90,7 @@ pub fn put_of_area(out: &mut Buffer, name: &[u8], proc: Proc, span: Span, rights
     requires room { length out.old + 900 ≤ ROOM }
     ensures text { out.new
         ≡ out.old ++ (name.now
-            ++ spaced (proc_text proc ∷ decimal span.first ∷ decimal span.count ∷ right_text rights ∷ [])) }
+        ++ spaced (proc_text proc ∷ decimal span.first ∷ decimal span.count ∷ right_text rights ∷ [])) }
     ensures room { length out.new ≤ length out.old + 700 }
 {
     out.put(name);
@@ -107,7 +107,7 @@ pub fn put_of_guard(out: &mut Buffer, name: &[u8], proc: Proc, span: Span, seq: 
     requires room { length out.old + 900 ≤ ROOM }
     ensures text { out.new
         ≡ out.old ++ (name.now
-            ++ spaced (proc_text proc ∷ decimal span.first ∷ decimal span.count ∷ decimal seq ∷ [])) }
+        ++ spaced (proc_text proc ∷ decimal span.first ∷ decimal span.count ∷ decimal seq ∷ [])) }
     ensures room { length out.new ≤ length out.old + 700 }
 {
     out.put(name);
