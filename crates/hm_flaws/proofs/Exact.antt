@@ -4,7 +4,7 @@ use Rattle.std.proofs.lemmas.List.Sums.{fold-append}
 use Rattle.hm_base.specs.Program.{Program}
 use Rattle.hm_history.specs.declared.Entry.{Entry}
 use Rattle.hm_history.specs.declared.Progress.{Progress}
-use Rattle.hm_flaws.specs.Flaws.{Flaw}
+use Rattle.hm_flaws.specs.declared.flaws.Flaw.{Flaw}
 use Rattle.hm_flaws.specs.Flawed.{Flawed, flawed_next, flawed_after, due_by}
 use Rattle.hm_flaws.specs.Parts.{Part}
 use Rattle.hm_flaws.specs.Judged.{IsDueBy, broken_by, BreaksNone}

@@ -10,7 +10,7 @@ use Rattle.hm_history.specs.declared.Progress.{Progress}
 use Rattle.hm_history.specs.declared.phases.Phase.{Phase}
 use Rattle.hm_history.specs.declared.phases.Next.{Next}
 use Rattle.hm_history.specs.declared.phases.Next.TheVariants.{Do, Wait}
-use Rattle.hm_flaws.specs.Flaws.{Flaw}
+use Rattle.hm_flaws.specs.declared.flaws.Flaw.{Flaw}
 use Rattle.hm_flaws.specs.Overrides.{due_flawed}
 use Rattle.hm_flaws.specs.Flawed.{Flawed, flawed_from, flawed_next, flawed_after, due_by, due_flawed_top, as_read, found}
 use Rattle.hm_flaws.specs.Parts.{Part, broken_part}

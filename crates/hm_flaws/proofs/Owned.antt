@@ -9,7 +9,7 @@ use Rattle.hm_history.specs.Memory.After.{After}
 use Rattle.hm_history.specs.Kernel.Going.{op_at, state_of}
 use Rattle.hm_history.specs.declared.Kind.{Kind}
 use Rattle.hm_history.specs.declared.Entry.{Entry}
-use Rattle.hm_flaws.specs.Flaws.{Flaw}
+use Rattle.hm_flaws.specs.declared.flaws.Flaw.{Flaw}
 use Rattle.hm_flaws.specs.Drivers.{Driver, driver_next, erased_all, tells_own}
 use Rattle.hm_flaws.specs.Flawed.{Flawed, flawed_from, flawed_next, with_seqs}
 use Rattle.hm_flaws.specs.Laws.{HasItsOwn, RightKeepsItsOwn}

@@ -11,7 +11,7 @@ use Rattle.hm_history.specs.declared.Entry.{Entry}
 use Rattle.hm_history.specs.declared.Progress.{Progress}
 use Rattle.hm_history.proofs.RunLemmas.{DueFrom-append}
 use Rattle.hm_laws.specs.Laws.{HistoryIsLegal}
-use Rattle.hm_flaws.specs.Flaws.{Flaw}
+use Rattle.hm_flaws.specs.declared.flaws.Flaw.{Flaw}
 use Rattle.hm_flaws.specs.Flawed.{Flawed, flawed_from, flawed_next, flawed_after}
 use Rattle.hm_flaws.specs.Parts.{Part, meets_part, broken_part}
 use Rattle.hm_flaws.specs.Judged.{UnbrokenBy, BreaksNone}

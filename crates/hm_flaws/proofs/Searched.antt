@@ -3,7 +3,7 @@ use Rattle.std.proofs.Common.{◌≡◌, None, List, [], ◌∷◌, ◌++◌, sy
 use Rattle.hm_base.specs.Program.{Program}
 use Rattle.hm_history.specs.Kernel.Going.{state_of}
 use Rattle.hm_history.specs.declared.Entry.{Entry}
-use Rattle.hm_flaws.specs.Flaws.{Flaw}
+use Rattle.hm_flaws.specs.declared.flaws.Flaw.{Flaw}
 use Rattle.hm_flaws.specs.Flawed.{flawed_from, flawed_next, flawed_after}
 use Rattle.hm_flaws.specs.Parts.{Part}
 use Rattle.hm_flaws.specs.Judged.{UnbrokenBy, Unbroken, broken_by, BreaksNone}

@@ -4,7 +4,7 @@ use Rattle.std.specs.Prelude.{◌≡◌, ℕ, None, List, [], ◌∷◌, ◌++�
 use Rattle.hm_base.specs.Program.{Program}
 use Rattle.hm_history.specs.declared.Entry.{Entry}
 use Rattle.hm_race_laws.specs.Closed.{IsListed}
-use Rattle.hm_flaws.specs.Flaws.{Flaw}
+use Rattle.hm_flaws.specs.declared.flaws.Flaw.{Flaw}
 use Rattle.hm_flaws.specs.Flawed.{flawed_after}
 use Rattle.hm_flaws.specs.Parts.{Part}
 use Rattle.hm_flaws.specs.Judged.{Unbroken, IsDueBy, broken_by}

@@ -17,7 +17,7 @@ use Rattle.hm_history.specs.declared.Kind.{Kind}
 use Rattle.hm_history.specs.declared.Who.{Who}
 use Rattle.hm_history.specs.declared.phases.Body.{Body}
 use Rattle.hm_history.specs.declared.phases.Phase.{Phase}
-use Rattle.hm_flaws.specs.Flaws.{Flaw}
+use Rattle.hm_flaws.specs.declared.flaws.Flaw.{Flaw}
 
 -- the tables of mirrors, the sequence of each mirror's interval, the spans that an actor's invalidation under way told
 -- and that are not erased yet, each with its mirror, and the bytes of frames

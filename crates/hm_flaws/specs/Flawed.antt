@@ -22,7 +22,7 @@ use Rattle.hm_history.specs.declared.phases.Migrating.{Migrating}
 use Rattle.hm_history.specs.declared.phases.Phase.{Phase}
 use Rattle.hm_history.specs.declared.phases.Next.{Next}
 use Rattle.hm_history.specs.declared.phases.Next.TheVariants.{Do}
-use Rattle.hm_flaws.specs.Flaws.{Flaw}
+use Rattle.hm_flaws.specs.declared.flaws.Flaw.{Flaw}
 use Rattle.hm_flaws.specs.Drivers.{Driver, driver_of, driver_next, tells_own, target_at}
 use Rattle.hm_flaws.specs.Overrides.{due_flawed, is_device_access}
 

@@ -4,7 +4,7 @@ use Rattle.hm_base.specs.Program.{Program, IsScript}
 use Rattle.hm_history.specs.Kernel.Due.{due_in}
 use Rattle.hm_history.specs.Laws.{DueFrom}
 use Rattle.hm_history.specs.declared.Entry.{Entry}
-use Rattle.hm_flaws.specs.Flaws.{Flaw}
+use Rattle.hm_flaws.specs.declared.flaws.Flaw.{Flaw}
 use Rattle.hm_flaws.specs.Flawed.{Flawed, due_by, with_seqs, flawed_after}
 use Rattle.hm_flaws.specs.Parts.{Part, all_parts, answers_alone}
 use Rattle.hm_flaws.specs.Judged.{Breaks, BreaksNone, judged}

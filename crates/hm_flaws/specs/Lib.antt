@@ -1,4 +1,3 @@
-pub mod Flaws
 pub mod Drivers
 pub mod Overrides
 pub mod Flawed

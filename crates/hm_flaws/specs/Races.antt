@@ -10,7 +10,7 @@ use Rattle.hm_base.specs.declared.ops.Op.{Op}
 use Rattle.hm_history.specs.Kernel.Run.{turns, is_entry, actors_of}
 use Rattle.hm_history.specs.declared.Entry.{Entry}
 use Rattle.hm_race_laws.specs.Outcomes.{ended_in}
-use Rattle.hm_flaws.specs.Flaws.{Flaw}
+use Rattle.hm_flaws.specs.declared.flaws.Flaw.{Flaw}
 use Rattle.hm_flaws.specs.Flawed.{Flawed, due_by}
 use Rattle.hm_flaws.specs.Parts.{Part, all_parts}
 use Rattle.hm_flaws.specs.Judged.{Judged, judged}

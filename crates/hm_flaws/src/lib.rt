@@ -5,6 +5,10 @@
 ghost use Rattle.hm_flaws.specs.Laws.{RightIsDue, RightKeepsItsOwn, RightBreaksNone, JudgedBreaks, ClosedBreaksNone};
 ghost use Rattle.hm_flaws.specs.Laws.{UncomparedIsStale, OwnIgnoredLosesStore, LostHeldSticks};
 
+mod flaws;
+
+pub use flaws::Flaw;
+
 /// A driver without a flaw does what is due.
 pub fn right_is_due()
     ensures { RightIsDue }
