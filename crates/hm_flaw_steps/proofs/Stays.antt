@@ -1,0 +1,79 @@
+-- Phases of which a flaw says nothing.
+use Rattle.std.proofs.Common.{◌≡◌, ℕ, Bool, true, false, not, ◌||◌, ◌==◌, Option, List, refl, ap, arith}
+use Rattle.std.proofs.lemmas.Bool.Decides.{nat_tests}
+use Rattle.hm_base.specs.Program.{Program}
+use Rattle.hm_base.specs.declared.Place.{Place}
+use Rattle.hm_base.specs.declared.ops.Op.{Op}
+use Rattle.hm_history.specs.Memory.After.{After}
+use Rattle.hm_history.specs.Memory.Sequences.{interval_seq}
+use Rattle.hm_history.specs.Kernel.Operation.{op_mirror}
+use Rattle.hm_history.specs.Kernel.Due.{due_phase, due_noted}
+use Rattle.hm_history.specs.declared.Kind.{Kind}
+use Rattle.hm_history.specs.declared.phases.Migrating.{Migrating}
+use Rattle.hm_history.specs.declared.phases.MoveStep.{MoveStep}
+use Rattle.hm_history.specs.declared.phases.Touch.{Touch}
+use Rattle.hm_history.specs.declared.phases.Touch.TheVariants.{Cpu, Walk, Sole}
+use Rattle.hm_history.specs.declared.phases.Phase.{Phase}
+use Rattle.hm_history.specs.declared.phases.Next.TheVariants.{Do}
+use Rattle.hm_flaws.specs.declared.flaws.Flaw.{Flaw}
+use Rattle.hm_flaws.specs.Overrides.{due_flawed, retry_or_commit, commit, is_left}
+
+pub not_compared : (c : Program) (s : After) (a : ℕ) (o : Op) (xs : List Migrating) (top : Phase) → ((k since q : ℕ) (x : Place) → top ≡ Phase.Noted k since q x → ⊥) → due_phase c s a o xs top ≡ due_flawed Flaw.NotCompared c s a o xs top
+not_compared c s a o xs (Phase.Noted k since q x) h = absurd (h k since q x refl)
+not_compared c s a o xs top h = refl
+
+pub compared_now : (c : Program) (s : After) (a : ℕ) (o : Op) (xs : List Migrating) (top : Phase) → ((k since q : ℕ) (x : Place) → top ≡ Phase.Noted k since q x → ⊥) → due_phase c s a o xs top ≡ due_flawed Flaw.ComparedNow c s a o xs top
+compared_now c s a o xs (Phase.Noted k since q x) h = absurd (h k since q x refl)
+compared_now c s a o xs top h = refl
+
+pub all_for_writes : (c : Program) (s : After) (a : ℕ) (o : Op) (xs : List Migrating) (top : Phase) → ((k since q : ℕ) (x : Place) → top ≡ Phase.Noted k since q x → ⊥) → due_phase c s a o xs top ≡ due_flawed Flaw.AllForWrites c s a o xs top
+all_for_writes c s a o xs (Phase.Noted k since q x) h = absurd (h k since q x refl)
+all_for_writes c s a o xs top h = refl
+
+pub walks_unlocked : (c : Program) (s : After) (a : ℕ) (o : Op) (xs : List Migrating) (top : Phase) → ((k since q : ℕ) → top ≡ Phase.Begun k since q → ⊥) → due_phase c s a o xs top ≡ due_flawed Flaw.WalksUnlocked c s a o xs top
+walks_unlocked c s a o xs (Phase.Begun k since q) h = absurd (h k since q refl)
+walks_unlocked c s a o xs top h = refl
+
+pub any_device : (c : Program) (s : After) (a : ℕ) (o : Op) (xs : List Migrating) (top : Phase) → ((touch : Touch) → top ≡ Phase.Decide touch → ⊥) → due_phase c s a o xs top ≡ due_flawed Flaw.AnyDevice c s a o xs top
+any_device c s a o xs (Phase.Decide touch) h = absurd (h touch refl)
+any_device c s a o xs top h = refl
+
+pub used_detached : (c : Program) (s : After) (a : ℕ) (o : Op) (xs : List Migrating) (top : Phase) → ((k : ℕ) → top ≡ Phase.Piece k → ⊥) → due_phase c s a o xs top ≡ due_flawed Flaw.UsedDetached c s a o xs top
+used_detached c s a o xs (Phase.Piece k) h = absurd (h k refl)
+used_detached c s a o xs top h = refl
+
+pub reads_written : (c : Program) (s : After) (a : ℕ) (o : Op) (xs : List Migrating) (top : Phase) → ((k : ℕ) → top ≡ Phase.Piece k → ⊥) → due_phase c s a o xs top ≡ due_flawed Flaw.ReadsWritten c s a o xs top
+reads_written c s a o xs (Phase.Piece k) h = absurd (h k refl)
+reads_written c s a o xs top h = refl
+
+pub own_for_writes : (c : Program) (s : After) (a : ℕ) (o : Op) (xs : List Migrating) (top : Phase) → ((step : MoveStep) (v : ℕ) → top ≡ Phase.Moves step v → ⊥) → due_phase c s a o xs top ≡ due_flawed Flaw.OwnForWrites c s a o xs top
+own_for_writes c s a o xs (Phase.Moves step v) h = absurd (h step v refl)
+own_for_writes c s a o xs top h = refl
+
+pub withdrawn_taken : (c : Program) (s : After) (a : ℕ) (o : Op) (xs : List Migrating) (top : Phase) → ((step : MoveStep) (v : ℕ) → top ≡ Phase.Moves step v → ⊥) → due_phase c s a o xs top ≡ due_flawed Flaw.WithdrawnTaken c s a o xs top
+withdrawn_taken c s a o xs (Phase.Moves step v) h = absurd (h step v refl)
+withdrawn_taken c s a o xs top h = refl
+
+pub removed_at_once : (c : Program) (s : After) (a : ℕ) (o : Op) (xs : List Migrating) (top : Phase) → ((v n : ℕ) → top ≡ Phase.Frames v n → ⊥) → due_phase c s a o xs top ≡ due_flawed Flaw.RemovedAtOnce c s a o xs top
+removed_at_once c s a o xs (Phase.Frames v n) h = absurd (h v n refl)
+removed_at_once c s a o xs top h = refl
+
+pub not_withdrawn : (c : Program) (s : After) (a : ℕ) (o : Op) (xs : List Migrating) (top : Phase) → ((v n : ℕ) → top ≡ Phase.Frames v n → ⊥) → due_phase c s a o xs top ≡ due_flawed Flaw.NotWithdrawn c s a o xs top
+not_withdrawn c s a o xs (Phase.Frames v n) h = absurd (h v n refl)
+not_withdrawn c s a o xs top h = refl
+
+pub locked_passed : (c : Program) (s : After) (a : ℕ) (o : Op) (xs : List Migrating) (top : Phase) → ((v n : ℕ) → top ≡ Phase.Frames v n → ⊥) → due_phase c s a o xs top ≡ due_flawed Flaw.LockedPassed c s a o xs top
+locked_passed c s a o xs (Phase.Frames v n) h = absurd (h v n refl)
+locked_passed c s a o xs top h = refl
+
+pub added_anyway : (c : Program) (s : After) (a : ℕ) (o : Op) (xs : List Migrating) (top : Phase) → ((old : ℕ) → top ≡ Phase.Fetched old → ⊥) → due_phase c s a o xs top ≡ due_flawed Flaw.AddedAnyway c s a o xs top
+added_anyway c s a o xs (Phase.Fetched old) h = absurd (h old refl)
+added_anyway c s a o xs top h = refl
+
+-- a sequence is itself
+same_seq : (b : Bool) (q : ℕ) → (b || not (q == q)) ≡ b
+same_seq true q = refl
+same_seq false q = grind (arith, nat_tests)
+
+pub uncompared : (s : After) (o : Op) (k since : ℕ) (x : Place) → due_noted s o k since (interval_seq s.sequences (op_mirror o)) x ≡ retry_or_commit (is_left s o) o k since x
+uncompared s o k since x = ap (λ b. retry_or_commit b o k since x) (same_seq (is_left s o) (interval_seq s.sequences (op_mirror o)))

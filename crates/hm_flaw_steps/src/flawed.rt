@@ -1,0 +1,47 @@
+// What each flaw makes of what is due.
+ghost use Rattle.std.specs.Prelude.{◌≡◌, IsTrue, IfOk};
+ghost use Rattle.hm_base.specs.Program.{op_in_range};
+ghost use Rattle.hm_flaw_steps.specs.Found.{right_at, flawed_at};
+
+use crate::Finds;
+use crate::accesses::{added_anyway, reads_written, used_detached};
+use crate::look_ups::{all_for_writes, any_device, compared_now, not_compared, walks_unlocked};
+use crate::migrations::{own_for_writes, withdrawn_taken};
+use crate::removals::{locked_passed, not_withdrawn, removed_at_once};
+use hm_base::{Actor, NoMemory, Op};
+use hm_flaws::Flaw;
+use hm_history::phases::{Next, Phase};
+use std::alloc::Global;
+
+/// What is due at a phase to a driver with the flaw, before its device has read, given what is due to the right driver.
+pub fn flawed<W: Finds>(
+    found: &W,
+    alloc: Global,
+    flaw: Flaw,
+    actor: Actor,
+    op: &Op,
+    top: &Phase,
+    right: Next,
+) -> Result<Next, NoMemory>
+    requires range { IsTrue (op_in_range op.now) }
+    requires right { right ≡ right_at (W.program found.now) (W.state found.now) actor op.now top.now }
+    ensures { IfOk result
+        (λ n. n ≡ flawed_at flaw (W.program found.now) (W.state found.now) actor op.now top.now) }
+{
+    match flaw {
+        Flaw::NotCompared => Ok(not_compared(found, actor, op, top, right)),
+        Flaw::ComparedNow => Ok(compared_now(found, actor, op, top, right)),
+        Flaw::AllForWrites => Ok(all_for_writes(found, actor, op, top, right)),
+        Flaw::WalksUnlocked => Ok(walks_unlocked(found, actor, op, top, right)),
+        Flaw::AnyDevice => Ok(any_device(found, actor, op, top, right)),
+        Flaw::UsedDetached => used_detached(found, alloc, actor, op, top, right),
+        Flaw::ReadsWritten => reads_written(found, alloc, actor, op, top, right),
+        Flaw::OwnForWrites => Ok(own_for_writes(found, actor, op, top, right)),
+        Flaw::WithdrawnTaken => Ok(withdrawn_taken(found, actor, op, top, right)),
+        Flaw::RemovedAtOnce => Ok(removed_at_once(found, actor, op, top, right)),
+        Flaw::NotWithdrawn => Ok(not_withdrawn(found, actor, op, top, right)),
+        Flaw::LockedPassed => Ok(locked_passed(found, actor, op, top, right)),
+        Flaw::AddedAnyway => Ok(added_anyway(found, actor, op, top, right)),
+        _ => Ok(right),
+    }
+}

@@ -1,0 +1,120 @@
+// What is due to an actor of a driver with a flaw, in a state as it finds it: what is due to the right driver, and what
+// the flaw does otherwise.
+#![tactic(auto)]
+
+ghost use Rattle.std.specs.Prelude.{◌≡◌, IsTrue, IfOk};
+ghost use Rattle.hm_base.specs.Program.{op_in_range};
+ghost use Rattle.hm_history.specs.Kernel.Due as spec;
+ghost use Rattle.hm_flaws.specs.Drivers.{Driver};
+ghost use Rattle.hm_flaws.specs.Overrides.{is_readable};
+ghost use Rattle.hm_flaws.specs.Flawed.{device_bytes, as_read};
+ghost use Rattle.hm_flaw_steps.specs.Found.{right_at, flawed_at, due_found, next_of};
+
+mod accesses;
+mod flawed;
+mod look_ups;
+mod migrations;
+mod reading;
+mod removals;
+mod telling;
+
+use flawed::flawed;
+use hm_base::{Actor, Bytes, MirrorId, NoMemory, Op, Page};
+use hm_flaws::Flaw;
+use hm_history::phases::{Next, Phase};
+use hm_history::{Entry, Progress};
+use hm_reads::Reads;
+use hm_steps::due;
+use reading::as_read;
+use skip_rules::SkipRule;
+use std::alloc::Global;
+pub use telling::tells_own;
+
+/// A state as the actors of a driver find it: with the table, the sequences and the bytes that the driver has.
+pub trait Finds: Reads {
+    /// What the driver has of its own.
+    ghost driver: { Self → Driver };
+
+    /// Whether the mirror's table has an entry for the page that reads, and is not the zero page's.
+    fn is_readable(&self, mirror: MirrorId, page: Page) -> bool
+        ensures { result ≡ is_readable ((Self.state self.now).after.places.table mirror page) };
+
+    /// The bytes that a device reads: those of the frames of the driver's table entries.
+    fn device_bytes(
+        &self,
+        alloc: Global,
+        mirror: MirrorId,
+        addr: u64,
+        len: u64,
+    ) -> Result<Bytes, NoMemory>
+        ensures { IfOk result (λ bytes. bytes ≡ device_bytes (driver self.now) mirror addr len) };
+}
+
+// The entry or the wait that a turn comes to.
+fn next_of(progress: Progress) -> Option<Next>
+    ensures { result ≡ next_of progress }
+{
+    match progress {
+        Progress::Did(entry) => Some(Next::Do(entry.kind)),
+        Progress::Waiting(why) => Some(Next::Wait(why)),
+        Progress::Idle => None,
+    }
+}
+
+fn progress_of(actor: Actor, next: Next) -> Progress
+    ensures { result ≡ spec.progress actor next }
+{
+    match next {
+        Next::Do(kind) => Progress::Did(Entry { actor, kind }),
+        Next::Wait(why) => Progress::Waiting(why),
+    }
+}
+
+// What is due at this phase, given what is due there to the right driver.
+fn due_at<W: Finds>(
+    found: &W,
+    alloc: Global,
+    flaw: Flaw,
+    actor: Actor,
+    op: &Op,
+    top: &Phase,
+    right: Next,
+) -> Result<Progress, NoMemory>
+    requires range { IsTrue (op_in_range op.now) }
+    requires right { right ≡ right_at (W.program found.now) (W.state found.now) actor op.now top.now }
+    ensures { IfOk result
+        (λ p. p
+        ≡ spec.progress actor
+        (as_read flaw (W.driver found.now)
+        (flawed_at flaw (W.program found.now) (W.state found.now) actor op.now top.now))) }
+{
+    let next = flawed(found, alloc, flaw, actor, op, top, right)?;
+    let read = as_read(found, alloc, flaw, next)?;
+    Ok(progress_of(actor, read))
+}
+
+/// What is due to the actor, if the driver has this flaw: the entry that its next step adds, or why it waits; idle if
+/// it has no operation left. The rule decides which pages a migration skips. Memory is taken for the bytes of an answer
+/// alone.
+pub fn due_found<W: Finds, R: SkipRule>(
+    found: &W,
+    rule: &R,
+    alloc: Global,
+    flaw: Flaw,
+    actor: Actor,
+) -> Result<Progress, NoMemory>
+    ensures { IfOk result
+        (λ p. p ≡ due_found flaw (W.program found.now) (W.driver found.now) (W.state found.now) actor) }
+{
+    found.script().facts();
+    let Some(op) = found.op(actor) else {
+        return Ok(Progress::Idle);
+    };
+    let Some(top) = found.phase(actor) else {
+        return Ok(Progress::Idle);
+    };
+    match next_of(due(found, rule, alloc, actor)?) {
+        None => Ok(Progress::Idle),
+        Some(right) => due_at(found, alloc, flaw, actor, op, top, right),
+    }
+}
