@@ -1,0 +1,3 @@
+mod Erasing
+mod Late
+mod Writing

@@ -1,0 +1,4 @@
+pub mod FrameBytes
+pub mod LateSpans
+pub mod OwnTables
+pub mod Owns
