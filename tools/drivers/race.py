@@ -1,0 +1,172 @@
+"""A race of a driver that leaves a rule out: the set-up by a right driver, turns, and the search over all orders."""
+import report as reports
+from due import Record, Wait
+from run import Machine
+from state import NONE
+
+from drivers.driver import Driver
+from drivers.laws import Broken, Laws
+from drivers.world import World
+
+# what a driver does that leaves the rule out
+RULES = {
+    'compare': 'commits a look-up without comparing sequences',
+    'compare-sequence': 'commits unless its interval is being invalidated at that moment',
+    'begin-first': 'reads the sequence after the walk, not before',
+    'entry-right': 'enters every page for writes',
+    'mmap-lock': 'walks without the mmap lock',
+    'own-device': "takes another device's memory for its own",
+    'set-sequence': 'the callback leaves the sequence of the interval',
+    'erase': 'the callback leaves the entries',
+    'erase-all': 'the callback erases the first page of the span alone',
+    'erase-in-time': 'the callback has the entries erased when the invalidation ends',
+    'own-events': 'the callback ignores migrations of its own device, as lib/test_hmm.c does',
+    'stop-at-detach': 'uses its table after the detach',
+    'write-entry': 'writes through an entry for reads',
+    'copy-all': 'copies seven of eight parts',
+    'clear': 'gives a fresh page a frame that was not cleared',
+    'set-moved': 'enters the new frame though the page was lost',
+    'set-right': 'enters each moved page for writes',
+    'set-unless-invalidated': 'enters the new frame also while its interval is being invalidated',
+    'drop-lost': 'keeps the frame of a page that was lost',
+    'take-from-there': 'takes frames of a device that is withdrawn',
+    'evict-first': 'removes the device with its frames held',
+    'withdraw-first': 'evicts before it withdraws the device',
+    'wait-for-locked': 'passes over locked frames, and removes the device',
+    'look-again': 'adds to an exclusive page without a second look',
+}
+
+
+class Race(Machine):
+    def __init__(self, script, rule, turns, answers_alone):
+        super().__init__(script)
+        self.answers_alone = answers_alone
+        self.laws, self.state = Laws(script), World(script)
+        self.state.running = lambda actor: script.actors[actor][self.ended[actor]]
+        self.replay()
+        self.start = len(self.history)
+        self.state.rule = rule
+        for actor in turns:
+            self.step(actor)
+
+    def due(self, actor):
+        if self.running[actor] is None:
+            word, *operands = self.script.actors[actor][self.ended[actor]]
+            self.running[actor] = getattr(Driver(self.state, actor), word)(*operands)
+        try:
+            return next(self.running[actor]), False
+        except StopIteration as stop:
+            return stop.value, True
+
+    def step(self, actor):
+        """As Machine.step; an entry that breaks a law is added to the history, and to no state."""
+        if self.is_idle(actor):
+            return None
+        due, ends = self.due(actor)
+        if isinstance(due, Wait):
+            return due
+        self.history.append((actor, due))
+        self.laws.test(actor, due, self.script.actors[actor][self.ended[actor]], self.answers_alone)
+        self.laws.apply(actor, due)
+        self.state.apply(actor, due)
+        if ends:
+            self.ended[actor] += 1
+            self.running[actor] = None
+        return due
+
+    # ---- what later turns, and their verdicts, depend on; positions and absolute sequences are no part of it
+    def key(self):
+        return plain((tuple(self.ended), [generator_key(self.state, g) for g in self.running], state_key(self.state),
+                      state_key(self.laws), self.extras()))
+
+    def extras(self):
+        w, x = self.state, self.laws
+        untold = [(m, v, x.is_untold(m, v)) for m, v in sorted(x.sets)]
+        fresh = [(a, m, [span for at, span in x.told[m] if at > since]) for (a, m), since in sorted(x.begun.items())]
+        contents = [(str(f), bytes(data)) for f, data in w.frame_bytes.items() if any(data)]
+        return (untold, [(a, m, sorted({v for s in spans for v in range(s.first, min(s.end, s.first + 64))})) for a, m, spans in fresh],
+                sorted(contents), sorted((a, v) for a, v in w.late.items()), sorted(x.committed.items(), key=str),
+                sorted(x.invalidations.items()), sorted(x.detaching), sorted((a, b) for a, b in x.short.items() if b),
+                sorted((a, sorted(v)) for a, v in x.fresh.items() if v))
+
+
+def state_key(s):
+    mirrors = [(m, x.attached, x.stage, x.seq == s.seq[x.process]) for m, x in sorted(s.mirrors.items())]
+    tables = [(m, v, e[:2]) for m, t in sorted(s.tables.items()) for v, e in sorted(t.items())]
+    places = [(p, v, str(x)) for p, pages in sorted(s.places.items()) for v, x in sorted(pages.items()) if x != NONE]
+    data = [(p, v, bytes(b)) for p, pages in sorted(s.bytes.items()) for v, b in sorted(pages.items()) if any(b)]
+    return (sorted(s.areas.items()), data, sorted(s.given), mirrors, tables, places,
+            [(d is None, d or 0, sorted(n)) for d, n in s.held.items()], sorted(s.withdrawn), sorted(s.removed),
+            sorted((p, n % 2) for p, n in s.seq.items() if n % 2), sorted((p, n) for p, n in s.active.items() if n),
+            sorted(s.guards.items()), sorted(s.map_lock.items()), sorted(((str(f), a) for f, a in s.locker.items())))
+
+
+def generator_key(s, generator):
+    """Where an actor is: of each of its nested generators the instruction, and the values that it has."""
+    key = []
+    while generator is not None and getattr(generator, 'gi_frame', None):
+        values = dict(generator.gi_frame.f_locals)
+        if 'seq' in values and 'who' in values:
+            values['seq'] = values['seq'] == s.mirrors[values['who'][1]].seq
+        key.append((generator.gi_code.co_name, generator.gi_frame.f_lasti,
+                    sorted((name, plain(x)) for name, x in values.items()
+                           if name not in ('self', 's', 'since') and (is_plain(x)) and not (name == 'seq' and 'who' not in values))))
+        generator = generator.gi_yieldfrom
+    return key
+
+
+def is_plain(x):
+    return isinstance(x, (int, str, bytes, tuple, list, Record, type(None))) and not isinstance(x, Wait)
+
+
+def plain(x):
+    if isinstance(x, Record):
+        return ('record', x.page, str(x.source), str(x.taken), x.moved)
+    if isinstance(x, (tuple, list)):
+        return tuple(plain(y) for y in x)
+    return x if isinstance(x, (int, str, bytes)) else str(x)
+
+
+def search(script, rule, answers_alone=False, most=20_000):
+    """The shortest race that is lost: its turns and its law; or none. And the number of states, and whether all were seen."""
+    actors, front = range(len(script.actors)), [()]
+    known, stuck = {Race(script, rule, (), answers_alone).key()}, None
+    while front:
+        later = []
+        for turns in front:
+            race = Race(script, rule, turns, answers_alone)
+            goes_on = False
+            for actor in actors:
+                if race is None:
+                    race = Race(script, rule, turns, answers_alone)
+                try:
+                    did = race.step(actor)
+                except Broken as part:
+                    return turns + (actor,), part.args[0], len(known), True
+                if did is None:
+                    continue
+                if isinstance(did, Wait):
+                    race = None         # its generator has gone on to the wait
+                    continue
+                goes_on = True
+                key = race.key()
+                if key not in known:
+                    known.add(key)
+                    later.append(turns + (actor,))
+                race = None
+            if not goes_on and stuck is None and not all(Race(script, rule, turns, answers_alone).is_idle(a) for a in actors):
+                stuck = turns
+            if len(known) > most:
+                return stuck, 'stuck' if stuck is not None else None, len(known), False
+        front = later
+    return stuck, 'stuck' if stuck is not None else None, len(known), True
+
+
+def entries(script, rule, turns, answers_alone):
+    """The lines of the entries after the set-up that these turns make, the one that breaks a part among them."""
+    race = Race(script, rule, turns[:-1], answers_alone)
+    try:
+        race.step(turns[-1])
+    except Broken:
+        pass
+    return [reports.line(at, *entry) for at, entry in enumerate(race.history)][race.start:]
