@@ -66,6 +66,7 @@ words_hmmjudge() {
     cat <<'END'
   (no word)            reads a report: `legal N`, or its first bad line, what is wrong with it and what was due instead
   --standing           the same; after `legal N` also what is due to each actor
+  --all                the same; of a bad report also which rules the later entries break
 END
 }
 
@@ -73,7 +74,7 @@ usage() {
     local takes='WORD ..'
     [ "$name" = hmmraces ] && takes='[MOST] [--table | --script N | --expect CONDITION .. | --expect-file LINES]'
     [ "$name" = hmmview ] && takes='[FROM TO]'
-    [ "$name" = hmmjudge ] && takes='[--standing]'
+    [ "$name" = hmmjudge ] && takes='[--standing | --all]'
     cat <<END
 usage: ./$name.sh [--quick | --ready] ${takes:+$takes }[FILE]
 
@@ -213,11 +214,11 @@ read_words() {
             words=("${@:1:takes + 1}")
             shift $((takes + 1)) ;;
         hmmjudge)
-            if [ "${1-}" = --standing ]; then
+            if [ "${1-}" = --standing ] || [ "${1-}" = --all ]; then
                 words=("$1")
                 shift
             fi
-            is_number "${1-}" && refuse 'no word but --standing and FILE' ;;
+            is_number "${1-}" && refuse 'no word but --standing or --all, and FILE' ;;
         *)
             while [ $# -gt 0 ] && [[ $1 =~ ^[0-9]+$ ]]; do
                 need_numbers "$1"
@@ -229,7 +230,7 @@ read_words() {
     esac
     case ${1-} in
         -?*) refuse "there is no \`$1\` here$(nearest "$1" --quick --ready --help --version \
-            $([ "$name" = hmmjudge ] && echo --standing) \
+            $([ "$name" = hmmjudge ] && echo --standing --all) \
             $([ "$name" = hmmraces ] && echo --table --script --expect --expect-file --most))" ;;
     esac
     [ $# -le 1 ] || refuse "too many words: \`${*:2}\`"

@@ -3,7 +3,8 @@
 
     tools/reference/cli.py replay [FILE]      reads a script: the report that hmmrun must write
     tools/reference/cli.py check [FILE]       reads a report: `legal N`, or `bad L` with the first line that is not legal
-    tools/reference/cli.py judge [FILE]       reads a report: what hmmjudge must write of it (docs/JUDGE.md)
+    tools/reference/cli.py judge [FILE]       reads a report: what hmmjudge --standing must write (docs/JUDGE.md)
+    tools/reference/cli.py all [FILE]         reads a report: what hmmjudge --all must write
 
 Reads FILE, or standard input. Messages and statuses are those of hmmrun.
 """
@@ -40,18 +41,18 @@ def check(data):
         return 1, 'not legal', f'bad {bad.args[0]}\n'
 
 
-def judge(data):
+def judge(data, further=False):
     if len(data) > REPORT_BYTES:
         return 8, 'report too long', ''
-    legal, said = judged(data)
+    legal, said = judged(data, further)
     return 0 if legal else 1, '' if legal else 'not legal', ''.join(text + '\n' for text in said)
 
 
 def main():
     given.begin(__doc__)
-    words = {'replay': replay, 'check': check, 'judge': judge}
+    words = {'replay': replay, 'check': check, 'judge': judge, 'all': lambda data: judge(data, True)}
     if not 2 <= len(sys.argv) <= 3 or sys.argv[1] not in words:
-        status, message, text = 2, 'usage: cli.py replay | check | judge', ''
+        status, message, text = 2, 'usage: cli.py replay | check | judge | all', ''
     else:
         status, message, text = words[sys.argv[1]](given.data_of(sys.argv[2:]))
     sys.stdout.write(text)

@@ -2,7 +2,7 @@
 import report as reports
 import script as scripts
 from due import Wait
-from parts import NotingState, broken
+from parts import NAMES, NotingState, broken
 from report import FIELDS, line
 from run import FULL, Machine
 from script import Bad, PAGES, Span
@@ -238,8 +238,76 @@ def wait_text(wait):
     return f'told m{wait.what[0]} {wait.what[1]}'
 
 
-def judge(data):
-    """Whether the report is legal, and the lines that `hmmjudge --standing` writes of it."""
+def shared(one, other):
+    """How many bytes the two lines have in common at the front."""
+    return next((at for at, (x, y) in enumerate(zip(one, other)) if x != y), min(len(one), len(other)))
+
+
+def nearest(raw, standings, ends):
+    """The line that says which of the lines that could stand there shares most with this one."""
+    lines = [text.split(' ', 2)[2] for text in standings if text.startswith('due ')] + [ends]
+    return 'nearest ' + max(lines, key=lambda text: shared(raw, (text + '\n').encode()))
+
+
+# ---- the entries after the first bad line
+
+def read_on(lines, first):
+    """The entries of the lines from there on, and the first line that no report's text has there, if there is one."""
+    entries, at = [], first - 1
+
+    def text():
+        found = lines[at].decode('latin1') if at < len(lines) else ''
+        return found[:-1] if found.endswith('\n') else ''
+
+    try:
+        while True:
+            entries.append(entry_of(text(), len(entries)))
+            at += 1
+    except NoEntry:
+        pass
+    while (words := text().split(' '))[0] == 'unfinished' and len(words) == 3:
+        try:
+            said = f'unfinished a{numbered("a", 16, words[1])} {below(U64, words[2])}'
+        except NoEntry:
+            break
+        if said != text():
+            break
+        at += 1
+    if text() != f'end {len(entries)}':
+        return entries, at + 1
+    return entries, None if at + 1 == len(lines) else at + 2
+
+
+# Entries that leave a part of the state as it is, whether they keep its rule or not.
+LEAVE = {'answers': ('loaded', 'failed', 'fetched'), 'places': ('loaded', 'stored', 'fetched', 'added'),
+         'sequences': ('begin',)}
+
+
+def rules_broken(state, actor, entry):
+    """The names of the parts that the entry breaks, of those that ask for the entries before it alone."""
+    return [name for name in NAMES if name != 'kept' and not getattr(state, 'meets_' + name)(actor, entry)]
+
+
+def later(lines, script, first, bad):
+    """What is said of the entries after that of the first bad line, which has this number."""
+    entries, unread = read_on(lines, first)
+    if unread:
+        return [f'stops {unread} text']
+    state, said = NotingState(script), []
+    for at, (actor, entry) in enumerate(entries):
+        names = rules_broken(state, actor, entry)
+        if first + at > bad and names:
+            said += [f'also {first + at}', f'entry {line(at, actor, entry)}', *(f'breaks {name}' for name in names)]
+        if any(name in names and entry[0] not in words for name, words in LEAVE.items()):
+            return said + [f'stops {first + at} state']
+        state.apply(actor, entry)
+    return said + [f'judged {len(entries)}']
+
+
+# ---- all that is said
+
+def judge(data, further=False):
+    """Whether the report is legal, and the lines that `hmmjudge --standing` writes of it, or `hmmjudge --all`."""
     lines = [piece + b'\n' for piece in data.split(b'\n')]
     lines[-1] = lines[-1][:-1]
     if not lines[-1]:
@@ -247,7 +315,7 @@ def judge(data):
     try:
         script, first = head(lines)
     except BadHead as bad:
-        return False, bad.said
+        return False, bad.said + ([f'stops {bad.args[0]} text'] if further else [])
     this, at = Judge(script), first
     while at <= len(lines) and this.takes(lines[at - 1]):
         at += 1
@@ -256,6 +324,9 @@ def judge(data):
     left = lines[at - 1:]
     same = next((k for k, (x, y) in enumerate(zip(tail, left)) if x.encode() != y), min(len(tail), len(left)))
     if same == len(tail) == len(left):
-        return True, [f'legal {len(history)}', *this.standings()]
-    said = [f'bad {at + same}', *this.fault(left, same), *this.standings()]
-    return False, said + ([f'ends {tail[same][:-1]}'] if same < len(tail) else [])
+        return True, [f'legal {len(history)}', *([] if further else this.standings())]
+    fault, standings = this.fault(left, same), this.standings()
+    ends = tail[same][:-1] if same < len(tail) else None
+    near = [nearest(left[same], standings, ends)] if fault == ['text'] else []
+    said = [f'bad {at + same}', *fault, *near, *standings, *([f'ends {ends}'] if ends else [])]
+    return False, said + (later(lines, script, first, at + same) if further else [])

@@ -133,9 +133,12 @@ class State:
         return bytes(page[offset:offset + length]) if page else bytes(length)
 
     def write(self, process, address, data):
-        page = self.bytes[process].setdefault(address // PAGE_BYTES, bytearray(PAGE_BYTES))
-        offset = address % PAGE_BYTES
-        page[offset:offset + len(data)] = data
+        while data:
+            page = self.bytes[process].setdefault(address // PAGE_BYTES, bytearray(PAGE_BYTES))
+            offset = address % PAGE_BYTES
+            here = data[:PAGE_BYTES - offset]
+            page[offset:offset + len(here)] = here
+            address, data = address + len(here), data[len(here):]
 
     def process_of(self, who):
         return who[1] if who[0] == 'p' else self.mirrors[who[1]].process

@@ -2,6 +2,6 @@ mod Computed
 mod Owned
 mod Rightly
 mod Judging
-mod Recalling
+pub mod Recalling
 mod Searched
 mod Exact

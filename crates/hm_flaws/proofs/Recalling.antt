@@ -215,7 +215,7 @@ untold_by c h n i m v = by (n.set m v) (i.set m v)
     by None s = ap (λ z. elim z [ None ↦ false | Some j ↦ at_set h m v j (drop j h) ]) s
     by (Some x) s = ap (λ z. elim z [ None ↦ false | Some j ↦ at_set h m v j (drop j h) ]) s.last.last ∙ (ap (at_set h m v s.last.at) s.last.there ∙ at_here x s)
 
-uses_by : (c : Program) (h : List Entry) (n : Recalled) → IsRecalled c h n → (k : Kind) → uses_untold h k ≡ uses_untold_in n k
+pub uses_by : (c : Program) (h : List Entry) (n : Recalled) → IsRecalled c h n → (k : Kind) → uses_untold h k ≡ uses_untold_in n k
 uses_by c h n i (Kind.Loaded (Who.Mirror m) at bs) = untold_by c h n i m (page_of at)
 uses_by c h n i (Kind.Loaded (Who.Cpu p) at bs) = refl
 uses_by c h n i (Kind.Stored (Who.Mirror m) at bs) = untold_by c h n i m (page_of at)
@@ -228,7 +228,7 @@ short_by : (c : Program) (h : List Entry) (a : ℕ) (b : Bool) → ShortIs c h a
 short_by c h a b (ShortIs.Never l f) = ap (λ z. elim z [ None ↦ false | Some j ↦ is_no_frame (drop j h) && system_is_full c (take j h) ]) l ∙ sym f
 short_by c h a b (ShortIs.Once s) = ap (λ z. elim z [ None ↦ false | Some j ↦ is_no_frame (drop j h) && system_is_full c (take j h) ]) s.last.last ∙ (ap (λ z. is_no_frame z && system_is_full c (take s.last.at h)) s.last.there ∙ (ap (λ z. is_no_frame (s.last.entry ∷ s.last.rest) && system_is_full c z) s.last.upto ∙ s.same))
 
-fails_by : (c : Program) (h : List Entry) (n : Recalled) → IsRecalled c h n → (e : Entry) → fails_rightly c h e ≡ fails_rightly_in c n e
+pub fails_by : (c : Program) (h : List Entry) (n : Recalled) → IsRecalled c h n → (e : Entry) → fails_rightly c h e ≡ fails_rightly_in c n e
 fails_by c h n i e = ap (λ b. elim (needs_full e.kind) [ false ↦ true | true ↦ b ]) (ap (λ s. is_full c s || was_short c h e.actor) (sym i.state) ∙ ap (λ b. is_full c n.state || b) (short_by c h e.actor (n.short e.actor) (i.short e.actor)))
 
 meets_by : (c : Program) (h : List Entry) (n : Recalled) → IsRecalled c h n → (g : ℕ → Going) (e : Entry) (l : Part) → meets_part c h g e l ≡ meets_part_in c n g e l

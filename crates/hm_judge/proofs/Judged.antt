@@ -12,8 +12,9 @@ use Rattle.hm_edge.specs.declared.status.Status.{Status}
 use Rattle.hm_edge.proofs.Came.{came_as, came_bytes, given}
 use Rattle.hm_history.specs.declared.Entry.{Entry}
 use Rattle.hm_judge.specs.Judgements.{verdict_of}
-use Rattle.hm_judge.specs.Judging.{EndsAs, Finds, HasTold, IsJudgementFrom, IsJudgementOn, Judges, Told}
-use Rattle.hm_judge.specs.Texts.{judgement_text}
+use Rattle.hm_judge.specs.Judging.{EndsAs, Finds, HasTold, IsAnswerFrom, IsAnswerOn, Judges, Told}
+use Rattle.hm_judge.specs.LaterTexts.{answer_text}
+use Rattle.hm_judge.specs.declared.answer.Answer.{Answer}
 use Rattle.hm_judge.specs.declared.asked.Asked.{Asked}
 use Rattle.hm_judge.specs.declared.judgement.Judgement.{Judgement}
 
@@ -65,27 +66,27 @@ finds j Status.NoRows c h found ends = absurd ends
 finds j Status.TooManyRows c h found ends = absurd ends
 finds j (Status.Race end) c h found ends = absurd ends
 
-pub judges_told : (asked : Asked) (io : Traffic) (status : Status) (j : Judgement) → IsSound (verdict_of j) → IsJudgementFrom io.source io.source_after j → io.source_after.faults ≡ io.source.faults → EndsAs j status
-    → HasWritten (judgement_text asked j) (λ t. t ≡ judgement_text asked j) io.sink io.sink_after status → WriteFaulted io.sink.faults io.sink_after.faults status → IsFlushed io.sink_after.pending status → Judges asked io status
-judges_told asked io status j sound from same ends written faults flushed = record {
+pub judges_told : (asked : Asked) (io : Traffic) (status : Status) (a : Answer) → IsSound (verdict_of a.judgement) → IsAnswerFrom asked io.source io.source_after a → io.source_after.faults ≡ io.source.faults → EndsAs a.judgement status
+    → HasWritten (answer_text asked a) (λ t. t ≡ answer_text asked a) io.sink io.sink_after status → WriteFaulted io.sink.faults io.sink_after.faults status → IsFlushed io.sink_after.pending status → Judges asked io status
+judges_told asked io status a sound from same ends written faults flushed = record {
   told = has_told asked io status told;
-  read_faults = told_reads j status ends io.source.faults io.source_after.faults same;
+  read_faults = told_reads a.judgement status ends io.source.faults io.source_after.faults same;
   write_faults = faults;
   flushed = flushed;
-  finds = λ none. given io.source.left (λ bytes is short c h legal. finds j status c h (is_found bytes is c h legal) ends);
+  finds = λ none. given io.source.left (λ bytes is short c h legal. finds a.judgement status c h (is_found bytes is c h legal) ends);
 }
   where
     told : Told asked io status
     told = record {
-      judgement = j;
+      answer = a;
       sound = sound;
-      read = came_as (λ bytes. IsJudgementOn bytes j) io.source.left io.source_after.left from.bytes from.whole from.judgement;
+      read = came_as (λ bytes. IsAnswerOn asked bytes a) io.source.left io.source_after.left from.bytes from.whole from.answer;
       ends = ends;
       written = written;
     }
 
-    is_found : (bytes : List ℕ) → io.source.left ≡ Some bytes → (c : Program) (h : List Entry) → IsLegalReportOf c h bytes → IsYes c h (verdict_of j)
-    is_found bytes is c h legal = from.judgement.only c h (subst (IsLegalReportOf c h) (came_bytes io.source.left io.source_after.left from.bytes bytes from.whole is) legal)
+    is_found : (bytes : List ℕ) → io.source.left ≡ Some bytes → (c : Program) (h : List Entry) → IsLegalReportOf c h bytes → IsYes c h (verdict_of a.judgement)
+    is_found bytes is c h legal = from.answer.judgement.only c h (subst (IsLegalReportOf c h) (came_bytes io.source.left io.source_after.left from.bytes bytes from.whole is) legal)
 
 -- ---- none
 

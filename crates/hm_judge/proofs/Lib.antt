@@ -4,3 +4,5 @@ pub mod Judged
 pub mod StandingLines
 pub mod Pieces
 pub mod Heads
+pub mod Near
+pub mod LaterLines

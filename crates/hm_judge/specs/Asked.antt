@@ -5,7 +5,9 @@ use Rattle.hm_judge.specs.declared.asked.Asked.{Asked}
 
 -- what one word asks for
 abbrev pub asked_by : List ℕ → Option Asked
-asked_by word = if bytes_eq word (codes "--standing") then Some Asked.Standing else None
+asked_by word =
+    if bytes_eq word (codes "--standing") then Some Asked.Standing
+    else if bytes_eq word (codes "--all") then Some Asked.All else None
 
 -- what the words ask for; none if they are none of the forms
 abbrev pub asked_of : List (List ℕ) → Option Asked

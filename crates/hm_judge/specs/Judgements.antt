@@ -23,6 +23,7 @@ use Rattle.hm_parts.specs.Parts.{AreParts}
 use Rattle.hm_parts.specs.Shown.{AreShown}
 use Rattle.hm_parts.specs.declared.parts.Parts.{Parts}
 use Rattle.hm_parts.specs.declared.shown.ShownParts.{ShownParts}
+use Rattle.hm_judge.specs.Nearest.{IsNearest, could_stand}
 use Rattle.hm_judge.specs.declared.judgement.BadReport.{BadReport}
 use Rattle.hm_judge.specs.declared.judgement.Fault.{Fault}
 use Rattle.hm_judge.specs.declared.judgement.Judgement.{Judgement}
@@ -75,6 +76,11 @@ IsFault c h (suc n) (Some l) fault = fault ≡ Fault.Behind
 abbrev pub line_or_none : List (List ℕ) → ℕ → List ℕ
 line_or_none ls n = elim (slice_get ls n) [ None ↦ [] | Some l ↦ l ]
 
+-- if the line is that of no entry, the nearest of the lines that could stand there; else nothing
+abbrev pub IsNear : Fault → List ℕ → List (List ℕ) → List ℕ → Type 0
+IsNear Fault.NoEntry l ks t = IsNearest l ks t
+IsNear _ l ks t = t ≡ []
+
 -- what is said of a bad line after these entries, if the first line after the script has this number, these lines
 -- follow the entries, and as many of them as this end the report
 pub record IsBadThere (c : Program) (h : List Entry) (first : ℕ) (ls : List (List ℕ)) (n : ℕ)
@@ -82,6 +88,7 @@ pub record IsBadThere (c : Program) (h : List Entry) (first : ℕ) (ls : List (L
   pub line : b.line ≡ first + length h + n
   pub at : b.at ≡ length h
   pub fault : IsFault c h n (slice_get ls n) b.fault
+  pub nearest : IsNear b.fault (line_or_none ls n) (could_stand b.at b.standing.items b.ending) b.nearest
   pub standing : b.standing.items ≡ map (due c h) (actors_of c)
   pub ending : b.ending ≡ line_or_none (lines (tail_of c h)) n
 
@@ -136,6 +143,7 @@ pub record HasBadHead (bytes : List ℕ) (b : BadReport) : Type 0 where
   pub head : IsBadHead bytes b.line
   pub fault : IsHeadFault bytes b.fault
   pub at_line : IsAtLine b.line b.fault
+  pub nearest : b.nearest ≡ []
   pub standing : b.standing.items ≡ []
   pub ending : IsHeadEnding (take (b.line - 1) (lines bytes)) b.ending
 

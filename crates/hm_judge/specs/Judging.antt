@@ -15,7 +15,9 @@ use Rattle.hm_script.specs.Automaton.{lines}
 use Rattle.hm_script.specs.Spelling.{text}
 use Rattle.hm_report.specs.declared.written.Written.{Written}
 use Rattle.hm_judge.specs.Judgements.{IsTold, verdict_of}
-use Rattle.hm_judge.specs.Texts.{judgement_text}
+use Rattle.hm_judge.specs.Later.{IsLater}
+use Rattle.hm_judge.specs.LaterTexts.{answer_text}
+use Rattle.hm_judge.specs.declared.answer.Answer.{Answer}
 use Rattle.hm_judge.specs.declared.asked.Asked.{Asked}
 use Rattle.hm_judge.specs.declared.judgement.Judgement.{Judgement}
 
@@ -31,12 +33,17 @@ abbrev pub IsJudgementBehind : Program → ℕ → List ℕ → Judgement → Ty
 IsJudgementBehind c first bytes j = (whole : List ℕ) → lines whole ≡ lines (text c) ++ history_line ∷ lines bytes
     → first ≡ length (lines (text c)) + 2 → IsJudgementOn whole j
 
--- all that was left in the source came, and this is the judgement on it
-pub record IsJudgementFrom (before after : SourceState) (j : Judgement) : Type 0 where
+-- the judgement is that on these bytes, and what is said of the later entries holds, if it is asked for
+pub record IsAnswerOn (asked : Asked) (bytes : List ℕ) (a : Answer) : Type 0 where
+  pub judgement : IsJudgementOn bytes a.judgement
+  pub later : IsLater asked a.judgement bytes a.later
+
+-- all that was left in the source came, and this is what is said of it
+pub record IsAnswerFrom (asked : Asked) (before after : SourceState) (a : Answer) : Type 0 where
   pub bytes : List ℕ
   pub short : length bytes ≤ 268435456
   pub whole : CameWhole before.left after.left bytes
-  pub judgement : IsJudgementOn bytes j
+  pub answer : IsAnswerOn asked bytes a
 
 -- the report is legal
 abbrev pub IsLegal : Judgement → Type 0
@@ -63,14 +70,14 @@ ending_of j Written.NoMemory = Status.NoMemory
 ending_of (Judgement.Legal l) Written.Done = Status.Done
 ending_of (Judgement.Bad b) Written.Done = Status.NotLegal b.line
 
--- a judgement was made on what was read, and this was written of it, if this is asked for
+-- what was read was judged as it is asked for, and this was written of it
 pub record Told (asked : Asked) (io : Traffic) (status : Status) : Type 0 where
-  pub judgement : Judgement
-  pub sound : IsSound (verdict_of judgement)
-  pub read : IfSome io.source.left (λ bytes. IsJudgementOn bytes judgement)
-  pub ends : EndsAs judgement status
+  pub answer : Answer
+  pub sound : IsSound (verdict_of answer.judgement)
+  pub read : IfSome io.source.left (λ bytes. IsAnswerOn asked bytes answer)
+  pub ends : EndsAs answer.judgement status
   pub written :
-      HasWritten (judgement_text asked judgement) (λ t. t ≡ judgement_text asked judgement) io.sink io.sink_after status
+      HasWritten (answer_text asked answer) (λ t. t ≡ answer_text asked answer) io.sink io.sink_after status
 
 -- what was read and written, by how the call ends
 abbrev pub HasTold : Asked → Traffic → Status → Type 0

@@ -1,6 +1,9 @@
 pub mod Asked
+pub mod Nearest
 pub mod Judgements
 pub mod Standing
 pub mod Texts
+pub mod Later
+pub mod LaterTexts
 pub mod Judging
 pub mod Runs

@@ -12,7 +12,7 @@ name = codes "hmmjudge"
 
 -- what it says if its words are none of the forms
 abbrev pub usage : List ℕ
-usage = codes "usage: hmmjudge [--standing]"
+usage = codes "usage: hmmjudge [--standing | --all]"
 
 -- the words are no form: nothing was read, and nothing written
 pub record HasRefused (io : Traffic) (status : Status) : Type 0 where

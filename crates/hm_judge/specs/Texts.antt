@@ -68,19 +68,23 @@ fault_text at Fault.NoEntry = codes "text\n"
 fault_text at Fault.Behind = codes "behind\n"
 fault_text at Fault.Missing = codes "missing\n"
 
--- the line that would end the script or the report; none if no line does
-abbrev pub ending_text : List ℕ → List ℕ
-ending_text [] = []
-ending_text (b ∷ bytes) = codes "ends " ++ (b ∷ bytes)
+-- a line after a word; none if no line is there
+abbrev pub line_text : List ℕ → List ℕ → List ℕ
+line_text word [] = []
+line_text word (b ∷ bytes) = word ++ (b ∷ bytes)
 
 -- the lines on bytes that are no legal report
 unfoldable pub bad_text : BadReport → List ℕ
 bad_text b =
-    bad_line b.line ++ (fault_text b.at b.fault ++ (standing_lines b.at 0 b.standing.items ++ ending_text b.ending))
+    bad_line b.line
+    ++ (fault_text b.at b.fault
+    ++ (line_text (codes "nearest ") b.nearest
+    ++ (standing_lines b.at 0 b.standing.items ++ line_text (codes "ends ") b.ending)))
 
 -- the lines of all actors after a history of this length, if they are asked for
 abbrev pub asked_lines : Asked → ℕ → List Progress → List ℕ
 asked_lines Asked.Verdict at ps = []
+asked_lines Asked.All at ps = []
 asked_lines Asked.Standing at ps = standing_lines at 0 ps
 
 -- the lines on a legal report

@@ -9,6 +9,8 @@ pub enum Asked {
     Verdict,
     /// How each actor stands after a legal report, too.
     Standing,
+    /// Which rules the entries after the first bad line break, too.
+    All,
 }
 
 fn asked_by(word: &str) -> Option<Asked>
@@ -16,6 +18,9 @@ fn asked_by(word: &str) -> Option<Asked>
 {
     if word == "--standing" {
         return Some(Asked::Standing);
+    }
+    if word == "--all" {
+        return Some(Asked::All);
     }
     None
 }

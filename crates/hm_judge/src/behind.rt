@@ -2,15 +2,18 @@
 ghost use Rattle.std.specs.Prelude.{◌≡◌, ◌+◌, ◌^◌, ◌≤◌, IfOk, length};
 ghost use Rattle.hm_check.specs.Parts.{BeginsNoEntry, TakenFrom, tail_of};
 ghost use Rattle.hm_script.specs.Automaton.{lines};
-ghost use Rattle.hm_judge.specs.Judgements.{IsBadThere, IsJudgementAt, IsLegalOf};
+ghost use Rattle.hm_judge.specs.Judgements.{IsBadThere, IsJudgementAt, IsLegalOf, IsNear};
+ghost use Rattle.hm_judge.specs.Nearest.{could_stand};
 ghost use Rattle.hm_judge.specs.Judging.{IsJudgementBehind};
 
 use crate::fault::fault_at;
-use crate::judgement::{BadReport, Judgement, LegalReport};
+use crate::judgement::{BadReport, Fault, Judgement, LegalReport};
 use crate::lines::copy_line;
+use crate::nearest::nearest_line;
 use crate::standing::standings;
-use hm_base::{NoMemory, Script};
+use hm_base::{NoMemory, Script, Text};
 use hm_check::{Report, put_tail, take_entries};
+use hm_history::Progress;
 use hm_reads::Reads;
 use hm_report::Buffer;
 use hm_report_front::first_difference;
@@ -47,6 +50,23 @@ fn put_ending(out: &mut Buffer, world: &World)
     put_tail(out, world.script(), world.history());
 }
 
+/// The nearest of the lines that could stand there, if the line is that of no entry; else nothing.
+fn nearest_to(
+    alloc: Global,
+    fault: &Fault,
+    line: &[u8],
+    at: u64,
+    standing: &[Progress],
+    ending: &[u8],
+) -> Result<Text, NoMemory>
+    ensures { IfOk result (IsNear fault.now line.now (could_stand at standing.now ending.now)) }
+{
+    match fault {
+        Fault::NoEntry => nearest_line(alloc, line, at, standing, ending),
+        _ => Ok(Text::new(alloc)),
+    }
+}
+
 /// What is said if the lines after the entries are not those that end the report. As many of them as this are; the
 /// first line after `history` has this number.
 fn bad_report(
@@ -69,10 +89,20 @@ fn bad_report(
     let fault = fault_at(alloc, world, rest, same)?;
     let standing = standings(alloc, world)?;
     let ending = copy_line(alloc, tail, same)?;
+    let line = copy_line(alloc, rest, same)?;
+    let nearest = nearest_to(
+        alloc,
+        &fault,
+        line.as_slice(),
+        at,
+        standing.as_slice(),
+        ending.as_slice(),
+    )?;
     Ok(BadReport {
         line: first + at + same,
         at,
         fault,
+        nearest,
         standing,
         ending,
     })

@@ -4,12 +4,13 @@ ghost use Rattle.hm_edge.specs.Traffic.{traffic};
 ghost use Rattle.hm_edge.specs.Writing.{HasWritten, IsFlushed, WriteFaulted};
 ghost use Rattle.hm_judge.specs.Judging.{EndsAs, Judges, ending_of};
 ghost use Rattle.hm_judge.specs.Runs.{Runs};
-ghost use Rattle.hm_judge.specs.Texts.{judgement_text};
+ghost use Rattle.hm_judge.specs.LaterTexts.{answer_text};
 
+use crate::answer::Answer;
 use crate::asked::Asked;
 use crate::judgement::Judgement;
-use crate::source::judge_source;
-use crate::text::judgement_text;
+use crate::later_text::answer_text;
+use crate::source::answer_source;
 use hm_edge::Status;
 use hm_io::{Sink, Source};
 use hm_report::{Written, write_text};
@@ -29,24 +30,19 @@ fn ending(judgement: &Judgement, written: Written) -> Status
     }
 }
 
-/// Writes the text of a judgement.
-fn write_judgement<K: Sink>(
-    alloc: Global,
-    asked: Asked,
-    judgement: &Judgement,
-    sink: &mut K,
-) -> Status
-    ensures ends { EndsAs judgement.now result }
-    ensures written { HasWritten (judgement_text asked judgement.now) (λ t. t ≡ judgement_text asked judgement.now)
+/// Writes the text of an answer.
+fn write_answer<K: Sink>(alloc: Global, asked: Asked, answer: &Answer, sink: &mut K) -> Status
+    ensures ends { EndsAs answer.now.judgement result }
+    ensures written { HasWritten (answer_text asked answer.now) (λ t. t ≡ answer_text asked answer.now)
         (K.state sink.old) (K.state sink.new) result }
     ensures faults { WriteFaulted (K.state sink.old).faults (K.state sink.new).faults result }
     ensures flushed { IsFlushed (K.state sink.new).pending result }
 {
-    let Ok(text) = judgement_text(alloc, asked, judgement) else {
+    let Ok(text) = answer_text(alloc, asked, answer) else {
         return Status::NoMemory;
     };
     let written = write_text(alloc, &text, sink);
-    ending(judgement, written)
+    ending(&answer.judgement, written)
 }
 
 /// Reads a report, and writes the judgement on it.
@@ -58,8 +54,8 @@ fn judge_report<S: Source, K: Sink>(
 ) -> Status
     ensures { Judges asked (traffic S.state K.state source.old source.new sink.old sink.new) result }
 {
-    match judge_source(alloc, source) {
-        Ok(judgement) => write_judgement(alloc, asked, &judgement, sink),
+    match answer_source(alloc, asked, source) {
+        Ok(answer) => write_answer(alloc, asked, &answer, sink),
         Err(status) => status,
     }
 }

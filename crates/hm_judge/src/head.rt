@@ -51,6 +51,7 @@ pub fn head_report(alloc: Global, bytes: &[u8], line: u64) -> Result<BadReport, 
         line,
         at: 0,
         fault,
+        nearest: Text::new(alloc),
         standing: Vec::new(alloc),
         ending,
     })

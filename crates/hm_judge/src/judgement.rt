@@ -31,6 +31,8 @@ pub struct BadReport {
     /// How many entries before it were due, each after those before it.
     pub at: u64,
     pub fault: Fault,
+    /// If the line is that of no entry that has its place, the nearest of the lines that could stand there; else empty.
+    pub nearest: Text,
     /// What was due to each actor of the script after those entries; empty if the script is bad.
     pub standing: Vec<Progress>,
     /// The line that goes on to end the report there, or the line `history` if the lines before it are a script; empty

@@ -16,7 +16,7 @@ use std::io;
 pub const NAME: &str = "hmmjudge";
 
 /// What it says if there are words.
-pub const USAGE: &str = "usage: hmmjudge [--standing]";
+pub const USAGE: &str = "usage: hmmjudge [--standing | --all]";
 
 /// The call of hmmjudge.
 struct Judging;

@@ -5,8 +5,9 @@ ghost use Rattle.hm_report.specs.Line.{spaced};
 ghost use Rattle.hm_report.specs.Words.{head_words, tail_text};
 ghost use Rattle.hm_script.specs.Reasons.{refused_text};
 ghost use Rattle.hm_judge.specs.Standing.{standing_line, standing_lines};
-ghost use Rattle.hm_judge.specs.Texts.{asked_lines, bad_text, breaks, ending_text, fault_text, first_parts_text};
-ghost use Rattle.hm_judge.specs.Texts.{judgement_text, last_parts_text, legal_text, shown_line, unset_text, wrong_text};
+ghost use Rattle.hm_judge.specs.Texts.{asked_lines, bad_text, breaks, fault_text, first_parts_text};
+ghost use Rattle.hm_judge.specs.Texts.{judgement_text, last_parts_text, legal_text, line_text, shown_line};
+ghost use Rattle.hm_judge.specs.Texts.{unset_text, wrong_text};
 
 use crate::asked::Asked;
 use crate::judgement::{BadReport, Fault, Judgement, LegalReport};
@@ -75,7 +76,7 @@ fn add_shown(text: &mut Text, out: &mut Buffer, shown: &Option<Shown>) -> Result
 
 /// Adds the line of a part, and what shows it, if it is broken. The buffer is written over.
 #[tactic(auto, using(std::proofs::Common::append_assoc), unfolding(crate::specs::Texts::breaks))]
-fn add_break(
+pub fn add_break(
     text: &mut Text,
     out: &mut Buffer,
     met: bool,
@@ -236,21 +237,26 @@ fn add_standings(
 
 // ---- all of it
 
-/// Adds the line that would end the script or the report, if there is one.
+/// Adds a line after a word, if the line is there.
 #[tactic(auto, using(std::proofs::Common::append_assoc))]
-fn add_ending(text: &mut Text, ending: &[u8]) -> Result<(), NoMemory>
-    ensures { OnOk result (text.new ≡ text.old ++ ending_text ending.now) }
+fn add_line(text: &mut Text, word: &[u8], line: &[u8]) -> Result<(), NoMemory>
+    ensures { OnOk result (text.new ≡ text.old ++ line_text word.now line.now) }
 {
-    if ending.is_empty() {
+    if line.is_empty() {
         return Ok(());
     }
-    text.extend(b"ends ")?;
-    text.extend(ending)
+    text.extend(word)?;
+    text.extend(line)
 }
 
 /// Adds a line with a number.
 #[tactic(auto, using(std::proofs::Common::append_assoc))]
-fn add_numbered(text: &mut Text, out: &mut Buffer, word: &[u8], number: u64) -> Result<(), NoMemory>
+pub fn add_numbered(
+    text: &mut Text,
+    out: &mut Buffer,
+    word: &[u8],
+    number: u64,
+) -> Result<(), NoMemory>
     requires { length word.now ≤ 100 }
     ensures { OnOk result (text.new ≡ text.old ++ (word.now ++ (decimal number ++ 10 ∷ []))) }
 {
@@ -267,8 +273,9 @@ fn add_bad(text: &mut Text, out: &mut Buffer, bad: &BadReport) -> Result<(), NoM
 {
     add_numbered(text, out, b"bad ", bad.line)?;
     add_fault(text, out, bad.at, &bad.fault)?;
+    add_line(text, b"nearest ", bad.nearest.as_slice())?;
     add_standings(text, out, bad.at, bad.standing.as_slice())?;
-    add_ending(text, bad.ending.as_slice())
+    add_line(text, b"ends ", bad.ending.as_slice())
 }
 
 /// Adds the lines of all actors after a history of this length, if they are asked for.
@@ -283,6 +290,7 @@ fn add_asked(
 {
     match asked {
         Asked::Verdict => Ok(()),
+        Asked::All => Ok(()),
         Asked::Standing => add_standings(text, out, at, standing),
     }
 }
@@ -302,6 +310,21 @@ fn add_legal(
     add_asked(text, out, asked, count, legal.standing.as_slice())
 }
 
+/// Adds the text of a judgement. The buffer is written over.
+pub fn add_judgement(
+    text: &mut Text,
+    out: &mut Buffer,
+    asked: Asked,
+    judgement: &Judgement,
+) -> Result<(), NoMemory>
+    ensures { OnOk result (text.new ≡ text.old ++ judgement_text asked judgement.now) }
+{
+    match judgement {
+        Judgement::Legal(legal) => add_legal(text, out, asked, legal),
+        Judgement::Bad(bad) => add_bad(text, out, bad),
+    }
+}
+
 /// The text of a judgement: `legal N` with the number of entries, and how each actor stands at its end if that is asked
 /// for; or `bad L` with the first bad line, what is wrong with it, how each actor stands there, and what would end the
 /// report.
@@ -310,9 +333,6 @@ pub fn judgement_text(alloc: Global, asked: Asked, judgement: &Judgement) -> Res
 {
     let mut out = Buffer::new(alloc)?;
     let mut text = Text::new(alloc);
-    match judgement {
-        Judgement::Legal(legal) => add_legal(&mut text, &mut out, asked, legal)?,
-        Judgement::Bad(bad) => add_bad(&mut text, &mut out, bad)?,
-    }
+    add_judgement(&mut text, &mut out, asked, judgement)?;
     Ok(text)
 }

@@ -1,5 +1,5 @@
 // Answers by plain bytes.
-ghost use Rattle.std.specs.Prelude.{◌≡◌, IfOk, not};
+ghost use Rattle.std.specs.Prelude.{◌≡◌, IfOk, is_ok, not};
 ghost use Rattle.hm_history.specs.Memory.Plain.{plain_accepts};
 ghost use Rattle.hm_history.specs.Memory.After.{after};
 ghost use Rattle.hm_folds.specs.Applied.{is_not_legal};
@@ -10,9 +10,10 @@ use hm_folds::PlainState;
 use hm_history::{Entry, FoldError};
 use std::alloc::Global;
 
-/// Whether a fold found that the entry may follow.
-pub fn may_follow(answer: Result<(), FoldError>) -> Result<bool, NoMemory>
-    ensures { IfOk result (λ b. b ≡ not (is_not_legal answer)) }
+/// Whether a fold found that the entry may follow, and took it.
+pub fn has_taken(answer: Result<(), FoldError>) -> Result<bool, NoMemory>
+    ensures legal { IfOk result (λ b. b ≡ not (is_not_legal answer)) }
+    ensures taken { IfOk result (λ b. b ≡ is_ok answer) }
 {
     match answer {
         Ok(()) => Ok(true),
@@ -49,5 +50,5 @@ pub fn meets_plain(
     ensures { IfOk result (λ b. b ≡ plain_accepts (after entries.now).plain entry.now.kind) }
 {
     let mut state = plain_after(alloc, script, entries)?;
-    may_follow(state.apply(entry))
+    has_taken(state.apply(entry))
 }

@@ -15,6 +15,9 @@ mod show_places;
 mod show_sequences;
 mod shown;
 
+pub use answers::has_taken;
+pub use frames::{is_full, needs_full, short_next};
 pub use laws::may_follow;
 pub use parts::{Parts, parts_of};
+pub use places::is_guarded_by;
 pub use shown::{Shown, ShownParts, shown_of};

@@ -10,7 +10,7 @@ ghost use Rattle.hm_folds.specs.Kept.{sequences_of};
 ghost use Rattle.hm_folds.specs.Places.{ForShown};
 ghost use Rattle.hm_parts.specs.Followed.{PlacesFollow, GoesOn};
 
-use crate::answers::may_follow;
+use crate::answers::has_taken;
 use crate::frames::{is_full, needs_full, short_next};
 use crate::guarded::loses;
 use hm_base::{Actor, NoMemory, Page, Place, Proc, Script};
@@ -87,14 +87,14 @@ fn is_page_guarded(
 
 /// Whether the entry takes nothing from the page of its `place`, or does so under a guard of its actor in which all
 /// were told.
-fn is_guarded_by(so_far: &PlacesSoFar, entry: &Entry) -> bool
-    ensures { ForShown so_far.now.state
-        (λ c s. result ≡ narrows_guarded (sequences_of so_far.now.sequences) s.place entry.now.actor entry.now.kind) }
+pub fn is_guarded_by(state: &PlaceState, sequences: &SeqState, entry: &Entry) -> bool
+    ensures { ForShown state.now
+        (λ c s. result ≡ narrows_guarded (sequences_of sequences.now) s.place entry.now.actor entry.now.kind) }
 {
     match &entry.kind {
         Kind::Place { proc, page, place } => {
-            let before = so_far.state.place(*proc, *page);
-            is_page_guarded(&so_far.sequences, entry.actor, *proc, *page, &before, place)
+            let before = state.place(*proc, *page);
+            is_page_guarded(sequences, entry.actor, *proc, *page, &before, place)
         }
         _ => true,
     }
@@ -120,10 +120,10 @@ pub fn meets_places(
         entry.now.kind) }
 {
     let mut so_far = places_after(alloc, script, entries, entry.actor)?;
-    let guarded = is_guarded_by(&so_far, entry);
+    let guarded = is_guarded_by(&so_far.state, &so_far.sequences, entry);
     let frames = !needs_full(&entry.kind) || is_full(&so_far.state) || so_far.short;
-    let sequences = may_follow(so_far.sequences.apply(entry))?;
-    let places = may_follow(so_far.state.apply(entry))?;
+    let sequences = has_taken(so_far.sequences.apply(entry))?;
+    let places = has_taken(so_far.state.apply(entry))?;
     Ok(PlaceParts {
         places,
         frames,

@@ -31,6 +31,7 @@ pub record IsFirstUnread (bytes : List ℕ) (n : ℕ) : Type 0 where
 abbrev pub IsReadOf : List ℕ → Result WholeReport BadLine → Type 0
 IsReadOf bytes (Ok r) = HasText r.script r.history.entries r.unfinished.items
     × (bytes ≡ text_of r.script r.history.entries r.unfinished.items)
+    × (r.first ≡ length (lines (text r.script)) + 2)
 IsReadOf bytes (Err bad) = IsFirstUnread bytes bad.0
 
 -- what was read is this

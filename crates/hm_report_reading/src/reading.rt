@@ -18,6 +18,8 @@ use std::alloc::Global;
 #[derive(Drop)]
 pub struct WholeReport {
     pub script: Script,
+    /// The number, from 1, of the first line after `history`.
+    pub first: u64,
     /// It may be of any entries, also if they are no legal history of the script.
     pub history: History,
     /// In the order of their lines.
@@ -32,7 +34,8 @@ fn read_behind(
     bytes: &[u8],
 ) -> Result<Result<WholeReport, BadLine>, NoMemory>
     requires { first + length bytes.now ≤ 2 ^ 63 + 2 }
-    ensures { IfOk result (IsReadBehind script first bytes.now) }
+    ensures read { IfOk result (IsReadBehind script first bytes.now) }
+    ensures first { IfOk result (λ r. IfOk r (λ whole. whole.first ≡ first)) }
 {
     script.facts();
     hm_script::one_text();
@@ -48,6 +51,7 @@ fn read_behind(
         }
         None => Ok(Ok(WholeReport {
             script,
+            first,
             history,
             unfinished,
         })),
@@ -63,6 +67,8 @@ pub fn read_report(alloc: Global, bytes: &[u8]) -> Result<Result<WholeReport, Ba
     // What has the bytes as its text is read, unless memory runs out.
     ensures only { (c : Program) (h : List Entry) (us : List Unfinished) → HasText c h us → bytes.now ≡ text_of c h us
         → IfOk result (IsThis c h us) }
+    // The number of a line is not too high for one number more for each entry.
+    ensures low { IfOk result (λ r. IfOk r (λ whole. whole.first ≤ 2 ^ 63 + 2)) }
 {
     hm_script::one_text();
     match read_head(alloc, bytes)? {

@@ -1,7 +1,8 @@
-// Judges every report in the folder that it runs in, and writes after its name what is said of it.
+// Judges every report in the folder that it runs in, and writes after its name what is said of it: with its later
+// entries if its name begins with `all_`.
 #![tactic(auto)]
 
-use hm_judge::{Asked, judge_bytes, judgement_text};
+use hm_judge::{Asked, answer_on, answer_text};
 use std::{fs, io, str};
 
 /// The names of the reports, in order.
@@ -17,15 +18,25 @@ fn reports(rt: &HostRuntime) -> io::Result<Vec<String>> {
     Ok(names)
 }
 
+/// What is asked of a report of this name.
+fn asked_of(name: &str) -> Asked {
+    if name.starts_with("all_") {
+        Asked::All
+    } else {
+        Asked::Standing
+    }
+}
+
 /// Writes what is said of one report.
 fn tell(rt: &HostRuntime, name: &str) -> io::Result<()> {
     let path = format!(in rt.alloc(); "{name}.report")?;
     let bytes = fs::read(rt, path.as_str())?;
     println!(rt; "{name}")?;
-    let Ok(judgement) = judge_bytes(rt.alloc(), bytes.as_slice()) else {
+    let asked = asked_of(name);
+    let Ok(answer) = answer_on(rt.alloc(), asked, bytes.as_slice()) else {
         return println!(rt; "out of memory");
     };
-    match judgement_text(rt.alloc(), Asked::Standing, &judgement) {
+    match answer_text(rt.alloc(), asked, &answer) {
         Ok(text) => match str::from_utf8(text.as_slice()) {
             Ok(said) => println!(rt; "{said}"),
             Err(_) => println!(rt; "no text"),

@@ -7,7 +7,7 @@ use Rattle.hm_parts.proofs.places.is_guarded_by.Goals as goal
 
 pub returns-in-Place : goal.returns-in-Place
 returns-in-Place c = λ script s shown.
-    let t = sequences_of c.args.so_far.now.sequences in
+    let t = sequences_of c.args.sequences.now in
     let a = c.args.entry.now.actor in
     c.is_page_guarded.ensures
     ∙ ap (λ (y : Place). not (loses y c.in-Place.place) || is_guarded t a c.in-Place.proc c.in-Place.page) (c.place-before.ensures script s shown)

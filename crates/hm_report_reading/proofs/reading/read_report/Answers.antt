@@ -6,7 +6,7 @@ use Rattle.hm_report_reading.proofs.reading.read_report.Goals as goal
 use Rattle.std.proofs.lemmas.Result.{IfOk-weaker}
 
 pub returns-in-Ok-clause-read : goal.returns-in-Ok-clause-read
-returns-in-Ok-clause-read c = IfOk-weaker c.read_behind.result _ _ (λ r read. read_whole c.args.bytes.now c.in-Ok.head.rest.now c.in-Ok.head.script c.in-Ok.head.first r (subst (ReadsHead c.args.bytes.now) c.in-Ok.is c.in_ok-head.ensures.read) read) c.read_behind.ensures
+returns-in-Ok-clause-read c = IfOk-weaker c.read_behind.result _ _ (λ r read. read_whole c.args.bytes.now c.in-Ok.head.rest.now c.in-Ok.head.script c.in-Ok.head.first r (subst (ReadsHead c.args.bytes.now) c.in-Ok.is c.in_ok-head.ensures.read) read) c.read_behind.ensures.read
 
 pub returns-in-Ok-clause-only : goal.returns-in-Ok-clause-only
 returns-in-Ok-clause-only c = λ p h us has is. IfOk-weaker c.read_behind.result _ _ (λ r read. is_this c.one_text.ensures c.args.bytes.now r p h us read has is) (returns-in-Ok-clause-read c)

@@ -1,0 +1,4 @@
+pub mod Lasts
+pub mod Recalling
+pub mod Going
+pub mod Steps

@@ -1,0 +1,5 @@
+pub mod Kept
+pub mod Sets
+pub mod Lookups
+pub mod Pasts
+pub mod Followed
