@@ -6,8 +6,10 @@ use Rattle.std.specs.List.{list_all}
 use Rattle.std.proofs.lemmas.Bool.{and_parts}
 use Rattle.std.proofs.lemmas.Bool.Decides.{nat_tests}
 use Rattle.hm_base.specs.Areas.{with_area}
+use Rattle.hm_base.specs.PlaceWords.{pool_index}
 use Rattle.hm_base.specs.Program.{op_fits, op_in_range}
 use Rattle.hm_base.specs.declared.area.Area.{Area}
+use Rattle.hm_base.specs.declared.PoolId.{PoolId}
 use Rattle.hm_base.specs.declared.ops.Op.{Op}
 
 -- an item of a list of which all pass
@@ -35,6 +37,15 @@ few_bytes n p a bs h = grind (arith, nat_tests)
 
 pub few_device_bytes : (n m a : ℕ) (bs : List ℕ) → op_fits n (Op.DeviceStore m a bs) ≡ true → length bs ≤ 256
 few_device_bytes n m a bs h = grind (arith, nat_tests)
+
+-- each number is that of a pool
+abbrev pub pool_numbered : ℕ → PoolId
+pool_numbered zero = PoolId.System
+pool_numbered (suc d) = PoolId.Device d
+
+pub number_of_pool : (n : ℕ) → pool_index (pool_numbered n) ≡ n
+number_of_pool zero = refl
+number_of_pool (suc d) = omega arith
 
 -- an area more
 pub length_with_area : (n : Area) (as_ : List Area) → length (with_area n as_) ≡ length as_ + 1

@@ -5,11 +5,13 @@ use Rattle.std.proofs.lemmas.Bool.Decides.{nat_tests}
 use Rattle.std.specs.Prelude.{slice_index}
 use Rattle.hm_drivers.specs.FrameBytes.{framed}
 use Rattle.hm_base.specs.Pages.{Pages, covers, one_page}
+use Rattle.hm_base.proofs.Shared.{pool_numbered, number_of_pool}
 use Rattle.hm_base.specs.PlaceWords.{pool_index, same_pool, same_frame, with_frame}
 use Rattle.hm_base.specs.declared.PoolId.{PoolId}
 use Rattle.hm_base.specs.declared.Frame.{Frame}
 use Rattle.hm_history.specs.Memory.Words.{with_at, page_of, bytes_from}
 use Rattle.hm_history.specs.Memory.Plain.{with_bytes, with_zeros}
+use Rattle.hm_history.proofs.Pages.{bytes_length}
 use Rattle.hm_history.specs.Memory.Contents.{zeros, stored_in, with_piece, with_part_copied}
 
 -- pools by their numbers
@@ -122,14 +124,10 @@ read_at f at zero i h = absurd (omega (arith, h))
 read_at f at (suc n) zero h = ap f (omega arith)
 read_at f at (suc n) (suc i) h = let e : at + 1 + i ≡ at + suc i = omega arith in read_at f (at + 1) n i (omega (arith, h)) ∙ ap f e
 
-read_length : (f : ℕ → ℕ) (at n : ℕ) → length (bytes_from f at n) ≡ n
-read_length f at zero = refl
-read_length f at (suc n) = ap suc (read_length f (at + 1) n)
-
 -- bytes of a page that were read from another
 rewritten : (x y : ℕ → ℕ) (s n o : ℕ) → s < 4096 → s + n ≤ 4096 →
     with_piece x s (bytes_from y s n) o ≡ (if nat_le s o && nat_lt o (s + n) then y o else x o)
-rewritten x y s n o h l = rw (read_length y s n) (by (nat_le s o && nat_lt o (s + n)) refl)
+rewritten x y s n o h l = rw (bytes_length y s n) (by (nat_le s o && nat_lt o (s + n)) refl)
   where
     here : s / 4096 * 4096 + o ≡ o
     here = omega (arith, h)
@@ -143,19 +141,11 @@ pub copied : (C D : Frame → ℕ → ℕ) (f g : Frame) (s n : ℕ) → D ≡ s
 copied C D f g s n e h l = e ∙ ap (with_frame C g) (fun_ext (λ o. rewritten (C g) (C f) s n o h l))
 
 -- rows that are read alike as frames
-abbrev pool_at : ℕ → PoolId
-pool_at zero = PoolId.System
-pool_at (suc d) = PoolId.Device d
-
-index_at : (p : ℕ) → pool_index (pool_at p) ≡ p
-index_at zero = refl
-index_at (suc d) = omega arith
-
 pub all_read : (F G : ℕ → ℕ → ℕ) → ((f : Frame) (o : ℕ) → framed F f o ≡ framed G f o) → (p a : ℕ) → F p a ≡ G p a
-all_read F G e p a = sym (at F) ∙ (e (record { pool = pool_at p; number = a / 4096 }) (a % 4096) ∙ at G)
+all_read F G e p a = sym (at F) ∙ (e (record { pool = pool_numbered p; number = a / 4096 }) (a % 4096) ∙ at G)
   where
     within : nat_lt (a % 4096) 4096 ≡ true
     within = grind (arith, nat_tests)
 
-    at : (H : ℕ → ℕ → ℕ) → framed H (record { pool = pool_at p; number = a / 4096 }) (a % 4096) ≡ H p a
-    at H = let n : a / 4096 * 4096 + a % 4096 ≡ a = omega arith in rw within (ap (λ (i : ℕ). H i (a / 4096 * 4096 + a % 4096)) (index_at p) ∙ ap (H p) n)
+    at : (H : ℕ → ℕ → ℕ) → framed H (record { pool = pool_numbered p; number = a / 4096 }) (a % 4096) ≡ H p a
+    at H = let n : a / 4096 * 4096 + a % 4096 ≡ a = omega arith in rw within (ap (λ (i : ℕ). H i (a / 4096 * 4096 + a % 4096)) (number_of_pool p) ∙ ap (H p) n)

@@ -20,18 +20,11 @@ use Rattle.hm_history.specs.declared.phases.MoveStep.{MoveStep}
 use Rattle.hm_history.specs.declared.phases.Phase.{Phase}
 use Rattle.hm_history.specs.declared.phases.Next.{Next}
 use Rattle.hm_history.specs.declared.phases.Next.TheVariants.{Do}
+use Rattle.hm_history.proofs.Least.{at_least}
 use Rattle.hm_flaws.specs.Overrides.{all_withdrawn}
 use Rattle.hm_flaw_steps.specs.Found.{is_first, is_wanting}
 
 -- ---- the least number
-
-not_below : (t : ℕ → Bool) (from n k : ℕ) → least t from n ≡ Some k → from ≤ k
-not_below t from zero k e = cc
-not_below t from (suc n) k e = by (t from) refl (not_below t (from + 1) n k)
-  where
-    by : (b : Bool) → t from ≡ b → (least t (from + 1) n ≡ Some k → from + 1 ≤ k) → from ≤ k
-    by true q r = let f : least t from (suc n) ≡ Some from = rw (q, least) refl in let h : Some from ≡ Some k = sym f ∙ e in grind arith
-    by false q r = let f : least t from (suc n) ≡ least t (from + 1) n = rw (q, least) refl in let m = r (sym f ∙ e) in omega (arith, m)
 
 first_passes : (t : ℕ → Bool) (from n : ℕ) (o : Option ℕ) → least t from (suc n) ≡ o → is_first from o ≡ t from
 first_passes t from n o e = by (t from) refl o e
@@ -41,16 +34,13 @@ first_passes t from n o e = by (t from) refl o e
     by false q None h = refl
     by false q (Some k) h =
         let f : least t from (suc n) ≡ least t (from + 1) n = rw (q, least) refl in
-        let m = not_below t (from + 1) n k (sym f ∙ h) in grind (arith, nat_tests, m)
+        let m = at_least t (from + 1) n k (sym f ∙ h) in grind (arith, nat_tests, m)
 
 pub held_here : (c : Program) (s : After) (d n : ℕ) (o : Option ℕ) → n < pool_size c (PoolId.Device d) → o ≡ held_from c s.places d n → is_first n o ≡ s.places.held (frame_of (PoolId.Device d) n)
 held_here c s d n o h e =
     let t : ℕ → Bool = λ i. s.places.held (frame_of (PoolId.Device d) i) in
     let m : pool_size c (PoolId.Device d) - n ≡ suc (pool_size c (PoolId.Device d) - (n + 1)) = omega (arith, h) in
     first_passes t n (pool_size c (PoolId.Device d) - (n + 1)) o (sym (ap (least t n) m) ∙ sym e)
-
-pub searched_on : (t : ℕ → Bool) (from size : ℕ) → from < size → t from ≡ false → least t from (size - from) ≡ least t (from + 1) (size - (from + 1))
-searched_on t from size l e = let m : size - from ≡ suc (size - (from + 1)) = omega (arith, l) in ap (least t from) m ∙ rw (e, least) refl
 
 -- ---- where frames are taken
 

@@ -1,11 +1,11 @@
--- Pages and places: what lies past the last page, and what an empty place is.
-use Rattle.std.proofs.Common.{◌≡◌, ℕ, ◌^◌, ◌≤◌, Bool, true, false, ◌&&◌, nat_lt, nat_le, None, List, [], ◌∷◌, refl, ap, arith}
+-- Pages and places: what lies past the last page, how many bytes are read, and what an empty place is.
+use Rattle.std.proofs.Common.{◌≡◌, ℕ, zero, suc, ◌+◌, ◌^◌, ◌≤◌, Bool, true, false, ◌&&◌, nat_lt, nat_le, None, List, [], ◌∷◌, length, refl, ap, arith}
 use Rattle.std.specs.Prelude.{find}
 use Rattle.std.specs.List.{list_all}
 use Rattle.std.proofs.lemmas.Bool.{and_parts}
 use Rattle.std.proofs.lemmas.Bool.Decides.{nat_tests}
 use Rattle.hm_base.specs.declared.Place.{Place}
-use Rattle.hm_history.specs.Memory.Words.{page_of, is_empty_place, writable}
+use Rattle.hm_history.specs.Memory.Words.{page_of, bytes_from, is_empty_place, writable}
 use Rattle.hm_history.specs.Memory.Places.{cpu_reads}
 
 pub address_past : (a : ℕ) → 2 ^ 48 ≤ a → 2 ^ 36 ≤ page_of a
@@ -24,6 +24,11 @@ none_past test from (w ∷ ws) l h = rw (find, not_here) (none_past test from ws
 
     not_here : (nat_le from w.0 && test w) ≡ false
     not_here = ap (λ b. b && test w) past
+
+-- this many bytes are read
+pub bytes_length : (f : ℕ → ℕ) (at n : ℕ) → length (bytes_from f at n) ≡ n
+bytes_length f at zero = refl
+bytes_length f at (suc n) = ap suc (bytes_length f (at + 1) n)
 
 pub empty_is : (x : Place) → is_empty_place x ≡ true → Place.Empty ≡ x
 empty_is Place.Empty e = refl

@@ -1,4 +1,3 @@
-pub mod Counting
 pub mod FramesRead
 pub mod Listing
 pub mod Naming

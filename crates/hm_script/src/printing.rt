@@ -3,7 +3,8 @@
 ghost use Rattle.std.specs.Prelude.{◌≡◌, ◌∷◌, ◌++◌, ◌/◌, ◌%◌, ◌<◌, ◌≤◌, false, length, codes, [], OnOk, IfOk, map};
 ghost use Rattle.std.specs.List.{flat_map};
 ghost use Rattle.std.specs.Fmt.{decimal, digits, digit_glyph};
-ghost use Rattle.hm_script.specs.Spelling.{line, text, header_words, op_words, schedule_words, device_lines, skip_lines, actor_lines, address_text, hex_text, right_text};
+ghost use Rattle.hm_script.specs.Spelling.{line, text, header_words, op_words, schedule_words, device_lines};
+ghost use Rattle.hm_script.specs.Spelling.{skip_lines, actor_lines, address_text, hex_text, right_text};
 ghost use Rattle.hm_script.specs.Spaced.{number_word};
 ghost use Rattle.hm_base.specs.declared.ops.Op.{Op as AnyOp};
 

@@ -28,7 +28,7 @@ use Rattle.hm_history.specs.declared.phases.Next.{Next}
 use Rattle.hm_history.specs.declared.phases.Next.TheVariants.{Do, Wait}
 use Rattle.hm_laws.specs.Allowed.{InPage}
 use Rattle.hm_laws.proofs.Due.Good.{either, either_option}
-use Rattle.hm_laws.proofs.Due.Access.{bytes_length}
+use Rattle.hm_history.proofs.Pages.{bytes_length}
 use Rattle.hm_laws.proofs.State.Pieces.{piece_in_page}
 use Rattle.hm_base.proofs.Shared.{few_bytes, few_device_bytes}
 

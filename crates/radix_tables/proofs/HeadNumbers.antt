@@ -81,17 +81,6 @@ numbers_longer heads now l m = longer_by (over (number_at heads) heads) (over (n
 
 -- ---- a table's word is set
 
-pub heads_set : (heads : List ℕ) (table head : ℕ) → AreHeads heads → head < 2 ^ 60 → AreHeads (set heads table head)
-heads_set heads table head h l = record { low = λ t. by t (cases_eq t table); few = omega (arith, length-set heads table head, h.few) }
-  where
-    within : (t : ℕ) → t ≡ table → (table < length heads) ⊎ (length heads ≤ table) → get_or (set heads table head) t 0 < 2 ^ 60
-    within t e (inl i) = subst (λ x. x < 2 ^ 60) (sym (ap (λ k. get_or (set heads table head) k 0) e ∙ get_or-set_same heads table head 0 i)) l
-    within t e (inr i) = subst (λ x. x < 2 ^ 60) (sym (get_or_past (set heads table head) t 0 (omega (arith, length-set heads table head, e, i)))) (omega arith)
-
-    by : (t : ℕ) → (t ≡ table) ⊎ (t ≢ table) → get_or (set heads table head) t 0 < 2 ^ 60
-    by t (inl e) = within t e (cases_lt table (length heads))
-    by t (inr d) = subst (λ x. x < 2 ^ 60) (sym (get_or-set_other heads table t head 0 d)) (h.low t)
-
 -- the first row of a table
 module _ (heads : List ℕ) (at row : ℕ) (inside : at / 8 < length heads) (none : (k : ℕ) → k / 8 ≡ at / 8 → get_or (over (number_at heads) heads) k 0 ≡ 0) where
   abbrev with_first : List ℕ

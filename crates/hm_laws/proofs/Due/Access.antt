@@ -26,13 +26,9 @@ use Rattle.hm_history.specs.declared.phases.Next.{Next}
 use Rattle.hm_laws.proofs.Due.Good.{Good, either, release_none, rlock_ok, ends_ok, not_there, not_short}
 use Rattle.hm_laws.proofs.State.Pieces.{store_in_page}
 use Rattle.hm_history.proofs.Updates.{here_at}
-use Rattle.hm_history.proofs.Pages.{reads_not_empty}
+use Rattle.hm_history.proofs.Pages.{bytes_length, reads_not_empty}
 
 -- answers are by plain bytes
-pub bytes_length : (f : ℕ → ℕ) (a n : ℕ) → length (bytes_from f a n) ≡ n
-bytes_length f a zero = refl
-bytes_length f a (suc n) = ap suc (bytes_length f (a + 1) n)
-
 pub same_bytes_self : (xs : List ℕ) → same_bytes xs xs ≡ true
 same_bytes_self [] = refl
 same_bytes_self (x ∷ xs) = grind (arith, nat_tests, same_bytes_self xs)

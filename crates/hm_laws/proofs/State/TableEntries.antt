@@ -16,7 +16,8 @@ use Rattle.hm_history.specs.declared.Kind.{Kind}
 use Rattle.hm_laws.specs.Stood.{Fits, Matches}
 use Rattle.hm_laws.specs.Past.{Past}
 use Rattle.hm_laws.specs.Sound.{Sound}
-use Rattle.hm_laws.proofs.Due.Access.{bytes_length, same_bytes_self}
+use Rattle.hm_laws.proofs.Due.Access.{same_bytes_self}
+use Rattle.hm_history.proofs.Pages.{bytes_length}
 use Rattle.hm_history.proofs.Tests.{some_none, true_false}
 use Rattle.hm_history.proofs.Frames.{frame_tells}
 

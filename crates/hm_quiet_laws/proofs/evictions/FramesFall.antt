@@ -27,6 +27,7 @@ use Rattle.hm_history.specs.declared.phases.Body.{Body}
 use Rattle.hm_history.specs.declared.phases.Phase.{Phase}
 use Rattle.hm_history.specs.declared.phases.Next.{Next}
 use Rattle.hm_history.specs.declared.phases.Next.TheVariants.{Do}
+use Rattle.hm_history.proofs.Least.{at_least}
 use Rattle.hm_history.proofs.Updates.{here_at}
 use Rattle.hm_history.proofs.Tests.{true_false}
 use Rattle.hm_history.proofs.Frames.{is_frame_from, is_frame_of}
@@ -289,17 +290,6 @@ withdrawn_less f d m n r e = by (f d) (with_at f d true d) r (here_at f d true) 
     by true y false i j = absurd (no_test j)
     by false false r i j = absurd (no_test i)
     by false true false i j = absurd (no_test j)
-
-at_least : (test : ℕ → Bool) (from n i : ℕ) → least test from n ≡ Some i → from ≤ i
-at_least test from zero i h = cc
-at_least test from (suc n) i h = by (test from) h (at_least test (from + 1) n i)
-  where
-    some : {A : Type 0} (x y : A) → Some x ≡ Some y → x ≡ y
-    some x y e = cc
-
-    by : (b : Bool) → ◌≡◌ {A = Option ℕ} (elim b [ true ↦ Some from | false ↦ least test (from + 1) n ]) (Some i) → (least test (from + 1) n ≡ Some i → from + 1 ≤ i) → from ≤ i
-    by true k ih = omega (arith, some from i k)
-    by false k ih = omega (arith, ih k)
 
 frames_of : (c : Program) (s : After) (t : Past) (a : ℕ) (o : Op) (xs : List Migrating) (remove : Bool) (v n : ℕ) → Sound c s t → Few c s → is_evicting o ≡ true → is_remove o ≡ remove → ((g : Frame) → s.locks.frame g ≡ None) → StepsTo c s a o xs (Phase.Frames v n) [] OnFrames (due_frames_of c s a (op_device o) remove v n)
 frames_of c s t a o xs remove v n so fw ev rm lk = either P (remove && not (s.places.withdrawn d)) _ _

@@ -2,7 +2,7 @@ use Rattle.std.proofs.Common.{◌≡◌, ℕ, Bool, false, ◌∙◌, rules}
 use Rattle.std.specs.Prelude.{not}
 use Rattle.hm_base.specs.declared.PoolId.{PoolId}
 use Rattle.hm_history.specs.Memory.Places.{frame_of}
-use Rattle.hm_flaw_steps.proofs.Taking.{searched_on}
+use Rattle.hm_history.proofs.Least.{searched_on}
 use Rattle.hm_flaw_steps.proofs.migrations.lowest_unheld.Goals as goal
 
 pub loop-number-preserved : goal.loop-number-preserved
