@@ -1,7 +1,7 @@
 #!/usr/bin/env python3
 """Runs the built programs, and compares their exit codes, what they write and what they say with the documents.
 
-    tools/program_runs.py [--hmmrun PATH] [--hmmraces PATH] [--hmmview PATH]
+    tools/program_runs.py [--hmmrun PATH] [--hmmraces PATH] [--hmmview PATH] [--hmmjudge PATH]
 
 A path is crates/NAME/out/NAME unless it is given. Each run has a line, `ok` or `differs`. Ends with 1 if one differs.
 A report that is too long has 268,435,457 bytes, so such a run takes some seconds and some hundred MiB of memory.
@@ -18,8 +18,10 @@ EMPTY_REPORT = EMPTY + b'history\nend 0\n'
 SCRIPT_BYTES = 4_194_304
 REPORT_BYTES = 268_435_456
 RUN_USAGE = ('usage: hmmrun replay | threads | generate N | trial N | upgrade | check | peek P ADDR LEN | advise | why')
-RACE_USAGE = 'usage: hmmraces [MOST]'
+RACE_USAGE = 'usage: hmmraces [[--most] MOST] [--table | --script N | --expect CONDITION ..]'
 VIEW_USAGE = 'usage: hmmview [FROM TO]'
+JUDGE_USAGE = 'usage: hmmjudge [--standing | --all]'
+NOTHING = 'nothing is left to race after drain: end the schedule where the race is to begin'
 NO_ROWS = 'no such rows: FROM is after TO, or after the end of the report'
 REFUSED = 'script line 1: bad header'
 ANY = object()          # what a run writes, where it is not compared
@@ -43,6 +45,9 @@ RUNS = [
     ('hmmrun', 'why', REPORT_BYTES + 1, 8, b'', 'report too long'),
     ('hmmraces', '', EMPTY, 0, ANY, ''),
     ('hmmraces', 'many', EMPTY, 2, b'', RACE_USAGE),
+    ('hmmraces', '--expect some', EMPTY, 2, b'', 'condition 1: bad word 2'),
+    ('hmmraces', '--script 2', EMPTY, 9, b'', 'no such outcome'),
+    ('hmmraces', '', EMPTY + b'drain\n', 9, b'', NOTHING),
     ('hmmraces', '', b'', 3, b'', REFUSED),
     ('hmmraces', '', EMPTY, 5, FULL, 'write fault'),
     ('hmmraces', '', SCRIPT_BYTES + 1, 8, b'', 'script too long'),
@@ -53,6 +58,11 @@ RUNS = [
     ('hmmview', '', REPORT_BYTES + 1, 8, b'', 'report too long'),
     ('hmmview', '1 0', EMPTY_REPORT, 9, b'', NO_ROWS),
     ('hmmview', '1 2', EMPTY_REPORT, 9, b'', NO_ROWS),
+    ('hmmjudge', '', EMPTY_REPORT, 0, b'legal 0\n', ''),
+    ('hmmjudge', '', EMPTY, 1, b'bad 3\nmissing\nends history\n', 'not legal'),
+    ('hmmjudge', 'all', EMPTY_REPORT, 2, b'', JUDGE_USAGE),
+    ('hmmjudge', '', EMPTY_REPORT, 5, FULL, 'write fault'),
+    ('hmmjudge', '', REPORT_BYTES + 1, 8, b'', 'report too long'),
 ]
 
 
@@ -94,7 +104,7 @@ def agrees(path, case):
 
 def main():
     parser = argparse.ArgumentParser(description=__doc__, formatter_class=argparse.RawDescriptionHelpFormatter)
-    for name in ('hmmrun', 'hmmraces', 'hmmview'):
+    for name in ('hmmrun', 'hmmraces', 'hmmview', 'hmmjudge'):
         parser.add_argument(f'--{name}', default=os.path.join(TOP, 'crates', name, 'out', name), metavar='PATH')
     paths = vars(parser.parse_args())
     results = [agrees(paths[case[0]], case) for case in RUNS]
