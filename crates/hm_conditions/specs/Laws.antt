@@ -67,7 +67,7 @@ abbrev pub HoldsByWitness : Type 0
 HoldsByWitness =
     (k : Condition) (outcomes : List (List ℕ)) → holds k outcomes ≡ by_witness k.quantifier (witness k outcomes)
 
--- where every outcome is listed, what is said without a witness is right
+-- if every outcome is listed, what is said without a witness is right
 abbrev pub ListedIsRight : Type 0
 ListedIsRight =
     (c : Program) (k : Condition) (outcomes : List (List ℕ)) → AllListed c outcomes → witness k outcomes ≡ None
@@ -79,7 +79,7 @@ RealIsRight =
     (c : Program) (k : Condition) (outcomes : List (List ℕ)) (at : ℕ) → AllReal c outcomes
     → witness k outcomes ≡ Some at → IsRight c k outcomes
 
--- where both hold, all that is said is right
+-- if both hold, all that is said is right
 abbrev pub WholeIsRight : Type 0
 WholeIsRight =
     (c : Program) (k : Condition) (outcomes : List (List ℕ)) → AllListed c outcomes → AllReal c outcomes

@@ -50,7 +50,7 @@ pub record Holds (most : ℕ) (c : Program) (qs : List Question) (known : List K
   -- What is said of each condition is right of the race.
   pub right : (q : Question) → IsListed qs q
       → IsRuled c q.condition (ruling_of q.condition (lines_of (blocks_known c known)) (is_whole end))
-  -- The states stand in the order of how many turns lead to them, and no fewer turns lead to one than are told.
+  -- The states stand in the order of how many turns lead to them, and no fewer turns lead to one of them.
   pub rising : AreRising known
   pub fewest : AreFewest c (run c) known
 

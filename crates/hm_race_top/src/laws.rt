@@ -2,7 +2,7 @@
 ghost use Rattle.hm_race_top.specs.Laws.{AllIsListed, CompleteIsAll, DrainIsLast, KnownIsTrue, TrueIsReal};
 ghost use Rattle.hm_race_top.specs.Laws.{WaysAreOutcomes};
 
-/// The answers of the ways that are told are the outcomes that a search knows.
+/// The answers of the ways that are written are the outcomes that a search knows.
 pub fn ways_are_outcomes()
     ensures { WaysAreOutcomes }
 {}
