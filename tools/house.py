@@ -16,7 +16,8 @@ The other parts count, and tools/house_limits.tsv has how many there may be of e
     comments    definitions of specs/ with no comment
     lemmas      statements of lemmas that stand more than once, up to the names of variables
     uncited     lemmas and helpers of proofs/ that nothing names, but for computed examples (`NAME = refl`)
-    unused      public items that no other code names
+    unused      public items that no other code names, but for laws that docs/PROVED.md names
+    unnamed     definitions of specs/ that nothing else names
 
 Ends with status 1 if the map is wrong, or there is more of something than there may be. It reads text and proves
 nothing.
@@ -258,8 +259,10 @@ def uncited():
 ITEM = re.compile(r'^\s*pub (?:const )?(?:fn|struct|enum|trait|const|type) (\w+)', re.M)
 
 
-# Public items that no program names: why each is there.
-KEPT = {'only_held_turns_count': 'a law of hm_turns, for its readers'}
+# A proof names the goals that it proves, by a path with the name of their function.
+LAW = re.compile(r'^pub fn (\w+)(?:<[^>]*>)?\(\)', re.M)
+GOALS = re.compile(r'^use Rattle\.\S+\.Goals( as \w+)?$', re.M)
+LAWS = os.path.join(TOP, 'docs', 'PROVED.md')
 
 
 def unused():
@@ -268,15 +271,37 @@ def unused():
         code = '\n'.join(line for line in text.split('\n')
                          if not line.lstrip().startswith(('//', 'ghost use', 'pub use', 'use')))
         used.update(re.findall(r'\w+', code))
-        items += [] if is_test(crate) else [(path, name) for name in ITEM.findall(code)]
-    in_specs = collections.Counter()
+        laws_here = set(LAW.findall(code))
+        items += [] if is_test(crate) else [(path, name, name in laws_here) for name in ITEM.findall(code)]
     for _, _, text in files('.antt'):
-        in_specs.update(re.findall(r'\w+', text))
-    return [f'{path} {name}' for path, name in items if used[name] == 1 and not in_specs[name] and name not in KEPT]
+        used.update(re.findall(r'\w+', GOALS.sub('', text)))
+    laws = set(re.findall(r'`(\w+)`', read(LAWS)))
+    return [f'{path} {name}' for path, name, is_law in items if used[name] == 1 and not (is_law and name in laws)]
+
+
+WORD = re.compile(r"[^\s(){};:,\[\]λ.→`]+")
+COMMENT = re.compile(r'(^|\s)(--|//)\s.*')
+BEGIN = re.compile(r'^(?:(?:abbrev|pub|record|data|mutual)\s+)*\S+')
+
+
+def unnamed():
+    """Definitions that no other file names, and their own file at the beginning of lines alone."""
+    texts = {path: text for ending in ('.rt', '.antt') for _, path, text in files(ending)}
+    named, rows = collections.Counter(), []
+    lines = {path: [COMMENT.sub('', line) for line in text.split('\n')] for path, text in texts.items()}
+    for path in texts:
+        named.update(set(WORD.findall('\n'.join(lines[path]))))
+    for path in (path for path in texts if '/specs/' in path):
+        for name in (found.group(1) for found in map(DEFINITION.match, lines[path]) if found):
+            word = name.strip('◌')
+            other = [line for line in lines[path] if word in WORD.findall(BEGIN.sub('', line))]
+            if named[word] == 1 and not other:
+                rows.append(f'{path} {name}')
+    return rows
 
 
 COUNTED = {'idle': idle, 'functions': functions, 'comments': comments, 'lemmas': lemmas, 'uncited': uncited,
-           'unused': unused}
+           'unused': unused, 'unnamed': unnamed}
 PARTS = ('map', *COUNTED)
 
 
