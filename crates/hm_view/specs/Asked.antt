@@ -4,7 +4,7 @@ use Rattle.hm_script.specs.Numerals.{number}
 use Rattle.hm_script.specs.declared.reason.Reason.{Reason}
 use Rattle.hm_view.specs.declared.asked.Asked.{Asked}
 
--- the rows from one number up to another, where both words spell one
+-- the rows from one number up to another, if both words spell one
 abbrev pub part_of : Result ℕ Reason → Result ℕ Reason → Option Asked
 part_of (Ok from) (Ok to) = Some (Asked.Part from to)
 part_of (Ok from) (Err why) = None
@@ -14,7 +14,7 @@ part_of (Err why) to = None
 abbrev pub part : List ℕ → List ℕ → Option Asked
 part from to = part_of (number from) (number to)
 
--- what the words ask for; none where they are none of the forms
+-- what the words ask for; none if they are none of the forms
 abbrev pub asked_of : List (List ℕ) → Option Asked
 asked_of [] = Some Asked.All
 asked_of (from ∷ to ∷ []) = part from to

@@ -68,7 +68,7 @@ pub record Draws (x : Asked) (io : Traffic) (status : Status) : Type 0 where
   pub write_faults : WriteFaulted io.sink.faults io.sink_after.faults status
   -- What was written at `Done`, the sink sent on.
   pub flushed : status ≡ Status.Done → io.sink_after.pending ≡ false
-  -- Where the source counted no fault, and had no more bytes than the limit, and they are a legal report, it is drawn.
+  -- If the source counted no fault, and had no more bytes than the limit, and they are a legal report, it is drawn.
   pub finds : (Rose io.source.faults io.source_after.faults → ⊥)
       → IfSome io.source.left (λ bytes. length bytes ≤ 268435456
       → (c : Program) (h : List Entry) → IsLegalReportOf c h bytes → Finds x c h io status)
