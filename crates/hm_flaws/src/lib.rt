@@ -9,22 +9,23 @@ mod flaws;
 
 pub use flaws::Flaw;
 
-/// A driver without a flaw does what is due.
+/// What is due to a driver without a flaw is what is due.
 pub fn right_is_due()
     ensures { RightIsDue }
 {}
 
-/// Its table and its sequences are those of the state.
+/// Without a flaw, the table and the sequences that a driver has of its own are those of the state.
 pub fn right_keeps_its_own()
     ensures { RightKeepsItsOwn }
 {}
 
-/// And it breaks nothing.
+/// A driver without a flaw breaks no part of legality, after any set-up and in any order.
 pub fn right_breaks_none()
     ensures { RightBreaksNone }
 {}
 
-/// Turns that are refused are a real race: the driver could have taken them.
+/// Turns that are judged to break a part are a real race: what came before was due to the driver and broke no part, and
+/// the last entry was due to it and breaks that one.
 pub fn judged_breaks()
     ensures { JudgedBreaks }
 {}
@@ -34,17 +35,19 @@ pub fn closed_breaks_none()
     ensures { ClosedBreaksNone }
 {}
 
-/// Why a look-up compares before it commits.
+/// A driver that commits a look-up without comparing sequences uses a stale entry, and answers a wrong byte: two races,
+/// by computation.
 pub fn uncompared_is_stale()
     ensures { UncomparedIsStale }
 {}
 
-/// Why a driver must not ignore the invalidations of its own migrations.
+/// A driver that ignores the invalidations for its own migrations loses a store of its device: a race, by computation.
 pub fn own_ignored_loses_store()
     ensures { OwnIgnoredLosesStore }
 {}
 
-/// What legality does not see.
+/// A driver that never drops the frame of a lost page breaks no part of legality, and the removal of its device waits
+/// for ever: a race, by computation.
 pub fn lost_held_sticks()
     ensures { LostHeldSticks }
 {}

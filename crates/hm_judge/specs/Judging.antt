@@ -103,8 +103,8 @@ pub record Judges (asked : Asked) (io : Traffic) (status : Status) : Type 0 wher
   pub write_faults : WriteFaulted io.sink.faults io.sink_after.faults status
   -- If the text went out whole, the sink sent all of it on.
   pub flushed : IsFlushed io.sink_after.pending status
-  -- Where the source counted no fault, and had no more bytes than the limit, and they are a legal report, it is found
-  -- to be one.
+  -- If the source counted no fault, and had no more bytes than the limit, and they are a legal report, it is found to
+  -- be one.
   pub finds : (Rose io.source.faults io.source_after.faults → ⊥)
       → IfSome io.source.left (λ bytes. length bytes ≤ 268435456
       → (c : Program) (h : List Entry) → IsLegalReportOf c h bytes → Finds status)

@@ -67,8 +67,8 @@ fn nearest_to(
     }
 }
 
-/// What is said if the lines after the entries are not those that end the report. As many of them as this are; the
-/// first line after `history` has this number.
+/// What is said if the lines after the entries are not those that end the report: the first `same` of them are. The
+/// first line after `history` has the number `first`.
 fn bad_report(
     alloc: Global,
     world: &World,

@@ -53,8 +53,8 @@ fn line_fault(alloc: Global, world: &World, line: &[u8]) -> Result<Fault, NoMemo
     }
 }
 
-/// What is wrong with the lines after the entries, of which as many as this end the report. The first is that of no
-/// entry that is due.
+/// What is wrong with the lines after the entries, of which the first `same` end the report. The first line is that of
+/// no entry that is due.
 pub fn fault_at(alloc: Global, world: &World, rest: &[u8], same: u64) -> Result<Fault, NoMemory>
     requires { BeginsNoEntry world.now.script world.now.history (lines rest.now) }
     ensures { IfOk result

@@ -13,7 +13,7 @@ use hm_history::phases::Migrating;
 use hm_reads::Reads;
 use std::alloc::Global;
 
-/// Which parts an entry meets, beside that it is due to its actor.
+/// Which parts an entry meets, besides being due to its actor.
 #[derive(Clone, Copy, PartialEq, Eq, Debug)]
 pub struct Parts {
     /// Its answer is by the plain bytes, areas, processes and mirrors.
@@ -48,8 +48,7 @@ impl Parts {
 }
 
 /// Which parts the entry meets after a legal history. The world is that after the history, and the records are those of
-/// the entry's actor. It goes over the history twice, and once more if the entry uses a
-/// mirror's table.
+/// the entry's actor. It goes over the history twice, and once more if the entry uses a mirror's table.
 pub fn parts_of<W: Reads>(
     alloc: Global,
     world: &W,

@@ -26,7 +26,7 @@ pub record IsFollowed (c : Program) (r : Recalled) (x : Follower) : Type 0 where
   pub pasts : AreRecalled r x.pasts
   pub short : (a : ℕ) → slice_index_or x.short a false ≡ r.short a
 
--- of each script, and what may be recalled of a history for which this is kept
+-- so of each script, and of all that may be recalled if this is kept
 abbrev pub ForFollowed : Follower → (Program → Recalled → Type 0) → Type 0
 ForFollowed x P = (c : Program) (r : Recalled) → IsFollowed c r x → P c r
 
@@ -49,7 +49,7 @@ rules_in c r e = record {
       e.kind;
 }
 
--- so it does by each field
+-- the same, a field for each rule
 pub record AreRules (c : Program) (r : Recalled) (e : Entry) (x : Rules) : Type 0 where
   pub answers : x.answers ≡ plain_accepts r.state.plain e.kind
   pub places : x.places ≡ places_accept c (mirror_owner r.state.plain) r.state.places e.actor e.kind
