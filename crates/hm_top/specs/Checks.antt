@@ -109,10 +109,10 @@ Finds c h ended Status.Done = (ended.script ≡ Some c) × (ended.history.entrie
 Finds c h ended Status.NoMemory = Unit {0}
 Finds c h ended _ = ⊥
 
--- A report is read; of a legal one something is said, and of other bytes the first bad line is told.
+-- A report is read; of a legal one something is said, and of other bytes the first bad line is named.
 pub record SaysOfReport (say : List Entry → List ℕ) (io : Traffic) (ended : Ended) : Type 0 where
   -- At `Done` the bytes read are the report of the script and the history in the answer, which is legal. At `NotLegal`
-  -- the line that is told is the first bad one of the bytes. At `WriteFault` it is one of both. `TooLong` tells that
+  -- the line that is named is the first bad one of the bytes. At `WriteFault` it is one of both. `TooLong` tells that
   -- more was there to read than the limit. There are no other statuses but `ReadFault` and `NoMemory`.
   pub read : HasJudged ended.script ended.history.entries io.source io.source_after ended.status
   -- `ReadFault` comes only if the source counted a fault.
@@ -129,11 +129,11 @@ pub record SaysOfReport (say : List Entry → List ℕ) (io : Traffic) (ended : 
   -- If the text went out whole, the sink sent all of it on.
   pub flushed : IsFlushed io.sink_after.pending ended.status
   pub receipt : ended.receipt ≡ None
-  -- Where neither stream counted a fault, and there are no more bytes than the limit, a verdict is told, or memory runs
+  -- If neither stream counted a fault, and there are no more bytes than the limit, a verdict is written, or memory runs
   -- out.
   pub complete : NoFault io
       → IfSome io.source.left (λ bytes. length bytes ≤ 268435456 → IsJudged ended.status)
-  -- Where the bytes are then the report of a script and of a history that is legal for it, these are found.
+  -- If the bytes are then the report of a script and of a history that is legal for it, these are found.
   pub finds : NoFault io → IfSome io.source.left (λ bytes. length bytes ≤ 268435456
       → (c : Program) (h : List Entry) → IsLegalReportOf c h bytes → Finds c h ended ended.status)
 

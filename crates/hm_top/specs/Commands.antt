@@ -61,7 +61,7 @@ abbrev pub IsNoPeek : Option Command → Type 0
 IsNoPeek (Some (Command.Peek asked)) = ⊥
 IsNoPeek _ = Unit {0}
 
--- what the words ask for; none where they are none of the forms
+-- what the words ask for; none if they are none of the forms
 abbrev pub command_of : List (List ℕ) → Option Command
 command_of (w ∷ []) = plain_command w
 command_of (w ∷ n ∷ []) = numbered_command w n

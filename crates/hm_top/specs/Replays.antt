@@ -16,7 +16,7 @@ abbrev pub IsItsText : Option Program → List ℕ → Type 0
 IsItsText None bytes = ⊥
 IsItsText (Some s) bytes = IsTextOf s bytes
 
--- this is told of a script with these bytes, and of its run
+-- this is said of a script with these bytes, and of its run
 pub record IsToldOfRun (tell : Program → List Entry → List ℕ) (from : SourceState) (t : List ℕ) : Type 0 where
   pub script : Program
   pub history : List Entry
@@ -26,7 +26,7 @@ pub record IsToldOfRun (tell : Program → List Entry → List ℕ) (from : Sour
 
 -- A script is read and run by its schedule, and a text that tells of the run goes out.
 pub record TellsOfRun (tell : Program → List Entry → List ℕ) (io : Traffic) (ended : Ended) : Type 0 where
-  -- Where the text goes out, the bytes read are the text of the script in the answer, and nothing is left. A script is
+  -- If the text goes out, the bytes read are the text of the script in the answer, and nothing is left. A script is
   -- refused exactly if no script has the bytes as its text, with the first bad line and its reason; `TooLong` tells
   -- that more was there to read than a script has.
   pub read : HasRead (IsItsText ended.script) io.source io.source_after ended.status
@@ -44,7 +44,7 @@ pub record TellsOfRun (tell : Program → List Entry → List ℕ) (io : Traffic
   -- If the text went out whole, the sink sent all of it on.
   pub flushed : IsFlushed io.sink_after.pending ended.status
   pub receipt : ended.receipt ≡ None
-  -- Where neither stream counted a fault, and the bytes are the text of a script whose history has room, the text is
+  -- If neither stream counted a fault, and the bytes are the text of a script whose history has room, the text is
   -- written, or memory runs out.
   pub complete : NoFault io
       → IfSome io.source.left (λ bytes. (s : Program) → IsGiven s bytes → HasRoom s → IsComplete ended.status)

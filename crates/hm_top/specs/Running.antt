@@ -5,7 +5,6 @@ use Rattle.hm_history.specs.Kernel.Legal.{Legal}
 use Rattle.hm_history.specs.Kernel.Overrun.{overruns}
 use Rattle.hm_history.specs.Kernel.Run.{run}
 use Rattle.hm_history.specs.declared.Entry.{Entry}
-use Rattle.hm_report.specs.Report.{report}
 use Rattle.hm_world.specs.WorldValue.{HasDue}
 use Rattle.hm_top.specs.Drained.{IsDrained}
 use Rattle.hm_edge.specs.declared.status.Status.{Status}
@@ -50,11 +49,7 @@ HasRun script h Status.WriteFault = Answered RanSo script h
 HasRun script h (Status.NotLegal n) = ⊥
 HasRun script h _ = AnsweredNone script h
 
--- what goes out of a run, by what is told of one
+-- what goes out of a run, by what is said of one
 abbrev pub told_of : (Program → List Entry → List ℕ) → Option Program → List Entry → List ℕ
 told_of tell None h = []
 told_of tell (Some s) h = tell s h
-
--- the report that goes out
-abbrev pub report_for : Option Program → List Entry → List ℕ
-report_for = told_of report

@@ -67,7 +67,7 @@ pub record TellsOfThreads (tell : Program → List Entry → List ℕ) (Goes : L
   -- What is read is as for `replay`.
   pub read : HasRead (IsItsText ended.script) io.source io.source_after ended.status
   pub read_faults : ReadFaulted io.source.faults io.source_after.faults ended.status
-  -- Where the text goes out, the history is legal for the script. At `Done` every operation has ended; `HistoryFull`
+  -- If the text goes out, the history is legal for the script. At `Done` every operation has ended; `HistoryFull`
   -- comes exactly if a turn found an entry due and the history full.
   pub ran : HasRunThreads ended.script ended.history.entries ended.status
   -- The history is that of the one machine that the workers shared, each of whose turns began with all that the
@@ -78,7 +78,7 @@ pub record TellsOfThreads (tell : Program → List Entry → List ℕ) (Goes : L
   pub write_faults : WriteFaulted io.sink.faults io.sink_after.faults ended.status
   -- If the text went out whole, the sink sent all of it on.
   pub flushed : IsFlushed io.sink_after.pending ended.status
-  -- Where neither stream counted a fault, and the bytes are the text of a script, the text is written, or memory runs
+  -- If neither stream counted a fault, and the bytes are the text of a script, the text is written, or memory runs
   -- out.
   pub complete : NoFault io
       → IfSome io.source.left (λ bytes. (s : Program) → IsGiven s bytes → IsCompleteOrFull ended.status)

@@ -26,7 +26,7 @@ abbrev pub IsItsUpgrade : Option Program → List ℕ → Type 0
 IsItsUpgrade None bytes = ⊥
 IsItsUpgrade (Some u) bytes = IsUpgradeOf u bytes
 
--- the answer has a script where its text goes out, and no history is ever full
+-- the answer has a script if its text goes out, and no history is ever full
 abbrev pub HasUpgraded : Option Program → Status → Type 0
 HasUpgraded script Status.Done = (u : Program) × (script ≡ Some u)
 HasUpgraded script Status.WriteFault = (u : Program) × (script ≡ Some u)
@@ -48,7 +48,7 @@ pub record IsUpgradedText (from : SourceState) (t : List ℕ) : Type 0 where
 
 -- the clause of `run` for the word `upgrade`
 pub record Upgrades (io : Traffic) (ended : Ended) : Type 0 where
-  -- Where a text goes out, the bytes read are the text of a script, and the script in the answer is the same in
+  -- If a text goes out, the bytes read are the text of a script, and the script in the answer is the same in
   -- version 2. A script is refused as for `replay`.
   pub read : HasRead (IsItsUpgrade ended.script) io.source io.source_after ended.status
   pub read_faults : ReadFaulted io.source.faults io.source_after.faults ended.status
@@ -62,6 +62,6 @@ pub record Upgrades (io : Traffic) (ended : Ended) : Type 0 where
   -- If the text went out whole, the sink sent all of it on.
   pub flushed : IsFlushed io.sink_after.pending ended.status
   pub receipt : ended.receipt ≡ None
-  -- Where neither stream counted a fault, and the bytes are the text of a script, it is done, or memory runs out.
+  -- If neither stream counted a fault, and the bytes are the text of a script, it is done, or memory runs out.
   pub complete : NoFault io
       → IfSome io.source.left (λ bytes. (s : Program) → IsGiven s bytes → IsComplete ended.status)

@@ -16,9 +16,9 @@ pub struct Ended {
     pub script: Option<Script>,
     /// Its history, if it was run or its report was checked.
     pub history: History,
-    /// Where threads made it: that it is the history of the one machine that they shared.
+    /// If threads made it: that it is the history of the one machine that they shared.
     pub receipt: Option<Receipt>,
-    /// Where a watcher looked at a process's memory: what it saw, in the order of the history.
+    /// If a watcher looked at a process's memory: what it saw, in the order of the history.
     pub peeks: PeekList,
 }
 

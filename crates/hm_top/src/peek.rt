@@ -35,7 +35,7 @@ struct Peeked {
     peeks: PeekList,
 }
 
-/// What is told of what was seen: nothing if the history got full.
+/// What is said of what was seen: nothing if the history got full.
 fn to_tell(alloc: Global, full: bool, peeks: PeekList) -> PeekList
     ensures whole { full ≡ false → result ≡ peeks }
     ensures full { full ≡ true → result ≡ [] }
@@ -43,8 +43,8 @@ fn to_tell(alloc: Global, full: bool, peeks: PeekList) -> PeekList
     if full { PeekList::new(alloc) } else { peeks }
 }
 
-/// Runs each actor of the script from a thread of its own, with a watcher beside them. Where the history got full,
-/// nothing is told that was seen.
+/// Runs each actor of the script from a thread of its own, with a watcher beside them. If the history got full,
+/// nothing is said of what was seen.
 fn run_peeked<R: Threads + Wait + Sync, G: Gate + Sync>(
     rt: &R,
     alloc: Global,

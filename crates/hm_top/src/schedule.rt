@@ -22,7 +22,7 @@ pub struct Ran {
     pub script: Script,
     pub history: History,
     pub full: bool,
-    /// Where threads made the history.
+    /// If threads made the history: that it is the one that they made.
     pub receipt: Option<Receipt>,
 }
 

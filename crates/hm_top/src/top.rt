@@ -46,9 +46,9 @@ fn do_alone<S: Source, K: Sink>(
     }
 }
 
-/// Does what the words after the program's name ask for, if that is none of `threads`, `race` and `peek`, which are none
-/// of its forms: reads from the source, runs, and writes to the sink. It waits for nobody. The rules are the caller's:
-/// which pages a migration skips, and where a page should live.
+/// Does what the words after the program's name ask for, if that is none of `threads`, `race` and `peek`, which are
+/// none of its forms: reads from the source, runs, and writes to the sink. It waits for nobody. The rules are the
+/// caller's: which pages a migration skips, and where a page should live.
 pub fn run_alone<S: Source, K: Sink>(
     alloc: Global,
     words: Vec<String>,
