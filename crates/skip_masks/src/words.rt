@@ -74,16 +74,7 @@ pub fn masks<R: SkipRule>(alloc: Global, rule: &R, script: &Script) -> Result<Ve
 mod tests {
     use super::*;
     use hm_base::Page;
-
-    /// Passes over every page whose number is a multiple.
-    #[derive(Drop)]
-    struct Multiples;
-
-    impl SkipRule for Multiples {
-        fn skips(&self, every: u64, page: u64) -> bool {
-            every != 0 && page % every == 0
-        }
-    }
+    use skip_rules::Multiples;
 
     #[test]
     fn every_fourth_page(rt: HostRuntime) {

@@ -9,7 +9,7 @@ use hm_script::parse;
 use hm_turns::{Looks, Pass, Stepped, Turns};
 use hm_workers::peek_all;
 use seq_copies::{Snapshot, Taken, still, take_copy};
-use skip_rules::SkipRule;
+use skip_rules::Multiples;
 use std::alloc::Global;
 use std::process::Abort;
 use std::sync::Wait;
@@ -20,16 +20,6 @@ use std::thread::{Threads, join_mut};
 /// Two stores of a byte. The first is the seventh entry, the second the eighth.
 const STORES: &[u8] =
     b"hmm 1\nframes 4\nactor 0\nmap 0 16 1 rw\nstore 0 0x10000 41\nstore 0 0x10000 42\n";
-
-/// A driver that passes over multiples. These scripts ask it nothing.
-#[derive(Drop)]
-struct Multiples;
-
-impl SkipRule for Multiples {
-    fn skips(&self, every: u64, page: u64) -> bool {
-        every != 0 && page % every == 0
-    }
-}
 
 /// Makes turns of the first actor.
 fn make_turns<S: Stepped>(turns: &Turns<S>, pass: &mut Pass, count: u32)
