@@ -207,7 +207,7 @@ impl<R: SkipRule> Machine<R> {
         Ok(())
     }
 
-    /// Rounds until all actors are idle or the history is full. Where either holds a round adds nothing, and after a
+    /// Rounds until all actors are idle or the history is full. If either holds, a round adds nothing, and after a
     /// round that adds nothing none does, so the first such round is the last, and nothing else is asked.
     #[tactic(auto, using(crate::proofs::Short::begins))]
     fn rounds(&mut self) -> Result<(), StepError>
@@ -224,7 +224,7 @@ impl<R: SkipRule> Machine<R> {
         Ok(())
     }
 
-    /// A turn of each actor at a full history: an error where one has an entry due.
+    /// A turn of each actor at a full history: an error if one has an entry due.
     fn turns_beyond(&mut self) -> Result<(), StepError>
         requires running { self.old.halted ≡ None }
         requires full { has_room self.old.history ≡ false }
@@ -237,8 +237,8 @@ impl<R: SkipRule> Machine<R> {
         Ok(())
     }
 
-    /// Rounds until nothing is left to do. An error where that filled the history and an actor has an entry due. Where
-    /// memory runs out, what was added before is kept.
+    /// Rounds until nothing is left to do. An error if that filled the history and an actor has an entry due. If memory
+    /// runs out, what was added before is kept.
     pub fn drain(&mut self) -> Result<(), StepError>
         requires { self.old.halted ≡ None }
         ensures { CameTo self.old (line_run self.old.script self.old.history ScheduleLine.Drain)
@@ -275,7 +275,7 @@ impl<R: SkipRule> Machine<R> {
         }
     }
 
-    /// The turns of a schedule, line by line. An error where one of them finds an entry due and the history full. Where
+    /// The turns of a schedule, line by line. An error if one of them finds an entry due and the history full. If
     /// memory runs out, what was added before is kept, and is a front of what the schedule comes to.
     #[tactic(auto, using(crate::proofs::Short::begins))]
     pub fn replay(&mut self, turns: &Schedule) -> Result<(), StepError>
