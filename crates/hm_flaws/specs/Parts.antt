@@ -10,16 +10,7 @@ use Rattle.hm_history.specs.Kernel.Going.{Going}
 use Rattle.hm_history.specs.Memory.Rules.{fails_rightly}
 use Rattle.hm_history.specs.Kernel.Legal.{kept_rightly}
 use Rattle.hm_history.specs.declared.Entry.{Entry}
-
--- the parts of legality besides `is_due`, by the names of its fields
-pub data Part : Type 0 where
-  Answers : Part  -- an access answers the plain bytes, and fails only for a cause
-  Places : Part  -- it goes through a place or table entry that allows it; frames and places are used rightly
-  Frames : Part  -- it fails for want of a frame only if none was free
-  Sequences : Part  -- sequences are as invalidations and look-ups leave them
-  Untold : Part  -- a table entry is used only if its mirror was not told of the page
-  Guarded : Part  -- a place takes something away only in an invalidation in which all were told
-  Kept : Part  -- the reason holds for which something is kept
+pub use Rattle.hm_flaws.specs.declared.parts.Part.{Part}
 
 -- the entry meets this part after the history, if the actors have come so far
 abbrev pub meets_part : Program → List Entry → (ℕ → Going) → Entry → Part → Bool

@@ -6,8 +6,10 @@ ghost use Rattle.hm_flaws.specs.Laws.{RightIsDue, RightKeepsItsOwn, RightBreaksN
 ghost use Rattle.hm_flaws.specs.Laws.{UncomparedIsStale, OwnIgnoredLosesStore, LostHeldSticks};
 
 mod flaws;
+mod parts;
 
 pub use flaws::Flaw;
+pub use parts::Part;
 
 /// What is due to a driver without a flaw is what is due.
 pub fn right_is_due()

@@ -15,8 +15,9 @@ mod show_places;
 mod show_sequences;
 mod shown;
 
-pub use answers::has_taken;
+pub use answers::{has_taken, meets_plain};
 pub use frames::{is_full, needs_full, short_next};
+pub use kept::meets_kept;
 pub use laws::may_follow;
 pub use parts::{Parts, parts_of};
 pub use places::is_guarded_by;

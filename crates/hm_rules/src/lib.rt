@@ -8,4 +8,5 @@ mod rules;
 mod sets;
 
 pub use all_entries::follow;
+pub use follower::Follower;
 pub use rules::Rules;

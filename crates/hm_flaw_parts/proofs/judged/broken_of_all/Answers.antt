@@ -1,0 +1,12 @@
+use Rattle.std.proofs.Common.{◌≡◌, ◌∙◌}
+use Rattle.hm_flaws.specs.Recalled.{recalled_of}
+use Rattle.hm_flaw_parts.proofs.Breaking.{first_is}
+use Rattle.hm_flaw_parts.proofs.judged.broken_of_all.Goals as goal
+
+pub returns : goal.returns
+returns g c =
+    let p = g.W.Reads.program c.args.world.now in
+    let h = c.args.entries.now in
+    c.first_of.ensures
+    ∙ first_is p h (g.W.Reads.state c.args.world.now) c.args.entry.now c.in_ok-rules.rules c.meets_kept.result
+    (c.in_ok-rules.ensures.rules p (recalled_of p h) c.in_ok-so_far.ensures) c.requires.state c.meets_kept.ensures

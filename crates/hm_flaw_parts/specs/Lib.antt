@@ -1,0 +1,3 @@
+pub mod Told
+pub mod Marks
+pub mod Judged

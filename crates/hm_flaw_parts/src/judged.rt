@@ -1,0 +1,124 @@
+// The first part of legality that an entry breaks, in a race of a driver with a flaw.
+ghost use Rattle.std.specs.Prelude.{◌≡◌, ℕ, IfOk};
+ghost use Rattle.hm_history.specs.Kernel.Going.{Going};
+ghost use Rattle.hm_history.specs.Memory.After.{after};
+ghost use Rattle.hm_flaws.specs.Parts.{broken_part};
+ghost use Rattle.hm_flaw_parts.specs.Judged.{first_of, judged_parts, IsFollowing};
+ghost use Rattle.hm_flaw_parts.specs.declared.judged.Judging.{Judging as AnyJudging};
+
+use hm_base::{NoMemory, Script};
+use hm_flaws::Part;
+use hm_history::Entry;
+use hm_history::phases::Migrating;
+use hm_parts::{meets_kept, meets_plain};
+use hm_reads::Reads;
+use hm_rules::{Follower, Rules};
+use std::alloc::Global;
+
+/// Which parts of legality an entry is judged by.
+#[derive(Clone, Copy, PartialEq, Eq, Debug)]
+pub enum Judging {
+    /// By all: they are the protocol.
+    AllParts,
+    /// By answers alone: what breaks them does harm.
+    AnswersAlone,
+}
+
+// What the rules ask of a history, each of whose entries keeps all of them.
+fn follower_after(alloc: Global, script: &Script, entries: &[Entry]) -> Result<Follower, NoMemory>
+    ensures { IfOk result (IsFollowing script.now entries.now) }
+{
+    let mut so_far = Follower::start(alloc, script)?;
+    for at in 0..entries.len() {
+        if !so_far.take(&entries[at], at as u64)?.goes_on {
+            return Err(NoMemory);
+        }
+    }
+    Ok(so_far)
+}
+
+// The first part that is not met.
+fn first_of(rules: &Rules, kept: bool) -> Option<Part>
+    ensures { result ≡ first_of rules.now kept }
+{
+    if !rules.answers {
+        return Some(Part::Answers);
+    }
+    if !rules.places {
+        return Some(Part::Places);
+    }
+    if !rules.frames {
+        return Some(Part::Frames);
+    }
+    if !rules.sequences {
+        return Some(Part::Sequences);
+    }
+    if !rules.untold {
+        return Some(Part::Untold);
+    }
+    if !rules.guarded {
+        return Some(Part::Guarded);
+    }
+    if !kept {
+        return Some(Part::Kept);
+    }
+    None
+}
+
+// The first part of all that the entry breaks.
+fn broken_of_all<W: Reads>(
+    alloc: Global,
+    world: &W,
+    records: &[Migrating],
+    entries: &[Entry],
+    entry: &Entry,
+) -> Result<Option<Part>, NoMemory>
+    requires state { (W.state world.now).after ≡ after entries.now }
+    requires records { records.now ≡ ((W.state world.now).going entry.now.actor).pages }
+    ensures { IfOk result (λ o. o
+        ≡ broken_part (judged_parts AnyJudging.AllParts) (W.program world.now) entries.now (W.state world.now).going
+        entry.now) }
+{
+    let mut so_far = follower_after(alloc, world.script(), entries)?;
+    let rules = so_far.take(entry, entries.len() as u64)?;
+    Ok(first_of(&rules, meets_kept(world, records, entry)))
+}
+
+// Whether the entry breaks the first part, answers.
+fn broken_of_answers(
+    alloc: Global,
+    script: &Script,
+    entries: &[Entry],
+    entry: &Entry,
+) -> Result<Option<Part>, NoMemory>
+    ensures { IfOk result (λ o. (g : ℕ → Going) → o
+        ≡ broken_part (judged_parts AnyJudging.AnswersAlone) script.now entries.now g entry.now) }
+{
+    if meets_plain(alloc, script, entries, entry)? {
+        Ok(None)
+    } else {
+        Ok(Some(Part::Answers))
+    }
+}
+
+/// The first part that the entry breaks after these. The world is that after them, and the records are those of the
+/// entry's actor. It goes over all entries. It fails if memory runs out, and if one of the entries before breaks a part
+/// that is judged.
+pub fn first_broken<W: Reads>(
+    alloc: Global,
+    judging: Judging,
+    world: &W,
+    records: &[Migrating],
+    entries: &[Entry],
+    entry: &Entry,
+) -> Result<Option<Part>, NoMemory>
+    requires state { (W.state world.now).after ≡ after entries.now }
+    requires records { records.now ≡ ((W.state world.now).going entry.now.actor).pages }
+    ensures { IfOk result (λ o. o
+        ≡ broken_part (judged_parts judging) (W.program world.now) entries.now (W.state world.now).going entry.now) }
+{
+    match judging {
+        Judging::AllParts => broken_of_all(alloc, world, records, entries, entry),
+        Judging::AnswersAlone => broken_of_answers(alloc, world.script(), entries, entry),
+    }
+}

@@ -1,0 +1,204 @@
+// The marks of a history: where each actor last began a look-up of each mirror, which spans mirrors were told of, which
+// entries set the tables, and which actors were short of a frame.
+ghost use Rattle.std.specs.Prelude.{◌≡◌, ◌==◌, ◌&&◌, ◌||◌, ℕ, [], ◌∷◌, not, true, false, Some, None, option_map};
+ghost use Rattle.std.specs.Prelude.{if◌then◌else◌, slice_index_or, IfOk};
+ghost use Rattle.hm_history.specs.Memory.Lookups.{is_begin_of, is_set_of, set_from};
+ghost use Rattle.hm_history.specs.Memory.Rules.{is_finishing, is_no_frame};
+ghost use Rattle.hm_laws.specs.Past.{is_position};
+ghost use Rattle.hm_flaws.specs.Recalled.{is_full};
+ghost use Rattle.hm_flaw_parts.specs.Marks.{at_of, marked_next, marked_start, marks_in, set_of, told_next};
+ghost use Rattle.hm_race_keys.specs.Sparse.{found};
+
+use crate::told_spans::{ToldSpan, ToldSpans};
+use crate::values::{Position, SetMark};
+use hm_base::{Actor, MirrorId, NoMemory, PoolId};
+use hm_history::{Entry, KeptWhy, Kind};
+use hm_race_keys::sparse::Sparse;
+use hm_reads::Reads;
+use std::alloc::Global;
+use std::rc::Rc;
+
+/// What the parts of legality ask of the entries so far, beside the state. Copies share the parts that they have alike.
+#[derive(Drop)]
+pub struct Marks {
+    /// By actor and mirror, where the actor last began a look-up.
+    pub begun: Rc<Sparse<Position>>,
+    /// The spans that mirrors were told of.
+    pub told: Rc<ToldSpans>,
+    /// By mirror and page, the last `set`.
+    pub sets: Rc<Sparse<SetMark>>,
+    /// Of each actor, whether no frame was free when it last asked for one to bring a page home or to empty a frame.
+    pub short: [bool; 16],
+}
+
+// Whether the position is the one that was noted, if one was.
+fn is_position(noted: &Option<Position>, at: u64) -> bool
+    ensures { result ≡ is_position (option_map at_of noted.now) at }
+{
+    match noted {
+        None => false,
+        Some(position) => at == position.at,
+    }
+}
+
+fn is_finishing(kind: &Kind) -> bool
+    ensures { result ≡ is_finishing kind.now }
+{
+    matches!(kind, Kind::Place { .. } | Kind::Done(_) | Kind::Drop(_))
+}
+
+fn is_no_frame(entry: &Entry) -> bool
+    ensures { result ≡ is_no_frame (entry.now ∷ []) }
+{
+    matches!(
+        &entry.kind,
+        Kind::Kept {
+            at: _,
+            why: KeptWhy::NoFrame
+        }
+    )
+}
+
+// Of each actor, whether it was short of a frame after one entry more.
+fn short_after<W: Reads>(short: &[bool; 16], world: &W, entry: &Entry) -> [bool; 16]
+    ensures { (a : ℕ) → slice_index_or result a false
+        ≡ (if (entry.now.actor == a) && not (is_finishing entry.now.kind)
+        then is_no_frame (entry.now ∷ []) && is_full (W.program world.now) (W.state world.now).after
+        else slice_index_or short.now a false) }
+{
+    let mut new = *short;
+    if !is_finishing(&entry.kind) {
+        let full = world.lowest_free(PoolId::System).is_none();
+        new[entry.actor.number() as usize] = is_no_frame(entry) && full;
+    }
+    new
+}
+
+// The look-ups after an entry at this position.
+fn begun_after(
+    alloc: Global,
+    begun: &Rc<Sparse<Position>>,
+    entry: &Entry,
+    at: u64,
+) -> Result<Rc<Sparse<Position>>, NoMemory>
+    ensures { IfOk result (λ x. (a m : ℕ) → option_map at_of (found x.value a m)
+        ≡ (if (entry.now.actor == a) && is_begin_of m entry.now.kind then Some at
+        else option_map at_of (found begun.now.value a m))) }
+{
+    match &entry.kind {
+        Kind::Begin { mirror, seq: _ } => {
+            let mut new = begun.copy(alloc)?;
+            let row = entry.actor.number();
+            new.set(row, u64::from(mirror.number()), Position { at })?;
+            Ok(Rc::new(alloc, new)?)
+        }
+        _ => Ok(begun.clone()?),
+    }
+}
+
+// The spans that mirrors were told of, after an entry at this position.
+fn told_after(
+    alloc: Global,
+    told: &Rc<ToldSpans>,
+    kind: &Kind,
+    at: u64,
+) -> Result<Rc<ToldSpans>, NoMemory>
+    ensures { IfOk result (λ x. x.value ≡ told_next at told.now.value kind.now) }
+{
+    match kind {
+        Kind::Told {
+            mirror,
+            span,
+            seq: _,
+        } => {
+            let span = ToldSpan {
+                mirror: *mirror,
+                span: *span,
+                at,
+            };
+            Ok(Rc::new(alloc, told.with(alloc, span)?)?)
+        }
+        _ => Ok(told.clone()?),
+    }
+}
+
+// The `set`s after an entry; `goes_back` is whether it goes back to a look-up, if it is one.
+fn sets_after(
+    alloc: Global,
+    sets: &Rc<Sparse<SetMark>>,
+    kind: &Kind,
+    goes_back: bool,
+) -> Result<Rc<Sparse<SetMark>>, NoMemory>
+    ensures { IfOk result (λ x. (m v : ℕ) → option_map set_of (found x.value m v)
+        ≡ (if is_set_of m v kind.now then Some (goes_back, set_from kind.now)
+        else option_map set_of (found sets.now.value m v))) }
+{
+    match kind {
+        Kind::Set {
+            mirror,
+            page,
+            since,
+            ..
+        } => {
+            let mut new = sets.copy(alloc)?;
+            let since = *since;
+            new.set(mirror.number(), page.number(), SetMark { goes_back, since })?;
+            Ok(Rc::new(alloc, new)?)
+        }
+        _ => Ok(sets.clone()?),
+    }
+}
+
+impl Marks {
+    /// Before the first entry.
+    pub fn start(alloc: Global) -> Result<Marks, NoMemory>
+        ensures { IfOk result (λ x. marks_in x ≡ marked_start) }
+    {
+        Ok(Marks {
+            begun: Rc::new(alloc, Sparse::new(alloc))?,
+            told: Rc::new(alloc, ToldSpans::new(alloc))?,
+            sets: Rc::new(alloc, Sparse::new(alloc))?,
+            short: [false; 16],
+        })
+    }
+
+    // Whether a `set` of the mirror by an actor, with this position from which it is to be untold, goes back to a look-up.
+    fn goes_back(&self, actor: Actor, mirror: MirrorId, since: u64, at: u64) -> bool
+        ensures { result ≡ ((since == at) || is_position ((marks_in self.now).begun actor mirror) since) }
+    {
+        let noted = self.begun.get(actor.number(), u64::from(mirror.number()));
+        since == at || is_position(&noted, since)
+    }
+
+    // Whether the entry goes back to a look-up, if it is a `set`.
+    fn entry_goes_back(&self, entry: &Entry, at: u64) -> bool
+        ensures { (m v : ℕ) → is_set_of m v entry.now.kind ≡ true → result
+            ≡ ((set_from entry.now.kind == at)
+            || is_position ((marks_in self.now).begun entry.now.actor m) (set_from entry.now.kind)) }
+    {
+        match &entry.kind {
+            Kind::Set { mirror, since, .. } => self.goes_back(entry.actor, *mirror, *since, at),
+            _ => false,
+        }
+    }
+
+    /// The marks after an entry; `world` is the state before it.
+    pub fn after<W: Reads>(
+        &self,
+        alloc: Global,
+        world: &W,
+        entry: &Entry,
+    ) -> Result<Marks, NoMemory>
+        ensures { IfOk result (λ x. marks_in x
+            ≡ marked_next (W.program world.now) (W.state world.now).after (marks_in self.now) entry.now) }
+    {
+        let at = world.length();
+        let goes_back = self.entry_goes_back(entry, at);
+        Ok(Marks {
+            begun: begun_after(alloc, &self.begun, entry, at)?,
+            told: told_after(alloc, &self.told, &entry.kind, at)?,
+            sets: sets_after(alloc, &self.sets, &entry.kind, goes_back)?,
+            short: short_after(&self.short, world, entry),
+        })
+    }
+}
