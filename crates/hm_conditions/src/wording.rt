@@ -10,7 +10,7 @@ use crate::judging::judge;
 use crate::question::Question;
 use crate::rulings::{Ruling, ruling_of};
 use hm_base::{NoMemory, Text};
-use hm_race_search::End;
+use hm_search::End;
 use hm_race_text::{OutcomeBlock, add_outcome, add_states};
 use std::alloc::Global;
 

@@ -4,9 +4,11 @@
 ghost use Rattle.std.specs.Prelude.{◌≡◌, ◌≤◌, length, IfOk, IfErr};
 ghost use Rattle.hm_history.specs.Kernel.Run.{run};
 ghost use Rattle.hm_race_laws.specs.Closed.{AreDistinct};
-ghost use Rattle.hm_race_search.specs.Goals.{AreMissed, IsSoon, Reaches};
-ghost use Rattle.hm_race_search.specs.Values.{all_known};
-ghost use Rattle.hm_race_search.specs.Known.{forms, AreFewest, AreKnown, AreReal, AreRising, HaveForms, IsComplete};
+ghost use Rattle.hm_race_search.specs.Known.{IsSoon};
+ghost use Rattle.hm_search.specs.Goals.{AreMissed, Reaches};
+ghost use Rattle.hm_search.specs.Values.{all_known};
+ghost use Rattle.hm_race_search.specs.Known.{AreFewest, AreKnown, AreReal, HaveForms, IsComplete};
+ghost use Rattle.hm_search.specs.Known.{forms, AreRising};
 ghost use Rattle.hm_race_search.specs.Known.{IsCut, IsNear, MayFail};
 ghost use Rattle.hm_race_states.specs.Keyed.{form_in};
 
@@ -18,7 +20,7 @@ mod turn;
 pub use copies::copy_script;
 use hm_base::Script;
 use hm_history::StepError;
-use hm_race_search::{End, Explored, Goal, explore};
+use hm_search::{End, Explored, Goal, explore};
 use hm_race_states::key::StateKey;
 use race::ScriptRace;
 use skip_rules::SkipRule;

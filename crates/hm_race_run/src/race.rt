@@ -14,7 +14,7 @@ use crate::keys::{first_key, has_ended, next_key};
 use hm_base::{Actor, NoMemory, Script};
 use hm_history::{History, StepError};
 use hm_machine::Machine;
-use hm_race_search::Race;
+use hm_search::System;
 use hm_race_states::key::StateKey;
 use skip_rules::SkipRule;
 use std::alloc::Global;

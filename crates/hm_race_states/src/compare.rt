@@ -9,7 +9,7 @@ use crate::buckets::mixed_tasks;
 use crate::key::StateKey;
 use crate::same_tasks::same_tasks;
 use crate::state::RaceState;
-use hm_race_search::RaceKey;
+use hm_search::SearchKey;
 
 fn same_places(one: &RaceState, other: &RaceState) -> bool
     ensures yes { result ≡ true → SamePlaces one.now other.now }

@@ -7,7 +7,7 @@ use crate::columns::{columns, shared};
 use crate::row::add_rows;
 use crate::shared::add_shared;
 use hm_base::{NoMemory, Text};
-use hm_race_search::End;
+use hm_search::End;
 use hm_race_text::{OutcomeBlock, add_states};
 use std::alloc::Global;
 

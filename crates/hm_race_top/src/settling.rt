@@ -5,7 +5,7 @@ ghost use Rattle.hm_race_top.specs.Goals.{IsGoal, settled};
 
 use hm_base::NoMemory;
 use hm_conditions::{Question, settles};
-use hm_race_search::Goal;
+use hm_search::Goal;
 use hm_race_states::key::StateKey;
 use hm_race_text::answer_lines;
 use std::alloc::Global;

@@ -170,11 +170,7 @@ fn begin<S: System>(system: &S, alloc: Global) -> Result<States<S::Key>, StepErr
 }
 
 // Whether one of the states from this place on that counts as ended reaches the goal.
-fn has_come<K, G: Goal<K>>(
-    goal: &G,
-    states: &States<K>,
-    from: usize,
-) -> Result<bool, StepError>
+fn has_come<K, G: Goal<K>>(goal: &G, states: &States<K>, from: usize) -> Result<bool, StepError>
     requires { from ≤ length states.now.known.items }
     ensures come { IfOk result (λ b. b ≡ list_any (at_goal G.read (G.reached goal.now))
         (drop from states.now.known.items)) }

@@ -8,9 +8,9 @@ use hm_history::StepError;
 
 /// What a search compares of two states, and goes on from.
 pub trait SearchKey {
-    ghost Form: { Type 0 };
+    ghost Forms: { Type 0 };
 
-    ghost form: { Self → Form };
+    ghost form: { Self → Forms };
 
     ghost Valid: { Self → Type 0 };
 
@@ -37,13 +37,13 @@ pub trait SearchKey {
 pub trait System {
     type Key: SearchKey + Drop;
 
-    ghost Point: { Type 0 };
+    ghost Points: { Type 0 };
 
-    ghost Form: { Type 0 };
+    ghost Forms: { Type 0 };
 
-    ghost form: { Self.Key → Form };
+    ghost form: { Self.Key → Forms };
 
-    ghost value: { Self → SystemValue Point Form };
+    ghost value: { Self → SystemValue Points Forms };
 
     /// Costs nothing: it hands the prover what holds of every system.
     fn facts(&self)

@@ -4,8 +4,8 @@ use Rattle.hm_history.specs.Kernel.Run.{run}
 use Rattle.hm_history.specs.declared.Entry.{Entry}
 use Rattle.hm_race_states.specs.Keyed.{form_in}
 use Rattle.hm_race_search.specs.Known.{IsComplete}
-use Rattle.hm_race_search.specs.Values.{all_known}
-use Rattle.hm_race_search.specs.declared.search.End.{End}
+use Rattle.hm_search.specs.Values.{all_known}
+use Rattle.hm_search.specs.declared.search.End.{End}
 use Rattle.hm_race_run.proofs.search.Goals as goal
 
 pub returns-clause-complete : goal.returns-clause-complete

@@ -1,4 +1,4 @@
-use Rattle.std.proofs.Common.{inl, inr, [], length, refl, arith, rules}
+use Rattle.std.proofs.Common.{inl, inr, [], refl, arith, rules}
 use Rattle.hm_search.proofs.Coming.{grown_first, missed_step, reaches_step, soon_step}
 use Rattle.hm_search.proofs.Steps.{grown_length}
 use Rattle.hm_search.proofs.search.run_search.Goals as goal
