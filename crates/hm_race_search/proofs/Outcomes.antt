@@ -1,18 +1,17 @@
 -- The outcomes of what is known.
-use Rattle.std.proofs.Common.{◌≡◌, ℕ, ◌⊎◌, inl, inr, Bool, true, false, if◌then◌else◌, List, [], ◌∷◌, refl, sym, ap, ◌∙◌, subst, map, fold}
+use Rattle.std.proofs.Common.{◌≡◌, ◌⊎◌, inl, inr, Bool, true, false, if◌then◌else◌, List, [], ◌∷◌, refl, sym, ap, ◌∙◌, subst, map, fold}
 use Rattle.hm_base.specs.Program.{Program}
-use Rattle.hm_history.specs.Kernel.Due.{due_in}
 use Rattle.hm_history.specs.declared.Kind.{Kind}
 use Rattle.hm_history.specs.declared.Entry.{Entry}
 use Rattle.hm_race_laws.specs.Blur.{form_of}
 use Rattle.hm_race_laws.specs.Closed.{IsListed, Outcome}
-use Rattle.hm_race_laws.specs.Outcomes.{Point, Reached, point_from, point_next, point_turn, point_turned, point_after, point_at, DueAlong, outcome, answers_of, ended_in}
+use Rattle.hm_race_laws.specs.Outcomes.{Point, point_from, point_next, point_turn, point_turned, point_after, point_at, DueAlong, outcome, answers_of, ended_in}
 use Rattle.hm_race_laws.proofs.Points.{state_after, answers_after, due_along}
 use Rattle.hm_race_laws.proofs.Turned.{at_reached}
 use Rattle.hm_search.specs.Known as search
 use Rattle.hm_search.proofs.Exploring.{From, from_map}
 use Rattle.hm_race_search.specs.Races.{race_of}
-use Rattle.hm_race_search.specs.Known.{KnownValue, outcomes_of, AreKnown}
+use Rattle.hm_race_search.specs.Known.{KnownValue, outcomes_of}
 use Rattle.hm_race_search.specs.Laws.{TurnsAreAll, FormsHaveOutcomes, KnownAreReal}
 
 -- ---- turns

@@ -1,21 +1,19 @@
 -- A race is a system.
-use Rattle.std.proofs.Common.{◌≡◌, ℕ, ◌+◌, ◌<◌, ◌≤◌, true, false, List, [], length, refl, sym, ap, ◌∙◌, zero-add, arith}
+use Rattle.std.proofs.Common.{◌≡◌, ℕ, true, false, List, [], refl, sym, ap, ◌∙◌, arith}
 use Rattle.hm_base.specs.Program.{Program, IsScript}
 use Rattle.hm_history.specs.Kernel.Due.{due_in}
-use Rattle.hm_history.specs.Kernel.Going.{state_start}
 use Rattle.hm_history.specs.Kernel.Run.{is_entry}
 use Rattle.hm_history.specs.Laws.{DueFrom}
 use Rattle.hm_history.specs.declared.Entry.{Entry}
 use Rattle.hm_history.specs.declared.Progress.{Progress}
-use Rattle.hm_history.proofs.Going.{lengths}
 use Rattle.hm_race_laws.specs.Blur.{form_of}
-use Rattle.hm_race_laws.specs.Forms.{Adds}
 use Rattle.hm_race_laws.specs.Laws.{FormsGoAlike}
-use Rattle.hm_race_laws.specs.Outcomes.{Point, Reached, point_from, point_next, point_turn, point_turned, point_at}
+use Rattle.hm_race_laws.specs.Outcomes.{Point, Reached, point_turn, point_turned, point_at}
 use Rattle.hm_race_laws.proofs.Searching.{is_actor}
 use Rattle.hm_race_laws.proofs.Turned.{at_reached}
 use Rattle.hm_search.specs.Systems.{GoAlike}
 use Rattle.hm_race_search.specs.Laws.{RacesAreSystems}
+use Rattle.hm_race_search.proofs.Turns.{entries_from}
 use Rattle.hm_race_search.specs.Races.{race_of}
 
 never : {A : Type 0} → true ≡ false → A
@@ -77,5 +75,5 @@ races_are_systems law c sc h dh few = record {
   own = λ x a is. let d = did (due_in c x.state a) is in is_actor c x.state a d.entry d.same;
   adds = λ x a is. let d = did (due_in c x.state a) is in ap (λ p. (point_turned c x p).state.after.length) d.same;
   stays = λ x a is. stays c x (due_in c x.state a) is;
-  room = omega (arith, lengths c (state_start c) h, few);
+  room = omega (arith, entries_from c h, few);
 }

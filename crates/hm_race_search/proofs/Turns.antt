@@ -1,15 +1,21 @@
 -- The turns of a race, as those of a system.
-use Rattle.std.proofs.Common.{◌≡◌, ℕ, Option, Some, None, List, [], ◌∷◌, sym, ap, ◌∙◌}
+use Rattle.std.proofs.Common.{◌≡◌, ℕ, Option, Some, None, List, length, sym, ap, ◌∙◌, zero-add}
 use Rattle.hm_base.specs.Program.{Program}
+use Rattle.hm_history.specs.Kernel.Going.{state_start}
 use Rattle.hm_history.specs.Kernel.Run.{is_entry}
 use Rattle.hm_history.specs.declared.Entry.{Entry}
 use Rattle.hm_race_laws.specs.Blur.{form_of}
 use Rattle.hm_race_laws.specs.Closed as race
-use Rattle.hm_race_laws.specs.Outcomes.{Point, Reached, point_turned, point_at}
+use Rattle.hm_race_laws.specs.Outcomes.{Point, Reached, point_from, point_turned, point_at}
+use Rattle.hm_history.proofs.Going.{lengths}
 use Rattle.hm_race_laws.proofs.Turned.{at_reached}
 use Rattle.hm_search.specs.Systems.{IsNext, Stands, form_after}
 use Rattle.hm_race_search.specs.Known as known
 use Rattle.hm_race_search.specs.Races.{race_of}
+
+-- the entries that led to the start
+pub entries_from : (c : Program) (h : List Entry) → (point_from c h).state.after.length ≡ length h
+entries_from c h = lengths c (state_start c) h ∙ zero-add (length h)
 
 -- a form to which turns lead is that of a state to which the race comes
 pub stands_for : (c : Program) (h : List Entry) (f : Point) → Stands (race_of c h) f → race.Stands c h (form_of c) f

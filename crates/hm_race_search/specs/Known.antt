@@ -61,7 +61,7 @@ abbrev pub AreFewest : Program → List Entry → List KnownValue → Type 0
 AreFewest c h known = search.AreFewest (race_of c h) known
 
 -- only the states that were found last, by one turn of each actor, can have reached the goal; or the first, alone
-abbrev pub IsSoon : Program → (Point → Bool) → List KnownValue → Type 0
+abbrev pub IsSoon : {F : Type 0} → Program → (F → Bool) → List (search.KnownValue F) → Type 0
 IsSoon c goal known = goals.IsSoon (length c.actors) goal known
 
 -- a search that stopped knows at most as many states beyond those asked for as there are actors; or it knows the first

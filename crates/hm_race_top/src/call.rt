@@ -18,8 +18,8 @@ use hm_edge::{RaceEnd, Status, read_script};
 use hm_history::StepError;
 use hm_io::{Sink, Source};
 use hm_race_run::{copy_script, search};
-use hm_search::Explored;
 use hm_race_states::key::StateKey;
+use hm_search::Explored;
 use skip_rules::SkipRule;
 use std::alloc::Global;
 

@@ -8,9 +8,9 @@ ghost use Rattle.hm_race_text.specs.Text.{block_of, blocks_of};
 ghost use Rattle.hm_race_top.specs.Ways.{way_to, ways_by};
 
 use hm_base::{Actor, ListOf, NoMemory, ScheduleLine};
-use hm_search::{Known, turns_to};
 use hm_race_states::key::StateKey;
 use hm_race_text::{OutcomeBlock, add_block, answer_lines};
+use hm_search::{Known, turns_to};
 use std::alloc::Global;
 
 /// Whether one of the lines is `drain`.
