@@ -1,6 +1,6 @@
 use Rattle.std.proofs.Common.{◌≡◌, true}
 use Rattle.hm_race_states.proofs.Compared.{alike_actors, alike_answers, alike_places, alike_processes}
-use Rattle.hm_race_states.proofs.compare.StateKeyRaceKey.same.Goals as goal
+use Rattle.hm_race_states.proofs.compare.StateKeySearchKey.same.Goals as goal
 
 pub returns-then-not-same_actors-clause-apart : goal.returns-then-not-same_actors-clause-apart
 returns-then-not-same_actors-clause-apart c e =
