@@ -16,7 +16,8 @@ RacesAreSystems =
 -- if the form after all turns is known, so is that of each state to which the race comes
 abbrev pub TurnsAreAll : Type 0
 TurnsAreAll =
-    (c : Program) (h : List Entry) (known : List KnownValue) → search.HaveForms (race_of c h) known → HaveForms c h known
+    (c : Program) (h : List Entry) (known : List KnownValue) → search.HaveForms (race_of c h) known
+    → HaveForms c h known
 
 -- if the form of each state is known, so is each outcome
 abbrev pub FormsHaveOutcomes : Type 0
