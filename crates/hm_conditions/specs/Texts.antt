@@ -8,7 +8,7 @@ use Rattle.hm_conditions.specs.declared.question.Question.{Question}
 use Rattle.hm_race_text.specs.Laws.{lines_of}
 use Rattle.hm_race_text.specs.Text.{block_text, states_line}
 use Rattle.hm_race_text.specs.declared.block.OutcomeBlock.{OutcomeBlock}
-use Rattle.hm_race_search.specs.declared.search.End.{End}
+use Rattle.hm_search.specs.declared.search.End.{End}
 
 -- the word of a ruling, and a space
 abbrev pub ruling_word : Ruling → List ℕ

@@ -10,8 +10,8 @@ use crate::judging::judge;
 use crate::question::Question;
 use crate::rulings::{Ruling, ruling_of};
 use hm_base::{NoMemory, Text};
-use hm_race_search::End;
 use hm_race_text::{OutcomeBlock, add_outcome, add_states};
+use hm_search::End;
 use std::alloc::Global;
 
 /// Whether the search knows all states.

@@ -4,10 +4,11 @@
 ghost use Rattle.std.specs.Prelude.{◌≡◌, ◌≤◌, length, IfOk, IfErr};
 ghost use Rattle.hm_history.specs.Kernel.Run.{run};
 ghost use Rattle.hm_race_laws.specs.Closed.{AreDistinct};
-ghost use Rattle.hm_race_search.specs.Goals.{AreMissed, IsSoon, Reaches};
-ghost use Rattle.hm_race_search.specs.Values.{all_known};
-ghost use Rattle.hm_race_search.specs.Known.{forms, AreFewest, AreKnown, AreReal, AreRising, HaveForms, IsComplete};
-ghost use Rattle.hm_race_search.specs.Known.{IsCut, IsNear, MayFail};
+ghost use Rattle.hm_race_search.specs.Known.{AreFewest, AreKnown, AreReal, HaveForms, IsComplete};
+ghost use Rattle.hm_race_search.specs.Known.{IsCut, IsNear, IsSoon, MayFail};
+ghost use Rattle.hm_search.specs.Goals.{AreMissed, Reaches};
+ghost use Rattle.hm_search.specs.Known.{forms, AreRising};
+ghost use Rattle.hm_search.specs.Values.{all_known};
 ghost use Rattle.hm_race_states.specs.Keyed.{form_in};
 
 mod copies;
@@ -18,8 +19,8 @@ mod turn;
 pub use copies::copy_script;
 use hm_base::Script;
 use hm_history::StepError;
-use hm_race_search::{End, Explored, Goal, explore};
 use hm_race_states::key::StateKey;
+use hm_search::{End, Explored, Goal, explore};
 use race::ScriptRace;
 use skip_rules::SkipRule;
 use std::alloc::Global;
@@ -42,12 +43,12 @@ pub fn search<R: SkipRule, G: Goal<StateKey>>(
     ensures few { IfOk result (λ x. x.end ≡ End.Whole → length x.known.items ≤ most) }
     ensures cut { IfOk result (λ x. x.end ≡ End.Cut → IsCut script most (length x.known.items)) }
     ensures reached { IfOk result (λ x. x.end ≡ End.Reached
-        → Reaches (G.reached goal.now) (all_known form_in x.known.items)) }
+        → Reaches (G.reached goal.now) (all_known G.read x.known.items)) }
     ensures soon { IfOk result (λ x. x.end ≡ End.Reached
-        → IsSoon script (G.reached goal.now) (all_known form_in x.known.items)) }
+        → IsSoon script (G.reached goal.now) (all_known G.read x.known.items)) }
     ensures near { IfOk result (λ x. x.end ≡ End.Reached → IsNear script most (length x.known.items)) }
     ensures missed { IfOk result (λ x. ¬ (x.end ≡ End.Reached)
-        → AreMissed (G.reached goal.now) (all_known form_in x.known.items)) }
+        → AreMissed (G.reached goal.now) (all_known G.read x.known.items)) }
     ensures real { IfOk result (λ x. AreReal script (run script) (all_known form_in x.known.items)) }
     ensures known { IfOk result (λ x. AreKnown script (run script) (all_known form_in x.known.items)) }
     ensures distinct { IfOk result (λ x. AreDistinct (forms (all_known form_in x.known.items))) }
@@ -55,6 +56,9 @@ pub fn search<R: SkipRule, G: Goal<StateKey>>(
     ensures fewest { IfOk result (λ x. AreFewest script (run script) (all_known form_in x.known.items)) }
     ensures fails { IfErr result (λ e. MayFail script (run script) e) }
 {
+    hm_race_search::turns_are_all();
+    hm_race_search::forms_have_outcomes();
+    hm_race_search::known_are_real();
     let race = ScriptRace::new(alloc, script, rule)?;
-    explore(&race, alloc, goal, most)
+    Ok(explore(&race, alloc, goal, most)?)
 }

@@ -6,6 +6,7 @@ ghost use Rattle.hm_race_laws.specs.Blur.{form_of};
 ghost use Rattle.hm_race_laws.specs.Closed.{Stands};
 ghost use Rattle.hm_race_laws.specs.Outcomes.{Point, Reached, point_from};
 ghost use Rattle.hm_race_search.specs.Known.{IsNext, MayFail};
+ghost use Rattle.hm_race_search.specs.Races.{race_of};
 ghost use Rattle.hm_race_states.specs.Keyed.{form_in};
 ghost use Rattle.hm_world.specs.WorldValue.{opening};
 
@@ -14,8 +15,8 @@ use crate::keys::{first_key, has_ended, next_key};
 use hm_base::{Actor, NoMemory, Script};
 use hm_history::{History, StepError};
 use hm_machine::Machine;
-use hm_race_search::Race;
 use hm_race_states::key::StateKey;
+use hm_search::System;
 use skip_rules::SkipRule;
 use std::alloc::Global;
 use std::marker::Model;
@@ -136,14 +137,19 @@ impl<R: SkipRule> ScriptRace<R> {
     }
 }
 
-impl<R: SkipRule> Race for ScriptRace<R> {
+impl<R: SkipRule> System for ScriptRace<R> {
     type Key = StateKey;
 
-    ghost script = { λ r. r.script };
+    ghost Points = { Point };
 
-    ghost set_up = { λ r. r.set_up };
+    ghost Forms = { Point };
+
+    ghost form = { form_in };
+
+    ghost value = { λ r. race_of r.script r.set_up };
 
     fn facts(&self) {
+        hm_race_search::races_are_systems();
         self.stands();
     }
 

@@ -1,6 +1,3 @@
-pub mod Exploring
-mod Coming
-mod Chains
-mod Table
-pub mod Unrolled
-mod Steps
+mod Systems
+mod Outcomes
+pub mod Turns

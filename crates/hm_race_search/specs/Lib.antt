@@ -1,4 +1,3 @@
+pub mod Races
 pub mod Known
-pub mod Goals
-pub mod Buckets
-pub mod Values
+pub mod Laws

@@ -1,13 +1,27 @@
-// Every outcome of a race: a search through all that its actors can do, in any order of their turns, until a goal.
+// Every outcome of a race: what a search through its states has found, in the words of races. Each law is the contract
+// of a function that does nothing.
 #![tactic(auto)]
 
-mod buckets;
-mod goal;
-mod known;
-mod race;
-mod search;
+ghost use Rattle.hm_race_search.specs.Laws.{FormsHaveOutcomes, KnownAreReal, RacesAreSystems, TurnsAreAll};
 
-pub use goal::{Goal, Nowhere};
-pub use known::{Edge, Known, turns_to};
-pub use race::{Race, RaceKey};
-pub use search::{End, Explored, explore};
+/// A race is a system that can be searched.
+pub fn races_are_systems()
+    ensures { RacesAreSystems }
+{
+    hm_race_laws::forms_go_alike();
+}
+
+/// A search that knows the form after all turns knows that of each state to which the race comes.
+pub fn turns_are_all()
+    ensures { TurnsAreAll }
+{}
+
+/// And then it knows each outcome.
+pub fn forms_have_outcomes()
+    ensures { FormsHaveOutcomes }
+{}
+
+/// The outcomes that a search knows are real.
+pub fn known_are_real()
+    ensures { KnownAreReal }
+{}

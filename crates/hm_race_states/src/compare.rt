@@ -1,5 +1,6 @@
 // Keys of states, as a search compares them.
 ghost use Rattle.std.specs.Prelude.{◌≡◌, true};
+ghost use Rattle.hm_race_laws.specs.Outcomes.{Point};
 ghost use Rattle.hm_race_states.specs.Alike.{SamePlaces, SameProcesses, SameActors, SameAnswers, IsKey};
 ghost use Rattle.hm_race_states.specs.Buckets.{key_number};
 ghost use Rattle.hm_race_states.specs.Keyed.{form_in};
@@ -9,7 +10,7 @@ use crate::buckets::mixed_tasks;
 use crate::key::StateKey;
 use crate::same_tasks::same_tasks;
 use crate::state::RaceState;
-use hm_race_search::RaceKey;
+use hm_search::SearchKey;
 
 fn same_places(one: &RaceState, other: &RaceState) -> bool
     ensures yes { result ≡ true → SamePlaces one.now other.now }
@@ -63,7 +64,9 @@ fn same_answers(one: &StateKey, other: &StateKey) -> bool
     one.answers.same(&other.answers)
 }
 
-impl RaceKey for StateKey {
+impl SearchKey for StateKey {
+    ghost Forms = { Point };
+
     ghost form = { form_in };
 
     ghost Valid = { IsKey };

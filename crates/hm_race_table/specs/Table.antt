@@ -3,7 +3,7 @@ use Rattle.std.specs.Prelude.{ℕ, ◌+◌, ◌-◌, List, [], ◌∷◌, ◌++�
 use Rattle.std.specs.List.{flat_map}
 use Rattle.std.specs.Fmt.{decimal}
 use Rattle.hm_race_text.specs.declared.block.OutcomeBlock.{OutcomeBlock}
-use Rattle.hm_race_search.specs.declared.search.End.{End}
+use Rattle.hm_search.specs.declared.search.End.{End}
 use Rattle.hm_race_text.specs.Text.{states_line}
 use Rattle.hm_race_table.specs.declared.columns.Column.{Column}
 use Rattle.hm_race_table.specs.Answers.{Row, answer_at, rows_of}

@@ -7,8 +7,8 @@ use crate::columns::{columns, shared};
 use crate::row::add_rows;
 use crate::shared::add_shared;
 use hm_base::{NoMemory, Text};
-use hm_race_search::End;
 use hm_race_text::{OutcomeBlock, add_states};
+use hm_search::End;
 use std::alloc::Global;
 
 /// Adds the table of these answers.

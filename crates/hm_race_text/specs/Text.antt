@@ -9,7 +9,7 @@ use Rattle.hm_script.specs.Spelling.{line, schedule_words}
 use Rattle.hm_race_text.specs.Answers.{answer_lines}
 use Rattle.hm_race_text.specs.Schedule.{packed}
 use Rattle.hm_race_text.specs.declared.block.OutcomeBlock.{OutcomeBlock}
-use Rattle.hm_race_search.specs.declared.search.End.{End}
+use Rattle.hm_search.specs.declared.search.End.{End}
 
 -- the answers of the actors at the end of a race, and turns that lead there
 pub record Way : Type 0 where

@@ -7,7 +7,7 @@ use crate::block::OutcomeBlock;
 use crate::decimal::add_decimal;
 use crate::schedule::add_turns;
 use hm_base::{NoMemory, Text};
-use hm_race_search::End;
+use hm_search::End;
 use std::alloc::Global;
 
 /// Adds an outcome: its number, its answers, and a schedule that leads to it.

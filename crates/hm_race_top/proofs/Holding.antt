@@ -5,9 +5,10 @@ use Rattle.hm_conditions.specs.Rulings.{RulingsAreRight}
 use Rattle.hm_conditions.specs.Texts.{is_whole}
 use Rattle.hm_conditions.specs.declared.question.Question.{Question}
 use Rattle.hm_history.specs.Kernel.Run.{run}
-use Rattle.hm_race_search.specs.Goals.{AreMissed, Reaches}
-use Rattle.hm_race_search.specs.Known.{KnownValue, forms, AreFewest, AreKnown, AreRising, HaveForms, IsComplete, IsCut, IsNear}
-use Rattle.hm_race_search.specs.declared.search.End.{End}
+use Rattle.hm_search.specs.Goals.{AreMissed, Reaches}
+use Rattle.hm_race_search.specs.Known.{KnownValue, AreFewest, AreKnown, HaveForms, IsComplete, IsCut, IsNear}
+use Rattle.hm_search.specs.Known.{forms, AreRising}
+use Rattle.hm_search.specs.declared.search.End.{End}
 use Rattle.hm_race_laws.specs.Closed.{AreDistinct}
 use Rattle.hm_race_laws.specs.Outcomes.{Point}
 use Rattle.hm_race_text.specs.Laws.{lines_of, NoneTwice}

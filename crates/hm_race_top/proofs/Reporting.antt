@@ -9,7 +9,7 @@ use Rattle.hm_edge.specs.declared.status.Status.{Status}
 use Rattle.hm_edge.specs.Writing.{WriteFaulted}
 use Rattle.hm_io.specs.Streams.{Adds, SinkState}
 use Rattle.hm_race_search.specs.Known.{KnownValue}
-use Rattle.hm_race_search.specs.declared.search.End.{End}
+use Rattle.hm_search.specs.declared.search.End.{End}
 use Rattle.hm_race_text.specs.Laws.{lines_of}
 use Rattle.hm_race_text.specs.Text.{blocks_of}
 use Rattle.hm_race_text.specs.declared.block.OutcomeBlock.{OutcomeBlock}

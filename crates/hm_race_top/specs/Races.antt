@@ -6,10 +6,11 @@ use Rattle.hm_conditions.specs.Texts.{is_whole}
 use Rattle.hm_conditions.specs.declared.question.Question.{Question}
 use Rattle.hm_history.specs.Kernel.Run.{run}
 use Rattle.hm_history.specs.declared.StepError.{StepError}
-use Rattle.hm_race_search.specs.Goals.{AreMissed, Reaches}
-use Rattle.hm_race_search.specs.Known.{KnownValue, forms, AreFewest, AreKnown, AreRising, HaveForms}
+use Rattle.hm_search.specs.Goals.{AreMissed, Reaches}
+use Rattle.hm_race_search.specs.Known.{KnownValue, AreFewest, AreKnown, HaveForms}
+use Rattle.hm_search.specs.Known.{forms, AreRising}
 use Rattle.hm_race_search.specs.Known.{IsCut, IsNear, MayFail}
-use Rattle.hm_race_search.specs.declared.search.End.{End}
+use Rattle.hm_search.specs.declared.search.End.{End}
 use Rattle.hm_race_laws.specs.Closed.{AreDistinct, IsListed}
 use Rattle.hm_race_text.specs.Laws.{lines_of}
 use Rattle.hm_io.specs.Streams.{SinkState}

@@ -11,7 +11,7 @@ use Rattle.hm_edge.specs.declared.status.RaceEnd.{RaceEnd}
 use Rattle.hm_edge.specs.declared.status.Status.{Status}
 use Rattle.hm_io.specs.Streams.{Adds, SinkState}
 use Rattle.hm_race_search.specs.Known.{KnownValue}
-use Rattle.hm_race_search.specs.declared.search.End.{End}
+use Rattle.hm_search.specs.declared.search.End.{End}
 use Rattle.hm_race_table.specs.Table.{table_text}
 use Rattle.hm_race_text.specs.Laws.{lines_of}
 use Rattle.hm_race_text.specs.Schedule.{with_turns}

@@ -1,6 +1,6 @@
 // The top call: reads a script, searches its race, and writes what is asked for.
 ghost use Rattle.std.specs.Prelude.{◌≡◌, false, map, string_bytes};
-ghost use Rattle.hm_race_search.specs.Values.{all_known};
+ghost use Rattle.hm_search.specs.Values.{all_known};
 ghost use Rattle.hm_race_states.specs.Keyed.{form_in};
 ghost use Rattle.hm_race_top.specs.Races.{HasFound, Races, Searches};
 ghost use Rattle.hm_race_top.specs.Telling.{HasTold, IsSentOn, told};
@@ -18,8 +18,8 @@ use hm_edge::{RaceEnd, Status, read_script};
 use hm_history::StepError;
 use hm_io::{Sink, Source};
 use hm_race_run::{copy_script, search};
-use hm_race_search::Explored;
 use hm_race_states::key::StateKey;
+use hm_search::Explored;
 use skip_rules::SkipRule;
 use std::alloc::Global;
 

@@ -1,13 +1,14 @@
 // Where a search for conditions stops.
 ghost use Rattle.std.specs.Prelude.{◌≡◌, ◌≤◌, IfOk};
+ghost use Rattle.hm_race_laws.specs.Outcomes.{Point};
 ghost use Rattle.hm_race_states.specs.Keyed.{form_in};
 ghost use Rattle.hm_race_top.specs.Goals.{IsGoal, settled};
 
 use hm_base::NoMemory;
 use hm_conditions::{Question, settles};
-use hm_race_search::Goal;
 use hm_race_states::key::StateKey;
 use hm_race_text::answer_lines;
+use hm_search::Goal;
 use std::alloc::Global;
 use std::marker::Model;
 
@@ -63,6 +64,10 @@ impl<'a> Settling<'a> {
 }
 
 impl<'a> Goal<StateKey> for Settling<'a> {
+    ghost Read = { Point };
+
+    ghost read = { form_in };
+
     ghost reached = { λ g. settled g.questions g.actors };
 
     fn is_reached(&self, key: &StateKey) -> Result<bool, NoMemory> {

@@ -11,10 +11,10 @@ use hm_base::{NoMemory, Script, Text};
 use hm_conditions::{Question, Ruling, is_whole, rulings_text, summary};
 use hm_edge::{RaceEnd, Status};
 use hm_io::Sink;
-use hm_race_search::End;
 use hm_race_table::table_text;
 use hm_race_text::{OutcomeBlock, outcomes_text, text_with_turns};
 use hm_report::{Written, write_text};
+use hm_search::End;
 use std::alloc::Global;
 
 /// A text, and how the call ends if it goes out whole.

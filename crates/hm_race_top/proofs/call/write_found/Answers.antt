@@ -1,7 +1,7 @@
 use Rattle.std.proofs.Common.{◌≡◌, List, length, ◌∙◌, sym, ap, subst}
 use Rattle.hm_base.specs.Program.{Program}
-use Rattle.hm_race_search.specs.Values.{all_known}
-use Rattle.hm_race_search.proofs.Exploring.{known_length}
+use Rattle.hm_search.specs.Values.{all_known}
+use Rattle.hm_search.proofs.Exploring.{known_length}
 use Rattle.hm_race_states.specs.Keyed.{form_in}
 use Rattle.hm_race_text.specs.declared.block.OutcomeBlock.{OutcomeBlock}
 use Rattle.hm_race_top.specs.Telling.{HasTold, telling, told}

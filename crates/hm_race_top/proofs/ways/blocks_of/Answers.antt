@@ -1,8 +1,9 @@
 use Rattle.std.proofs.Common.{◌≡◌, ◌<◌, ◌∙◌, ap, length, get_or, arith}
-use Rattle.hm_race_search.specs.Known.{KnownValue, turns_at}
-use Rattle.hm_race_search.specs.Values.{all_known}
-use Rattle.hm_race_search.proofs.Exploring.{known_length}
-use Rattle.hm_race_search.proofs.Unrolled.{value_at}
+use Rattle.hm_race_search.specs.Known.{KnownValue}
+use Rattle.hm_search.specs.Known.{turns_at}
+use Rattle.hm_search.specs.Values.{all_known}
+use Rattle.hm_search.proofs.Exploring.{known_length}
+use Rattle.hm_search.proofs.Unrolled.{value_at}
 use Rattle.hm_race_states.specs.Keyed.{form_in}
 use Rattle.hm_race_text.specs.Text.{with_block, blocks_of}
 use Rattle.hm_race_top.specs.Ways.{ways_by}

@@ -1,0 +1,5 @@
+pub mod Systems
+pub mod Known
+pub mod Goals
+pub mod Buckets
+pub mod Values
