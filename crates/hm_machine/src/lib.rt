@@ -6,11 +6,12 @@ mod looking;
 mod stepped;
 
 ghost use Rattle.std.specs.Prelude.{◌≡◌, ◌<◌, ◌≤◌, fold, length, slice_get, IfOk, None, Some, false};
-ghost use Rattle.hm_base.specs.declared.limits.TheConstants.{MOST_ACTORS};
+ghost use Rattle.hm_base.specs.declared.limits.TheConstants.{MOST_ACTORS, MOST_ENTRIES};
 ghost use Rattle.hm_base.specs.declared.ops.ScheduleLine.{ScheduleLine};
 ghost use Rattle.hm_history.specs.Kernel.Due.{due};
 ghost use Rattle.hm_history.specs.Kernel.Run.{turns, turns_on, round, drained, enough, has_room, actors_of, line_run};
 ghost use Rattle.hm_history.specs.declared.Progress.{Progress};
+ghost use Rattle.hm_history.specs.declared.StepError.{StepError};
 ghost use Rattle.hm_world.specs.WorldValue.{opening, halted_by, MayHalt};
 ghost use Rattle.hm_history.specs.Kernel.Overrun.{overruns_line, overruns_lines, overruns_turns, some_overruns};
 ghost use Rattle.hm_machine.specs.Turning.{Turned, TurnsTo, Adds, CameTo};
@@ -89,14 +90,23 @@ impl<R: SkipRule> Machine<R> {
         Box::into_inner(self.world).into_parts()
     }
 
-    fn halt(&mut self, error: StepError) -> StepError
+    // Halts it at a full history. This and the next are calls, so that a turn that goes on has no room for an error.
+    #[inline(never)]
+    fn halt_full(&mut self)
         requires running { self.old.halted ≡ None }
-        requires may { MayHalt self.old.script self.old.history error }
-        ensures same { result ≡ error }
-        ensures halted { self.new ≡ halted_by self.old error }
+        requires may { MayHalt self.old.script self.old.history (StepError.Full MOST_ENTRIES) }
+        ensures { self.new ≡ halted_by self.old (StepError.Full MOST_ENTRIES) }
     {
-        self.world.halt(error);
-        error
+        self.world.halt(StepError::Full(MOST_ENTRIES));
+    }
+
+    // Halts it for want of memory.
+    #[inline(never)]
+    fn halt_short(&mut self)
+        requires running { self.old.halted ≡ None }
+        ensures { self.new ≡ halted_by self.old StepError.NoMemory }
+    {
+        self.world.halt(StepError::NoMemory);
     }
 
     /// Adds an entry that is due.
@@ -108,11 +118,15 @@ impl<R: SkipRule> Machine<R> {
     {
         self.world.facts();
         if self.world.history().len() == MOST_ENTRIES {
-            return Err(self.halt(StepError::Full(MOST_ENTRIES)));
+            self.halt_full();
+            return Err(StepError::Full(MOST_ENTRIES));
         }
         match self.world.add(entry) {
             Ok(()) => Ok(Turn::Did),
-            Err(NoMemory) => Err(self.halt(StepError::NoMemory)),
+            Err(NoMemory) => {
+                self.halt_short();
+                Err(StepError::NoMemory)
+            }
         }
     }
 
@@ -129,7 +143,10 @@ impl<R: SkipRule> Machine<R> {
             Ok(Progress::Did(entry)) => self.add(entry),
             Ok(Progress::Waiting(why)) => Ok(Turn::Waiting(why)),
             Ok(Progress::Idle) => Ok(Turn::Idle),
-            Err(NoMemory) => Err(self.halt(StepError::NoMemory)),
+            Err(NoMemory) => {
+                self.halt_short();
+                Err(StepError::NoMemory)
+            }
         }
     }
 

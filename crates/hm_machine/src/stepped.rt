@@ -45,7 +45,10 @@ impl<R: SkipRule> Machine<R> {
                 Ok(_) => Ok(Progress::Did(copy)),
                 Err(error) => Err(error),
             },
-            Err(NoMemory) => Err(self.halt(StepError::NoMemory)),
+            Err(NoMemory) => {
+                self.halt_short();
+                Err(StepError::NoMemory)
+            }
         }
     }
 
@@ -108,7 +111,10 @@ impl<R: SkipRule> Stepped for Machine<R> {
             Ok(Progress::Did(entry)) => self.add_copied(entry),
             Ok(Progress::Waiting(why)) => Ok(Progress::Waiting(why)),
             Ok(Progress::Idle) => Ok(Progress::Idle),
-            Err(NoMemory) => Err(self.halt(StepError::NoMemory)),
+            Err(NoMemory) => {
+                self.halt_short();
+                Err(StepError::NoMemory)
+            }
         };
         self.stands();
         result

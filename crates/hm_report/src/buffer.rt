@@ -2,7 +2,7 @@
 ghost use Rattle.std.specs.Prelude.{◌≡◌, ◌+◌, ◌≤◌, ◌<◌, ◌∷◌, ◌++◌, [], length, take, drop, IfOk};
 ghost use Rattle.std.specs.Fmt.{decimal};
 
-use crate::digits::{put_at, put_digits};
+use crate::digits::{put_at, put_bytes, put_digits};
 use hm_base::NoMemory;
 use std::alloc::Global;
 use std::marker::Model;
@@ -73,9 +73,7 @@ impl Buffer {
         requires { length self.old + length bytes.now ≤ ROOM }
         ensures { self.new ≡ self.old ++ bytes.now }
     {
-        let end = self.len + bytes.len();
-        self.bytes[self.len..end].copy_from_slice(bytes);
-        self.len = end;
+        self.len = put_bytes(&mut self.bytes, self.len, bytes);
     }
 
     /// Adds the number's decimal digits.

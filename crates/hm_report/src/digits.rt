@@ -1,4 +1,4 @@
-// Decimal digits, written into a block. Each of these says where what it wrote ends.
+// Bytes and decimal digits, written into a block. Each of these says where what it wrote ends.
 ghost use Rattle.std.specs.Prelude.{◌≡◌, ◌+◌, ◌*◌, ◌/◌, ◌%◌, ◌≤◌, ◌<◌, ◌∷◌, ◌++◌, [], length, take};
 ghost use Rattle.std.specs.Fmt.{decimal};
 ghost use Rattle.hm_report.specs.Words.{pair_text};
@@ -13,6 +13,21 @@ pub fn put_at(block: &mut [u8], at: usize, byte: u8) -> usize
 {
     block[at] = byte;
     at + 1
+}
+
+/// Writes some bytes. A few that are known at the call are stored as a word or two, without a call.
+#[inline(always)]
+pub fn put_bytes(block: &mut [u8], at: usize, bytes: &[u8]) -> usize
+    requires { at + length bytes.now ≤ length block.old }
+    ensures text { take result block.new ≡ take at block.old ++ bytes.now }
+    ensures end { result ≡ at + length bytes.now }
+    ensures len { length block.new ≡ length block.old }
+{
+    let mut end = at;
+    for byte in bytes {
+        end = put_at(block, end, *byte);
+    }
+    end
 }
 
 /// Writes the two digits of a number below 100.

@@ -282,6 +282,7 @@ fn put_step(out: &mut Buffer, kind: &Kind)
 }
 
 /// Adds the words of a kind, but for bytes that were read or written.
+#[inline(always)]
 #[tactic(auto, using(std::proofs::Common::append_assoc))]
 pub fn put_head(out: &mut Buffer, kind: &Kind)
     requires { length out.old + 1000 ≤ ROOM }

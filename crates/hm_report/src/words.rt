@@ -58,6 +58,7 @@ pub fn put_device(out: &mut Buffer, dev: Dev)
     put_lettered(out, b'd', u64::from(dev.number()));
 }
 
+#[inline(always)]
 pub fn put_actor(out: &mut Buffer, actor: Actor)
     requires { length out.old + WORD ≤ ROOM }
     ensures text { out.new ≡ out.old ++ 32 ∷ actor_text actor }

@@ -85,20 +85,24 @@ impl PageTables {
         ensures range { TablesRange kind.now }
     {
         match kind {
-            Kind::Place { proc, page, place } => self.set_place(*proc, *page, place),
+            Kind::Place { proc, page, place } => {
+                let old = self.place(*proc, *page);
+                self.set_place(*proc, *page, &old, place);
+            }
             Kind::Exited(proc) => self.give_back(*proc),
             _ => (),
         }
     }
 
-    fn set_place(&mut self, proc: Proc, page: Page, place: &Place)
+    /// The tables after a page of the place `old` has another; `step` does this too, and looks at its place first.
+    pub fn set_place(&mut self, proc: Proc, page: Page, old: &Place, place: &Place)
+        requires old { old.now ≡ place_of self.old proc page }
         requires fits { TablesFit (size_in self.old.pools) (AnyKind.Place proc page place.now) }
         requires room { TablesRoom (AnyKind.Place proc page place.now) self.old }
         ensures tables { self.new ≡ tables_next (AnyKind.Place proc page place.now) self.old }
         ensures range { TablesRange (AnyKind.Place proc page place.now) }
     {
-        let old = place_in(&self.tables, proc, page);
-        change_use(&mut self.pools, proc, page, &old, place);
+        change_use(&mut self.pools, proc, page, old, place);
         set_word(&mut self.tables, proc, page, place);
     }
 

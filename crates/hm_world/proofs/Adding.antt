@@ -1,5 +1,5 @@
 -- An entry that is due is added: room is made for it, each structure takes it, and the world stands.
-use Rattle.std.proofs.Common.{◌≡◌, ℕ, ◌<◌, Option, None, List, length, sym, subst}
+use Rattle.std.proofs.Common.{◌≡◌, ℕ, ◌<◌, Option, None, List, length, sym, subst, ap, ◌∙◌}
 use Rattle.hm_base.specs.Program.{Program}
 use Rattle.hm_base.specs.declared.Frame.{Frame}
 use Rattle.hm_base.specs.declared.Place.{Place}
@@ -12,7 +12,7 @@ use Rattle.hm_history.specs.declared.StepError.{StepError}
 use Rattle.hm_history.specs.declared.phases.Seen.{Seen}
 use Rattle.hm_frames.specs.Shown.{StepFits, entry_place}
 use Rattle.hm_frames.proofs.Kept.{step_fits}
-use Rattle.hm_tables.specs.Values.{Tables, size_in}
+use Rattle.hm_tables.specs.Values.{Tables, place_of, size_in}
 use Rattle.hm_tables.specs.Steps.{TablesFit, SameTables}
 use Rattle.hm_tables.proofs.TablesKept.{fits_shown, shown_same}
 use Rattle.hm_spaces.specs.Spaces.{SpacesFit, plain_of}
@@ -46,6 +46,9 @@ fits_at t x s a k n = fits_due t x s a k n.few n.is_due
 
 pub tables_ready : (t : WorldValue) (x : Parts) → Stands t x → (a : ℕ) (k : Kind) → IsNext t a k → TablesFit (size_in x.tables.pools) k
 tables_ready t x s a k n = fits_shown t.script _ _ x.tables s.shows.tables k (fits_at t x s a k n).tables
+
+pub old_place : (t : WorldValue) (x : Parts) → Stands t x → (k : Kind) (old : Place) → old ≡ entry_place (now t).after.plain (now t).after.places k → (p v : ℕ) (y : Place) → k ≡ Kind.Place p v y → old ≡ place_of x.tables p v
+old_place t x s k old is p v y e = is ∙ ap (entry_place (now t).after.plain (now t).after.places) e ∙ sym (s.shows.tables.places p v)
 
 pub reserved_stands : (c : Program) (g h : List Entry) (z : Option StepError) (x : Parts) → Stands (record { script = c; history = g; halted = z }) x → h ≡ g → (tables : Tables) → SameTables x.tables tables → (room : List ℕ) (k : Kind) (ms : List (Option Mirror)) → ms ≡ mirrors.reserved room k x.mirrors → (ts : List TaskValue) → goings ts ≡ goings x.actors → (ns : NotifiersValue) → SameNotifiers x.notifiers ns →
     Stands (record { script = c; history = h; halted = z }) (record { frames = x.frames; tables = tables; spaces = x.spaces; notifiers = ns; mirrors = ms; actors = ts })

@@ -48,7 +48,7 @@ impl World {
         self.actors.step(&self.script, actor, kind, &seen);
         self.spaces.step(actor, kind);
         step_frames(&mut self.frames, actor, kind, &before, &orphan);
-        step_tables(&mut self.tables, kind);
+        step_tables(&mut self.tables, kind, &before);
         self.notifiers.step(kind);
         self.mirrors.step(kind);
         self.history.push_reserved(entry);

@@ -1,9 +1,11 @@
 // What the frames and the page tables have to do for an entry. Few kinds change them, so the kind is asked here. The
 // other structures ask it in a step that is inlined.
-ghost use Rattle.std.specs.Prelude.{◌≡◌};
+ghost use Rattle.std.specs.Prelude.{◌≡◌, ℕ};
+ghost use Rattle.hm_base.specs.declared.Place.{Place as AnyPlace};
+ghost use Rattle.hm_history.specs.declared.Kind.{Kind as AnyKind};
 ghost use Rattle.hm_frames.specs.Pools.{frames_next};
 ghost use Rattle.hm_frames.specs.Shown.{StepFits};
-ghost use Rattle.hm_tables.specs.Values.{size_in};
+ghost use Rattle.hm_tables.specs.Values.{place_of, size_in};
 ghost use Rattle.hm_tables.specs.Steps.{tables_next, TablesFit, TablesRoom, TablesRange};
 
 use hm_base::{Actor, Frame, Place};
@@ -37,15 +39,18 @@ pub fn step_frames(
     }
 }
 
+/// `old` is the place that the entry is about.
 #[inline(always)]
-pub fn step_tables(tables: &mut PageTables, kind: &Kind)
+pub fn step_tables(tables: &mut PageTables, kind: &Kind, old: &Place)
+    requires old { (p v : ℕ) (y : AnyPlace) → kind.now ≡ AnyKind.Place p v y → old.now ≡ place_of tables.old p v }
     requires fits { TablesFit (size_in tables.old.pools) kind.now }
     requires room { TablesRoom kind.now tables.old }
     ensures tables { tables.new ≡ tables_next kind.now tables.old }
     ensures range { TablesRange kind.now }
 {
     match kind {
-        Kind::Place { .. } | Kind::Exited(_) => tables.step(kind),
+        Kind::Place { proc, page, place } => tables.set_place(*proc, *page, old, place),
+        Kind::Exited(_) => tables.step(kind),
         _ => (),
     }
 }

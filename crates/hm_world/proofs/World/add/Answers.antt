@@ -3,7 +3,7 @@ use Rattle.hm_base.specs.Program.{Program}
 use Rattle.hm_history.specs.declared.Entry.{Entry}
 use Rattle.hm_history.specs.declared.StepError.{StepError}
 use Rattle.hm_world.specs.WorldValue.{WorldValue, now}
-use Rattle.hm_world.proofs.Adding.{is_next, tables_ready, reserved_stands, actors_ready, spaces_ready, frames_ready, notifiers_ready, mirrors_ready, added}
+use Rattle.hm_world.proofs.Adding.{is_next, tables_ready, old_place, reserved_stands, actors_ready, spaces_ready, frames_ready, notifiers_ready, mirrors_ready, added}
 use Rattle.hm_world.proofs.Noting.{seen_is}
 use Rattle.hm_world.proofs.Shown.{now_length}
 use Rattle.hm_world.proofs.World.add.Goals as goal
@@ -40,6 +40,9 @@ step-requires-2 c = record { fits = spaces_ready (record { script = c.self.insid
 
 pub step_frames-requires : goal.step_frames-requires
 step_frames-requires c = frames_ready (record { script = c.self.inside.script; history = c.reserve.new.history.entries; halted = c.self.inside.halted }) _ (reserved_stands c.self.inside.script c.self.inside.history.entries c.reserve.new.history.entries c.self.inside.halted _ c.self.invariant c.reserve.ensures.history c.reserve.new.tables c.reserve.ensures.tables _ c.args.entry.kind c.reserve.new.mirrors c.reserve.ensures.mirrors c.reserve.new.actors c.reserve.ensures.actors c.reserve.new.notifiers c.reserve.ensures.notifiers) c.args.entry.actor c.args.entry.kind (is_next (record { script = c.self.inside.script; history = c.reserve.new.history.entries; halted = c.self.inside.halted }) _ (ap (λ (h : List Entry). told c.self.inside.script h c.self.inside.halted) c.reserve.ensures.history ∙ c.self.view_is) c.args.entry.actor c.args.entry.kind c.requires.limit c.requires.running c.requires.due) c.place_before-before.result c.left_behind-orphan.result c.place_before-before.ensures c.left_behind-orphan.ensures
+
+pub step_tables-requires-clause-old : goal.step_tables-requires-clause-old
+step_tables-requires-clause-old c = old_place (record { script = c.self.inside.script; history = c.reserve.new.history.entries; halted = c.self.inside.halted }) _ (reserved_stands c.self.inside.script c.self.inside.history.entries c.reserve.new.history.entries c.self.inside.halted _ c.self.invariant c.reserve.ensures.history c.reserve.new.tables c.reserve.ensures.tables _ c.args.entry.kind c.reserve.new.mirrors c.reserve.ensures.mirrors c.reserve.new.actors c.reserve.ensures.actors c.reserve.new.notifiers c.reserve.ensures.notifiers) c.args.entry.kind _ c.place_before-before.ensures
 
 pub step-requires-3-clause-fits : goal.step-requires-3-clause-fits
 step-requires-3-clause-fits c = notifiers_ready (record { script = c.self.inside.script; history = c.reserve.new.history.entries; halted = c.self.inside.halted }) _ (reserved_stands c.self.inside.script c.self.inside.history.entries c.reserve.new.history.entries c.self.inside.halted _ c.self.invariant c.reserve.ensures.history c.reserve.new.tables c.reserve.ensures.tables _ c.args.entry.kind c.reserve.new.mirrors c.reserve.ensures.mirrors c.reserve.new.actors c.reserve.ensures.actors c.reserve.new.notifiers c.reserve.ensures.notifiers) c.args.entry.actor c.args.entry.kind (is_next (record { script = c.self.inside.script; history = c.reserve.new.history.entries; halted = c.self.inside.halted }) _ (ap (λ (h : List Entry). told c.self.inside.script h c.self.inside.halted) c.reserve.ensures.history ∙ c.self.view_is) c.args.entry.actor c.args.entry.kind c.requires.limit c.requires.running c.requires.due)
