@@ -15,7 +15,7 @@ const LONGEST: u32 = 5;
 /// So many bursts more are made by the actor that goes while no other looks.
 const PATIENCE: u64 = 4;
 
-/// If looks are of no use, an actor looks in one of this many waits.
+/// Where looks are of no use, an actor looks in one of this many waits.
 const WAITS: u64 = 64;
 
 /// What only the actor that goes reads and changes. It lies apart from the word that others look at.

@@ -35,7 +35,7 @@ fn waiters(alloc: Global) -> Result<Vec<Waiter>, NoMemory> {
     Ok(waiters)
 }
 
-// The place of the actor that another waits for; 0 if that is not known.
+// The place of the actor that another waits for; 0 where that is not told.
 fn place_of_holder(why: &Why) -> u64 {
     match why {
         Why::MapLock(_, actor) | Why::FrameLocked(_, actor) => place_of(*actor),

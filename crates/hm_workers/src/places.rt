@@ -55,8 +55,8 @@ impl Places {
         self.waiting & !self.looking
     }
 
-    // The actor that goes next if that is not said: one that looks, the one that was called, the one in the place
-    // `least`, or any.
+    // Who goes next where that is not said: one that looks, the one that was called, the one in the place `least`, or
+    // any.
     fn next(self, least: u64, number: u64) -> u64 {
         let (free, ready) = (self.free(), self.ready());
         if ready != 0 {
@@ -174,7 +174,7 @@ pub(crate) fn held_bit(bit: u64) -> u64 {
     bit << 32
 }
 
-/// The word if nobody waits, and the one in the place goes.
+/// The word of places where nobody waits, and the one in the place goes.
 pub(crate) fn alone(place: u64) -> u64 {
     place << 48
 }

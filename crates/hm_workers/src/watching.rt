@@ -135,7 +135,7 @@ fn record_peek(
     })
 }
 
-/// Checks a copy. If it holds, and no peek has the count at which it does, a peek follows.
+/// Checks a copy. Where it holds, and no peek has the count at which it does, a peek follows.
 pub(crate) fn check<S: Stepped>(
     alloc: Global,
     turns: &Turns<S>,

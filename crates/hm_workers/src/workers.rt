@@ -113,7 +113,7 @@ fn jobs_of(alloc: Global, passes: Vec<Pass>) -> Result<Vec<Job>, NoMemory>
     Ok(jobs)
 }
 
-// Does each job in a thread of its own; if none can be started, the calling thread does the work.
+// Does each job in a thread of its own; where none can be started the calling thread does the work.
 fn run_jobs<R: Threads + Wait + Sync, S: Stepped + Send, G: Gate + Sync>(
     rt: &R,
     turns: &Turns<S>,
