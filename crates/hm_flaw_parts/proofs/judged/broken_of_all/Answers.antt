@@ -1,5 +1,7 @@
-use Rattle.std.proofs.Common.{◌≡◌, ◌∙◌}
+use Rattle.std.proofs.Common.{◌≡◌, ◌∙◌, subst}
+use Rattle.hm_base.specs.Program.{Program}
 use Rattle.hm_flaws.specs.Recalled.{recalled_of}
+use Rattle.hm_rules.specs.Followed.{IsFollowed}
 use Rattle.hm_flaw_parts.proofs.Breaking.{first_is}
 use Rattle.hm_flaw_parts.proofs.judged.broken_of_all.Goals as goal
 
@@ -7,6 +9,8 @@ pub returns : goal.returns
 returns g c =
     let p = g.W.Reads.program c.args.world.now in
     let h = c.args.entries.now in
+    let followed : IsFollowed p (recalled_of p h) c.in_ok-so_far.so_far =
+    subst (λ (q : Program). IsFollowed q (recalled_of q h) c.in_ok-so_far.so_far) c.script.ensures c.in_ok-so_far.ensures in
     c.first_of.ensures
     ∙ first_is p h (g.W.Reads.state c.args.world.now) c.args.entry.now c.in_ok-rules.rules c.meets_kept.result
-    (c.in_ok-rules.ensures.rules p (recalled_of p h) c.in_ok-so_far.ensures) c.requires.state c.meets_kept.ensures
+    (c.in_ok-rules.ensures.rules p (recalled_of p h) followed) c.requires.state c.meets_kept.ensures
