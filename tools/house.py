@@ -16,7 +16,8 @@ The other parts count, and tools/house_limits.tsv has how many there may be of e
     comments    definitions of specs/ with no comment
     lemmas      statements of lemmas that stand more than once, up to the names of variables
     uncited     lemmas and helpers of proofs/ that nothing names, but for computed examples (`NAME = refl`)
-    unused      public items that no other code names, but for laws that docs/PROVED.md names
+    unused      public items that no other code names, but for laws, and calls of crates that no other uses yet, if
+                docs/PROVED.md names them
     unnamed     definitions of specs/ that nothing else names
 
 Ends with status 1 if the map is wrong, or there is more of something than there may be. It reads text and proves
@@ -267,6 +268,7 @@ LAWS = os.path.join(TOP, 'docs', 'PROVED.md')
 
 def unused():
     used, items = collections.Counter(), []
+    below = {word for line in read(MAP).split('\n') if ':' in line for word in line.split(':')[1].split()}
     for crate, path, text in files('.rt'):
         code = '\n'.join(line for line in text.split('\n')
                          if not line.lstrip().startswith(('//', 'ghost use', 'pub use', 'use')))
@@ -275,8 +277,9 @@ def unused():
         items += [] if is_test(crate) else [(path, name, name in laws_here) for name in ITEM.findall(code)]
     for _, _, text in files('.antt'):
         used.update(re.findall(r'\w+', GOALS.sub('', text)))
-    laws = set(re.findall(r'`(\w+)`', read(LAWS)))
-    return [f'{path} {name}' for path, name, is_law in items if used[name] == 1 and not (is_law and name in laws)]
+    told = set(re.findall(r'`(\w+)`', read(LAWS)))
+    return [f'{path} {name}' for path, name, is_law in items if used[name] == 1
+            and not ((is_law or path.split('/')[0] not in below) and name in told)]
 
 
 WORD = re.compile(r"[^\s(){};:,\[\]λ.→`]+")

@@ -76,18 +76,23 @@ fn areas_agree_with_rights_of_pages(rt: HostRuntime) -> Result<(), Fail> {
     Ok(())
 }
 
+/// 64 areas of three pages, each with a page between it and the next.
+fn full(rt: &HostRuntime) -> Result<Areas, Fail> {
+    let mut areas = Areas::new(rt.alloc()).ok().ok_or("memory")?;
+    for k in 0..64u64 {
+        let span = Span::new(Page::new(4 * k), 3);
+        if areas.insert(span, Rights::ReadWrite).is_err() {
+            return Err("refused")?;
+        }
+    }
+    Ok(areas)
+}
+
 #[test]
 fn a_full_list_refuses_cuts(rt: HostRuntime) -> Result<(), Fail> {
-    let mut areas = Areas::new(rt.alloc()).ok().ok_or("memory")?;
+    let mut areas = full(&rt)?;
     let mut spare = Areas::new(rt.alloc()).ok().ok_or("memory")?;
-    for k in 0..64u64 {
-        assert_eq!(rt;
-            areas.insert(Span::new(Page::new(4 * k), 3), Rights::ReadWrite),
-            Ok(())
-        );
-    }
     let inside = Span::new(Page::new(21), 1);
-    let whole = Span::new(Page::new(20), 3);
     let across = Span::new(Page::new(21), 4);
     let far = Span::new(Page::new(1000), 1);
     assert_eq!(rt;
@@ -104,15 +109,29 @@ fn a_full_list_refuses_cuts(rt: HostRuntime) -> Result<(), Fail> {
         areas.protect(across, Rights::Read, &mut spare),
         Err(AreaRefusal::Unmapped)
     );
+    Ok(())
+}
+
+#[test]
+fn a_full_list_takes_what_cuts_none(rt: HostRuntime) -> Result<(), Fail> {
+    let mut areas = full(&rt)?;
+    let mut spare = Areas::new(rt.alloc()).ok().ok_or("memory")?;
+    let whole = Span::new(Page::new(20), 3);
+    let across = Span::new(Page::new(21), 4);
     assert_eq!(rt; areas.protect(whole, Rights::Read, &mut spare), Ok(()));
     assert_eq!(rt; areas.find(Page::new(22)), Some(Rights::Read));
     assert_eq!(rt; areas.remove(across, &mut spare), Ok(()));
     assert_eq!(rt; areas.find(Page::new(20)), Some(Rights::Read));
     assert_eq!(rt; areas.find(Page::new(21)), None);
+    Ok(())
+}
 
+#[test]
+fn a_copy_has_the_same_areas(rt: HostRuntime) -> Result<(), Fail> {
+    let areas = full(&rt)?;
     let mut child = Areas::new(rt.alloc()).ok().ok_or("memory")?;
     child.copy_from(&areas);
-    assert_eq!(rt; child.find(Page::new(20)), Some(Rights::Read));
+    assert_eq!(rt; child.find(Page::new(22)), Some(Rights::ReadWrite));
     assert_eq!(rt; child.find(Page::new(255)), None);
     Ok(())
 }

@@ -1,5 +1,5 @@
 // Frames that are taken, written, copied, locked and dropped.
-ghost use Rattle.std.specs.Prelude.{◌≡◌, ℕ, true, IfSome};
+ghost use Rattle.std.specs.Prelude.{◌≡◌};
 ghost use Rattle.frame_pool.specs.Frames.{is_held};
 
 use crate::drawn::after;
@@ -7,45 +7,59 @@ use frame_pool::{Held, Piece, Pool, copy_across};
 use hm_base::Actor;
 use std::test::Fail;
 
-fn take(pool: &mut Pool) -> Option<u32>
-    ensures taken { IfSome result (λ number. is_held pool.new number ≡ true) }
-    ensures others { (k : ℕ) → is_held pool.old k ≡ true → is_held pool.new k ≡ true }
-{
-    pool.take_lowest()
-}
-
 fn pool(rt: &HostRuntime, frames: u32) -> Result<Pool, Fail> {
     Ok(Pool::new(rt.alloc(), frames).map_err(|_| "no memory")?)
 }
 
 #[test]
-fn bytes_are_copied(rt: HostRuntime) -> Result<(), Fail> {
-    let mut system = pool(&rt, 2)?;
+fn bytes_are_copied_within_a_pool(rt: HostRuntime) -> Result<(), Fail> {
+    let mut pool = pool(&rt, 2)?;
+    let first = pool.take_lowest().ok_or("none")?;
+    let second = pool.take_lowest().ok_or("none")?;
+    assert!(rt; first != second && is_held(&pool, first) && is_held(&pool, second));
+    pool.write(first, 511, &[1, 2]);
+    pool.copy_within(first, second, Piece::Part(1));
+    let mut into = [9; 2];
+    pool.read(second, 511, &mut into);
+    assert_eq!(rt; into, [0, 2]);
+    Ok(())
+}
+
+#[test]
+fn bytes_are_copied_across_pools(rt: HostRuntime) -> Result<(), Fail> {
+    let mut system = pool(&rt, 1)?;
     let mut device = pool(&rt, 1)?;
-    let first = take(&mut system).ok_or("none")?;
-    let second = take(&mut system).ok_or("none")?;
-    let third = take(&mut device).ok_or("none")?;
-    assert!(rt; first != second);
-    system.write(first, 510, &[1, 2, 3, 4]);
-    system.copy_within(first, second, Piece::Part(1));
-    copy_across(&system, first, &mut device, third, Piece::All);
-    let mut into = [9; 6];
-    system.read(second, 509, &mut into);
-    assert_eq!(rt; into, [0, 0, 0, 3, 4, 0]);
-    device.read(third, 509, &mut into);
-    assert_eq!(rt; into, [0, 1, 2, 3, 4, 0]);
-    system.drop_frame(first);
-    let again = take(&mut system).ok_or("none")?;
-    system.read(again, 509, &mut into);
-    assert_eq!(rt; again, first);
-    assert_eq!(rt; into, [0; 6]);
+    let from = system.take_lowest().ok_or("none")?;
+    let to = device.take_lowest().ok_or("none")?;
+    assert!(rt; is_held(&system, from) && is_held(&device, to));
+    system.write(from, 511, &[1, 2]);
+    copy_across(&system, from, &mut device, to, Piece::All);
+    let mut into = [9; 2];
+    device.read(to, 511, &mut into);
+    assert_eq!(rt; into, [1, 2]);
+    Ok(())
+}
+
+#[test]
+fn a_frame_that_is_taken_again_is_clear(rt: HostRuntime) -> Result<(), Fail> {
+    let mut pool = pool(&rt, 1)?;
+    let frame = pool.take_lowest().ok_or("none")?;
+    assert!(rt; is_held(&pool, frame));
+    pool.write(frame, 511, &[1, 2]);
+    pool.drop_frame(frame);
+    let again = pool.take_lowest().ok_or("none")?;
+    assert!(rt; again == frame && is_held(&pool, again));
+    let mut into = [9; 2];
+    pool.read(again, 511, &mut into);
+    assert_eq!(rt; into, [0; 2]);
     Ok(())
 }
 
 #[test]
 fn frames_are_locked(rt: HostRuntime) -> Result<(), Fail> {
     let mut pool = pool(&rt, 1)?;
-    let frame = take(&mut pool).ok_or("none")?;
+    let frame = pool.take_lowest().ok_or("none")?;
+    assert!(rt; is_held(&pool, frame));
     assert_eq!(rt; pool.holder(frame), None);
     assert_eq!(rt; pool.try_lock(frame, Actor::new(3)), Ok(()));
     assert_eq!(rt;

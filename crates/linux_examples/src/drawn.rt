@@ -38,6 +38,30 @@ fn are_names(names: &Names, text: &str) -> bool {
     text.split(' ').all(|name| names.has(name))
 }
 
+/// What an answer is beside its kept line.
+#[derive(Drop)]
+enum Found<'a> {
+    /// The kernel's.
+    Same,
+    /// Not the kernel's, by differences that have names.
+    Named,
+    /// Not the kept one.
+    NotKept(&'a str),
+    /// Not the kernel's, and one of these differences has no name.
+    Unnamed(&'a str),
+}
+
+fn found<'a>(names: &Names, answer: &str, kept: &Kept<'a>) -> Found<'a> {
+    if !is_like(answer, kept.model) {
+        return Found::NotKept(kept.model);
+    }
+    match kept.names {
+        None => Found::Same,
+        Some(text) if are_names(names, text) => Found::Named,
+        Some(text) => Found::Unnamed(text),
+    }
+}
+
 /// How many answers are the same, and how many differ by name.
 #[derive(Drop)]
 struct Counts {
@@ -46,28 +70,57 @@ struct Counts {
     differ: u64,
 }
 
-/// Compares one script's answers with the kept ones, and prints the first that has no place or no name.
-fn compare(rt: &HostRuntime, names: &Names, stem: &str, counts: &mut Counts) -> io::Result<()> {
-    let report = report(rt.alloc(), script(rt, stem)?.as_slice())?;
-    let told = beside(rt, stem, "kernel")?;
-    let mut lines = told.as_str().lines();
-    counts.scripts = counts.scripts.saturating_add(1);
-    for line in report.as_str().lines() {
-        if let Some(answer) = entry(line)
-            && is_answer(answer)
-        {
-            let kept = parts(lines.next().unwrap_or(""));
-            if !is_like(answer, kept.model) {
-                return println!(rt; "{stem}: {answer} is not {}", kept.model);
+impl Counts {
+    /// Counts what has its place; whether it has.
+    fn take(&mut self, found: &Found<'_>) -> bool {
+        match found {
+            Found::Same => {
+                self.same = self.same.saturating_add(1);
+                true
             }
-            match kept.names {
-                None => counts.same = counts.same.saturating_add(1),
-                Some(text) => {
-                    if !are_names(names, text) {
-                        return println!(rt; "{stem}: {answer} differs by {text}");
-                    }
-                    counts.differ = counts.differ.saturating_add(1);
-                }
+            Found::Named => {
+                self.differ = self.differ.saturating_add(1);
+                true
+            }
+            _ => false,
+        }
+    }
+}
+
+/// Prints what has no place.
+fn tell(rt: &HostRuntime, stem: &str, answer: &str, found: &Found<'_>) -> io::Result<()> {
+    match found {
+        Found::NotKept(kept) => println!(rt; "{stem}: {answer} is not {kept}"),
+        Found::Unnamed(text) => println!(rt; "{stem}: {answer} differs by {text}"),
+        _ => Ok(()),
+    }
+}
+
+/// The answer in a line of a report, if it has one.
+fn answer_in(line: &str) -> Option<&str> {
+    let answer = entry(line)?;
+    if is_answer(answer) {
+        Some(answer)
+    } else {
+        None
+    }
+}
+
+/// Compares the answers of a report with the kept lines, and prints the first that has no place or no name.
+fn compare_answers(
+    rt: &HostRuntime,
+    names: &Names,
+    stem: &str,
+    report: &str,
+    told: &str,
+    counts: &mut Counts,
+) -> io::Result<()> {
+    let mut lines = told.lines();
+    for line in report.lines() {
+        if let Some(answer) = answer_in(line) {
+            let found = found(names, answer, &parts(lines.next().unwrap_or("")));
+            if !counts.take(&found) {
+                return tell(rt, stem, answer, &found);
             }
         }
     }
@@ -75,6 +128,14 @@ fn compare(rt: &HostRuntime, names: &Names, stem: &str, counts: &mut Counts) -> 
         Some(line) => println!(rt; "{stem}: no answer is {line}"),
         None => Ok(()),
     }
+}
+
+/// Compares one script's answers with the kept ones.
+fn compare(rt: &HostRuntime, names: &Names, stem: &str, counts: &mut Counts) -> io::Result<()> {
+    let report = report(rt.alloc(), script(rt, stem)?.as_slice())?;
+    let told = beside(rt, stem, "kernel")?;
+    counts.scripts = counts.scripts.saturating_add(1);
+    compare_answers(rt, names, stem, report.as_str(), told.as_str(), counts)
 }
 
 /// Compares the answers of all drawn scripts.
