@@ -40,7 +40,7 @@ fn are_names(names: &Names, text: &str) -> bool {
 
 /// What an answer is beside its kept line.
 #[derive(Drop)]
-enum Found<'a> {
+enum Finding<'a> {
     /// The kernel's.
     Same,
     /// Not the kernel's, by differences that have names.
@@ -51,14 +51,14 @@ enum Found<'a> {
     Unnamed(&'a str),
 }
 
-fn found<'a>(names: &Names, answer: &str, kept: &Kept<'a>) -> Found<'a> {
+fn found<'a>(names: &Names, answer: &str, kept: &Kept<'a>) -> Finding<'a> {
     if !is_like(answer, kept.model) {
-        return Found::NotKept(kept.model);
+        return Finding::NotKept(kept.model);
     }
     match kept.names {
-        None => Found::Same,
-        Some(text) if are_names(names, text) => Found::Named,
-        Some(text) => Found::Unnamed(text),
+        None => Finding::Same,
+        Some(text) if are_names(names, text) => Finding::Named,
+        Some(text) => Finding::Unnamed(text),
     }
 }
 
@@ -72,13 +72,13 @@ struct Counts {
 
 impl Counts {
     /// Counts what has its place; whether it has.
-    fn take(&mut self, found: &Found<'_>) -> bool {
+    fn take(&mut self, found: &Finding<'_>) -> bool {
         match found {
-            Found::Same => {
+            Finding::Same => {
                 self.same = self.same.saturating_add(1);
                 true
             }
-            Found::Named => {
+            Finding::Named => {
                 self.differ = self.differ.saturating_add(1);
                 true
             }
@@ -88,10 +88,10 @@ impl Counts {
 }
 
 /// Prints what has no place.
-fn tell(rt: &HostRuntime, stem: &str, answer: &str, found: &Found<'_>) -> io::Result<()> {
+fn tell(rt: &HostRuntime, stem: &str, answer: &str, found: &Finding<'_>) -> io::Result<()> {
     match found {
-        Found::NotKept(kept) => println!(rt; "{stem}: {answer} is not {kept}"),
-        Found::Unnamed(text) => println!(rt; "{stem}: {answer} differs by {text}"),
+        Finding::NotKept(kept) => println!(rt; "{stem}: {answer} is not {kept}"),
+        Finding::Unnamed(text) => println!(rt; "{stem}: {answer} differs by {text}"),
         _ => Ok(()),
     }
 }
