@@ -162,7 +162,8 @@ impl Marks {
         })
     }
 
-    // Whether a `set` of the mirror by an actor, with this position from which it is to be untold, goes back to a look-up.
+    // Whether a `set` of the mirror by an actor goes back to a look-up; `since` is the position from which it is to be
+    // untold.
     fn goes_back(&self, actor: Actor, mirror: MirrorId, since: u64, at: u64) -> bool
         ensures { result ≡ ((since == at) || is_position ((marks_in self.now).begun actor mirror) since) }
     {
