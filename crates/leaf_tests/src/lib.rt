@@ -4,6 +4,8 @@
 #[cfg(test)]
 mod areas;
 #[cfg(test)]
+mod closures;
+#[cfg(test)]
 mod drawn;
 #[cfg(test)]
 mod frames;
@@ -11,6 +13,8 @@ mod frames;
 mod intervals;
 #[cfg(test)]
 mod mirrors;
+#[cfg(test)]
+mod sequences;
 #[cfg(test)]
 mod tables;
 #[cfg(test)]

@@ -38,8 +38,6 @@ use subscriptions::Subscriptions;
 
 mod interval;
 mod subscriptions;
-#[cfg(test)]
-mod tests;
 
 /// What a start of an invalidation tells: the process's sequence afterwards, and whether an interval
 /// overlapped, so that mirrors are to be told.
@@ -267,8 +265,8 @@ impl Notifiers {
         self.active
     }
 
-    // The interval of a mirror, if it ever had one.
-    fn interval(&self, id: MirrorId) -> Option<Interval>
+    /// The interval of a mirror, if it ever had one.
+    pub fn interval(&self, id: MirrorId) -> Option<Interval>
         ensures { result ≡ interval_at self.now id }
     {
         match &self.subscriptions {

@@ -1,5 +1,5 @@
 // The sequence rules as they are defined, over a plain list of intervals.
-use crate::{Begin, Removal, Stage, Started};
+use notifier_seq::{Begin, Removal, Stage, Started};
 use std::alloc::{AllocError, Global};
 
 // An interval by its mirror's number: its pages from the first up to the end, its sequence, and where

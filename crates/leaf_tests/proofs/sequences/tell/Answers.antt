@@ -1,5 +1,5 @@
 use Rattle.notifier_seq.proofs.Overlapping.{some_interval}
-use Rattle.notifier_seq.proofs.tests.tell.Goals as goal
+use Rattle.leaf_tests.proofs.sequences.tell.Goals as goal
 
 pub set_seq-requires : goal.set_seq-requires
 set_seq-requires c = some_interval _ _ c.in-Some.ensures

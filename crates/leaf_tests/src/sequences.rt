@@ -4,8 +4,8 @@ ghost use Rattle.std.specs.Prelude.{◌≡◌};
 ghost use Rattle.hm_base.specs.Pages.{IsSpan};
 ghost use Rattle.notifier_seq.specs.Sequences.{is_leaving};
 
-use crate::{Begin, Notifiers, Removal, Stage, Started};
 use hm_base::{MirrorId, Page, Span};
+use notifier_seq::{Begin, Notifiers, Removal, Stage, Started};
 use plain::Plain;
 use std::alloc::Global;
 use std::test::Fail;
