@@ -1,5 +1,6 @@
 // What is read of a world before an entry changes it: the place that the entry is about, the frame that it leaves
-// unnamed, and what the stack of phases notes.
+// unnamed, and what the stack of phases notes. An arm that calls puts what it got into a variable. So all other arms
+// answer from registers, and nobody waits for memory into which only a call would have written.
 ghost use Rattle.std.specs.Prelude.{◌≡◌, Some, is_some};
 ghost use Rattle.hm_history.specs.Memory.Words.{page_of};
 ghost use Rattle.hm_history.specs.Memory.Plain.{owner};
@@ -53,18 +54,27 @@ impl World {
                 proc,
                 page,
                 place: _,
-            } => self.place(*proc, *page),
+            } => {
+                let place = self.place(*proc, *page);
+                place
+            }
             Kind::Stored {
                 who,
                 addr,
                 bytes: _,
-            } => self.accessed_place(*who, *addr),
+            } => {
+                let place = self.accessed_place(*who, *addr);
+                place
+            }
             Kind::Added {
                 mirror,
                 addr,
                 read: _,
                 written: _,
-            } => self.accessed_place(Who::Mirror(*mirror), *addr),
+            } => {
+                let place = self.accessed_place(Who::Mirror(*mirror), *addr);
+                place
+            }
             _ => Place::Empty,
         }
     }
@@ -76,7 +86,10 @@ impl World {
         ensures { result ≡ orphan (now self.now).after.locks (now self.now).after.places kind.now }
     {
         match kind {
-            Kind::Place { place, .. } => self.tables.orphan(old, place, self.is_locked(old)),
+            Kind::Place { place, .. } => {
+                let frame = self.tables.orphan(old, place, self.is_locked(old));
+                frame
+            }
             _ => None,
         }
     }
@@ -126,10 +139,16 @@ impl World {
         ensures { IsPlaceSeen self.now.script (now self.now).after actor ((now self.now).going actor) kind.now result }
     {
         match kind {
-            Kind::Start { proc, span, seq: _ } => self.place(*proc, span.first()),
+            Kind::Start { proc, span, seq: _ } => {
+                let place = self.place(*proc, span.first());
+                place
+            }
             Kind::Place { .. } => *old,
             _ => match self.phase(actor) {
-                Some(Phase::Decide { touch }) => self.decided_place(actor, touch),
+                Some(Phase::Decide { touch }) => {
+                    let place = self.decided_place(actor, touch);
+                    place
+                }
                 _ => Place::Empty,
             },
         }
@@ -158,7 +177,10 @@ impl World {
         ensures { IsPageSeen self.now.script (now self.now).after actor ((now self.now).going actor) result }
     {
         match self.phase(actor) {
-            Some(Phase::Moves { step, next }) => self.page_at_step(actor, *step, *next),
+            Some(Phase::Moves { step, next }) => {
+                let page = self.page_at_step(actor, *step, *next);
+                page
+            }
             _ => None,
         }
     }
