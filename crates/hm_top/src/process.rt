@@ -5,6 +5,7 @@ ghost use Rattle.hm_edge.specs.Exits.{Begins, Exits, arguments};
 ghost use Rattle.hm_edge.specs.Traffic.{IsUntouched, traffic};
 ghost use Rattle.hm_top.specs.Runs.{Runs, name, usage};
 
+use crate::ended::Ended;
 use crate::top::run;
 use hm_base::NoMemory;
 use hm_edge::{Status, finish, words_after_name};
@@ -13,9 +14,9 @@ use hm_workers::Mixing;
 use skip_rules::{BoxedRule, Kept, Leans};
 use std::alloc::Global;
 use std::env::Args;
-use std::io;
 use std::sync::Wait;
 use std::thread::Threads;
+use std::{io, mem};
 
 /// The program's name, which its messages begin with.
 pub const NAME: &str = "hmmrun";
@@ -23,6 +24,23 @@ pub const NAME: &str = "hmmrun";
 /// What it says if its words are none of the forms.
 pub const USAGE: &str =
     "usage: hmmrun replay | threads | generate N | trial N | upgrade | check | peek P ADDR LEN | advise | why";
+
+/// How a call ended that was the last of its process. What it ran is not walked over once more to be given back, since
+/// the process ends, and its memory with it.
+fn status_of(ended: Ended) -> Status
+    ensures { result ≡ ended.status }
+{
+    let Ended {
+        status,
+        script,
+        history,
+        receipt: _,
+        peeks: _,
+    } = ended;
+    mem::forget(script);
+    mem::forget(history);
+    status
+}
 
 /// Makes the call, with the rules that this driver keeps.
 fn call<R: Threads + Wait + Sync, S: Source, K: Sink>(
@@ -45,7 +63,7 @@ fn call<R: Threads + Wait + Sync, S: Source, K: Sink>(
     let (skip, leans) = (Kept::new(skips), Leans::new(leans));
     let gate = Mixing::new(rt, alloc, seed)?;
     let ended = run(rt, alloc, words, source, sink, &gate, &skip, &leans);
-    Ok(ended.status)
+    Ok(status_of(ended))
 }
 
 /// Makes the call with the words after the program's name, if they are there.
