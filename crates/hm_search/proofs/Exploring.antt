@@ -11,7 +11,7 @@ use Rattle.hm_race_laws.proofs.Searching.{listed_left, listed_cases}
 use Rattle.hm_search.specs.declared.known.Known.{Known}
 use Rattle.hm_search.specs.Values.{known_of, with_known, all_known, at_goal, key_forms}
 use Rattle.hm_search.specs.Systems.{SystemValue, IsSystem, point_at, form_after}
-use Rattle.hm_search.specs.Known.{KnownValue, AreActors, IsKnown, forms, turns_at, Within, GoesOn, GoneOnBelow, GoneOn, AreRising, Explores, HaveForms, AreFewest}
+use Rattle.hm_search.specs.Known.{KnownValue, AreActors, IsKnown, forms, turns_at, Within, GoesOn, GoneOnBelow, GoneOn, AreRising, Explores, HaveForms, HaveFewer, AreFewest}
 
 -- ---- lists
 
@@ -257,8 +257,9 @@ module _ {X F : Type 0} (y : SystemValue X F) (sys : IsSystem y) (vs : List (Kno
   pub have_forms : length vs ≤ at → HaveForms y vs
   have_forms all turns = let w = after_turns turns (λ i l few. omega (arith, l, all)) in subst (IsListed (forms vs)) w.form (listed_map (λ (n : KnownValue F). n.form) vs w.state w.listed)
 
-  pub fewest : AreDistinct (forms vs) → AreFewest y vs
-  fewest dis n l turns same = by (cases_lt (length turns) (length n.turns))
+  -- states to which fewer turns lead than to a known one are done with
+  passed_before : (n : KnownValue F) → IsListed vs n → (k : ℕ) → k < length n.turns → Passed k
+  passed_before n l k less i m few = by (cases_lt i at)
     where
       p : Placed turns_of vs n []
       p = place_of vs n l
@@ -266,16 +267,19 @@ module _ {X F : Type 0} (y : SystemValue X F) (sys : IsSystem y) (vs : List (Kno
       far : length (turns_at vs p.place) ≡ length n.turns
       far = ap length p.same
 
+      by : (i < at) ⊎ (at ≤ i) → i < at
+      by (inl z) = z
+      by (inr z) = absurd (omega (arith, s.rising at i z m, s.near p.place p.within (omega (arith, z, m)), far, few, less))
+
+  pub have_fewer : HaveFewer y vs
+  have_fewer n l turns less = after_turns turns (passed_before n l (length turns) less)
+
+  pub fewest : AreDistinct (forms vs) → AreFewest y vs
+  fewest dis n l turns same = by (cases_lt (length turns) (length n.turns))
+    where
+      once : length turns < length n.turns → Within vs (form_after y turns) (length turns) → ⊥
+      once k w = omega (arith, w.few, k, ap (λ (z : KnownValue F). length z.turns) (one_item (λ (z : KnownValue F). z.form) vs w.state n dis w.listed l (w.form ∙ same)))
+
       by : (length turns < length n.turns) ⊎ (length n.turns ≤ length turns) → length n.turns ≤ length turns
       by (inr k) = k
-      by (inl k) = absurd (once (after_turns turns passed))
-        where
-          passed : Passed (length turns)
-          passed i m few = at_cases (cases_lt i at)
-            where
-              at_cases : (i < at) ⊎ (at ≤ i) → i < at
-              at_cases (inl z) = z
-              at_cases (inr z) = absurd (omega (arith, s.rising at i z m, s.near p.place p.within (omega (arith, z, m)), far, few, k))
-
-          once : Within vs (form_after y turns) (length turns) → ⊥
-          once w = omega (arith, w.few, k, ap (λ (z : KnownValue F). length z.turns) (one_item (λ (z : KnownValue F). z.form) vs w.state n dis w.listed l (w.form ∙ same)))
+      by (inl k) = absurd (once k (have_fewer n l turns k))

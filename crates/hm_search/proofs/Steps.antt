@@ -10,10 +10,10 @@ use Rattle.hm_race_laws.proofs.Searching.{listed_right}
 use Rattle.hm_search.specs.declared.known.Known.{Known}
 use Rattle.hm_search.specs.Buckets.{BucketsValue}
 use Rattle.hm_search.specs.Values.{known_of, all_known, key_forms, Fits, AreDeep, Searching, HasGrown, HasSearched}
-use Rattle.hm_search.specs.Known.{KnownValue, AreActors, IsKnown, MayFail, forms, turns_at, Within, GoesOn, GoneOnBelow, Explores, LeadsOn, HaveForms, AreKnown, AreRising, AreFewest, IsCut}
+use Rattle.hm_search.specs.Known.{KnownValue, AreActors, IsKnown, MayFail, forms, turns_at, Within, GoesOn, GoneOnBelow, Explores, LeadsOn, HaveForms, HaveFewer, AreKnown, AreRising, AreFewest, IsCut}
 use Rattle.hm_search.specs.Systems.{SystemValue, IsSystem, Stands, IsNext, point_at, form_after}
 use Rattle.hm_search.proofs.Table.{form_at, other_listed, other_distinct}
-use Rattle.hm_search.proofs.Exploring.{place_of, From, from_map, known_length, known_forms, known_more, known_push, turns_last, turns_kept, goes_more, explores_more, explores_on, below_more, more_actors, have_forms, fewest}
+use Rattle.hm_search.proofs.Exploring.{place_of, From, from_map, known_length, known_forms, known_more, known_push, turns_last, turns_kept, goes_more, explores_more, explores_on, below_more, more_actors, have_forms, have_fewer, fewest}
 
 -- ---- a known state
 
@@ -270,3 +270,6 @@ module _ {K X F G : Type 0} (y : SystemValue X F) (form : K → F) (own : K → 
 
   pub ends_fewest : IsSystem y → ((k l : K) → form k ≡ form l → own k ≡ own l) → AreFewest y (all_known form ns)
   ends_fewest sys apart = fewest y sys (all_known form ns) s.at s.searching.explores (ends_distinct apart)
+
+  pub ends_fewer : IsSystem y → HaveFewer y (all_known form ns)
+  ends_fewer sys = have_fewer y sys (all_known form ns) s.at s.searching.explores

@@ -92,6 +92,12 @@ AreFewest y known =
     (n : KnownValue _) → IsListed known n → (turns : List ℕ) → form_after y turns ≡ n.form
     → length n.turns ≤ length turns
 
+-- the form after turns that are fewer than those of some known state is known, with no more turns than these
+abbrev pub HaveFewer : {X F : Type 0} → SystemValue X F → List (KnownValue F) → Type 0
+HaveFewer y known =
+    (n : KnownValue _) → IsListed known n → (turns : List ℕ) → length turns < length n.turns
+    → Within known (form_after y turns) (length turns)
+
 -- a search that stopped knows at most as many states beyond those asked for as there are actors; or it knows the first
 -- alone
 abbrev pub IsNear : ℕ → ℕ → ℕ → Type 0

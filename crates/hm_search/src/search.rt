@@ -7,7 +7,7 @@ ghost use Rattle.hm_search.specs.Systems.{point_at};
 ghost use Rattle.hm_search.specs.Goals.{AreMissed, IsSoon, Reaches};
 ghost use Rattle.hm_search.specs.Values.{all_known, at_goal, HasGrown, HasSearched, Searching};
 ghost use Rattle.hm_search.specs.Known.{forms, turns_at, Within, LeadsOn, GoesOn};
-ghost use Rattle.hm_search.specs.Known.{HaveForms, AreKnown, AreRising, AreFewest};
+ghost use Rattle.hm_search.specs.Known.{HaveFewer, HaveForms, AreKnown, AreRising, AreFewest};
 ghost use Rattle.hm_search.specs.Known.{IsCut, IsNear, MayFail};
 
 use crate::goal::{Goal, any_reached};
@@ -271,6 +271,8 @@ pub fn explore<S: System, G: Goal<S::Key>>(
     ensures rising { IfOk result (λ x. AreRising (all_known S.form x.known.items)) }
     ensures fewest { IfOk result (λ x.
         AreFewest (S.value system.now) (all_known S.form x.known.items)) }
+    ensures below { IfOk result (λ x.
+        HaveFewer (S.value system.now) (all_known S.form x.known.items)) }
     ensures fails { IfErr result (λ e. MayFail (S.value system.now) e) }
 {
     system.facts();

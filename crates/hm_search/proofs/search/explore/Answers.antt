@@ -1,6 +1,6 @@
 use Rattle.std.proofs.Common.{arith}
 use Rattle.std.proofs.lemmas.Grind.{common_steps}
-use Rattle.hm_search.proofs.Steps.{ends_all, ends_cut, ends_known, ends_distinct, ends_rising, ends_fewest}
+use Rattle.hm_search.proofs.Steps.{ends_all, ends_cut, ends_known, ends_distinct, ends_rising, ends_fewest, ends_fewer}
 use Rattle.hm_search.proofs.search.explore.Goals as goal
 
 pub returns-clause-all : goal.returns-clause-all
@@ -23,3 +23,6 @@ returns-clause-rising g c = ends_rising (g.S.System.value c.args.system.now) g.S
 
 pub returns-clause-fewest : goal.returns-clause-fewest
 returns-clause-fewest g c = ends_fewest (g.S.System.value c.args.system.now) g.S.System.form g.S.Key.SearchKey.form g.S.Key.SearchKey.number g.S.Key.SearchKey.Valid _ _ c.args.most c.in_ok-stopped.stopped.reached c.in_ok-stopped.ensures.searched c.facts.ensures.system c.facts.ensures.apart
+
+pub returns-clause-below : goal.returns-clause-below
+returns-clause-below g c = ends_fewer (g.S.System.value c.args.system.now) g.S.System.form g.S.Key.SearchKey.form g.S.Key.SearchKey.number g.S.Key.SearchKey.Valid _ _ c.args.most c.in_ok-stopped.stopped.reached c.in_ok-stopped.ensures.searched c.facts.ensures.system

@@ -1,0 +1,89 @@
+-- What the points of turns say of the races of a driver.
+use Rattle.std.proofs.Common.{◌≡◌, ℕ, ◌+◌, ◌<◌, ◌≤◌, ◌⊎◌, inl, inr, true, false, Option, Some, None, List, length, refl, sym, ap, ◌∙◌, subst, arith}
+use Rattle.std.specs.Prelude.{is_some}
+use Rattle.std.proofs.lemmas.Bool.{cases_lt, false≢true, or_parts}
+use Rattle.std.proofs.lemmas.List.{length-map}
+use Rattle.std.proofs.lemmas.Option.{none-some, same_Some}
+use Rattle.hm_base.specs.Program.{Program}
+use Rattle.hm_history.specs.Kernel.Going.{state_of}
+use Rattle.hm_history.specs.declared.Entry.{Entry}
+use Rattle.hm_flaws.specs.declared.flaws.Flaw.{Flaw}
+use Rattle.hm_flaws.specs.declared.parts.Part.{Part}
+use Rattle.hm_flaws.specs.Flawed.{Flawed, flawed_from, flawed_after}
+use Rattle.hm_flaws.specs.Judged.{Unbroken, Breaks, broken_by, judged}
+use Rattle.hm_flaws.specs.Laws.{JudgedBreaks}
+use Rattle.hm_flaws.specs.Races.{is_stuck, part_in}
+use Rattle.hm_flaw_races.specs.Races.{FlawPoint, broken_count, point_from, entries_at, is_found}
+use Rattle.hm_flaw_races.specs.Judging.{point_after, TurnsBreak}
+use Rattle.hm_flaw_races.specs.Laws.{BrokenTurnsBreak, StuckTurnsStick, UnbrokenBreaksNone, UnbrokenBreaksLater, UnfoundIsRight, UnfoundIsShorter}
+use Rattle.hm_flaw_races.proofs.Turns.{flawed_lengths, turns_are_judged, turns_go}
+use Rattle.hm_flaw_races.proofs.Unbroken.{actors_in, breaks_point, turns_in, turns_long, unbroken_point}
+
+-- ---- turns
+
+-- how many entries led to the point after turns
+entries_after : (parts : List Part) (l : Flaw) (c : Program) (h : List Entry) (turns : List ℕ) → entries_at (point_after parts l c h turns) ≡ entries_at (point_from c h) + (length (judged parts l c h turns).entries + broken_count (point_after parts l c h turns).broken)
+entries_after parts l c h turns = omega (arith, ap (λ (x : FlawPoint). x.flawed.state.after.length) (turns_are_judged parts l c h turns), ap (λ (t : Flawed). t.state.after.length) (turns_go parts l c h turns).same, flawed_lengths l c (flawed_from (state_of c h)) (judged parts l c h turns).entries)
+
+pub broken_turns_break : JudgedBreaks → BrokenTurnsBreak
+broken_turns_break law parts l c h turns part b = by (judged parts l c h turns).broken refl (sym (ap (λ (x : FlawPoint). x.broken) (turns_are_judged parts l c h turns)) ∙ b)
+  where
+    by : (o : Option (Entry × Part)) → (judged parts l c h turns).broken ≡ o → part_in o ≡ Some part → TurnsBreak parts l c h turns part
+    by None is k = absurd (none-some part k)
+    by (Some y) is k = record {
+      entries = (judged parts l c h turns).entries;
+      entry = y.0;
+      breaks = subst (Breaks parts l c h (judged parts l c h turns).entries y.0) (same_Some y.1 part k) (law parts l c h turns y.0 y.1 is);
+      each = λ adds. omega (arith, adds, entries_after parts l c h turns, ap broken_count b);
+    }
+
+pub stuck_turns_stick : StuckTurnsStick
+stuck_turns_stick parts l c h turns none stuck = record {
+  entries = (judged parts l c h turns).entries;
+  sticks = record {
+    unbroken = (turns_go parts l c h turns).unbroken;
+    stuck = sym (ap (is_stuck l c) (ap (λ (x : FlawPoint). x.flawed) (turns_are_judged parts l c h turns) ∙ (turns_go parts l c h turns).same)) ∙ stuck;
+  };
+  each = λ adds. omega (arith, adds, entries_after parts l c h turns, ap broken_count none);
+}
+
+-- ---- all turns
+
+pub unbroken_breaks_none : UnbrokenBreaksNone
+unbroken_breaks_none parts l c h none es u e d = by (broken_by parts l c h es e) refl
+  where
+    by : (o : Option Part) → broken_by parts l c h es e ≡ o → broken_by parts l c h es e ≡ None
+    by None b = b
+    by (Some part) b = absurd (none-some part (sym (none (turns_in es e)) ∙ breaks_point parts l c h es e part (record { unbroken = u; is_due = d; broken = b })))
+
+pub unbroken_breaks_later : UnbrokenBreaksLater
+unbroken_breaks_later parts l c h n none es e part b = by (cases_lt (length es + 1) n)
+  where
+    by : (length es + 1 < n) ⊎ (n ≤ length es + 1) → n ≤ length es + 1
+    by (inl k) = absurd (none-some part (sym (none (turns_in es e) (omega (arith, turns_long es e, k))) ∙ breaks_point parts l c h es e part b))
+    by (inr k) = k
+
+-- nothing is found at a point at which no part was broken and somebody can go on
+unfound_parts : (l : Flaw) (c : Program) (x : FlawPoint) → is_found l c x ≡ false → (x.broken ≡ None) × (is_stuck l c x.flawed ≡ false)
+unfound_parts l c x f = let p = or_parts (is_some x.broken) (is_stuck l c x.flawed) f in (none x.broken p.0, p.1)
+  where
+    none : (o : Option Part) → is_some o ≡ false → o ≡ None
+    none None k = refl
+    none (Some part) k = absurd (false≢true (sym k))
+
+-- so after unbroken entries
+unstuck : (parts : List Part) (l : Flaw) (c : Program) (h es : List Entry) → Unbroken parts l c h es → is_found l c (point_after parts l c h (actors_in es)) ≡ false → is_stuck l c (flawed_after l c h es) ≡ false
+unstuck parts l c h es u f = sym (ap (λ (x : FlawPoint). is_stuck l c x.flawed) (unbroken_point parts l c h es u)) ∙ (unfound_parts l c (point_after parts l c h (actors_in es)) f).1
+
+pub unfound_is_right : UnfoundIsRight
+unfound_is_right parts l c h none = (unbroken_breaks_none parts l c h (λ turns. (unfound_parts l c (point_after parts l c h turns) (none turns)).0), λ es u. unstuck parts l c h es u (none (actors_in es)))
+
+pub unfound_is_shorter : UnfoundIsShorter
+unfound_is_shorter parts l c h n none = record {
+  breaks = unbroken_breaks_later parts l c h n (λ turns less. (unfound_parts l c (point_after parts l c h turns) (none turns less)).0);
+  sticks = λ es s. by es s.unbroken s.stuck (cases_lt (length es) n);
+}
+  where
+    by : (es : List Entry) → Unbroken parts l c h es → is_stuck l c (flawed_after l c h es) ≡ true → (length es < n) ⊎ (n ≤ length es) → n ≤ length es
+    by es u s (inl k) = absurd (false≢true (sym (unstuck parts l c h es u (none (actors_in es) (omega (arith, length-map es (λ (x : Entry). x.actor), k)))) ∙ s))
+    by es u s (inr k) = k

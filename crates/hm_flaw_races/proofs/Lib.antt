@@ -1,0 +1,7 @@
+mod Systems
+mod Marking
+mod Turns
+mod Unbroken
+mod Breaking
+mod Searched
+mod Rightly

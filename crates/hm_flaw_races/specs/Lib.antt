@@ -1,0 +1,4 @@
+pub mod Races
+pub mod Judging
+pub mod Shortest
+pub mod Laws
