@@ -1,0 +1,78 @@
+-- The words of rules, each by the driver that leaves the rule out, and of the parts of legality.
+use Rattle.std.specs.Prelude.{◌≡◌, ◌↔◌, ℕ, Option, Some, List, [], ◌∷◌, codes}
+use Rattle.std.specs.List.{find}
+use Rattle.std.specs.Str.{bytes_eq}
+use Rattle.hm_flaws.specs.declared.flaws.Flaw.{Flaw}
+use Rattle.hm_flaws.specs.declared.parts.Part.{Part}
+
+-- the word of the rule that the driver leaves out; of the right driver `none`
+abbrev pub name_of : Flaw → List ℕ
+name_of Flaw.NoFlaw = codes "none"
+name_of Flaw.NotCompared = codes "compare"
+name_of Flaw.ComparedNow = codes "compare-sequence"
+name_of Flaw.AllForWrites = codes "entry-right"
+name_of Flaw.WalksUnlocked = codes "mmap-lock"
+name_of Flaw.AnyDevice = codes "own-device"
+name_of Flaw.SequenceLeft = codes "set-sequence"
+name_of Flaw.TableLeft = codes "erase"
+name_of Flaw.FirstErased = codes "erase-all"
+name_of Flaw.ErasedAtEnd = codes "erase-in-time"
+name_of Flaw.OwnIgnored = codes "own-events"
+name_of Flaw.UsedDetached = codes "stop-at-detach"
+name_of Flaw.ReadsWritten = codes "write-entry"
+name_of Flaw.PartCopied = codes "copy-all"
+name_of Flaw.NotCleared = codes "clear"
+name_of Flaw.LostAsMoved = codes "set-moved"
+name_of Flaw.OwnForWrites = codes "set-right"
+name_of Flaw.LostHeld = codes "drop-lost"
+name_of Flaw.WithdrawnTaken = codes "take-from-there"
+name_of Flaw.RemovedAtOnce = codes "evict-first"
+name_of Flaw.NotWithdrawn = codes "withdraw-first"
+name_of Flaw.LockedPassed = codes "wait-for-locked"
+name_of Flaw.AddedAnyway = codes "look-again"
+
+-- all drivers, the right one first, in the order in which their lines are written
+abbrev pub all_flaws : List Flaw
+all_flaws =
+    Flaw.NoFlaw
+    ∷ Flaw.NotCompared
+    ∷ Flaw.ComparedNow
+    ∷ Flaw.AllForWrites
+    ∷ Flaw.WalksUnlocked
+    ∷ Flaw.AnyDevice
+    ∷ Flaw.SequenceLeft
+    ∷ Flaw.TableLeft
+    ∷ Flaw.FirstErased
+    ∷ Flaw.ErasedAtEnd
+    ∷ Flaw.OwnIgnored
+    ∷ Flaw.UsedDetached
+    ∷ Flaw.ReadsWritten
+    ∷ Flaw.PartCopied
+    ∷ Flaw.NotCleared
+    ∷ Flaw.LostAsMoved
+    ∷ Flaw.OwnForWrites
+    ∷ Flaw.LostHeld
+    ∷ Flaw.WithdrawnTaken
+    ∷ Flaw.RemovedAtOnce
+    ∷ Flaw.NotWithdrawn
+    ∷ Flaw.LockedPassed
+    ∷ Flaw.AddedAnyway
+    ∷ []
+
+-- the driver that the word names
+unfoldable pub flaw_named : List ℕ → Option Flaw
+flaw_named w = find (λ l. bytes_eq (name_of l) w) all_flaws
+
+-- a word names a driver if and only if it is its own
+abbrev pub NamesAreTheirs : Type 0
+NamesAreTheirs = (w : List ℕ) (l : Flaw) → (flaw_named w ≡ Some l) ↔ (name_of l ≡ w)
+
+-- the word of a part of legality
+abbrev pub part_text : Part → List ℕ
+part_text Part.Answers = codes "answers"
+part_text Part.Places = codes "places"
+part_text Part.Frames = codes "frames"
+part_text Part.Sequences = codes "sequences"
+part_text Part.Untold = codes "untold"
+part_text Part.Guarded = codes "guarded"
+part_text Part.Kept = codes "kept"

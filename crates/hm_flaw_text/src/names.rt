@@ -1,0 +1,112 @@
+// The words of rules, each by the driver that leaves the rule out, and of the parts of legality.
+ghost use Rattle.std.specs.Prelude.{◌≡◌, Some, IfSome};
+ghost use Rattle.hm_flaws.specs.declared.flaws.Flaw.{Flaw as AnyFlaw};
+ghost use Rattle.hm_flaw_text.specs.Names.{all_flaws, flaw_named, name_of, part_text, NamesAreTheirs};
+
+use hm_flaws::{Flaw, Part};
+
+/// All drivers, in the order of the table of rules; the right one comes first.
+const FLAWS: [Flaw; 23] = [
+    Flaw::NoFlaw,
+    Flaw::NotCompared,
+    Flaw::ComparedNow,
+    Flaw::AllForWrites,
+    Flaw::WalksUnlocked,
+    Flaw::AnyDevice,
+    Flaw::SequenceLeft,
+    Flaw::TableLeft,
+    Flaw::FirstErased,
+    Flaw::ErasedAtEnd,
+    Flaw::OwnIgnored,
+    Flaw::UsedDetached,
+    Flaw::ReadsWritten,
+    Flaw::PartCopied,
+    Flaw::NotCleared,
+    Flaw::LostAsMoved,
+    Flaw::OwnForWrites,
+    Flaw::LostHeld,
+    Flaw::WithdrawnTaken,
+    Flaw::RemovedAtOnce,
+    Flaw::NotWithdrawn,
+    Flaw::LockedPassed,
+    Flaw::AddedAnyway,
+];
+
+/// All drivers, in the order in which their lines are written: the right one, and then those with a flaw.
+pub fn all_flaws() -> [Flaw; 23]
+    ensures { result ≡ all_flaws }
+{
+    FLAWS
+}
+
+/// A word names a driver if and only if it is its own. So no two have the same word.
+pub fn names_are_theirs()
+    ensures { NamesAreTheirs }
+{}
+
+/// The word of the rule that the driver leaves out; of the right driver `none`.
+pub fn rule_name(flaw: Flaw) -> &'static str
+    ensures { result.now ≡ name_of flaw }
+{
+    match flaw {
+        Flaw::NoFlaw => "none",
+        Flaw::NotCompared => "compare",
+        Flaw::ComparedNow => "compare-sequence",
+        Flaw::AllForWrites => "entry-right",
+        Flaw::WalksUnlocked => "mmap-lock",
+        Flaw::AnyDevice => "own-device",
+        Flaw::SequenceLeft => "set-sequence",
+        Flaw::TableLeft => "erase",
+        Flaw::FirstErased => "erase-all",
+        Flaw::ErasedAtEnd => "erase-in-time",
+        Flaw::OwnIgnored => "own-events",
+        Flaw::UsedDetached => "stop-at-detach",
+        Flaw::ReadsWritten => "write-entry",
+        Flaw::PartCopied => "copy-all",
+        Flaw::NotCleared => "clear",
+        Flaw::LostAsMoved => "set-moved",
+        Flaw::OwnForWrites => "set-right",
+        Flaw::LostHeld => "drop-lost",
+        Flaw::WithdrawnTaken => "take-from-there",
+        Flaw::RemovedAtOnce => "evict-first",
+        Flaw::NotWithdrawn => "withdraw-first",
+        Flaw::LockedPassed => "wait-for-locked",
+        Flaw::AddedAnyway => "look-again",
+    }
+}
+
+// The first driver with this word.
+#[tactic(auto, unfolding(crate::specs::Names::flaw_named))]
+fn first_named(word: &[u8]) -> Option<Flaw>
+    ensures { result ≡ flaw_named word.now }
+{
+    FLAWS
+        .iter()
+        .copied()
+        .find(|flaw| rule_name(*flaw).as_bytes() == word)
+}
+
+/// The driver that leaves the rule of this name out; the right one for `none`.
+pub fn rule_named(word: &[u8]) -> Option<Flaw>
+    ensures named { result ≡ flaw_named word.now }
+    ensures known { IfSome result (λ l. name_of l ≡ word.now) }
+    ensures each { (l : AnyFlaw) → name_of l ≡ word.now → result ≡ Some l }
+{
+    names_are_theirs();
+    first_named(word)
+}
+
+/// The word of a part of legality.
+pub fn part_name(part: Part) -> &'static str
+    ensures { result.now ≡ part_text part }
+{
+    match part {
+        Part::Answers => "answers",
+        Part::Places => "places",
+        Part::Frames => "frames",
+        Part::Sequences => "sequences",
+        Part::Untold => "untold",
+        Part::Guarded => "guarded",
+        Part::Kept => "kept",
+    }
+}
