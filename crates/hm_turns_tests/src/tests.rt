@@ -1,7 +1,7 @@
 // Each test runs the calls of the turn and its workers on the small value.
 ghost use Rattle.std.specs.Prelude.{◌<◌};
 
-use crate::toy::{Toy, script_for};
+use hm_toy::toy::{Toy, script_for};
 use hm_base::{Actor, Proc, Schedule, ScheduleLine};
 use hm_history::{Entry, Progress, StepError};
 use hm_turns::{Stepped, Turn, Turns};

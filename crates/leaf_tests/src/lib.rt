@@ -8,6 +8,12 @@ mod closures;
 #[cfg(test)]
 mod drawn;
 #[cfg(test)]
+mod frame_bytes;
+#[cfg(test)]
+mod frame_locks;
+#[cfg(test)]
+mod frame_scans;
+#[cfg(test)]
 mod frames;
 #[cfg(test)]
 mod intervals;

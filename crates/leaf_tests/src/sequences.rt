@@ -18,6 +18,19 @@ fn span(first: u64, count: u64) -> Span
     Span::new(Page::new(first), count)
 }
 
+/// Two pages, and each of them.
+fn both() -> Span {
+    span(16, 2)
+}
+
+fn first() -> Span {
+    span(16, 1)
+}
+
+fn second() -> Span {
+    span(17, 1)
+}
+
 fn start(notifiers: &mut Notifiers, span: Span) -> Option<Started> {
     if notifiers.seq() < 1000 && notifiers.active() < 1000 {
         Some(notifiers.start(span))
@@ -90,17 +103,11 @@ fn the_first_end_leaves_the_odd_sequence(rt: HostRuntime) -> Result<(), Fail> {
         seq: 3,
         overlapped: true,
     });
-    assert_eq!(rt;
-        insert(rt.alloc(), &mut notifiers, old, span(16, 2)),
-        Some(1)
-    );
-    assert_eq!(rt; start(&mut notifiers, span(16, 1)), told);
-    assert_eq!(rt; start(&mut notifiers, span(17, 1)), told);
+    assert_eq!(rt; insert(rt.alloc(), &mut notifiers, old, both()), Some(1));
+    assert_eq!(rt; start(&mut notifiers, first()), told);
+    assert_eq!(rt; start(&mut notifiers, second()), told);
     tell(&mut notifiers, old, 3);
-    assert_eq!(rt;
-        insert(rt.alloc(), &mut notifiers, new, span(16, 2)),
-        Some(3)
-    );
+    assert_eq!(rt; insert(rt.alloc(), &mut notifiers, new, both()), Some(3));
     assert!(rt; notifiers.deferred(new) && !notifiers.in_tree(new) && notifiers.present(new));
     assert_eq!(rt; end(&mut notifiers), Some(3));
     assert_eq!(rt; begin(&notifiers, old), Some(Begin::Invalidating(3)));
@@ -117,9 +124,9 @@ fn an_insert_makes_an_even_sequence_odd(rt: HostRuntime) -> Result<(), Fail> {
         seq: 2,
         overlapped: false,
     });
-    assert_eq!(rt; start(&mut notifiers, span(16, 1)), alone);
+    assert_eq!(rt; start(&mut notifiers, first()), alone);
     assert_eq!(rt;
-        insert(rt.alloc(), &mut notifiers, MirrorId::new(0), span(16, 2)),
+        insert(rt.alloc(), &mut notifiers, MirrorId::new(0), both()),
         Some(3)
     );
     assert_eq!(rt;
@@ -164,12 +171,12 @@ fn tell_next(notifiers: &mut Notifiers, plain: &mut Plain, after: MirrorId, page
 
 // A drawn call, by both; whether they answer the same.
 fn turn(alloc: Global, notifiers: &mut Notifiers, plain: &mut Plain, x: u64) -> Result<bool, Fail> {
-    let number = (x >> 33 & 15) as u32;
+    let number = ((x >> 33) % 16) as u32;
     let id = MirrorId::new(number);
-    let (first, count) = (x >> 37 & 31, 1 + (x >> 42 & 7));
+    let (first, count) = ((x >> 37) % 32, 1 + (x >> 42) % 8);
     let pages = span(first, count);
     let last = first + count;
-    match x >> 50 & 7 {
+    match (x >> 50) % 8 {
         0 | 1 => Ok(start(notifiers, pages) == Some(plain.start(first, last))),
         2 | 3 => Ok(end(notifiers) == plain.end()),
         4 => Ok(insert(alloc, notifiers, id, pages) == plain.insert(number, first, last)?),

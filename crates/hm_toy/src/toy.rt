@@ -1,6 +1,6 @@
 // A value to try the turn with: every actor adds as many entries as the script has frames.
 ghost use Rattle.std.specs.Prelude.{◌≡◌, ℕ, ◌-◌, ◌<◌, ◌≤◌, [], length, None, IfOk, option_copied, slice_get};
-ghost use Rattle.hm_turns_tests.specs.Toys.{entries_of, entry_of, decided, script_of, touch_of};
+ghost use Rattle.hm_toy.specs.Toys.{entries_of, entry_of, decided, script_of, touch_of};
 
 use hm_base::{Actor, ActorLists, DeviceList, NoMemory, OpList, Proc, Schedule, Script, Version};
 use hm_history::{Entry, Kind, Progress, StepError, Why};
@@ -38,7 +38,7 @@ pub struct Toy {
 }
 
 impl Model for Toy {
-    ghost use Rattle.hm_turns_tests.specs.Toys.{Shown, IsSound};
+    ghost use Rattle.hm_toy.specs.Toys.{Shown, IsSound};
 
     ghost Value = { Shown };
 
@@ -136,7 +136,7 @@ fn touched_by(actor: Actor) -> Option<Proc>
 }
 
 impl Stepped for Toy {
-    ghost use Rattle.hm_turns_tests.specs.Toys.{IsLegal, due_of};
+    ghost use Rattle.hm_toy.specs.Toys.{IsLegal, due_of};
 
     ghost script = { λ t. t.script };
 

@@ -9,8 +9,8 @@ use Rattle.hm_history.specs.declared.Kind.{Kind}
 use Rattle.hm_history.specs.declared.Progress.TheVariants.{Did}
 use Rattle.hm_history.specs.declared.StepError.{StepError}
 use Rattle.hm_turns.specs.Touching.{touched_after, last_touched}
-use Rattle.hm_turns_tests.specs.declared.toy.Choice.{Choice}
-use Rattle.hm_turns_tests.specs.Toys.{entry_of, decided, progress_of, due_of, LegalFrom, IsLegal, IsSound, Shown, touch_of}
+use Rattle.hm_toy.specs.declared.toy.Choice.{Choice}
+use Rattle.hm_toy.specs.Toys.{entry_of, decided, progress_of, due_of, LegalFrom, IsLegal, IsSound, Shown, touch_of}
 use Rattle.hm_turns.proofs.Marks.{none_touches}
 
 legal_more : (s : Program) (before es : List Entry) (e : Entry) → LegalFrom s before es → Did e ≡ due_of s (before ++ es) e.actor → LegalFrom s before (es ++ e ∷ [])

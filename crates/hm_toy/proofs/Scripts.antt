@@ -6,7 +6,7 @@ use Rattle.hm_base.specs.declared.ops.Op.{Op}
 use Rattle.hm_base.specs.declared.ops.ScheduleLine.{ScheduleLine}
 use Rattle.hm_base.specs.declared.ops.Version.TheVariants.{One}
 use Rattle.hm_base.specs.Program.{IsScript, op_fits, op_of_version, operation_count}
-use Rattle.hm_turns_tests.specs.Toys.{script_of}
+use Rattle.hm_toy.specs.Toys.{script_of}
 
 all_empty : {X : Type 0} (test : List X → Bool) → test [] ≡ true → (n : ℕ) → list_all test (replicate n []) ≡ true
 all_empty test is zero = refl

@@ -1,7 +1,7 @@
 use Rattle.std.proofs.Common.{◌∷◌, [], ◌++◌, length, not, if◌then◌else◌, ap, sym, ◌∙◌, arith}
-use Rattle.hm_turns_tests.specs.Toys.{decided}
-use Rattle.hm_turns_tests.proofs.Histories.{sound_more}
-use Rattle.hm_turns_tests.proofs.toy.ToyStepped.step.Goals as goal
+use Rattle.hm_toy.specs.Toys.{decided}
+use Rattle.hm_toy.proofs.Histories.{sound_more}
+use Rattle.hm_toy.proofs.toy.ToyStepped.step.Goals as goal
 
 pub invariant_of-self-else-is_err : goal.invariant_of-self-else-is_err
 invariant_of-self-else-is_err c = let items = c.self.inside.history.items in

@@ -10,7 +10,7 @@ use Rattle.hm_history.specs.declared.Progress.{Progress}
 use Rattle.hm_history.specs.declared.Progress.TheVariants.{Did, Waiting, Idle}
 use Rattle.hm_history.specs.declared.StepError.{StepError}
 use Rattle.hm_history.specs.declared.Why.{Why}
-use Rattle.hm_turns_tests.specs.declared.toy.Choice.{Choice}
+use Rattle.hm_toy.specs.declared.toy.Choice.{Choice}
 
 -- a script of this many actors, whose frames say how many entries each of them adds
 abbrev pub script_of : ℕ → ℕ → Program
