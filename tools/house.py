@@ -16,8 +16,8 @@ The other parts count, and tools/house_limits.tsv has how many there may be of e
     comments    definitions of specs/ with no comment
     lemmas      statements of lemmas that stand more than once, up to the names of variables
     uncited     lemmas and helpers of proofs/ that nothing names, but for computed examples (`NAME = refl`)
-    unused      public items that no other code names, but for laws, and calls of crates that no other uses yet, if
-                docs/PROVED.md names them
+    unused      public items that no other code names, but for laws, and calls of crates that no program stands on yet,
+                if docs/PROVED.md names them
     unnamed     definitions of specs/ that nothing else names
 
 Ends with status 1 if the map is wrong, or there is more of something than there may be. It reads text and proves
@@ -266,9 +266,24 @@ GOALS = re.compile(r'^use Rattle\.\S+\.Goals( as \w+)?$', re.M)
 LAWS = os.path.join(TOP, 'docs', 'PROVED.md')
 
 
+def below_programs():
+    """The crates that a program or a test stands on."""
+    lines = [line.split(':') for line in read(MAP).split('\n') if ':' in line and not line.startswith('#')]
+    libraries = {words.split()[0]: names.split() for words, names in lines}
+    to_see = [name for name in libraries
+              if is_test(name) or os.path.exists(os.path.join(TOP, 'crates', name, 'src', 'main.rt'))]
+    seen = set()
+    while to_see:
+        name = to_see.pop()
+        if name not in seen:
+            seen.add(name)
+            to_see += libraries.get(name, [])
+    return seen
+
+
 def unused():
     used, items = collections.Counter(), []
-    below = {word for line in read(MAP).split('\n') if ':' in line for word in line.split(':')[1].split()}
+    below = below_programs()
     for crate, path, text in files('.rt'):
         code = '\n'.join(line for line in text.split('\n')
                          if not line.lstrip().startswith(('//', 'ghost use', 'pub use', 'use')))
