@@ -1,4 +1,4 @@
-use Rattle.std.proofs.Common.{◌≡◌, ℕ, ◌<◌, slice_index_or}
+use Rattle.std.proofs.Common.{ℕ, ◌<◌, slice_index_or}
 use Rattle.hm_flaw_states.proofs.exact_seqs.can_be_raised.Given as goal
 
 abbrev pub invariant-loop-at : goal.invariant-loop-at

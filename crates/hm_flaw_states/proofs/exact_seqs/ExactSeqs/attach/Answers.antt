@@ -1,4 +1,4 @@
-use Rattle.std.proofs.Common.{◌≡◌, ℕ, Some, refl, ap, ◌∙◌, if◌then◌else◌, arith}
+use Rattle.std.proofs.Common.{◌≡◌, ℕ, Some, ap, ◌∙◌, if◌then◌else◌, arith}
 use Rattle.hm_history.specs.Memory.Sequences.{Interval, Stage, interval_inserted, InTree, InsertDeferred, is_odd}
 use Rattle.hm_folds.specs.Kept.{stage_of}
 use Rattle.hm_race_states.specs.Small.{between_seqs}

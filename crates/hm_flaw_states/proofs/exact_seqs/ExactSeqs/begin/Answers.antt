@@ -1,4 +1,4 @@
-use Rattle.std.proofs.Common.{◌+◌, refl, ap, ◌∙◌, arith}
+use Rattle.std.proofs.Common.{◌+◌, ap, ◌∙◌, arith}
 use Rattle.hm_history.specs.Memory.Sequences.{Sequences}
 use Rattle.hm_race_states.specs.Small.{between_seqs}
 use Rattle.hm_race_states.proofs.Betweens.{process_kept}

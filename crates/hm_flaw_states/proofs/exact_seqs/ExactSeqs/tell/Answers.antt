@@ -1,4 +1,4 @@
-use Rattle.std.proofs.Common.{refl, ap, ◌∙◌, arith}
+use Rattle.std.proofs.Common.{ap, ◌∙◌, arith}
 use Rattle.hm_history.specs.Memory.Sequences.{with_seq, interval_proc}
 use Rattle.hm_folds.specs.Kept.{interval_of}
 use Rattle.hm_race_states.specs.Small.{between_seqs}
