@@ -1,3 +1,9 @@
 pub mod Placed
 pub mod Placing
 pub mod Commits
+pub mod Seqs
+pub mod Rooms
+pub mod Windows
+pub mod States
+pub mod Alike
+pub mod Buckets

@@ -1,0 +1,17 @@
+use Rattle.std.proofs.Common.{ℕ, false, Some, List, replicate, ap, ◌∙◌}
+use Rattle.hm_base.specs.Pages.{Pages}
+use Rattle.hm_history.specs.Memory.Sequences.{Guarded, overlapping}
+use Rattle.hm_race_states.specs.Small.{between_seqs}
+use Rattle.hm_flaw_states.specs.Seqs.{mirrors_in}
+use Rattle.hm_flaw_states.proofs.Mirrors.{none_in, those_in}
+use Rattle.hm_flaw_states.proofs.guards.begun.Goals as goal
+
+abbrev made : ℕ → Pages → List ℕ → List ℕ → Guarded
+made p r met told = record { proc = p; span = r; met = met; told = told }
+
+pub returns : goal.returns
+returns c =
+    let p = c.args.proc in
+    let r = c.args.span in
+    ap (λ (ms : List ℕ). Some (made p r ms (mirrors_in (replicate 32 false)))) (those_in c.overlapping.result (overlapping (between_seqs c.args.seqs.now.kept) p r) c.overlapping.ensures)
+    ∙ ap (λ (ms : List ℕ). Some (made p r (overlapping (between_seqs c.args.seqs.now.kept) p r) ms)) none_in

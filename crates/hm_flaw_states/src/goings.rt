@@ -1,0 +1,269 @@
+// How far an actor is after its entry.
+ghost use Rattle.std.specs.Prelude.{◌≡◌, true, map, slice_get, if◌then◌else◌, IfOk};
+ghost use Rattle.hm_history.specs.Kernel.Going.{going_next};
+ghost use Rattle.hm_history.specs.Memory.After.{After};
+ghost use Rattle.hm_actors.specs.Actors.{IsSeen};
+ghost use Rattle.hm_flaws.specs.Flawed.{as_moved, going_by, recorded_by, without_step};
+ghost use Rattle.hm_phases.specs.Items.{catches, phases_of};
+ghost use Rattle.hm_race_states.specs.Tasks.{going_in};
+ghost use Rattle.hm_reads.specs.Ranges.{top_in_range};
+ghost use Rattle.hm_flaw_states.specs.Rooms.{HasRoom, grows, leaves_out, without_top};
+
+use hm_base::{Actor, Frame, NoMemory, Page, PoolId, Script};
+use hm_flaws::Flaw;
+use hm_history::phases::{Body, Migrating, MoveStep, Phase, Seen};
+use hm_history::{KeptAt, KeptWhy, Kind};
+use hm_phases::Items;
+use hm_race_states::shared_phases::SharedPhases;
+use hm_race_states::shared_records::SharedRecords;
+use hm_race_states::tasks::RaceTask;
+use std::alloc::Global;
+
+// ---- whether a stack stays low
+
+fn catches(body: &Body) -> bool
+    ensures { result ≡ catches body.now }
+{
+    match body {
+        Body::Catch { .. } => true,
+        _ => false,
+    }
+}
+
+// By how many phases a stack with this top may rise at the most.
+fn grows(top: &Phase, seen: &Seen) -> u32
+    ensures { result ≡ grows top.now seen.now }
+{
+    match top {
+        Phase::Guard { body, .. } => u32::from(seen.orphan.is_some()) + u32::from(catches(body)),
+        Phase::Emptying { .. } => 1,
+        _ => 0,
+    }
+}
+
+// Whether the stack stays low, whatever the entry is. It may say no of one that does.
+fn has_room(items: &Items, seen: &Seen) -> bool
+    ensures { result ≡ true → HasRoom (phases_of items.now) seen.now }
+{
+    match items {
+        Items::Zero => true,
+        Items::One(top) => grows(top, seen) <= 2,
+        Items::Two(top, _) => grows(top, seen) <= 1,
+        Items::Three(top, _, _) => grows(top, seen) == 0,
+    }
+}
+
+// ---- what a flaw leaves out
+
+// Whether the top is a step that the driver leaves out.
+fn leaves_out(flaw: Flaw, items: &Items) -> bool
+    ensures { result ≡ leaves_out flaw (phases_of items.now) }
+{
+    match flaw {
+        Flaw::PartCopied => match items {
+            Items::One(Phase::Copy { part, .. })
+            | Items::Two(Phase::Copy { part, .. }, _)
+            | Items::Three(Phase::Copy { part, .. }, _, _) => *part == 7,
+            _ => false,
+        },
+        Flaw::LostHeld => match items {
+            Items::Two(Phase::Drop { .. }, Phase::Moves { .. })
+            | Items::Three(Phase::Drop { .. }, Phase::Moves { .. }, _) => true,
+            _ => false,
+        },
+        _ => false,
+    }
+}
+
+fn without_top(items: Items) -> Items
+    ensures { phases_of result ≡ without_top (phases_of items) }
+{
+    match items {
+        Items::Zero => Items::Zero,
+        Items::One(_) => Items::Zero,
+        Items::Two(_, lowest) => Items::One(lowest),
+        Items::Three(_, second, lowest) => Items::Two(second, lowest),
+    }
+}
+
+// The phases without a step that is left out.
+fn without_step(flaw: Flaw, items: Items) -> Items
+    ensures { phases_of result ≡ without_step flaw (phases_of items) }
+{
+    if leaves_out(flaw, &items) {
+        without_top(items)
+    } else {
+        items
+    }
+}
+
+// ---- what counts as moved
+
+fn as_moved(page: Page, migrating: Migrating) -> Migrating
+    ensures { result ≡ as_moved page migrating }
+{
+    if migrating.page == page {
+        Migrating {
+            moved: true,
+            ..migrating
+        }
+    } else {
+        migrating
+    }
+}
+
+// The record of the page.
+fn record_of(records: &[Migrating], page: Page) -> Option<Migrating> {
+    for migrating in records {
+        if migrating.page == page {
+            return Some(*migrating);
+        }
+    }
+    None
+}
+
+// Whether these are the records, but that of the page counts as moved.
+fn are_moved(records: &[Migrating], moved: &[Migrating], page: Page) -> bool
+    ensures { result ≡ true → moved.now ≡ map (as_moved page) records.now }
+{
+    if records.len() != moved.len() {
+        return false;
+    }
+    for at in 0..records.len() {
+        if moved[at] != as_moved(page, records[at]) {
+            return false;
+        }
+    }
+    true
+}
+
+// The records as they were after the page's copy was committed.
+fn committed(
+    alloc: Global,
+    records: &SharedRecords,
+    page: Page,
+) -> Result<SharedRecords, NoMemory> {
+    let frame = Frame {
+        pool: PoolId::System,
+        number: 0,
+    };
+    let top = Phase::Moves {
+        step: MoveStep::Commit,
+        next: page.number(),
+    };
+    let other = frame;
+    let commit = Kind::Committed {
+        from: frame,
+        to: other,
+    };
+    records.after(alloc, &top, record_of(records.as_slice(), page), &commit)
+}
+
+// The records with that of the page as moved. It fails if memory runs out, or the page has several that differ.
+fn with_moved(alloc: Global, records: &SharedRecords, page: Page) -> Result<SharedRecords, NoMemory>
+    ensures { IfOk result (λ x. x ≡ map (as_moved page) records.now) }
+{
+    let moved = committed(alloc, records, page)?;
+    if !are_moved(records.as_slice(), moved.as_slice(), page) {
+        return Err(NoMemory);
+    }
+    Ok(moved)
+}
+
+// The records of a migration after an entry, if there is more in them than the entry says.
+fn recorded_by(
+    alloc: Global,
+    flaw: Flaw,
+    kind: &Kind,
+    records: &SharedRecords,
+) -> Result<SharedRecords, NoMemory>
+    ensures { IfOk result (λ x. x ≡ recorded_by flaw kind.now records.now) }
+{
+    match flaw {
+        Flaw::LostAsMoved => match kind {
+            Kind::Kept {
+                at: KeptAt::Page(page),
+                why: KeptWhy::Lost,
+            } => Ok(with_moved(alloc, records, *page)?),
+            _ => Ok(records.share()?),
+        },
+        _ => Ok(records.share()?),
+    }
+}
+
+// ---- all of it
+
+// Whether a fork between the two halves of a page is at a page; all other phases always pass.
+fn in_range(stack: &SharedPhases) -> bool
+    ensures { result ≡ top_in_range (slice_get stack.now 0) }
+{
+    match stack.top() {
+        Some(
+            Phase::Guard {
+                body: Body::Fork { next, half: true },
+                ..
+            },
+        ) => *next < 1 << 36,
+        _ => true,
+    }
+}
+
+// An actor of these parts. It fails if a fork is past the last page, where none ever is.
+fn made(index: u64, stack: SharedPhases, records: SharedRecords) -> Result<RaceTask, NoMemory>
+    ensures { IfOk result (λ t. going_in t ≡ record { index = index; stack = stack; pages = records }) }
+{
+    if !in_range(&stack) {
+        return Err(NoMemory);
+    }
+    Ok(RaceTask {
+        index,
+        stack,
+        records,
+        quiet: false,
+    })
+}
+
+// The actor with what the flaw makes of its stack and its records.
+fn with_flaw(alloc: Global, flaw: Flaw, kind: &Kind, task: RaceTask) -> Result<RaceTask, NoMemory>
+    ensures { IfOk result (λ t. going_in t ≡ record {
+      index = (going_in task).index;
+      stack = without_step flaw (going_in task).stack;
+      pages = recorded_by flaw kind.now (going_in task).pages;
+    }) }
+{
+    let records = recorded_by(alloc, flaw, kind, &task.records)?;
+    let items = without_step(flaw, task.stack.items());
+    let stack = SharedPhases::of(alloc, &items, &task.stack)?;
+    Ok(made(task.index, stack, records)?)
+}
+
+// The actor by the driver's flaw.
+fn going_by(alloc: Global, flaw: Flaw, kind: &Kind, task: RaceTask) -> Result<RaceTask, NoMemory>
+    ensures { IfOk result (λ t. going_in t ≡ going_by flaw kind.now (going_in task)) }
+{
+    match flaw {
+        Flaw::NoFlaw => Ok(task),
+        _ => Ok(with_flaw(alloc, flaw, kind, task)?),
+    }
+}
+
+/// The actor after its entry, given what it saw just before it. It fails if memory runs out, if its stack would have
+/// more than three phases, and if the page of a record has several that differ.
+pub fn task_after(
+    alloc: Global,
+    script: &Script,
+    flaw: Flaw,
+    actor: Actor,
+    task: &RaceTask,
+    kind: &Kind,
+    seen: &Seen,
+) -> Result<RaceTask, NoMemory>
+    ensures { IfOk result (λ t. (s : After) → IsSeen script.now s actor (going_in task.now) kind.now seen.now
+        → going_in t ≡ going_by flaw kind.now (going_next script.now s actor (going_in task.now) kind.now)) }
+{
+    if !has_room(&task.stack.items(), seen) {
+        return Err(NoMemory);
+    }
+    let moved = task.after(alloc, script, actor, kind, seen)?;
+    Ok(going_by(alloc, flaw, kind, moved)?)
+}

@@ -1,0 +1,181 @@
+// A state after an entry.
+ghost use Rattle.std.specs.Prelude.{◌≡◌, ◌<◌, ◌≤◌, ◌+◌, ℕ, length, map, IfOk};
+ghost use Rattle.std.specs.Rc.{rc_value};
+ghost use Rattle.hm_history.specs.Kernel.Going.{going_next};
+ghost use Rattle.hm_history.specs.Memory.After.{after_entry};
+ghost use Rattle.hm_actors.specs.Actors.{IsSeen};
+ghost use Rattle.hm_flaws.specs.Flawed.{found, flawed_next, going_by};
+ghost use Rattle.hm_drivers.specs.Owns.{driver_in};
+ghost use Rattle.hm_race_states.specs.Goings.{goings_with};
+ghost use Rattle.hm_race_states.specs.States.{goings_in};
+ghost use Rattle.hm_race_states.specs.Tasks.{going_in};
+ghost use Rattle.hm_flaw_states.specs.States.{state_in};
+
+use crate::commits::commits_after;
+use crate::exact_seqs::seqs_after;
+use crate::goings::task_after;
+use crate::guards::guards_after;
+use crate::here::FlawHere;
+use crate::parts::been_after;
+use crate::placed::placed_after;
+use crate::seen::seen;
+use crate::state::FlawState;
+use hm_base::{Actor, NoMemory, Script};
+use hm_drivers::owns::Own;
+use hm_flaws::Flaw;
+use hm_found::found::Found;
+use hm_history::phases::Seen;
+use hm_history::{Entry, Kind};
+use hm_race_states::tasks::RaceTask;
+use std::alloc::Global;
+use std::rc::Rc;
+
+fn one_more(count: u64) -> Result<u64, NoMemory>
+    ensures { IfOk result (λ n. n ≡ count + 1) }
+{
+    match count.checked_add(1) {
+        Some(more) => Ok(more),
+        None => Err(NoMemory),
+    }
+}
+
+// The same actors, shared.
+fn shared(alloc: Global, tasks: &[Rc<RaceTask>]) -> Result<Vec<Rc<RaceTask>>, NoMemory>
+    ensures len { IfOk result (λ x. length x.items ≡ length tasks.now) }
+    ensures same { IfOk result (λ x. map rc_value x.items ≡ map rc_value tasks.now) }
+{
+    let mut all = Vec::with_capacity(alloc, tasks.len())?;
+    for at in 0..tasks.len() {
+        all.push(tasks[at].clone()?)?;
+    }
+    Ok(all)
+}
+
+// All actors after this one has gone on.
+fn tasks_with(
+    alloc: Global,
+    tasks: &[Rc<RaceTask>],
+    actor: Actor,
+    moved: RaceTask,
+) -> Result<Vec<Rc<RaceTask>>, NoMemory>
+    requires few { length tasks.now ≤ 16 }
+    requires there { actor < length tasks.now }
+    ensures few { IfOk result (λ ts. length ts.items ≤ 16) }
+    ensures goings { IfOk result (λ ts. goings_in (map rc_value ts.items)
+        ≡ goings_with (map rc_value tasks.now) actor (going_in moved)) }
+{
+    let mut all = shared(alloc, tasks)?;
+    let task = Rc::new(alloc, moved)?;
+    all[actor.number() as usize] = task;
+    Ok(all)
+}
+
+impl FlawState {
+    // What the actor sees at its entry, in the state as actors find it.
+    fn seen(&self, script: &Script, flaw: Flaw, own: &Own, actor: Actor, kind: &Kind) -> Seen
+        ensures { IsSeen script.now
+            (found flaw script.now (record { state = state_in self.now; driver = driver_in own.now })) actor
+            ((state_in self.now).going actor) kind.now result }
+    {
+        let here = FlawHere {
+            script,
+            state: self,
+        };
+        let orphan = self.orphan(kind);
+        match flaw {
+            Flaw::NoFlaw => seen(&here, actor, kind, orphan),
+            _ => {
+                let view = Found {
+                    world: &here,
+                    own,
+                    flaw,
+                };
+                seen(&view, actor, kind, orphan)
+            }
+        }
+    }
+
+    // The actor after its entry.
+    fn moved(
+        &self,
+        alloc: Global,
+        script: &Script,
+        flaw: Flaw,
+        own: &Own,
+        entry: &Entry,
+    ) -> Result<RaceTask, NoMemory>
+        requires { entry.now.actor < length self.now.tasks.items }
+        ensures { IfOk result (λ t. going_in t
+            ≡ going_by flaw entry.now.kind
+            (going_next script.now
+            (found flaw script.now (record { state = state_in self.now; driver = driver_in own.now }))
+            entry.now.actor ((state_in self.now).going entry.now.actor) entry.now.kind)) }
+    {
+        let seen = self.seen(script, flaw, own, entry.actor, &entry.kind);
+        let task = &self.tasks[entry.actor.number() as usize];
+        let kind = &entry.kind;
+        Ok(task_after(alloc, script, flaw, entry.actor, task, kind, &seen)?)
+    }
+
+    // The state after an entry, with these actors.
+    fn with_tasks(
+        &self,
+        alloc: Global,
+        script: &Script,
+        entry: &Entry,
+        tasks: Vec<Rc<RaceTask>>,
+    ) -> Result<FlawState, NoMemory>
+        requires { length tasks.items ≤ 16 }
+        ensures memory { IfOk result
+            (λ x. (state_in x).after ≡ after_entry (state_in self.now).after entry.now) }
+        ensures actors { IfOk result (λ x. (state_in x).going ≡ goings_in (map rc_value tasks.items)) }
+    {
+        let kind = &entry.kind;
+        let here = FlawHere {
+            script,
+            state: self,
+        };
+        Ok(FlawState {
+            entries: one_more(self.entries)?,
+            been: been_after(&self.been, kind),
+            spaces: self.spaces_after(alloc, kind)?,
+            bytes: self.bytes_after(alloc, kind)?,
+            mirrors: self.mirrors_after(alloc, kind)?,
+            places: self.places_after(alloc, kind)?,
+            placed: placed_after(alloc, &self.placed, kind)?,
+            held: self.held_after(alloc, kind)?,
+            commits: commits_after(alloc, &self.commits, kind)?,
+            marks: self.marks_after(alloc, kind)?,
+            tables: here.tables_after(alloc, kind)?,
+            locks: self.locks_after(alloc, entry.actor, kind)?,
+            maps: self.maps_after(alloc, entry.actor, kind)?,
+            seqs: seqs_after(alloc, &self.seqs, kind)?,
+            guards: guards_after(alloc, &self.guards, &self.seqs, entry.actor, kind)?,
+            contents: here.contents_after(alloc, kind)?,
+            tasks,
+        })
+    }
+
+    /// The state after an entry, if the driver has this flaw. It fails if memory runs out, if a change of areas is
+    /// refused, and if the state does not have the entry's actor; if a number overflows, a stack would have more than
+    /// three phases, mirrors are not told in rising number, an address has more than 48 bits, or bytes pass their page.
+    pub fn after(
+        &self,
+        alloc: Global,
+        script: &Script,
+        flaw: Flaw,
+        own: &Own,
+        entry: &Entry,
+    ) -> Result<FlawState, NoMemory>
+        ensures { IfOk result (λ x. state_in x
+            ≡ (flawed_next flaw script.now (record { state = state_in self.now; driver = driver_in own.now })
+            entry.now).state) }
+    {
+        if entry.actor.number() as usize >= self.tasks.len() {
+            return Err(NoMemory);
+        }
+        let moved = self.moved(alloc, script, flaw, own, entry)?;
+        let tasks = tasks_with(alloc, &self.tasks, entry.actor, moved)?;
+        Ok(self.with_tasks(alloc, script, entry, tasks)?)
+    }
+}
