@@ -67,7 +67,7 @@ no_seq zero m = refl
 no_seq (suc n) zero = refl
 no_seq (suc n) (suc m) = no_seq n m
 
-no_bytes : contents_in [] ≡ (λ f. zeros)
+pub no_bytes : contents_in [] ≡ (λ f. zeros)
 no_bytes = fun_ext (λ f. fun_ext (λ o. by (nat_lt o 4096)))
   where
     by : (b : Bool) → (if b then zero else zero) ≡ zero

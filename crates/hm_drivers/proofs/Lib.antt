@@ -1,3 +1,3 @@
-mod Erasing
+pub mod Erasing
 mod Late
 mod Writing

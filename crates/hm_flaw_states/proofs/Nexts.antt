@@ -1,5 +1,5 @@
 -- A state before the first entry, and after an entry, from its parts.
-use Rattle.std.proofs.Common.{◌≡◌, ℕ, ◌+◌, Bool, true, false, Option, None, List, [], map, nat_lt, if◌then◌else◌, refl, sym, ap, ◌∙◌}
+use Rattle.std.proofs.Common.{◌≡◌, ℕ, ◌+◌, false, Option, None, List, [], map, refl, sym, ap, ◌∙◌}
 use Rattle.std.proofs.Math.Path.{fun_ext}
 use Rattle.std.specs.Rc.{rc_value}
 use Rattle.hm_base.specs.Program.{Program}
@@ -7,12 +7,12 @@ use Rattle.hm_history.specs.Memory.Plain.{Plain, MirrorState, plain_start, plain
 use Rattle.hm_history.specs.Memory.Places.{places_next}
 use Rattle.hm_history.specs.Memory.Sequences.{Sequences, Interval, sequences_start, sequences_next}
 use Rattle.hm_history.specs.Memory.Locks.{map_next, frame_next}
-use Rattle.hm_history.specs.Memory.Contents.{contents_next, zeros}
+use Rattle.hm_history.specs.Memory.Contents.{contents_next}
 use Rattle.hm_history.specs.Memory.After.{After, after_entry}
 use Rattle.hm_history.specs.Kernel.Going.{State, Going, going_from, state_start}
 use Rattle.hm_history.specs.declared.Entry.{Entry}
 use Rattle.hm_history.specs.declared.Kind.{Kind}
-use Rattle.hm_folds.proofs.PlainParts.{same_plain}
+use Rattle.hm_folds.proofs.PlainParts.{same_plain, been_alone}
 use Rattle.hm_folds.proofs.SeqSteps.{same_state}
 use Rattle.hm_folds.specs.Been.{been_of, been_next}
 use Rattle.hm_folds.specs.Kept.{interval_at}
@@ -36,7 +36,8 @@ use Rattle.hm_flaw_states.specs.States.{device_of, plain_in, all_places, locks_i
 use Rattle.hm_flaw_states.specs.Windows.{SameWindows, window_of, window_in}
 use Rattle.hm_flaw_states.specs.declared.state.FlawState.{FlawState}
 use Rattle.hm_flaw_states.proofs.Wholes.{same_places, same_locks, same_after}
-use Rattle.hm_flaw_states.proofs.Steps.{been_goes, placed_goes, commits_go, seqs_go}
+use Rattle.hm_drivers.proofs.Erasing.{no_bytes}
+use Rattle.hm_flaw_states.proofs.Steps.{placed_goes, commits_go, seqs_go}
 use Rattle.hm_flaw_states.proofs.Windows.{devices_go, windows_go}
 
 -- ---- after an entry
@@ -63,7 +64,7 @@ pub record PartsGo (x : FlawState) (e : Entry) (y : FlawState) : Type 0 where
 
 module _ (x : FlawState) (e : Entry) (y : FlawState) (p : PartsGo x e y) where
   plain_on : plain_in y ≡ plain_next (plain_in x) e.kind
-  plain_on = same_plain _ _ (ap (λ (z : Plain). z.there) p.spaces) (ap (λ (z : Plain). z.named) p.spaces) (p.been ∙ been_goes (plain_in x) e.kind) (ap (λ (z : Plain). z.areas) p.spaces) p.bytes p.mirrors
+  plain_on = same_plain _ _ (ap (λ (z : Plain). z.there) p.spaces) (ap (λ (z : Plain). z.named) p.spaces) (p.been ∙ been_alone (plain_in x) e.kind) (ap (λ (z : Plain). z.areas) p.spaces) p.bytes p.mirrors
 
   places_on : all_places y ≡ places_next (all_places x) e.kind
   places_on = same_places _ _ p.place (p.placed ∙ placed_goes (all_places x) e.kind) p.held (p.commits ∙ commits_go (all_places x) e.kind) p.withdrawn p.removed p.table
@@ -103,13 +104,6 @@ pub record PartsStart (c : Program) (y : FlawState) : Type 0 where
   pub guards : (a : ℕ) → guards_in y.guards.value.guards a ≡ None
   pub contents : y.contents.value ≡ []
   pub goings : (a : ℕ) → goings_in (map rc_value y.tasks.items) a ≡ going_from c a 0
-
-no_bytes : contents_in [] ≡ (λ f. zeros)
-no_bytes = fun_ext (λ f. fun_ext (λ o. by (nat_lt o 4096)))
-  where
-    by : (b : Bool) → ◌≡◌ {A = ℕ} (if b then 0 else 0) 0
-    by true = refl
-    by false = refl
 
 abbrev whole_made : After → (ℕ → Going) → State
 whole_made a b = record { after = a; going = b }

@@ -1,19 +1,12 @@
 -- Parts of a state after an entry, by parts of the state before it.
 use Rattle.std.proofs.Common.{◌≡◌, ℕ, refl, ap, ◌∙◌}
-use Rattle.hm_history.specs.Memory.Plain.{Plain, plain_next}
 use Rattle.hm_history.specs.Memory.Places.{Places, places_next}
 use Rattle.hm_history.specs.Memory.Sequences.{Sequences, sequences_next}
-use Rattle.hm_history.specs.Memory.Locks.{Locks, locks_start, map_next}
 use Rattle.hm_history.specs.declared.Kind.{Kind}
 use Rattle.hm_folds.proofs.SeqSteps.{same_state}
-use Rattle.hm_folds.specs.Been.{been_next}
 use Rattle.hm_race_states.specs.Small.{unguarded}
 use Rattle.hm_flaw_states.specs.Commits.{commits_next}
 use Rattle.hm_flaw_states.specs.Placed.{placed_next}
-
-pub been_goes : (s : Plain) (k : Kind) → been_next s.been k ≡ (plain_next s k).been
-been_goes s (Kind.Forked p child) = refl
-been_goes s _ = refl
 
 pub placed_goes : (t : Places) (k : Kind) → placed_next t.placed k ≡ (places_next t k).placed
 placed_goes t (Kind.Place p v x) = refl
@@ -23,11 +16,6 @@ pub commits_go : (t : Places) (k : Kind) → commits_next t.committed_to k ≡ (
 commits_go t (Kind.Take f) = refl
 commits_go t (Kind.Committed f g) = refl
 commits_go t _ = refl
-
-pub maps_go : (s : Locks) (a : ℕ) (k : Kind) → map_next (record locks_start { map = s.map }) a k ≡ map_next s a k
-maps_go s a (Kind.Rlock p) = refl
-maps_go s a (Kind.Wlock p) = refl
-maps_go s a _ = refl
 
 -- sequences, for which guards do not count
 alone : (s : Sequences) (a : ℕ) (k : Kind) → unguarded (sequences_next (unguarded s) a k) ≡ unguarded (sequences_next s a k)

@@ -34,13 +34,13 @@ mixed_stack sum [] = sum
 mixed_stack sum (top ∷ below) = mixed sum (phase_word top)
 
 -- a sum with how far an actor is mixed in
-abbrev pub mixed_going : ℕ → Going → ℕ
-mixed_going sum g = mixed_stack (mixed sum g.index) g.stack
+abbrev pub mixed_top : ℕ → Going → ℕ
+mixed_top sum g = mixed_stack (mixed sum g.index) g.stack
 
 -- a sum with how far the first actors are mixed in
-unfoldable pub mixed_goings : ℕ → ℕ → (ℕ → Going) → ℕ
-mixed_goings sum zero f = sum
-mixed_goings sum (suc n) f = mixed_going (mixed_goings sum n f) (f n)
+unfoldable pub mixed_tops : ℕ → ℕ → (ℕ → Going) → ℕ
+mixed_tops sum zero f = sum
+mixed_tops sum (suc n) f = mixed_top (mixed_tops sum n f) (f n)
 
 -- a sum with the places of pages mixed in
 abbrev pub mixed_places : ℕ → (ℕ → ℕ → Place) → List (ℕ × ℕ) → ℕ
@@ -50,7 +50,7 @@ mixed_places sum f (x ∷ xs) = mixed_places (mixed (mixed sum x.1) (word_of (f 
 -- the number of a state: how far actors are, and the places of the pages that were placed
 abbrev pub state_number : State → ℕ
 state_number u =
-    mixed_places (mixed_goings (mixed 1 u.after.length) 16 u.going) u.after.places.place u.after.places.placed
+    mixed_places (mixed_tops (mixed 1 u.after.length) 16 u.going) u.after.places.place u.after.places.placed
 
 -- a sum with the first numbers mixed in
 unfoldable pub mixed_numbers : ℕ → ℕ → (ℕ → ℕ) → ℕ

@@ -4,7 +4,7 @@ ghost use Rattle.std.specs.Rc.{rc_value};
 ghost use Rattle.hm_race_keys.specs.PagePlaces.{places_in};
 ghost use Rattle.hm_race_states.specs.States.{goings_in};
 ghost use Rattle.hm_race_states.specs.Tasks.{going_in};
-ghost use Rattle.hm_flaw_states.specs.Buckets.{phase_word, mixed_stack, mixed_going, mixed_goings, mixed_places};
+ghost use Rattle.hm_flaw_states.specs.Buckets.{phase_word, mixed_stack, mixed_top, mixed_tops, mixed_places};
 ghost use Rattle.hm_flaw_states.specs.Buckets.{state_number};
 ghost use Rattle.hm_flaw_states.specs.Placed.{pages_in};
 ghost use Rattle.hm_flaw_states.specs.States.{state_in};
@@ -55,13 +55,13 @@ fn mixed_stack(sum: u64, stack: &SharedPhases) -> u64
 }
 
 fn mixed_task(sum: u64, task: &RaceTask) -> u64
-    ensures { result ≡ mixed_going sum (going_in task.now) }
+    ensures { result ≡ mixed_top sum (going_in task.now) }
 {
     mixed_stack(mixed(sum, task.index), &task.stack)
 }
 
 fn mixed_at(sum: u64, tasks: &[Rc<RaceTask>], actor: usize) -> u64
-    ensures { result ≡ mixed_going sum (goings_in (map rc_value tasks.now) actor) }
+    ensures { result ≡ mixed_top sum (goings_in (map rc_value tasks.now) actor) }
 {
     match task_at(tasks, actor) {
         None => mixed(sum, 0),
@@ -71,7 +71,7 @@ fn mixed_at(sum: u64, tasks: &[Rc<RaceTask>], actor: usize) -> u64
 
 // A sum with how far each actor is mixed in.
 fn mixed_tasks(sum: u64, tasks: &[Rc<RaceTask>]) -> u64
-    ensures { result ≡ mixed_goings sum 16 (goings_in (map rc_value tasks.now)) }
+    ensures { result ≡ mixed_tops sum 16 (goings_in (map rc_value tasks.now)) }
 {
     let mut total = sum;
     for actor in 0..16usize {

@@ -75,7 +75,7 @@ areas_shown s (Kind.Exited p) xs i l = shown (λ b. b) xs p _ [] (omega (arith, 
 areas_shown s k xs i l = refl
 
 -- the others depend on nothing else
-been_alone : (s : Plain) (k : Kind) → been_next s.been k ≡ (plain_next s k).been
+pub been_alone : (s : Plain) (k : Kind) → been_next s.been k ≡ (plain_next s k).been
 been_alone s (Kind.Forked p child) = refl
 been_alone s k = refl
 

@@ -113,7 +113,7 @@ removed_goes : (t : Places) (k : Kind) → removed_next t.removed k ≡ (places_
 removed_goes t (Kind.Removed d) = refl
 removed_goes t _ = refl
 
-map_goes : (s : Locks) (a : ℕ) (k : Kind) → map_next (record locks_start { map = s.map }) a k ≡ map_next s a k
+pub map_goes : (s : Locks) (a : ℕ) (k : Kind) → map_next (record locks_start { map = s.map }) a k ≡ map_next s a k
 map_goes s a (Kind.Rlock p) = refl
 map_goes s a (Kind.Wlock p) = refl
 map_goes s a _ = refl
