@@ -69,18 +69,3 @@ pub fn masks<R: SkipRule>(alloc: Global, rule: &R, script: &Script) -> Result<Ve
     }
     Ok(words)
 }
-
-#[cfg(test)]
-mod tests {
-    use super::*;
-    use hm_base::Page;
-    use skip_rules::Multiples;
-
-    #[test]
-    fn every_fourth_page(rt: HostRuntime) {
-        let span = Span::new(Page::new(6), 8);
-        assert_eq!(rt; mask(&Multiples, 4, span), 0b0100_0100);
-        assert_eq!(rt; mask(&Multiples, 0, span), 0);
-        assert_eq!(rt; mask(&Multiples, 1, Span::new(Page::new(0), 100)), u64::MAX);
-    }
-}

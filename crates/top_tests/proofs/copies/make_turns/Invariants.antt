@@ -1,5 +1,5 @@
 use Rattle.std.proofs.Common.{◌≡◌}
-use Rattle.top_peek_tests.proofs.tests.make_turns.Given as goal
+use Rattle.top_tests.proofs.copies.make_turns.Given as goal
 
 -- the pass is still one of these turns, with all its shares
 abbrev pub invariant-loop : goal.invariant-loop

@@ -1,6 +1,7 @@
 // The pages that a rule skips, as words that are worked out beforehand.
+use hm_base::{Page, Span};
 use hm_script::parse;
-use skip_masks::masks;
+use skip_masks::{mask, masks};
 use skip_rules::Multiples;
 use std::test::Fail;
 
@@ -15,4 +16,12 @@ fn a_word_for_each_operation(rt: HostRuntime) -> Result<(), Fail> {
     let words = masks(rt.alloc(), &Multiples, &script)?;
     assert_eq!(rt; words.as_slice(), [0, 0b0100_0100, 0, 1].as_slice());
     Ok(())
+}
+
+#[test]
+fn every_fourth_page(rt: HostRuntime) {
+    let span = Span::new(Page::new(6), 8);
+    assert_eq!(rt; mask(&Multiples, 4, span), 0b0100_0100);
+    assert_eq!(rt; mask(&Multiples, 0, span), 0);
+    assert_eq!(rt; mask(&Multiples, 1, Span::new(Page::new(0), 100)), u64::MAX);
 }

@@ -1,9 +1,9 @@
 // Each test runs the calls of the turn and its workers on the small value.
 ghost use Rattle.std.specs.Prelude.{◌<◌};
 
-use hm_toy::toy::{Toy, script_for};
 use hm_base::{Actor, Proc, Schedule, ScheduleLine};
 use hm_history::{Entry, Progress, StepError};
+use hm_toy::toy::{Toy, script_for};
 use hm_turns::{Stepped, Turn, Turns};
 use hm_workers::{Gate, Mixing, Staged, run_all};
 use std::alloc::Global;

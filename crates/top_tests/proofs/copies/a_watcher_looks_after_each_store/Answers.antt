@@ -1,7 +1,7 @@
 use denote.Param.Send.{sendable}
 use Rattle.std.proofs.Crossing.{crosses}
 use Rattle.hm_top.proofs.Sent.{world}
-use Rattle.top_peek_tests.proofs.tests.a_watcher_looks_after_each_store.Goals as goal
+use Rattle.top_tests.proofs.copies.a_watcher_looks_after_each_store.Goals as goal
 
 pub peek_all-requires-send-S : goal.peek_all-requires-send-S
 peek_all-requires-send-S g c κs = search (world, sendable, crosses) depth 40 fits 4000
