@@ -16,12 +16,12 @@ import words
 
 # the folder of a crate that has copies, the folder that they are of, and how the names of the files begin and end
 COPIES = [
-    ('replay_examples/data/docs', 'docs', ('SCRIPT', 'REPORT'), ('.md',)),
-    ('replay_examples/data/worked', 'examples/worked', ('',), ('.hmm', '.report')),
-    ('replay_examples/data/gallery', 'examples/gallery', ('',), ('.hmm', '.report')),
-    ('replay_examples/data/refused', 'examples/refused', ('',), ('.hmm', '.message', '.status')),
-    ('replay_examples/data/long', 'examples', ('all_operations',), ('.hmm', '.report')),
-    ('race_examples/data', 'examples/races', ('',), ('.hmm', '.outcomes', '.conditions', '.rulings', '.report')),
+    ('stored_examples/data/docs', 'docs', ('SCRIPT', 'REPORT'), ('.md',)),
+    ('stored_examples/data/replays/worked', 'examples/worked', ('',), ('.hmm', '.report')),
+    ('stored_examples/data/replays/gallery', 'examples/gallery', ('',), ('.hmm', '.report')),
+    ('stored_examples/data/replays/refused', 'examples/refused', ('',), ('.hmm', '.message', '.status')),
+    ('stored_examples/data/replays/long', 'examples', ('all_operations',), ('.hmm', '.report')),
+    ('stored_examples/data/races', 'examples/races', ('',), ('.hmm', '.outcomes', '.conditions', '.rulings', '.report')),
 ]
 # how the names of files end that lie beside copies and are the crate's own: the lines of a page
 OWN = ('.lines',)

@@ -25,7 +25,7 @@ HAVE = re.compile(r'\{([^{}]*)\}')
 
 def words_file():
     """The table of the page's script, which has the sentences: its second line on, up to the last brace."""
-    name = os.path.join(os.path.dirname(HERE), 'crates', 'race_examples', 'data', 'page', 'words.js')
+    name = os.path.join(os.path.dirname(HERE), 'crates', 'stored_examples', 'data', 'races', 'page', 'words.js')
     with open(name, encoding='ascii') as file:
         text = file.read()
     return json.loads(text[text.index('{\n'):text.rindex('}') + 1])

@@ -3,7 +3,7 @@
 
     tools/race_threads.py [RUNS] [NAME..] [--with COMMAND..]
 
-A race is a script NAME.hmm in crates/race_examples/data, whose schedule is the set-up; NAME.outcomes beside it is what
+A race is a script NAME.hmm in crates/stored_examples/data/races, whose schedule is the set-up; NAME.outcomes beside it is what
 hmmraces writes of it. Runs `race` on each script so often (1,000), or on those that are named. What it prints of each:
 how many outcomes are listed, how many of these were seen, in how many runs each, and the runs with an outcome that is
 not listed. Each report must begin with the set-up, as `replay` makes it, and leave no operation. Each different report
@@ -20,7 +20,7 @@ sys.path[:0] = [os.path.join(TOP, 'tools')]
 import race_outcomes
 import words as given
 
-FOLDER = os.path.join(TOP, 'crates', 'race_examples', 'data')
+FOLDER = os.path.join(TOP, 'crates', 'stored_examples', 'data', 'races')
 
 
 def races():

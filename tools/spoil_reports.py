@@ -4,16 +4,16 @@
     tools/spoil_reports.py [--count N] [--seed N] [--with 'COMMAND'] .. REPORT ..
 
 Makes N reports (1,000 unless told) from those given: a byte, a number, or a line is changed, dropped, doubled, swapped
-or cut. crates/check_examples/out/check_examples says of each whether it is legal, or the first bad line. Each COMMAND,
-such as 'tools/reference/cli.py check', reads one report on standard input and must say the same. Prints what differs,
-keeps those reports, and ends with 1 if there are any.
+or cut. `hmmrun check`, as it is built, says of each whether it is legal, or the first bad line. Each COMMAND, such as
+'tools/reference/cli.py check', reads one report on standard input and must say the same. Prints what differs, keeps
+those reports, and ends with 1 if there are any.
 """
 import argparse, os, random, re, shlex, subprocess, sys, tempfile
 
 import words as given
 
 TOP = os.path.dirname(os.path.dirname(os.path.abspath(__file__)))
-PROGRAM = os.path.join(TOP, 'crates/check_examples/out/check_examples')
+PROGRAM = os.path.join(TOP, 'crates/hmmrun/out/hmmrun')
 
 
 def change_byte(pick, data):
@@ -77,11 +77,10 @@ def spoiled(pick, data):
     return data
 
 
-def verdicts(room):
-    """What the proved program says of each report in the folder, without what the folds say of a legal one."""
-    done = subprocess.run([PROGRAM], cwd=room, capture_output=True, text=True, check=True)
-    said = dict(line.split(': ') for line in done.stdout.splitlines())
-    return {name: verdict.split(',')[0] for name, verdict in said.items()}
+def verdict(command, path):
+    """What the command says of the report in the file."""
+    with open(path, 'rb') as file:
+        return subprocess.run(command, stdin=file, capture_output=True, text=True).stdout.strip()
 
 
 def main():
@@ -99,14 +98,13 @@ def main():
     for number in range(asked.count):
         with open(os.path.join(room, f'{number}.report'), 'wb') as file:
             file.write(spoiled(pick, pick.choice(sources)))
-    said, differing, legal = verdicts(room), 0, 0
+    differing, legal = 0, 0
     for number in range(asked.count):
         name = os.path.join(room, f'{number}.report')
-        here = said[str(number)]
+        here = verdict([PROGRAM, 'check'], name)
         legal += here.startswith('legal')
         for other in asked.others:
-            with open(name, 'rb') as file:
-                there = subprocess.run(shlex.split(other), stdin=file, capture_output=True, text=True).stdout.strip()
+            there = verdict(shlex.split(other), name)
             if there != here:
                 differing += 1
                 print(f'{name}: {here}, but {other} says {there}')

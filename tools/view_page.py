@@ -6,7 +6,7 @@
     tools/view_page.py --constants                   writes the page's files into crates/hm_view/src/page.rt
 
 Ends with status 1 if that is no legal report. For short reports: it replays what came before for each actor at each
-row. How a page looks is in the files of crates/race_examples/data/page.
+row. How a page looks is in the files of crates/stored_examples/data/races/page.
 """
 import os, re, sys
 
@@ -19,7 +19,7 @@ from due import Wait
 from run import Machine
 from state import RELEASING
 
-FILES = os.path.join(TOP, 'crates', 'race_examples', 'data', 'page')
+FILES = os.path.join(TOP, 'crates', 'stored_examples', 'data', 'races', 'page')
 CONSTANTS = os.path.join(TOP, 'crates', 'hm_view', 'src', 'page.rt')
 MARK = '<pre id="data">'
 FINDINGS = {'failed', 'refused', 'retry', 'kept', 'migrated', 'evicted'}

@@ -19,7 +19,7 @@ import view_states
 import words
 from view_browser import Browser
 
-DATA = os.path.join(view_page.TOP, 'crates', 'replay_examples', 'data')
+DATA = os.path.join(view_page.TOP, 'crates', 'stored_examples', 'data', 'replays')
 DOCS = os.path.join(view_page.TOP, 'docs')
 LOSS, RETRY, DEVICES = 'exclusive_against_store', 'look_up_must_retry', 'two_devices_one_page'
 CLASSES = ['answer', 'lock', 'place', 'guard', 'move', 'table', 'step', 'waits', 'goes']
@@ -236,7 +236,7 @@ def write_outcomes(name):
     """Writes the page of a race into outcomes.html, and gives its outcomes."""
     texts = []
     for ending in ('.hmm', '.outcomes'):
-        with open(os.path.join(view_page.TOP, 'crates', 'race_examples', 'data', name + ending)) as file:
+        with open(os.path.join(view_page.TOP, 'crates', 'stored_examples', 'data', 'races', name + ending)) as file:
             texts.append(file.read())
     outcomes, last = view_outcomes.outcomes_of(texts[1])
     with open('outcomes.html', 'w') as file:

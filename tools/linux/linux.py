@@ -9,7 +9,7 @@
     linux.py W judge FILE..                 the table of races again, of what guests wrote before
     linux.py names                          whether docs/LINUX.md and the gate's table have the same names
 
-    --keep      also writes what the kernel answered into crates/linux_examples/data
+    --keep      also writes what the kernel answered into crates/stored_examples/data/linux
     --hmmrun COMMAND, --hmmraces COMMAND    ask these programs, as "./hmmrun.sh replay" and "./hmmraces.sh 3000000".
                 Without them scripts are run by tools/reference, which gives the same reports, and the outcomes are
                 those that are kept and that the gate compares with hmmraces.
@@ -26,7 +26,7 @@ import kernel_tests
 import race_runs
 import sequential
 
-DATA = os.path.join(answers.TOP, 'crates', 'linux_examples', 'data')
+DATA = os.path.join(answers.TOP, 'crates', 'stored_examples', 'data', 'linux')
 KEPT_SCRIPTS = 100
 SLOW = 400              # microseconds that a slow device may wait
 

@@ -1,6 +1,6 @@
 """Races in the guest, from real threads: each outcome, how often it was seen, and whether hmmraces lists it.
 
-A race is a script with a set-up, as hmmraces reads it, in crates/linux_examples/data/races: NAME.hmm. NAME.seen has the
+A race is a script with a set-up, as hmmraces reads it, in crates/stored_examples/data/linux/races: NAME.hmm. NAME.seen has the
 outcomes that hmmraces lists, and those that were seen. Six more, in large, have too many states for the gate: no
 outcomes of theirs are kept, so hmmraces must be asked.
 """
@@ -12,7 +12,7 @@ from collections import Counter
 import answers
 import guest_runs
 
-FOLDER = os.path.join(answers.TOP, 'crates', 'linux_examples', 'data', 'races')
+FOLDER = os.path.join(answers.TOP, 'crates', 'stored_examples', 'data', 'linux', 'races')
 LARGE = os.path.join(answers.TOP, 'tools', 'linux', 'large')
 WAIT = 20000            # the longest random wait before an operation, in turns of a loop
 

@@ -2,7 +2,7 @@
 """The kernel's own selftests of HMM as scripts: those of tools/testing/selftests/vm/hmm-tests.c of Linux 6.1 that the
 script language can say.
 
-    selftest_scripts.py         writes each into crates/linux_examples/data/selftests: NAME.hmm, and NAME.asserts with
+    selftest_scripts.py         writes each into crates/stored_examples/data/linux/selftests: NAME.hmm, and NAME.asserts with
                                 what the test asserts (examples/linux/README.md tells the lines); tests them first
 
 A buffer has PAGES pages here, and 1,024 in the kernel's tests. What was left out, and the tests that no script can say,
@@ -13,7 +13,7 @@ import sys
 
 import answers
 
-FOLDER = os.path.join(answers.TOP, 'crates', 'linux_examples', 'data', 'selftests')
+FOLDER = os.path.join(answers.TOP, 'crates', 'stored_examples', 'data', 'linux', 'selftests')
 PAGES = 4
 FIRST = 16              # the first page of a buffer
 LAST = 4092             # of the last int of a page

@@ -1,5 +1,5 @@
 // The two constant parts of a page: what stands before its lines, and what stands after them. They are the files in
-// crates/race_examples/data/page, as `tools/view_page.py --constants` writes them here.
+// crates/stored_examples/data/races/page, as `tools/view_page.py --constants` writes them here.
 ghost use Rattle.std.specs.Prelude.{◌≡◌};
 ghost use Rattle.hm_view.specs.Page.{page_head, page_end};
 

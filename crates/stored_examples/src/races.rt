@@ -1,22 +1,23 @@
-// Searches the race of every script in the folder that it runs in, asks for the conditions there, and draws every
-// report. Compares the outcomes and what is said of the conditions with the files beside them, and the pages with the
-// lines there, between the files of the folder page.
-#![tactic(auto)]
-
-use hm_base::NoMemory;
+// Searches the race of every script of the folder `races`, asks for the conditions there, and draws every report. Compares
+// the outcomes and what is said of the conditions with the files beside them, and the pages with the lines there, between
+// the files of the folder page.
+use crate::files::{bytes, no_memory, stems, text};
 use hm_edge::{RaceEnd, Status};
 use hm_io::{MemorySink, MemorySource};
 use hm_race_top::races;
 use hm_view::view;
 use skip_rules::Multiples;
 use std::alloc::Global;
-use std::{fs, io};
+use std::io;
 
 /// So few bytes come at a time that no text of a few lines is read at once.
 const PIECE: usize = 16;
 
 /// No outcomes and no page of an example take more bytes.
 const ROOM: usize = 1_048_576;
+
+/// The folder of the files that a page is made of.
+const PAGE: &str = "races/page/";
 
 /// Where the lines of a page begin.
 const MARK: &str = "<pre id=\"data\">";
@@ -73,23 +74,6 @@ impl Made {
     }
 }
 
-fn no_memory(_: NoMemory) -> io::Error {
-    io::Error::from(io::ErrorKind::OutOfMemory)
-}
-
-/// The names of the examples, in order and without their ending.
-fn stems(rt: &HostRuntime, ending: &str) -> io::Result<Vec<String>> {
-    let mut stems = Vec::new(rt.alloc());
-    for entry in fs::read_dir(rt, ".")? {
-        let entry = entry?;
-        if let Some(stem) = entry.file_name().strip_suffix(ending) {
-            stems.push(String::from_str(rt.alloc(), stem)?)?;
-        }
-    }
-    stems.sort()?;
-    Ok(stems)
-}
-
 /// The file that a line of page.html names, if it names one, and the tag that its text stands in.
 fn named(line: &str) -> Option<(&str, &str)> {
     if let Some(rest) = line.strip_prefix("<link rel=\"stylesheet\" href=\"") {
@@ -104,9 +88,8 @@ fn line_text(rt: &HostRuntime, line: &str) -> io::Result<String> {
     match named(line) {
         None => Ok(format!(in rt.alloc(); "{line}\n")?),
         Some((name, tag)) => {
-            let path = format!(in rt.alloc(); "page/{name}")?;
-            let text = fs::read_to_string(rt, path.as_str())?;
-            Ok(format!(in rt.alloc(); "<{tag}>\n{text}</{tag}>\n")?)
+            let held = text(rt, PAGE, name)?;
+            Ok(format!(in rt.alloc(); "<{tag}>\n{held}</{tag}>\n")?)
         }
     }
 }
@@ -114,7 +97,7 @@ fn line_text(rt: &HostRuntime, line: &str) -> io::Result<String> {
 /// The page of the files, without lines.
 fn page_of_files(rt: &HostRuntime) -> io::Result<String> {
     let mut page = String::new(rt.alloc());
-    for line in fs::read_to_string(rt, "page/page.html")?.lines() {
+    for line in text(rt, PAGE, "page.html")?.lines() {
         page.push_str(line_text(rt, line)?.as_str())?;
     }
     Ok(page)
@@ -134,8 +117,7 @@ fn words_of(rt: &HostRuntime, stem: &str, made: Made) -> io::Result<Vec<String>>
     let mut words = Vec::new(rt.alloc());
     if matches!(made, Made::Rulings) {
         words.push(String::from_str(rt.alloc(), "--expect")?)?;
-        let path = format!(in rt.alloc(); "{stem}.conditions")?;
-        for line in fs::read_to_string(rt, path.as_str())?.lines() {
+        for line in text(rt, stem, ".conditions")?.lines() {
             words.push(String::from_str(rt.alloc(), line)?)?;
         }
     }
@@ -145,10 +127,8 @@ fn words_of(rt: &HostRuntime, stem: &str, made: Made) -> io::Result<Vec<String>>
 /// Whether what is made of the example is what the file beside it has.
 fn agrees(rt: &HostRuntime, stem: &str, made: Made) -> io::Result<bool> {
     let (_, beside) = made.endings();
-    let path = format!(in rt.alloc(); "{stem}{}", made.read())?;
-    let example = fs::read(rt, path.as_str())?;
-    let path = format!(in rt.alloc(); "{stem}{beside}")?;
-    let beside = fs::read_to_string(rt, path.as_str())?;
+    let example = bytes(rt, stem, made.read())?;
+    let beside = text(rt, stem, beside)?;
     let words = words_of(rt, stem, made)?;
     let wanted = match made {
         Made::Outcomes | Made::Rulings => beside,
@@ -166,7 +146,7 @@ fn agrees(rt: &HostRuntime, stem: &str, made: Made) -> io::Result<bool> {
 fn compare(rt: &HostRuntime, made: Made) -> io::Result<u64> {
     let (ending, beside) = made.endings();
     let mut agreeing = 0u64;
-    for stem in stems(rt, ending)?.iter() {
+    for stem in stems(rt, "races", ending)?.iter() {
         if agrees(rt, stem.as_str(), made)? {
             agreeing = agreeing.saturating_add(1);
         } else {
@@ -176,10 +156,11 @@ fn compare(rt: &HostRuntime, made: Made) -> io::Result<u64> {
     Ok(agreeing)
 }
 
-fn main(rt: HostRuntime) -> io::Result<()> {
-    let races = compare(&rt, Made::Outcomes)?;
-    let rulings = compare(&rt, Made::Rulings)?;
-    let pages = compare(&rt, Made::Page)?;
+/// Says how many agree, of each kind.
+pub fn compare_all(rt: &HostRuntime) -> io::Result<()> {
+    let races = compare(rt, Made::Outcomes)?;
+    let rulings = compare(rt, Made::Rulings)?;
+    let pages = compare(rt, Made::Page)?;
     println!(rt; "{races} races have the outcomes beside them")?;
     println!(rt; "of {rulings} races it is said what is beside them of their conditions")?;
     println!(rt; "{pages} report has its page")

@@ -1,8 +1,8 @@
 // Races, the outcomes that hmmraces lists, and those that were seen in the kernel.
-use crate::files::{beside, script, scripts};
-use crate::lines::is_like;
-use crate::model::outcomes;
-use crate::names::Names;
+use crate::files::{bytes, stems, text};
+use crate::linux::lines::is_like;
+use crate::linux::model::outcomes;
+use crate::linux::names::Names;
 use std::alloc::Global;
 use std::io;
 
@@ -97,12 +97,12 @@ fn is_kept(kept: &str, outcome: &str) -> bool {
 
 /// Compares the outcomes of one race, and prints those that have no place.
 fn compare(rt: &HostRuntime, names: &Names, stem: &str, counts: &mut Counts) -> io::Result<()> {
-    let text = outcomes(rt.alloc(), script(rt, stem)?.as_slice())?;
-    if !text.as_str().ends_with(" whole\n") {
+    let told = outcomes(rt.alloc(), bytes(rt, stem, ".hmm")?.as_slice())?;
+    if !told.as_str().ends_with(" whole\n") {
         println!(rt; "{stem}: hmmraces gave up")?;
     }
-    let listed = listed(rt.alloc(), text.as_str())?;
-    let kept = beside(rt, stem, "seen")?;
+    let listed = listed(rt.alloc(), told.as_str())?;
+    let kept = text(rt, stem, ".seen")?;
     counts.races = counts.races.saturating_add(1);
     for line in kept.as_str().lines() {
         if let Some(line) = parts(line) {
@@ -128,7 +128,7 @@ pub fn compare_all(rt: &HostRuntime, names: &Names) -> io::Result<()> {
         listed: 0,
         named: 0,
     };
-    for stem in scripts(rt, "races")?.iter() {
+    for stem in stems(rt, "linux/races", ".hmm")?.iter() {
         compare(rt, names, stem.as_str(), &mut counts)?;
     }
     println!(rt;

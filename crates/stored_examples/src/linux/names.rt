@@ -10,7 +10,7 @@ pub struct Names {
 impl Names {
     /// Those of the table: each line is a name, a colon, and what differs.
     pub fn read(rt: &HostRuntime) -> io::Result<Names> {
-        let text = fs::read_to_string(rt, "differences.txt")?;
+        let text = fs::read_to_string(rt, "linux/differences.txt")?;
         let mut names = Vec::new(rt.alloc());
         for line in text.lines() {
             if let Some((name, _)) = line.split_once(':') {

@@ -1,8 +1,8 @@
 // Drawn scripts of one actor, and what the kernel answered to each operation.
-use crate::files::{beside, script, scripts};
-use crate::lines::{entry, is_answer, is_like};
-use crate::model::report;
-use crate::names::Names;
+use crate::files::{bytes, stems, text};
+use crate::linux::lines::{entry, is_answer, is_like};
+use crate::linux::model::report;
+use crate::linux::names::Names;
 use std::io;
 
 /// What is kept of an answer.
@@ -132,8 +132,8 @@ fn compare_answers(
 
 /// Compares one script's answers with the kept ones.
 fn compare(rt: &HostRuntime, names: &Names, stem: &str, counts: &mut Counts) -> io::Result<()> {
-    let report = report(rt.alloc(), script(rt, stem)?.as_slice())?;
-    let told = beside(rt, stem, "kernel")?;
+    let report = report(rt.alloc(), bytes(rt, stem, ".hmm")?.as_slice())?;
+    let told = text(rt, stem, ".kernel")?;
     counts.scripts = counts.scripts.saturating_add(1);
     compare_answers(rt, names, stem, report.as_str(), told.as_str(), counts)
 }
@@ -145,7 +145,7 @@ pub fn compare_all(rt: &HostRuntime, names: &Names) -> io::Result<()> {
         same: 0,
         differ: 0,
     };
-    for stem in scripts(rt, "drawn")?.iter() {
+    for stem in stems(rt, "linux/drawn", ".hmm")?.iter() {
         compare(rt, names, stem.as_str(), &mut counts)?;
     }
     println!(rt;

@@ -1,8 +1,8 @@
 // Scripts of the kernel's own selftests, and of differences, with what Linux asserts of their reports.
-use crate::files::{beside, script, scripts};
-use crate::lines::{entry, is_like};
-use crate::model::report;
-use crate::names::Names;
+use crate::files::{bytes, stems, text};
+use crate::linux::lines::{entry, is_like};
+use crate::linux::model::report;
+use crate::linux::names::Names;
 use std::io;
 
 /// How an assertion stands to the report.
@@ -67,9 +67,9 @@ struct Counts {
 
 /// Judges the assertions of one script, and prints those that are wrong.
 fn compare(rt: &HostRuntime, names: &Names, stem: &str, counts: &mut Counts) -> io::Result<()> {
-    let report = report(rt.alloc(), script(rt, stem)?.as_slice())?;
+    let report = report(rt.alloc(), bytes(rt, stem, ".hmm")?.as_slice())?;
     counts.scripts = counts.scripts.saturating_add(1);
-    for line in beside(rt, stem, "asserts")?.as_str().lines() {
+    for line in text(rt, stem, ".asserts")?.as_str().lines() {
         match judge(report.as_str(), names, line) {
             Verdict::Holds => counts.hold = counts.hold.saturating_add(1),
             Verdict::Differs => counts.differ = counts.differ.saturating_add(1),
@@ -86,7 +86,7 @@ pub fn compare_all(rt: &HostRuntime, names: &Names, folder: &str) -> io::Result<
         hold: 0,
         differ: 0,
     };
-    for stem in scripts(rt, folder)?.iter() {
+    for stem in stems(rt, folder, ".hmm")?.iter() {
         compare(rt, names, stem.as_str(), &mut counts)?;
     }
     println!(rt;

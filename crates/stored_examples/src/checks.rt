@@ -1,30 +1,14 @@
-// Checks every report in the folder that it runs in, and says of each what the verdict is. The history of a legal one
-// is folded too.
-#![tactic(auto)]
-
-mod folded;
-
-use folded::fold;
+// Checks every report of the folder `checks`, and says of each what the verdict is. The history of a legal one is folded
+// too.
+use crate::files::{bytes, name, stems};
+use crate::folded::fold;
 use hm_check::{Report, Verdict, check};
-use std::{fs, io};
-
-/// The names of the reports, in order.
-fn reports(rt: &HostRuntime) -> io::Result<Vec<String>> {
-    let mut names = Vec::new(rt.alloc());
-    for entry in fs::read_dir(rt, ".")? {
-        let entry = entry?;
-        if let Some(name) = entry.file_name().strip_suffix(".report") {
-            names.push(String::from_str(rt.alloc(), name)?)?;
-        }
-    }
-    names.sort()?;
-    Ok(names)
-}
+use std::io;
 
 /// Says the verdict on one report: how many entries it has, or the first bad line.
-fn tell(rt: &HostRuntime, name: &str) -> io::Result<()> {
-    let path = format!(in rt.alloc(); "{name}.report")?;
-    let bytes = fs::read(rt, path.as_str())?;
+fn tell(rt: &HostRuntime, stem: &str) -> io::Result<()> {
+    let name = name(stem);
+    let bytes = bytes(rt, stem, ".report")?;
     match check(rt.alloc(), bytes.as_slice()) {
         Ok(Verdict::Yes(report)) => tell_legal(rt, name, &report),
         Ok(Verdict::No(line)) => println!(rt; "{name}: bad {line}"),
@@ -44,9 +28,9 @@ fn tell_legal(rt: &HostRuntime, name: &str, report: &Report) -> io::Result<()> {
     }
 }
 
-fn main(rt: HostRuntime) -> io::Result<()> {
-    for name in reports(&rt)?.iter() {
-        tell(&rt, name.as_str())?;
+pub fn tell_all(rt: &HostRuntime) -> io::Result<()> {
+    for stem in stems(rt, "checks", ".report")?.iter() {
+        tell(rt, stem.as_str())?;
     }
     Ok(())
 }

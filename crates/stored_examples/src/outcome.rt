@@ -1,11 +1,11 @@
 // What a script comes to, by a replay and by the files beside it.
-use hm_base::NoMemory;
+use crate::files::{no_memory, text as text_of};
 use hm_edge::{Status, message};
 use hm_io::{MemorySink, MemorySource};
 use hm_top::{USAGE, run_alone};
 use skip_rules::{BoxedRule, Kept, Leans};
 use std::alloc::Global;
-use std::{fs, io};
+use std::io;
 
 /// So few bytes come at a time that no script of a few lines is read at once.
 const PIECE: usize = 16;
@@ -26,15 +26,20 @@ impl Outcome {
         self.report.as_str()
     }
 
+    /// The report, if all was done.
+    pub fn done(self) -> io::Result<String> {
+        if self.code == Status::Done.code() {
+            Ok(self.report)
+        } else {
+            Err(io::Error::from(io::ErrorKind::InvalidData))
+        }
+    }
+
     pub fn is(&self, other: &Outcome) -> bool {
         self.code == other.code
             && self.message.as_str() == other.message.as_str()
             && self.report.as_str() == other.report.as_str()
     }
-}
-
-fn no_memory(_: NoMemory) -> io::Error {
-    io::Error::from(io::ErrorKind::OutOfMemory)
 }
 
 fn text(bytes: &[u8]) -> io::Result<&str> {
@@ -66,8 +71,7 @@ pub fn replayed(alloc: Global, script: &[u8]) -> io::Result<Outcome> {
 
 /// The text of a file beside the script; there is none if there is no such file.
 fn beside(rt: &HostRuntime, stem: &str, ending: &str) -> io::Result<String> {
-    let path = format!(in rt.alloc(); "{stem}.{ending}")?;
-    match fs::read_to_string(rt, path.as_str()) {
+    match text_of(rt, stem, ending) {
         Err(e) if e.kind() == io::ErrorKind::NotFound => Ok(String::new(rt.alloc())),
         read => read,
     }
@@ -87,10 +91,10 @@ fn code(text: &str) -> io::Result<u8> {
 /// What the files beside the script say that it comes to: all done, no message and nothing written, if they are
 /// missing.
 pub fn wanted(rt: &HostRuntime, stem: &str) -> io::Result<Outcome> {
-    let message = beside(rt, stem, "message")?;
+    let message = beside(rt, stem, ".message")?;
     Ok(Outcome {
-        code: code(beside(rt, stem, "status")?.as_str())?,
+        code: code(beside(rt, stem, ".status")?.as_str())?,
         message: String::from_str(rt.alloc(), message.as_str().trim_end())?,
-        report: beside(rt, stem, "report")?,
+        report: beside(rt, stem, ".report")?,
     })
 }
