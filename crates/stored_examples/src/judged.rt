@@ -1,5 +1,5 @@
-// Judges every report of the folder `judged`, and writes after its name what is said of it: with its later entries if its
-// name begins with `all_`.
+// Judges every report of the folder `judged`, and writes after its name what is said of it: with its later entries if
+// its name begins with `all_`.
 use crate::files::{bytes, name, stems};
 use hm_judge::{Asked, answer_on, answer_text};
 use std::{io, str};

@@ -1,5 +1,6 @@
-// Compares what is stored beside the examples, in the folders here, with what comes of them now; of reports it says what
-// is said of them. One program does all of it, since the gate reads the libraries below for each program once more.
+// Compares what is stored beside the examples, in the folders here, with what comes of them now; of reports it says
+// what is said of them. One program does all of it, since the gate reads the libraries below for each program once
+// more.
 #![tactic(auto)]
 
 mod checks;

@@ -1,5 +1,5 @@
-// The machine, its workers and the programs: what no stored run shows. One crate has all these tests, since the gate reads
-// the libraries below for each crate of tests once more.
+// The machine, its workers and the programs: what no stored run shows. One crate has all these tests, since the gate
+// reads the libraries below for each crate of tests once more.
 #![tactic(auto)]
 
 #[cfg(test)]
