@@ -27,3 +27,5 @@ says_race name RaceEnd.Fails k k' none w = w
 says_race name RaceEnd.Unsettled k k' none w = w
 says_race name RaceEnd.NoOutcome k k' none w = w
 says_race name RaceEnd.Drained k k' none w = w
+says_race name RaceEnd.Broken k k' none w = w
+says_race name RaceEnd.Open k k' none w = w

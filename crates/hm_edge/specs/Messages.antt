@@ -15,6 +15,8 @@ race_code RaceEnd.Fails = 1
 race_code RaceEnd.Unsettled = 10
 race_code RaceEnd.NoOutcome = 9
 race_code RaceEnd.Drained = 9
+race_code RaceEnd.Broken = 1
+race_code RaceEnd.Open = 10
 
 -- the exit code
 abbrev pub code_of : Status → ℕ
@@ -39,6 +41,8 @@ race_text RaceEnd.Fails = codes "a condition fails"
 race_text RaceEnd.Unsettled = codes "a condition is not settled: the search was cut; allow more states"
 race_text RaceEnd.NoOutcome = codes "no such outcome"
 race_text RaceEnd.Drained = codes "nothing is left to race after drain: end the schedule where the race is to begin"
+race_text RaceEnd.Broken = codes "in some order of turns a driver does what it must not do"
+race_text RaceEnd.Open = codes "nothing was found, but the search was cut; allow more states"
 
 -- the message of a status that has no number in it; at `Usage` the program's own line on its words
 abbrev pub fixed_text : List ℕ → Status → List ℕ

@@ -36,6 +36,8 @@ pub(crate) fn race_text(end: &RaceEnd) -> &'static str
         RaceEnd::Drained => {
             "nothing is left to race after drain: end the schedule where the race is to begin"
         }
+        RaceEnd::Broken => "in some order of turns a driver does what it must not do",
+        RaceEnd::Open => "nothing was found, but the search was cut; allow more states",
     }
 }
 

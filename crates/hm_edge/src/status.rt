@@ -18,6 +18,10 @@ pub enum RaceEnd {
     NoOutcome,
     /// The schedule of the script ends in `drain`, which leaves nothing to race.
     Drained,
+    /// In some order of turns a driver does what it must not do.
+    Broken,
+    /// No such order of turns was found, and the search was cut before all were known.
+    Open,
 }
 
 impl RaceEnd {
@@ -26,10 +30,10 @@ impl RaceEnd {
         ensures { result ≡ race_code self.now }
     {
         match self {
-            RaceEnd::Fails => 1,
+            RaceEnd::Fails | RaceEnd::Broken => 1,
             RaceEnd::NoCondition(_, _) => 2,
             RaceEnd::NoOutcome | RaceEnd::Drained => 9,
-            RaceEnd::Unsettled => 10,
+            RaceEnd::Unsettled | RaceEnd::Open => 10,
         }
     }
 }

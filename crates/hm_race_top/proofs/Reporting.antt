@@ -49,6 +49,8 @@ module _ (most : ℕ) (c : Program) (task : Task) (known : List KnownValue) (end
   race_found RaceEnd.Unsettled w = found (Status.Race RaceEnd.Unsettled) w
   race_found RaceEnd.NoOutcome w = found (Status.Race RaceEnd.NoOutcome) w
   race_found RaceEnd.Drained w = absurd (not_so (Status.Race RaceEnd.Drained) (λ u. u) w.0)
+  race_found RaceEnd.Broken w = absurd (not_so (Status.Race RaceEnd.Broken) (λ u. u) w.0)
+  race_found RaceEnd.Open w = absurd (not_so (Status.Race RaceEnd.Open) (λ u. u) w.0)
 
   pub has_found : (status : Status) → HasTold (told c task known end) before after status → HasFound most c task before after status
   has_found Status.Done w = found Status.Done w
@@ -88,6 +90,8 @@ whole_told t before after is adds = by t.ends refl is
     by (Status.Race RaceEnd.Unsettled) e i = (e, adds)
     by (Status.Race RaceEnd.NoOutcome) e i = (e, adds)
     by (Status.Race RaceEnd.Drained) e i = absurd i
+    by (Status.Race RaceEnd.Broken) e i = absurd i
+    by (Status.Race RaceEnd.Open) e i = absurd i
 
 -- a call that ends so counted no fault, and if the sink sent on what it has, that is so at its end
 pub none_faulted : (status : Status) (n n' : ℕ) → IsEnding status → n' ≡ n → WriteFaulted n n' status
@@ -123,6 +127,8 @@ all_sent (Status.Race RaceEnd.Fails) pending i same = same
 all_sent (Status.Race RaceEnd.Unsettled) pending i same = same
 all_sent (Status.Race RaceEnd.NoOutcome) pending i same = same
 all_sent (Status.Race RaceEnd.Drained) pending i same = absurd i
+all_sent (Status.Race RaceEnd.Broken) pending i same = absurd i
+all_sent (Status.Race RaceEnd.Open) pending i same = absurd i
 
 -- ---- one text
 

@@ -75,6 +75,8 @@ HasFound most c task before after Status.HistoryFull =
     MayFail c (run c) (StepError.Full 2000000) × (after ≡ before)
 HasFound most c task before after (Status.Race RaceEnd.Drained) = (has_drain c.schedule ≡ true) × (after ≡ before)
 HasFound most c task before after (Status.Race (RaceEnd.NoCondition n word)) = ⊥
+HasFound most c task before after (Status.Race RaceEnd.Broken) = ⊥
+HasFound most c task before after (Status.Race RaceEnd.Open) = ⊥
 HasFound most c task before after (Status.Race end) = Found most c task before after (Status.Race end)
 HasFound most c task before after _ = ⊥
 
