@@ -1,18 +1,14 @@
 -- A line for each driver: its rule, what was found, and how many states are known.
-use Rattle.std.specs.Prelude.{ℕ, ◌+◌, ◌-◌, List, ◌∷◌, ◌++◌, length, replicate, codes}
+use Rattle.std.specs.Prelude.{ℕ, ◌+◌, List, ◌∷◌, ◌++◌, length, codes}
 use Rattle.std.specs.List.{flat_map}
 use Rattle.std.specs.Fmt.{decimal}
 use Rattle.hm_flaws.specs.declared.flaws.Flaw.{Flaw}
-use Rattle.hm_race_text.specs.Text.{states_line}
+use Rattle.hm_race_text.specs.Text.{padded, states_line}
 use Rattle.hm_flaw_text.specs.Answers.{extent}
 use Rattle.hm_flaw_text.specs.Names.{name_of, part_text}
 use Rattle.hm_flaw_text.specs.declared.answer.Answer.{Answer}
 use Rattle.hm_flaw_text.specs.declared.answer.Found.{Found}
 use Rattle.hm_flaw_text.specs.declared.table.RuleAnswer.{RuleAnswer}
-
--- the word, and spaces up to a width of 24 bytes
-abbrev pub name_cell : List ℕ → List ℕ
-name_cell name = name ++ replicate (24 - length name) 32
 
 -- what was found: the part that is broken, or `stuck`, with the number of entries; or `none`
 abbrev pub outcome_words : Found → List ℕ
@@ -20,10 +16,10 @@ outcome_words (Found.Broken es e part) = part_text part ++ (codes " after " ++ d
 outcome_words (Found.Stuck es) = codes "stuck after " ++ decimal (length es)
 outcome_words Found.Nothing = codes "none"
 
--- the line of a driver
+-- the line of a driver: its rule, with spaces up to a width of 24 bytes, what was found, and how many states are known
 unfoldable pub rule_line : Flaw → Answer → List ℕ
 rule_line l a =
-    name_cell (name_of l)
+    padded 24 (name_of l)
     ++ (32 ∷ (outcome_words a.found ++ (32 ∷ states_line a.states (extent a.found a.end))))
 
 -- the lines of drivers

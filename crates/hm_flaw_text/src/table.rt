@@ -1,16 +1,16 @@
 // A line for each driver: its rule, what was found, and how many states are known.
-ghost use Rattle.std.specs.Prelude.{◌≡◌, ◌∷◌, ◌++◌, [], codes, replicate, IfOk, OnOk};
+ghost use Rattle.std.specs.Prelude.{◌≡◌, ◌∷◌, ◌++◌, [], codes, IfOk, OnOk};
 ghost use Rattle.std.specs.List.{flat_map};
 ghost use Rattle.std.specs.Fmt.{decimal};
-ghost use Rattle.hm_race_text.specs.Text.{states_line};
+ghost use Rattle.hm_race_text.specs.Text.{padded, states_line};
 ghost use Rattle.hm_flaw_text.specs.Names.{name_of, part_text};
-ghost use Rattle.hm_flaw_text.specs.Table.{name_cell, outcome_words, rule_line, rules_text};
+ghost use Rattle.hm_flaw_text.specs.Table.{outcome_words, rule_line, rules_text};
 
 use crate::answer::{Answer, Found};
 use crate::names::{part_name, rule_name};
 use hm_base::{NoMemory, Text};
 use hm_flaws::Flaw;
-use hm_race_text::{add_decimal, add_states};
+use hm_race_text::{add_decimal, add_padded, add_states};
 use std::alloc::Global;
 
 /// As many bytes as a rule's word has with the spaces after it.
@@ -21,24 +21,6 @@ const WIDTH: u64 = 24;
 pub struct RuleAnswer {
     pub rule: Flaw,
     pub answer: Answer,
-}
-
-fn add_spaces(text: &mut Text, count: u64) -> Result<(), NoMemory>
-    ensures { OnOk result (text.new ≡ text.old ++ replicate count 32) }
-{
-    for at in 0..count {
-        text.push(b' ')?;
-    }
-    Ok(())
-}
-
-/// Adds a word, and spaces up to the width.
-#[tactic(auto, using(std::proofs::Common::append_assoc))]
-fn add_name(text: &mut Text, name: &[u8]) -> Result<(), NoMemory>
-    ensures { OnOk result (text.new ≡ text.old ++ name_cell name.now) }
-{
-    text.extend(name)?;
-    add_spaces(text, WIDTH.saturating_sub(name.len() as u64))
 }
 
 /// Adds what was found, in a few words.
@@ -66,7 +48,7 @@ pub fn add_rule_line(
 ) -> Result<(), NoMemory>
     ensures { OnOk result (text.new ≡ text.old ++ rule_line rule answer.now) }
 {
-    add_name(text, rule_name(rule).as_bytes())?;
+    add_padded(text, WIDTH, rule_name(rule).as_bytes())?;
     text.push(b' ')?;
     add_outcome(alloc, text, &answer.found)?;
     text.push(b' ')?;

@@ -5,6 +5,8 @@ mod copies;
 mod looking;
 mod stepped;
 
+pub use copies::copy_entry;
+
 ghost use Rattle.std.specs.Prelude.{◌≡◌, ◌<◌, ◌≤◌, fold, length, slice_get, IfOk, None, Some, false};
 ghost use Rattle.hm_base.specs.declared.limits.TheConstants.{MOST_ACTORS, MOST_ENTRIES};
 ghost use Rattle.hm_base.specs.declared.ops.ScheduleLine.{ScheduleLine};

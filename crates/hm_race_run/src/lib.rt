@@ -22,6 +22,7 @@ use hm_history::StepError;
 use hm_race_states::key::StateKey;
 use hm_search::{End, Explored, Goal, explore};
 use race::ScriptRace;
+pub use race::set_up_of;
 use skip_rules::SkipRule;
 use std::alloc::Global;
 

@@ -62,8 +62,13 @@ fn machine_of<'a, R: SkipRule>(
     Machine::new(alloc, copy_script(alloc, script)?, Lent { rule })
 }
 
-// The entries of the script's schedule.
-fn set_up_of<R: SkipRule>(alloc: Global, script: &Script, rule: &R) -> Result<History, StepError>
+/// The entries of the script's schedule. It fails if memory runs out, and if the history has all its entries and one
+/// more is due.
+pub fn set_up_of<R: SkipRule>(
+    alloc: Global,
+    script: &Script,
+    rule: &R,
+) -> Result<History, StepError>
     ensures run { IfOk result (λ h. h.entries ≡ run script.now) }
     ensures few { IfOk result (λ h. length h.entries ≤ MOST_ENTRIES) }
     ensures fails { IfErr result (λ e. MayFail script.now (run script.now) e) }

@@ -1,17 +1,13 @@
 -- The text of a table: what all outcomes share, a row for each outcome, and how many states are known.
-use Rattle.std.specs.Prelude.{ℕ, ◌+◌, ◌-◌, List, [], ◌∷◌, ◌++◌, length, replicate, codes}
+use Rattle.std.specs.Prelude.{ℕ, ◌+◌, List, [], ◌∷◌, ◌++◌, length, codes}
 use Rattle.std.specs.List.{flat_map}
 use Rattle.std.specs.Fmt.{decimal}
 use Rattle.hm_race_text.specs.declared.block.OutcomeBlock.{OutcomeBlock}
 use Rattle.hm_search.specs.declared.search.End.{End}
-use Rattle.hm_race_text.specs.Text.{states_line}
+use Rattle.hm_race_text.specs.Text.{padded, states_line}
 use Rattle.hm_race_table.specs.declared.columns.Column.{Column}
 use Rattle.hm_race_table.specs.Answers.{Row, answer_at, rows_of}
 use Rattle.hm_race_table.specs.Columns.{columns, shared}
-
--- the text, and spaces up to this width
-abbrev pub padded : ℕ → List ℕ → List ℕ
-padded width text = text ++ replicate (width - length text) 32
 
 -- a cell of a row, with the bar before it
 abbrev pub cell : ℕ → List ℕ → List ℕ

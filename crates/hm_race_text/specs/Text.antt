@@ -1,5 +1,5 @@
 -- The text of a search: its outcomes, each with turns that lead to it, and how many states it knows.
-use Rattle.std.specs.Prelude.{ℕ, ◌+◌, Bool, if◌then◌else◌, List, [], ◌∷◌, ◌++◌, fold, codes}
+use Rattle.std.specs.Prelude.{ℕ, ◌+◌, ◌-◌, Bool, if◌then◌else◌, List, [], ◌∷◌, ◌++◌, fold, codes, length, replicate}
 use Rattle.std.specs.List.{flat_map, list_any}
 use Rattle.std.specs.Str.{bytes_eq}
 use Rattle.std.specs.Fmt.{decimal}
@@ -10,6 +10,10 @@ use Rattle.hm_race_text.specs.Answers.{answer_lines}
 use Rattle.hm_race_text.specs.Schedule.{packed}
 use Rattle.hm_race_text.specs.declared.block.OutcomeBlock.{OutcomeBlock}
 use Rattle.hm_search.specs.declared.search.End.{End}
+
+-- a text, and spaces up to this width
+abbrev pub padded : ℕ → List ℕ → List ℕ
+padded width text = text ++ replicate (width - length text) 32
 
 -- the answers of the actors at the end of a race, and turns that lead there
 pub record Way : Type 0 where

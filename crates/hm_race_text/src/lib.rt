@@ -6,6 +6,7 @@ mod block;
 mod decimal;
 mod laws;
 mod outcomes;
+mod padded;
 mod schedule;
 mod turned;
 
@@ -17,4 +18,5 @@ pub use laws::{
     turns_lead, turns_stand, ways_are_shown,
 };
 pub use outcomes::{add_outcome, add_states, outcomes_text};
+pub use padded::add_padded;
 pub use turned::text_with_turns;

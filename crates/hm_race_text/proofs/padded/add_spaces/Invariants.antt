@@ -1,5 +1,5 @@
 use Rattle.std.proofs.Common.{◌≡◌, ◌++◌, replicate}
-use Rattle.hm_race_table.proofs.cell.add_spaces.Given as goal
+use Rattle.hm_race_text.proofs.padded.add_spaces.Given as goal
 
 -- the spaces so far were added
 abbrev pub invariant-loop-at : goal.invariant-loop-at
