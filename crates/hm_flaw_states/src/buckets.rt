@@ -10,12 +10,12 @@ ghost use Rattle.hm_flaw_states.specs.Placed.{pages_in};
 ghost use Rattle.hm_flaw_states.specs.States.{state_in};
 
 use crate::placed::PlacedPage;
-use crate::same_parts::task_at;
 use crate::state::FlawState;
 use entry_words::encode;
 use hm_history::phases::Phase;
 use hm_race_keys::page_places::Places;
 use hm_race_keys::sparse::mixed;
+use hm_race_states::same_tasks::task_at;
 use hm_race_states::shared_phases::SharedPhases;
 use hm_race_states::tasks::RaceTask;
 use std::rc::Rc;

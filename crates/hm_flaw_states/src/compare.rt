@@ -3,8 +3,9 @@ ghost use Rattle.std.specs.Prelude.{◌≡◌, true};
 ghost use Rattle.hm_flaw_states.specs.Alike.{SameActors, SamePlaces, SameProcesses};
 ghost use Rattle.hm_flaw_states.specs.States.{state_in};
 
-use crate::same_parts::{same_been, same_seqs, same_tasks};
+use crate::same_parts::{same_been, same_seqs};
 use crate::state::FlawState;
+use hm_race_states::same_tasks::same_tasks;
 
 fn same_processes(one: &FlawState, other: &FlawState) -> bool
     ensures yes { result ≡ true → SameProcesses one.now other.now }

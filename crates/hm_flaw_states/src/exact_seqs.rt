@@ -1,5 +1,5 @@
 // The sequences of processes and of mirrors' intervals, kept exactly, and how they go on by an entry.
-ghost use Rattle.std.specs.Prelude.{◌≡◌, ◌<◌, ◌+◌, ℕ, true, None, slice_index_or, option_map, IfOk};
+ghost use Rattle.std.specs.Prelude.{◌≡◌, ◌<◌, ℕ, true, None, slice_index_or, option_map, IfOk};
 ghost use Rattle.hm_base.specs.Pages.{Pages};
 ghost use Rattle.hm_history.specs.Memory.Sequences.{Interval, sequences_start, sequences_next, interval_seq, in_tree};
 ghost use Rattle.hm_history.specs.Memory.Sequences.{interval_proc, insert_deferred, next_told, seq_started, seq_ended};
@@ -15,7 +15,7 @@ use hm_folds::intervals::{
     with_seq, with_stage,
 };
 use hm_history::Kind;
-use hm_race_states::small::Between;
+use hm_race_states::small::{Between, one_more};
 use std::alloc::Global;
 use std::rc::Rc;
 
@@ -43,15 +43,6 @@ fn seq_at(seqs: &[u64; 32], proc: Proc) -> u64
     ensures { result ≡ slice_index_or seqs.now proc 2 }
 {
     seqs[proc.number() as usize]
-}
-
-fn one_more(count: u8) -> Result<u8, NoMemory>
-    ensures { IfOk result (λ n. n ≡ count + 1) }
-{
-    match count.checked_add(1) {
-        Some(more) => Ok(more),
-        None => Err(NoMemory),
-    }
 }
 
 // Sequences of these parts. It fails if one cannot be raised any more.

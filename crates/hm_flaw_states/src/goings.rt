@@ -1,12 +1,11 @@
 // How far an actor is after its entry.
-ghost use Rattle.std.specs.Prelude.{◌≡◌, true, map, slice_get, if◌then◌else◌, IfOk};
+ghost use Rattle.std.specs.Prelude.{◌≡◌, true, map, if◌then◌else◌, IfOk};
 ghost use Rattle.hm_history.specs.Kernel.Going.{going_next};
 ghost use Rattle.hm_history.specs.Memory.After.{After};
 ghost use Rattle.hm_actors.specs.Actors.{IsSeen};
 ghost use Rattle.hm_flaws.specs.Flawed.{as_moved, going_by, recorded_by, without_step};
 ghost use Rattle.hm_phases.specs.Items.{catches, phases_of};
 ghost use Rattle.hm_race_states.specs.Tasks.{going_in};
-ghost use Rattle.hm_reads.specs.Ranges.{top_in_range};
 ghost use Rattle.hm_flaw_states.specs.Rooms.{HasRoom, grows, leaves_out, without_top};
 
 use hm_base::{Actor, Frame, NoMemory, Page, PoolId, Script};
@@ -16,7 +15,7 @@ use hm_history::{KeptAt, KeptWhy, Kind};
 use hm_phases::Items;
 use hm_race_states::shared_phases::SharedPhases;
 use hm_race_states::shared_records::SharedRecords;
-use hm_race_states::tasks::RaceTask;
+use hm_race_states::tasks::{RaceTask, in_range};
 use std::alloc::Global;
 
 // ---- whether a stack stays low
@@ -192,21 +191,6 @@ fn recorded_by(
 }
 
 // ---- all of it
-
-// Whether a fork between the two halves of a page is at a page; all other phases always pass.
-fn in_range(stack: &SharedPhases) -> bool
-    ensures { result ≡ top_in_range (slice_get stack.now 0) }
-{
-    match stack.top() {
-        Some(
-            Phase::Guard {
-                body: Body::Fork { next, half: true },
-                ..
-            },
-        ) => *next < 1 << 36,
-        _ => true,
-    }
-}
 
 // An actor of these parts. It fails if a fork is past the last page, where none ever is.
 fn made(index: u64, stack: SharedPhases, records: SharedRecords) -> Result<RaceTask, NoMemory>

@@ -1,10 +1,7 @@
 // What steps, and a driver with a flaw, ask of a state: each call reads one part.
-ghost use Rattle.std.specs.Prelude.{◌≡◌, if◌then◌else◌, map, slice_get, option_copied, IfOk};
+ghost use Rattle.std.specs.Prelude.{◌≡◌, map, slice_get, option_copied};
 ghost use Rattle.std.specs.Rc.{rc_value};
-ghost use Rattle.hm_history.specs.Memory.Places.{is_exclusive_by, may_read, may_write};
-ghost use Rattle.hm_history.specs.Memory.Words.{bytes_from};
 ghost use Rattle.hm_history.specs.Kernel.Going.{is_direct, sets_now, concerns};
-ghost use Rattle.hm_race_states.specs.Bytes.{bytes_in};
 ghost use Rattle.hm_flaw_states.specs.States.{state_in};
 ghost use Rattle.hm_flaw_states.specs.Windows.{first_in};
 
@@ -19,7 +16,7 @@ use hm_drivers::details::Details;
 use hm_history::TableRight;
 use hm_history::locks::MapLock;
 use hm_history::phases::{Migrating, MoveStep, Phase};
-use hm_race_states::memory::RaceBytes;
+use hm_race_states::here::{allows, bytes_of, is_exclusive_by};
 use hm_race_states::tasks::RaceTask;
 use hm_reads::Reads;
 use hm_reads::operations::{is_to_device, op_mirror};
@@ -53,50 +50,6 @@ impl<'a> Concerns for Asking<'a> {
             }
             MoveStep::Finish => migrating.source.is_some() || migrating.moved,
         }
-    }
-}
-
-// The bytes of a process from an address on.
-fn bytes_of(
-    alloc: Global,
-    bytes: &RaceBytes,
-    proc: Proc,
-    addr: u64,
-    len: u64,
-) -> Result<Bytes, NoMemory>
-    ensures { IfOk result (λ x. x ≡ bytes_from (bytes_in bytes.now proc) addr len) }
-{
-    let mut all = Vec::with_capacity(alloc, len as usize)?;
-    for number in 0..len {
-        match addr.checked_add(number) {
-            Some(at) => all.push(bytes.byte(proc, at))?,
-            None => return Err(NoMemory),
-        }
-    }
-    Bytes::from_slice(alloc, &all)
-}
-
-// Whether an actor has the page of this place alone.
-fn is_exclusive_by(place: &Place, actor: Actor) -> bool
-    ensures { result ≡ is_exclusive_by place.now actor }
-{
-    match place {
-        Place::Exclusive {
-            number: _,
-            actor: by,
-        } => actor == *by,
-        _ => false,
-    }
-}
-
-// Whether a table entry of this right reads, or writes.
-fn allows(right: TableRight, writes: bool) -> bool
-    ensures { result ≡ (if writes then may_write right else may_read right) }
-{
-    match right {
-        TableRight::Read => !writes,
-        TableRight::Write => true,
-        TableRight::Sole => false,
     }
 }
 

@@ -18,6 +18,7 @@ use hm_base::{Frame, Page, Place, Proc};
 use hm_history::Kind;
 use hm_race_keys::frame_locks::FrameLocks;
 use hm_race_keys::page_places::Places;
+use hm_race_keys::questions::is_wanted;
 
 /// How a place may name a frame.
 #[derive(Clone, Copy, PartialEq, Eq)]
@@ -40,17 +41,6 @@ fn names_so(naming: Naming, place: &Place, frame: &Frame) -> bool
             _ => false,
         },
         Naming::Either => is_frame(names(place), frame),
-    }
-}
-
-// Whether the place is writable, or merely not Empty.
-fn is_wanted(writes: bool, place: &Place) -> bool
-    ensures { result ≡ is_wanted writes place.now }
-{
-    if writes {
-        place.writable()
-    } else {
-        !matches!(place, Place::Empty)
     }
 }
 

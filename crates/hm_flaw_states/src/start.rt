@@ -1,10 +1,8 @@
 // The state before the first entry.
-ghost use Rattle.std.specs.Prelude.{◌≡◌, ◌≤◌, ℕ, length, map, IfOk};
-ghost use Rattle.std.specs.Rc.{rc_value};
-ghost use Rattle.hm_history.specs.Kernel.Going.{going_from, state_start};
+ghost use Rattle.std.specs.Prelude.{◌≡◌, IfOk};
+ghost use Rattle.hm_history.specs.Kernel.Going.{state_start};
 ghost use Rattle.hm_history.specs.Memory.Plain.{plain_start};
 ghost use Rattle.hm_folds.specs.Been.{been_of};
-ghost use Rattle.hm_race_states.specs.States.{goings_in};
 ghost use Rattle.hm_flaw_states.specs.States.{state_in};
 
 use crate::commits::FrameCommits;
@@ -12,7 +10,7 @@ use crate::exact_seqs::ExactSeqs;
 use crate::guards::ActorGuards;
 use crate::placed::PlacedPages;
 use crate::state::FlawState;
-use hm_base::{Actor, NoMemory, Script};
+use hm_base::{NoMemory, Script};
 use hm_drivers::frame_bytes::FrameBytes;
 use hm_drivers::own_tables::OwnTables;
 use hm_race_keys::device_marks::DeviceMarks;
@@ -23,32 +21,9 @@ use hm_race_keys::page_places::Places;
 use hm_race_states::memory::RaceBytes;
 use hm_race_states::mirrors::RaceMirrors;
 use hm_race_states::spaces::RaceSpaces;
-use hm_race_states::tasks::RaceTask;
+use hm_race_states::start::first_tasks;
 use std::alloc::Global;
 use std::rc::Rc;
-
-// How many actors the script has.
-fn count_of(script: &Script) -> u32
-    ensures same { result ≡ length script.now.actors }
-    ensures few { result ≤ 16 }
-{
-    script.facts();
-    script.actors.len() as u32
-}
-
-// Each actor of the script at its first operation.
-fn first_tasks(alloc: Global, script: &Script) -> Result<Vec<Rc<RaceTask>>, NoMemory>
-    ensures few { IfOk result (λ ts. length ts.items ≤ 16) }
-    ensures goings { IfOk result (λ ts. (a : ℕ) → goings_in (map rc_value ts.items) a ≡ going_from script.now a 0) }
-{
-    let count = count_of(script);
-    let mut all = Vec::with_capacity(alloc, count as usize)?;
-    for number in 0..count {
-        let task = RaceTask::start(alloc, script, Actor::new(number))?;
-        all.push(Rc::new(alloc, task)?)?;
-    }
-    Ok(all)
-}
 
 // Process 0 alone was there.
 fn first_been() -> [bool; 32]

@@ -1,7 +1,6 @@
 // A state as the actors of a driver with a flaw find it: each call reads one part.
-ghost use Rattle.std.specs.Prelude.{◌≡◌, ◌%◌, if◌then◌else◌, IfOk};
+ghost use Rattle.std.specs.Prelude.{◌≡◌, ◌%◌, IfOk};
 ghost use Rattle.hm_history.specs.Memory.Words.{bytes_from};
-ghost use Rattle.hm_history.specs.Memory.Places.{is_exclusive_by, may_read, may_write};
 ghost use Rattle.hm_history.specs.Memory.Sequences.{interval_seq};
 ghost use Rattle.hm_history.specs.Memory.Contents.{shown_by};
 ghost use Rattle.hm_history.specs.Kernel.Going.{is_direct, sets_now, concerns};
@@ -22,6 +21,7 @@ use hm_flaw_steps::Finds;
 use hm_flaws::Flaw;
 use hm_history::TableRight;
 use hm_history::phases::{Migrating, MoveStep, Phase};
+use hm_race_states::here::{allows, is_exclusive_by};
 use hm_reads::Reads;
 use hm_reads::operations::{is_to_device, op_mirror, page_of};
 use std::alloc::Global;
@@ -55,30 +55,6 @@ impl<'a, W: Details> Concerns for Asking<'a, W> {
             }
             MoveStep::Finish => migrating.source.is_some() || migrating.moved,
         }
-    }
-}
-
-// Whether an actor has the page of this place alone.
-fn is_exclusive_by(place: &Place, actor: Actor) -> bool
-    ensures { result ≡ is_exclusive_by place.now actor }
-{
-    match place {
-        Place::Exclusive {
-            number: _,
-            actor: by,
-        } => actor == *by,
-        _ => false,
-    }
-}
-
-// Whether a table entry of this right reads, or writes.
-fn allows(right: TableRight, writes: bool) -> bool
-    ensures { result ≡ (if writes then may_write right else may_read right) }
-{
-    match right {
-        TableRight::Read => !writes,
-        TableRight::Write => true,
-        TableRight::Sole => false,
     }
 }
 

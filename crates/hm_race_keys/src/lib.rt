@@ -8,7 +8,7 @@ mod free_frames;
 pub mod held_frames;
 pub mod map_locks;
 pub mod page_places;
-mod questions;
+pub mod questions;
 pub mod shared_answers;
 pub mod sparse;
 pub mod table_entries;

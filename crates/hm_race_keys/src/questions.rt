@@ -51,8 +51,8 @@ fn first_naming(items: &[Item<Place>], naming: Naming, frame: &Frame) -> Option<
     None
 }
 
-// Whether the place is writable, or merely not Empty.
-fn is_wanted(writes: bool, place: &Place) -> bool
+/// Whether the place is writable, or merely not Empty.
+pub fn is_wanted(writes: bool, place: &Place) -> bool
     ensures { result ≡ is_wanted writes place.now }
 {
     if writes {

@@ -1,5 +1,5 @@
 // The keys of a race's states.
-ghost use Rattle.std.specs.Prelude.{◌≡◌, ◌≤◌, [], List, length, IfOk};
+ghost use Rattle.std.specs.Prelude.{◌≡◌, [], List, IfOk};
 ghost use Rattle.hm_history.specs.Laws.{DueFrom};
 ghost use Rattle.hm_history.specs.declared.Entry.{Entry as AnyEntry};
 ghost use Rattle.hm_race_laws.specs.Blur.{form_of};
@@ -16,6 +16,7 @@ use hm_race_keys::shared_answers::SharedAnswers;
 use hm_race_states::after::answers_after;
 use hm_race_states::here::Here;
 use hm_race_states::key::StateKey;
+use hm_race_states::start::count_of;
 use hm_race_states::state::RaceState;
 use hm_reads::Reads;
 use skip_rules::SkipRule;
@@ -79,15 +80,6 @@ pub fn next_key<R: SkipRule>(
             }))
         }
     }
-}
-
-// How many actors the script has.
-fn count_of(script: &Script) -> u32
-    ensures same { result ≡ length script.now.actors }
-    ensures few { result ≤ 16 }
-{
-    script.facts();
-    script.actors.len() as u32
 }
 
 /// Whether all operations of all actors have ended.

@@ -54,8 +54,8 @@ impl<'a> Concerns for Asking<'a> {
     }
 }
 
-// The bytes of a process from an address on.
-fn bytes_of(
+/// The bytes of a process from an address on.
+pub fn bytes_of(
     alloc: Global,
     bytes: &RaceBytes,
     proc: Proc,
@@ -74,8 +74,8 @@ fn bytes_of(
     Bytes::from_slice(alloc, &all)
 }
 
-// Whether an actor has the page of this place alone.
-fn is_exclusive_by(place: &Place, actor: Actor) -> bool
+/// Whether an actor has the page of this place alone.
+pub fn is_exclusive_by(place: &Place, actor: Actor) -> bool
     ensures { result ≡ is_exclusive_by place.now actor }
 {
     match place {
@@ -87,8 +87,8 @@ fn is_exclusive_by(place: &Place, actor: Actor) -> bool
     }
 }
 
-// Whether a table entry of this right reads, or writes.
-fn allows(right: TableRight, writes: bool) -> bool
+/// Whether a table entry of this right reads, or writes.
+pub fn allows(right: TableRight, writes: bool) -> bool
     ensures { result ≡ (if writes then may_write right else may_read right) }
 {
     match right {

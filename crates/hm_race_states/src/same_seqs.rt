@@ -19,7 +19,8 @@ fn same_stage(one: KeptStage, other: KeptStage) -> bool
     }
 }
 
-fn same_interval(one: &Option<KeptInterval>, other: &Option<KeptInterval>) -> bool
+/// Whether both are the same interval, or both are none.
+pub fn same_interval(one: &Option<KeptInterval>, other: &Option<KeptInterval>) -> bool
     ensures yes { result ≡ true → interval_of one.now ≡ interval_of other.now }
     ensures no { interval_of one.now ≡ interval_of other.now → result ≡ true }
 {
@@ -50,7 +51,8 @@ pub fn same_flags(one: &[bool; 32], other: &[bool; 32]) -> bool
     true
 }
 
-fn same_counts(one: &[u8; 32], other: &[u8; 32]) -> bool
+/// Whether each number has the same count in both.
+pub fn same_counts(one: &[u8; 32], other: &[u8; 32]) -> bool
     ensures yes { result ≡ true → (p : ℕ) → slice_index_or one.now p 0 ≡ slice_index_or other.now p 0 }
     ensures no { ((p : ℕ) → slice_index_or one.now p 0 ≡ slice_index_or other.now p 0) → result ≡ true }
 {

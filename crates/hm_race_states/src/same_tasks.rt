@@ -27,7 +27,7 @@ fn same_records(one: &[Migrating], other: &[Migrating]) -> bool
 }
 
 /// The actor of this number, if it is in the list.
-pub(crate) fn task_at(tasks: &[Rc<RaceTask>], actor: usize) -> Option<&RaceTask>
+pub fn task_at(tasks: &[Rc<RaceTask>], actor: usize) -> Option<&RaceTask>
     ensures { option_copied result ≡ slice_get (map rc_value tasks.now) actor }
 {
     match tasks.get(actor) {
@@ -75,7 +75,7 @@ fn same_at(one: &[Rc<RaceTask>], other: &[Rc<RaceTask>], actor: usize) -> bool
 }
 
 /// Whether all actors of both are as far; one that is in no list is at its beginning, with no operation under way.
-pub(crate) fn same_tasks(one: &[Rc<RaceTask>], other: &[Rc<RaceTask>]) -> bool
+pub fn same_tasks(one: &[Rc<RaceTask>], other: &[Rc<RaceTask>]) -> bool
     ensures yes { result ≡ true
         → (a : ℕ) → goings_in (map rc_value one.now) a ≡ goings_in (map rc_value other.now) a }
     ensures no { ((a : ℕ) → goings_in (map rc_value one.now) a ≡ goings_in (map rc_value other.now) a)

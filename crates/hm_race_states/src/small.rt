@@ -58,7 +58,8 @@ fn odd_of(seq: u64) -> bool
     seq % 2 == 1
 }
 
-fn one_more(count: u8) -> Result<u8, NoMemory>
+/// One more than a count. It fails if there is no such count.
+pub fn one_more(count: u8) -> Result<u8, NoMemory>
     ensures { IfOk result (λ n. n ≡ count + 1) }
 {
     match count.checked_add(1) {

@@ -21,8 +21,8 @@ use hm_race_keys::table_entries::TableEntries;
 use std::alloc::Global;
 use std::rc::Rc;
 
-// How many actors the script has.
-fn count_of(script: &Script) -> u32
+/// How many actors the script has.
+pub fn count_of(script: &Script) -> u32
     ensures same { result ≡ length script.now.actors }
     ensures few { result ≤ 16 }
 {
@@ -30,8 +30,8 @@ fn count_of(script: &Script) -> u32
     script.actors.len() as u32
 }
 
-// Each actor of the script at its first operation.
-fn first_tasks(alloc: Global, script: &Script) -> Result<Vec<Rc<RaceTask>>, NoMemory>
+/// Each actor of the script at its first operation.
+pub fn first_tasks(alloc: Global, script: &Script) -> Result<Vec<Rc<RaceTask>>, NoMemory>
     ensures few { IfOk result (λ ts. length ts.items ≤ 16) }
     ensures goings { IfOk result (λ ts. (a : ℕ) → goings_in (map rc_value ts.items) a ≡ going_from script.now a 0) }
 {

@@ -30,8 +30,8 @@ pub struct RaceTask {
     ghost notes: { quiet ≡ true → (own small : ℕ) → map (blurred_phase own small) stack ≡ stack },
 }
 
-// Whether a fork between the two halves of a page is at a page; all other phases always pass.
-fn in_range(stack: &SharedPhases) -> bool
+/// Whether a fork between the two halves of a page is at a page; all other phases always pass.
+pub fn in_range(stack: &SharedPhases) -> bool
     ensures { result ≡ top_in_range (slice_get stack.now 0) }
 {
     match stack.top() {
