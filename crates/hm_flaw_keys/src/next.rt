@@ -97,9 +97,9 @@ fn own_after<W: Details>(
         return Ok(own.clone()?);
     }
     let tells = tells_own(world, entry.actor, &entry.kind);
-    let mut new = copy_own(alloc, own)?;
-    new.step(alloc, world, flaw, tells, entry.actor, &entry.kind)?;
-    Ok(Rc::new(alloc, new)?)
+    let mut copy = copy_own(alloc, own)?;
+    copy.step(alloc, world, flaw, tells, entry.actor, &entry.kind)?;
+    Ok(Rc::new(alloc, copy)?)
 }
 
 // The key after an entry that breaks no part.
