@@ -64,7 +64,9 @@ fn with_entry(
         script,
         state: &so_far.state,
     };
-    let state = so_far.state.after(alloc, script, Flaw::NoFlaw, own, &entry)?;
+    let state = so_far
+        .state
+        .after(alloc, script, Flaw::NoFlaw, own, &entry)?;
     let marks = so_far.marks.after(alloc, &here, &entry)?;
     let mut trail = so_far.trail;
     trail.push(Rc::new(alloc, entry)?)?;
