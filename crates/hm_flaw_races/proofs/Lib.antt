@@ -1,5 +1,5 @@
 mod Systems
-mod Marking
+pub mod Marking
 mod Turns
 mod Unbroken
 mod Breaking
