@@ -2,17 +2,20 @@
 // at any time.
 #![tactic(auto)]
 
-ghost use Rattle.std.specs.Prelude.{◌≡◌, ◌≤◌, [], length, IfOk, IfErr};
+ghost use Rattle.std.specs.Prelude.{◌≡◌, ◌≤◌, [], length, map, IfOk, IfErr};
 ghost use Rattle.hm_history.specs.Laws.{DueFrom};
 ghost use Rattle.hm_search.specs.Known.{MayFail};
 ghost use Rattle.hm_flaw_parts.specs.Judged.{judged_parts};
 ghost use Rattle.hm_flaw_races.specs.Races.{flaw_system};
 ghost use Rattle.hm_flaw_search.specs.Answers.{IsAnswer};
 
+mod finding;
 mod goals;
 mod played;
 mod race;
+mod stuck;
 
+use finding::found_of;
 use goals::Broken;
 use hm_base::{NoMemory, Script};
 use hm_flaw_parts::Judging;
@@ -43,5 +46,27 @@ pub fn find_race<R: SkipRule>(
     ensures answer { IfOk result (IsAnswer (judged_parts judging) flaw script.now set_up.now most) }
     ensures fails { IfErr result (λ e. MayFail (flaw_system (judged_parts judging) flaw script.now set_up.now) e) }
 {
-    Err(StepError::NoMemory)
+    script.facts();
+    hm_flaw_races::first_breaks_soonest();
+    hm_flaw_races::first_sticks_soonest();
+    hm_flaw_races::whole_breaks_none();
+    hm_flaw_races::whole_never_sticks();
+    hm_flaw_races::right_turns_find_none();
+    let race = FlawRace {
+        alloc,
+        script,
+        set_up,
+        rule,
+        flaw,
+        judging,
+    };
+    let explored = explore(&race, alloc, &Broken, most)?;
+    match found_of(&race, &explored.known, explored.end) {
+        Ok(found) => Ok(Answer {
+            found,
+            states: explored.known.len() as u64,
+            end: explored.end,
+        }),
+        Err(NoMemory) => Err(StepError::NoMemory),
+    }
 }
