@@ -37,8 +37,14 @@ broken_turns_break law parts l c h turns part b = by (judged parts l c h turns).
       each = λ adds. omega (arith, adds, entries_after parts l c h turns, ap broken_count b);
     }
 
+-- no entry breaks a part if none is broken
+pub no_entry : (o : Option (Entry × Part)) → part_in o ≡ None → o ≡ None
+no_entry None k = refl
+no_entry (Some y) k = absurd (none-some y.1 (sym k))
+
 pub stuck_turns_stick : StuckTurnsStick
 stuck_turns_stick parts l c h turns none stuck = record {
+  unbroken = no_entry (judged parts l c h turns).broken (sym (ap (λ (x : FlawPoint). x.broken) (turns_are_judged parts l c h turns)) ∙ none);
   sticks = record {
     unbroken = (turns_go parts l c h turns).unbroken;
     stuck = sym (ap (is_stuck l c) (ap (λ (x : FlawPoint). x.flawed) (turns_are_judged parts l c h turns) ∙ (turns_go parts l c h turns).same)) ∙ stuck;

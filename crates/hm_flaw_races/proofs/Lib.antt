@@ -1,7 +1,7 @@
-mod Systems
-mod Marking
-mod Turns
+pub mod Systems
+pub mod Marking
+pub mod Turns
 mod Unbroken
-mod Breaking
+pub mod Breaking
 mod Searched
 mod Rightly

@@ -98,6 +98,7 @@ first_sticks_soonest law parts l c h known each fewer rising n first =
     let both = and_parts (is_none n.form.broken) (is_stuck l c n.form.flawed) first.reached in
     let t = law parts l c h n.turns (sym (ap (λ (x : FlawPoint). x.broken) is) ∙ none_is n.form.broken both.0) (sym (ap (λ (x : FlawPoint). is_stuck l c x.flawed) is) ∙ both.1) in
     record {
+      unbroken = t.unbroken;
       sticks = t.sticks;
       long = t.each (adds parts l c h known each (sticks_at l c) n first);
       later = unstuck_sticks_later parts l c h (length n.turns) (unreached_before parts l c h known each (sticks_at l c) n first fewer rising);

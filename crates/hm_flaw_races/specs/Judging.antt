@@ -58,6 +58,7 @@ NeverSticks parts l c h =
 
 -- turns are a race after which nobody can go on
 pub record TurnsStick (parts : List Part) (l : Flaw) (c : Program) (h : List Entry) (turns : List ℕ) : Type 0 where
+  pub unbroken : (judged parts l c h turns).broken ≡ None
   pub sticks : Sticks parts l c h (judged parts l c h turns).entries
   pub each : EachAdds parts l c h turns → length (judged parts l c h turns).entries ≡ length turns
 

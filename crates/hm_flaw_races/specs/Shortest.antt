@@ -1,5 +1,5 @@
 -- The first known state of a search at its goal, and what it says of all races.
-use Rattle.std.specs.Prelude.{◌≡◌, ℕ, ◌+◌, ◌≤◌, Bool, true, Some, List, ◌∷◌, ◌++◌, length}
+use Rattle.std.specs.Prelude.{◌≡◌, ℕ, ◌+◌, ◌≤◌, Bool, true, Some, None, List, ◌∷◌, ◌++◌, length}
 use Rattle.hm_base.specs.Program.{Program}
 use Rattle.hm_history.specs.declared.Entry.{Entry}
 use Rattle.hm_flaws.specs.declared.flaws.Flaw.{Flaw}
@@ -40,6 +40,7 @@ pub record BreaksSoonest (parts : List Part) (l : Flaw) (c : Program) (h : List 
 -- turns, each of which adds an entry, are a race after which nobody can go on, and no such race is shorter
 pub record SticksSoonest (parts : List Part) (l : Flaw) (c : Program) (h : List Entry) (turns : List ℕ)
     : Type 0 where
+  pub unbroken : (judged parts l c h turns).broken ≡ None
   pub sticks : Sticks parts l c h (judged parts l c h turns).entries
   pub long : length (judged parts l c h turns).entries ≡ length turns
   pub later : StickLater parts l c h (length turns)
