@@ -1,3 +1,4 @@
 pub mod Keyed
 pub mod Nexts
 pub mod Numbered
+pub mod SetUps

@@ -1,14 +1,20 @@
 -- What a turn of an actor comes to at a key.
 use Rattle.std.specs.Prelude.{◌≡◌, ℕ, false, Option, Some, None, List, [], ◌∷◌, ◌++◌}
 use Rattle.hm_base.specs.Program.{Program}
+use Rattle.hm_history.specs.Kernel.Going.{State}
 use Rattle.hm_history.specs.declared.Entry.{Entry}
 use Rattle.hm_history.specs.declared.Progress.{Progress}
-use Rattle.hm_flaws.specs.Flawed.{due_by}
+use Rattle.hm_flaws.specs.Drivers.{Driver}
+use Rattle.hm_flaws.specs.Flawed.{due_by, flawed_next}
 use Rattle.hm_flaws.specs.declared.flaws.Flaw.{Flaw}
 use Rattle.hm_flaws.specs.declared.parts.Part.{Part}
 use Rattle.hm_flaw_races.specs.Races.{broken_at, is_due_at, point_entry}
 use Rattle.hm_flaw_keys.specs.Keyed.{form_in, entries_in, broken_in}
 use Rattle.hm_flaw_keys.specs.declared.key.FlawKey.{FlawKey}
+
+-- what a driver has of its own after an entry
+abbrev pub own_next : Flaw → Program → State → Driver → Entry → Driver
+own_next l c u x e = (flawed_next l c (record { state = u; driver = x }) e).driver
 
 -- no part was broken, an entry is due to the actor, and the other key is that after it: with the entry among all
 -- entries if it breaks no part, and else beside them with the part

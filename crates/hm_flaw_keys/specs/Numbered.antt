@@ -1,5 +1,6 @@
 -- Keys of one form have one number.
-use Rattle.std.specs.Prelude.{◌≡◌, ⊤, ap}
+use Rattle.std.proofs.Common.{◌≡◌, ap}
+use Rattle.std.specs.Prelude.{⊤}
 use Rattle.hm_flaw_keys.specs.Keyed.{form_in, key_number, point_number}
 use Rattle.hm_flaw_keys.specs.declared.key.FlawKey.{FlawKey}
 

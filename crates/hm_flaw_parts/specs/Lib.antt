@@ -1,3 +1,5 @@
 pub mod Told
 pub mod Marks
 pub mod Judged
+pub mod Buckets
+pub mod Alike

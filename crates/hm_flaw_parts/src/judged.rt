@@ -1,19 +1,23 @@
 // The first part of legality that an entry breaks, in a race of a driver with a flaw.
-ghost use Rattle.std.specs.Prelude.{◌≡◌, ℕ, IfOk};
+ghost use Rattle.std.specs.Prelude.{◌≡◌, ℕ, map, IfOk};
+ghost use Rattle.std.specs.Rc.{rc_value};
 ghost use Rattle.hm_history.specs.Kernel.Going.{Going};
 ghost use Rattle.hm_history.specs.Memory.After.{after};
 ghost use Rattle.hm_flaws.specs.Parts.{broken_part};
+ghost use Rattle.hm_folds.specs.Plain.{plain_of};
 ghost use Rattle.hm_flaw_parts.specs.Judged.{first_of, judged_parts, IsFollowing};
 ghost use Rattle.hm_flaw_parts.specs.declared.judged.Judging.{Judging as AnyJudging};
 
 use hm_base::{NoMemory, Script};
 use hm_flaws::Part;
+use hm_folds::PlainState;
 use hm_history::Entry;
 use hm_history::phases::Migrating;
-use hm_parts::{meets_kept, meets_plain};
+use hm_parts::{has_taken, meets_kept};
 use hm_reads::Reads;
 use hm_rules::{Follower, Rules};
 use std::alloc::Global;
+use std::rc::Rc;
 
 /// Which parts of legality an entry is judged by.
 #[derive(Clone, Copy, PartialEq, Eq, Debug)]
@@ -25,13 +29,35 @@ pub enum Judging {
 }
 
 // What the rules ask of a history, each of whose entries keeps all of them.
-fn follower_after(alloc: Global, script: &Script, entries: &[Entry]) -> Result<Follower, NoMemory>
-    ensures { IfOk result (IsFollowing script.now entries.now) }
+fn follower_after(
+    alloc: Global,
+    script: &Script,
+    entries: &[Rc<Entry>],
+) -> Result<Follower, NoMemory>
+    ensures { IfOk result (IsFollowing script.now (map rc_value entries.now)) }
 {
     let mut so_far = Follower::start(alloc, script)?;
     for at in 0..entries.len() {
         if !so_far.take(&entries[at], at as u64)?.goes_on {
             return Err(NoMemory);
+        }
+    }
+    Ok(so_far)
+}
+
+// The plain state after the entries, each of which is to answer rightly after those before it.
+fn plain_after(
+    alloc: Global,
+    script: &Script,
+    entries: &[Rc<Entry>],
+) -> Result<PlainState, NoMemory>
+    ensures { IfOk result (λ x. plain_of x ≡ (after (map rc_value entries.now)).plain) }
+{
+    let mut so_far = PlainState::start(alloc, script)?;
+    for at in 0..entries.len() {
+        match so_far.apply(&entries[at]) {
+            Ok(()) => (),
+            Err(_) => return Err(NoMemory),
         }
     }
     Ok(so_far)
@@ -70,14 +96,14 @@ fn broken_of_all<W: Reads>(
     alloc: Global,
     world: &W,
     records: &[Migrating],
-    entries: &[Entry],
+    entries: &[Rc<Entry>],
     entry: &Entry,
 ) -> Result<Option<Part>, NoMemory>
-    requires state { (W.state world.now).after ≡ after entries.now }
+    requires state { (W.state world.now).after ≡ after (map rc_value entries.now) }
     requires records { records.now ≡ ((W.state world.now).going entry.now.actor).pages }
     ensures { IfOk result (λ o. o
-        ≡ broken_part (judged_parts AnyJudging.AllParts) (W.program world.now) entries.now (W.state world.now).going
-        entry.now) }
+        ≡ broken_part (judged_parts AnyJudging.AllParts) (W.program world.now) (map rc_value entries.now)
+        (W.state world.now).going entry.now) }
 {
     let mut so_far = follower_after(alloc, world.script(), entries)?;
     let rules = so_far.take(entry, entries.len() as u64)?;
@@ -88,13 +114,14 @@ fn broken_of_all<W: Reads>(
 fn broken_of_answers(
     alloc: Global,
     script: &Script,
-    entries: &[Entry],
+    entries: &[Rc<Entry>],
     entry: &Entry,
 ) -> Result<Option<Part>, NoMemory>
     ensures { IfOk result (λ o. (g : ℕ → Going) → o
-        ≡ broken_part (judged_parts AnyJudging.AnswersAlone) script.now entries.now g entry.now) }
+        ≡ broken_part (judged_parts AnyJudging.AnswersAlone) script.now (map rc_value entries.now) g entry.now) }
 {
-    if meets_plain(alloc, script, entries, entry)? {
+    let mut so_far = plain_after(alloc, script, entries)?;
+    if has_taken(so_far.apply(entry))? {
         Ok(None)
     } else {
         Ok(Some(Part::Answers))
@@ -109,13 +136,14 @@ pub fn first_broken<W: Reads>(
     judging: Judging,
     world: &W,
     records: &[Migrating],
-    entries: &[Entry],
+    entries: &[Rc<Entry>],
     entry: &Entry,
 ) -> Result<Option<Part>, NoMemory>
-    requires state { (W.state world.now).after ≡ after entries.now }
+    requires state { (W.state world.now).after ≡ after (map rc_value entries.now) }
     requires records { records.now ≡ ((W.state world.now).going entry.now.actor).pages }
     ensures { IfOk result (λ o. o
-        ≡ broken_part (judged_parts judging) (W.program world.now) entries.now (W.state world.now).going entry.now) }
+        ≡ broken_part (judged_parts judging) (W.program world.now) (map rc_value entries.now)
+        (W.state world.now).going entry.now) }
 {
     match judging {
         Judging::AllParts => broken_of_all(alloc, world, records, entries, entry),

@@ -6,14 +6,17 @@ ghost use Rattle.hm_history.specs.Memory.Lookups.{is_begin_of, is_set_of, set_fr
 ghost use Rattle.hm_history.specs.Memory.Rules.{is_finishing, is_no_frame};
 ghost use Rattle.hm_laws.specs.Past.{is_position};
 ghost use Rattle.hm_flaws.specs.Recalled.{is_full};
+ghost use Rattle.hm_flaw_parts.specs.Buckets.{mixed_short, marks_number};
+ghost use Rattle.hm_flaw_parts.specs.Alike.{SameMarks};
 ghost use Rattle.hm_flaw_parts.specs.Marks.{at_of, marked_next, marked_start, marks_in, set_of, told_next};
+ghost use Rattle.hm_race_keys.specs.Arrays.{flag_in};
 ghost use Rattle.hm_race_keys.specs.Sparse.{found};
 
 use crate::told_spans::{ToldSpan, ToldSpans};
 use crate::values::{Position, SetMark};
 use hm_base::{Actor, MirrorId, NoMemory, PoolId};
 use hm_history::{Entry, KeptWhy, Kind};
-use hm_race_keys::sparse::Sparse;
+use hm_race_keys::sparse::{Sparse, mixed};
 use hm_reads::Reads;
 use std::alloc::Global;
 use std::rc::Rc;
@@ -149,6 +152,63 @@ fn sets_after(
     }
 }
 
+fn same_begun(one: &Sparse<Position>, other: &Sparse<Position>) -> bool
+    ensures yes { result ≡ true
+        → (a m : ℕ) → option_map at_of (found one.now a m) ≡ option_map at_of (found other.now a m) }
+    ensures no { ((a m : ℕ) → option_map at_of (found one.now a m) ≡ option_map at_of (found other.now a m))
+        → result ≡ true }
+{
+    one.same(other)
+}
+
+fn same_sets(one: &Sparse<SetMark>, other: &Sparse<SetMark>) -> bool
+    ensures yes { result ≡ true
+        → (m v : ℕ) → option_map set_of (found one.now m v) ≡ option_map set_of (found other.now m v) }
+    ensures no { ((m v : ℕ) → option_map set_of (found one.now m v) ≡ option_map set_of (found other.now m v))
+        → result ≡ true }
+{
+    one.same(other)
+}
+
+fn same_short(one: &[bool; 16], other: &[bool; 16]) -> bool
+    ensures yes { result ≡ true → (a : ℕ) → flag_in one.now a ≡ flag_in other.now a }
+    ensures no { ((a : ℕ) → flag_in one.now a ≡ flag_in other.now a) → result ≡ true }
+{
+    for at in 0..16usize {
+        if one[at] != other[at] {
+            return false;
+        }
+    }
+    true
+}
+
+// A sum with whether each actor was short of a frame mixed in.
+fn mixed_short(sum: u64, short: &[bool; 16]) -> u64
+    ensures { result ≡ mixed_short sum 16 (flag_in short.now) }
+{
+    let mut total = sum;
+    for at in 0..16usize {
+        total = mixed(total, u64::from(short[at]));
+    }
+    total
+}
+
+fn same_parts(one: &Marks, other: &Marks) -> bool
+    ensures yes { result ≡ true → SameMarks one.now other.now }
+    ensures no { SameMarks one.now other.now → result ≡ true }
+{
+    if !same_begun(&one.begun, &other.begun) {
+        return false;
+    }
+    if !one.told.same(&other.told) {
+        return false;
+    }
+    if !same_sets(&one.sets, &other.sets) {
+        return false;
+    }
+    same_short(&one.short, &other.short)
+}
+
 impl Marks {
     /// Before the first entry.
     pub fn start(alloc: Global) -> Result<Marks, NoMemory>
@@ -201,5 +261,21 @@ impl Marks {
             sets: sets_after(alloc, &self.sets, &entry.kind, goes_back)?,
             short: short_after(&self.short, world, entry),
         })
+    }
+
+    /// Whether the two stand for the same marks.
+    pub fn same(&self, other: &Marks) -> bool
+        ensures alike { result ≡ true → marks_in self.now ≡ marks_in other.now }
+        ensures apart { marks_in self.now ≡ marks_in other.now → result ≡ true }
+    {
+        same_parts(self, other)
+    }
+
+    /// A sum with a number of the marks mixed in, which is the same for the same marks, and should mostly be another for
+    /// others.
+    pub fn bucket(&self, sum: u64) -> u64
+        ensures { result ≡ marks_number sum (marks_in self.now) }
+    {
+        mixed_short(self.told.bucket(sum), &self.short)
     }
 }

@@ -1,4 +1,5 @@
-use Rattle.std.proofs.Common.{◌≡◌, ◌∙◌, subst}
+use Rattle.std.proofs.Common.{◌≡◌, ◌∙◌, map, subst}
+use Rattle.std.specs.Rc.{rc_value}
 use Rattle.hm_base.specs.Program.{Program}
 use Rattle.hm_flaws.specs.Recalled.{recalled_of}
 use Rattle.hm_rules.specs.Followed.{IsFollowed}
@@ -8,7 +9,7 @@ use Rattle.hm_flaw_parts.proofs.judged.broken_of_all.Goals as goal
 pub returns : goal.returns
 returns g c =
     let p = g.W.Reads.program c.args.world.now in
-    let h = c.args.entries.now in
+    let h = map rc_value c.args.entries.now in
     let followed : IsFollowed p (recalled_of p h) c.in_ok-so_far.so_far =
     subst (λ (q : Program). IsFollowed q (recalled_of q h) c.in_ok-so_far.so_far) c.script.ensures c.in_ok-so_far.ensures in
     c.first_of.ensures

@@ -1,0 +1,6 @@
+mod Frames
+mod Trails
+mod Following
+mod Forms
+mod SetUps
+mod Turns

@@ -1,0 +1,14 @@
+use Rattle.std.proofs.Common.{ℕ, Bool, sym, ap, ◌∙◌, rules}
+use Rattle.std.specs.Prelude.{if◌then◌else◌}
+use Rattle.hm_race_keys.specs.Arrays.{flag_in}
+use Rattle.hm_race_keys.specs.Sparse.{mixed}
+use Rattle.hm_flaw_parts.proofs.Alike.{no_short, short_more}
+use Rattle.hm_flaw_parts.proofs.marks.mixed_short.Goals as goal
+
+pub loop-at-init : goal.loop-at-init
+loop-at-init c = no_short _ _
+
+pub loop-at-preserved : goal.loop-at-preserved
+loop-at-preserved c =
+    let f : ℕ → Bool = flag_in c.args.short.now in
+    c.mixed-total.ensures ∙ (ap (λ (t : ℕ). mixed t (if f c.loop-at.at then 1 else 0)) c.loop-at.invariant ∙ sym (short_more c.args.sum c.loop-at.at f))
