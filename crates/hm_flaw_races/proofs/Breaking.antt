@@ -1,7 +1,7 @@
 -- What the points of turns say of the races of a driver.
-use Rattle.std.proofs.Common.{◌≡◌, ℕ, ◌+◌, ◌<◌, ◌≤◌, ◌⊎◌, inl, inr, true, false, Option, Some, None, List, length, refl, sym, ap, ◌∙◌, subst, arith}
+use Rattle.std.proofs.Common.{◌≡◌, ℕ, ◌+◌, ◌<◌, ◌≤◌, ◌⊎◌, inl, inr, Bool, true, false, Option, Some, None, List, length, refl, sym, ap, ◌∙◌, subst, arith}
 use Rattle.std.specs.Prelude.{is_some}
-use Rattle.std.proofs.lemmas.Bool.{cases_lt, false≢true, or_parts}
+use Rattle.std.proofs.lemmas.Bool.{cases_lt, false≢true}
 use Rattle.std.proofs.lemmas.List.{length-map}
 use Rattle.std.proofs.lemmas.Option.{none-some, same_Some}
 use Rattle.hm_base.specs.Program.{Program}
@@ -10,12 +10,12 @@ use Rattle.hm_history.specs.declared.Entry.{Entry}
 use Rattle.hm_flaws.specs.declared.flaws.Flaw.{Flaw}
 use Rattle.hm_flaws.specs.declared.parts.Part.{Part}
 use Rattle.hm_flaws.specs.Flawed.{Flawed, flawed_from, flawed_after}
-use Rattle.hm_flaws.specs.Judged.{Unbroken, Breaks, broken_by, judged}
+use Rattle.hm_flaws.specs.Judged.{Breaks, broken_by, judged}
 use Rattle.hm_flaws.specs.Laws.{JudgedBreaks}
 use Rattle.hm_flaws.specs.Races.{is_stuck, part_in}
-use Rattle.hm_flaw_races.specs.Races.{FlawPoint, broken_count, point_from, entries_at, is_found}
-use Rattle.hm_flaw_races.specs.Judging.{point_after, TurnsBreak}
-use Rattle.hm_flaw_races.specs.Laws.{BrokenTurnsBreak, StuckTurnsStick, UnbrokenBreaksNone, UnbrokenBreaksLater, UnfoundIsRight, UnfoundIsShorter}
+use Rattle.hm_flaw_races.specs.Races.{FlawPoint, broken_count, point_from, entries_at}
+use Rattle.hm_flaw_races.specs.Judging.{point_after, sticks_at, Sticks, TurnsBreak}
+use Rattle.hm_flaw_races.specs.Laws.{BrokenTurnsBreak, StuckTurnsStick, UnbrokenBreaksNone, UnbrokenBreaksLater, UnstuckNeverSticks, UnstuckSticksLater}
 use Rattle.hm_flaw_races.proofs.Turns.{flawed_lengths, turns_are_judged, turns_go}
 use Rattle.hm_flaw_races.proofs.Unbroken.{actors_in, breaks_point, turns_in, turns_long, unbroken_point}
 
@@ -31,15 +31,20 @@ broken_turns_break law parts l c h turns part b = by (judged parts l c h turns).
     by : (o : Option (Entry × Part)) → (judged parts l c h turns).broken ≡ o → part_in o ≡ Some part → TurnsBreak parts l c h turns part
     by None is k = absurd (none-some part k)
     by (Some y) is k = record {
-      entries = (judged parts l c h turns).entries;
       entry = y.0;
+      broken = is ∙ ap (λ (p : Part). Some (y.0, p)) (same_Some y.1 part k);
       breaks = subst (Breaks parts l c h (judged parts l c h turns).entries y.0) (same_Some y.1 part k) (law parts l c h turns y.0 y.1 is);
       each = λ adds. omega (arith, adds, entries_after parts l c h turns, ap broken_count b);
     }
 
+-- no entry breaks a part if none is broken
+pub no_entry : (o : Option (Entry × Part)) → part_in o ≡ None → o ≡ None
+no_entry None k = refl
+no_entry (Some y) k = absurd (none-some y.1 (sym k))
+
 pub stuck_turns_stick : StuckTurnsStick
 stuck_turns_stick parts l c h turns none stuck = record {
-  entries = (judged parts l c h turns).entries;
+  unbroken = no_entry (judged parts l c h turns).broken (sym (ap (λ (x : FlawPoint). x.broken) (turns_are_judged parts l c h turns)) ∙ none);
   sticks = record {
     unbroken = (turns_go parts l c h turns).unbroken;
     stuck = sym (ap (is_stuck l c) (ap (λ (x : FlawPoint). x.flawed) (turns_are_judged parts l c h turns) ∙ (turns_go parts l c h turns).same)) ∙ stuck;
@@ -60,30 +65,23 @@ pub unbroken_breaks_later : UnbrokenBreaksLater
 unbroken_breaks_later parts l c h n none es e part b = by (cases_lt (length es + 1) n)
   where
     by : (length es + 1 < n) ⊎ (n ≤ length es + 1) → n ≤ length es + 1
-    by (inl k) = absurd (none-some part (sym (none (turns_in es e) (omega (arith, turns_long es e, k))) ∙ breaks_point parts l c h es e part b))
+    by (inl k) = absurd (false≢true (sym (none (turns_in es e) (omega (arith, turns_long es e, k))) ∙ ap is_some (breaks_point parts l c h es e part b)))
     by (inr k) = k
 
--- nothing is found at a point at which no part was broken and somebody can go on
-unfound_parts : (l : Flaw) (c : Program) (x : FlawPoint) → is_found l c x ≡ false → (x.broken ≡ None) × (is_stuck l c x.flawed ≡ false)
-unfound_parts l c x f = let p = or_parts (is_some x.broken) (is_stuck l c x.flawed) f in (none x.broken p.0, p.1)
+-- nobody can go on at the point after the turns of entries after which that is so
+stuck_point : (parts : List Part) (l : Flaw) (c : Program) (h es : List Entry) → Sticks parts l c h es → sticks_at l c (point_after parts l c h (actors_in es)) ≡ true
+stuck_point parts l c h es s = ap (sticks_at l c) (unbroken_point parts l c h es s.unbroken) ∙ s.stuck
+
+pub unstuck_never_sticks : UnstuckNeverSticks
+unstuck_never_sticks parts l c h none es u = by (is_stuck l c (flawed_after l c h es)) refl
   where
-    none : (o : Option Part) → is_some o ≡ false → o ≡ None
-    none None k = refl
-    none (Some part) k = absurd (false≢true (sym k))
+    by : (b : Bool) → is_stuck l c (flawed_after l c h es) ≡ b → is_stuck l c (flawed_after l c h es) ≡ false
+    by false k = k
+    by true k = absurd (false≢true (sym (none (actors_in es)) ∙ stuck_point parts l c h es (record { unbroken = u; stuck = k })))
 
--- so after unbroken entries
-unstuck : (parts : List Part) (l : Flaw) (c : Program) (h es : List Entry) → Unbroken parts l c h es → is_found l c (point_after parts l c h (actors_in es)) ≡ false → is_stuck l c (flawed_after l c h es) ≡ false
-unstuck parts l c h es u f = sym (ap (λ (x : FlawPoint). is_stuck l c x.flawed) (unbroken_point parts l c h es u)) ∙ (unfound_parts l c (point_after parts l c h (actors_in es)) f).1
-
-pub unfound_is_right : UnfoundIsRight
-unfound_is_right parts l c h none = (unbroken_breaks_none parts l c h (λ turns. (unfound_parts l c (point_after parts l c h turns) (none turns)).0), λ es u. unstuck parts l c h es u (none (actors_in es)))
-
-pub unfound_is_shorter : UnfoundIsShorter
-unfound_is_shorter parts l c h n none = record {
-  breaks = unbroken_breaks_later parts l c h n (λ turns less. (unfound_parts l c (point_after parts l c h turns) (none turns less)).0);
-  sticks = λ es s. by es s.unbroken s.stuck (cases_lt (length es) n);
-}
+pub unstuck_sticks_later : UnstuckSticksLater
+unstuck_sticks_later parts l c h n none es s = by (cases_lt (length es) n)
   where
-    by : (es : List Entry) → Unbroken parts l c h es → is_stuck l c (flawed_after l c h es) ≡ true → (length es < n) ⊎ (n ≤ length es) → n ≤ length es
-    by es u s (inl k) = absurd (false≢true (sym (unstuck parts l c h es u (none (actors_in es) (omega (arith, length-map es (λ (x : Entry). x.actor), k)))) ∙ s))
-    by es u s (inr k) = k
+    by : (length es < n) ⊎ (n ≤ length es) → n ≤ length es
+    by (inl k) = absurd (false≢true (sym (none (actors_in es) (omega (arith, length-map es (λ (x : Entry). x.actor), k))) ∙ stuck_point parts l c h es s))
+    by (inr k) = k

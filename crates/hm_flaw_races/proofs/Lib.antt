@@ -1,7 +1,7 @@
-mod Systems
+pub mod Systems
 pub mod Marking
-mod Turns
+pub mod Turns
 mod Unbroken
-mod Breaking
+pub mod Breaking
 mod Searched
 mod Rightly

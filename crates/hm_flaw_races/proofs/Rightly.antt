@@ -20,7 +20,7 @@ use Rattle.hm_race_laws.specs.Outcomes.{ended_in}
 use Rattle.hm_flaws.specs.declared.flaws.Flaw.{Flaw}
 use Rattle.hm_flaws.specs.declared.parts.Part.{Part}
 use Rattle.hm_flaws.specs.Flawed.{Flawed, flawed_from, flawed_next, flawed_after, due_by}
-use Rattle.hm_flaws.specs.Judged.{UnbrokenBy}
+use Rattle.hm_flaws.specs.Judged.{UnbrokenBy, judged}
 use Rattle.hm_flaws.specs.Laws.{RightBreaksNone}
 use Rattle.hm_flaws.specs.Races.{is_stuck}
 use Rattle.hm_flaw_races.specs.Races.{is_found}
@@ -34,7 +34,7 @@ right_turns_break_none turned right parts c sc h d turns = by (point_after parts
     by None b = b
     by (Some part) b =
         let t = turned parts Flaw.NoFlaw c h turns part b in
-        absurd (none-some part (sym (right parts c sc h d t.entries t.breaks.unbroken t.entry t.breaks.is_due) ∙ t.breaks.broken))
+        absurd (none-some part (sym (right parts c sc h d (judged parts Flaw.NoFlaw c h turns).entries t.breaks.unbroken t.entry t.breaks.is_due) ∙ t.breaks.broken))
 
 -- ---- somebody goes on
 
@@ -92,7 +92,8 @@ right_turns_find_none unbroken sticks law parts c sc h d turns = by (is_stuck Fl
     never stuck =
         let z = sticks parts Flaw.NoFlaw c h turns none stuck in
         let from : Flawed = flawed_from (state_of c h) in
-        right_moves law c sc (h ++ z.entries) (DueFrom-join c [] h z.entries d (due_on parts c h z.entries from refl z.sticks.unbroken)) (flawed_after Flaw.NoFlaw c h z.entries) (state_on c h z.entries from refl) z.sticks.stuck
+        let es : List Entry = (judged parts Flaw.NoFlaw c h turns).entries in
+        right_moves law c sc (h ++ es) (DueFrom-join c [] h es d (due_on parts c h es from refl z.sticks.unbroken)) (flawed_after Flaw.NoFlaw c h es) (state_on c h es from refl) z.sticks.stuck
 
     by : (b : Bool) → is_stuck Flaw.NoFlaw c (point_after parts Flaw.NoFlaw c h turns).flawed ≡ b → is_found Flaw.NoFlaw c (point_after parts Flaw.NoFlaw c h turns) ≡ false
     by true stuck = absurd (never stuck)

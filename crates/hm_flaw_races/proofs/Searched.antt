@@ -1,6 +1,7 @@
 -- What a search of the race of a driver with a flaw has shown.
-use Rattle.std.proofs.Common.{◌≡◌, ℕ, ◌<◌, ◌≤◌, ◌⊎◌, inl, inr, suc, true, false, ◌||◌, Option, Some, None, List, [], ◌∷◌, ◌++◌, length, refl, sym, ap, ◌∙◌, subst, arith}
-use Rattle.std.specs.Prelude.{is_some}
+use Rattle.std.proofs.Common.{◌≡◌, ℕ, ◌<◌, ◌≤◌, ◌⊎◌, inl, inr, suc, Bool, true, false, Option, Some, None, List, [], ◌∷◌, ◌++◌, length, refl, sym, ap, ◌∙◌, subst, arith}
+use Rattle.std.specs.Prelude.{is_none, is_some}
+use Rattle.std.proofs.lemmas.Bool.{and_parts, false≢true}
 use Rattle.hm_base.specs.Program.{Program}
 use Rattle.hm_history.specs.declared.Entry.{Entry}
 use Rattle.hm_flaws.specs.declared.flaws.Flaw.{Flaw}
@@ -8,19 +9,34 @@ use Rattle.hm_flaws.specs.declared.parts.Part.{Part}
 use Rattle.hm_flaws.specs.Races.{is_stuck}
 use Rattle.hm_race_laws.specs.Closed.{IsListed}
 use Rattle.hm_race_laws.proofs.Searching.{listed_cases, listed_right}
-use Rattle.hm_search.specs.Known.{KnownValue, AreKnown, AreRising, HaveFewer, Within, turns_at}
+use Rattle.hm_search.specs.Goals.{AreMissed}
+use Rattle.hm_search.specs.Known.{KnownValue, AreKnown, AreRising, HaveFewer, HaveForms, Within, turns_at}
 use Rattle.hm_search.proofs.Exploring.{From, from_map, place_of}
-use Rattle.hm_flaw_races.specs.Races.{FlawPoint, flaw_system, is_found}
-use Rattle.hm_flaw_races.specs.Judging.{point_after, EachAdds}
-use Rattle.hm_flaw_races.specs.Shortest.{BreaksWith, IsFirst, SticksWith}
-use Rattle.hm_flaw_races.specs.Laws.{BrokenTurnsBreak, FirstIsShortest, StuckTurnsStick, WholeIsRight}
-use Rattle.hm_flaw_races.proofs.Breaking.{unfound_is_right, unfound_is_shorter}
+use Rattle.hm_flaw_races.specs.Races.{FlawPoint, flaw_system}
+use Rattle.hm_flaw_races.specs.Judging.{point_after, breaks_at, sticks_at, EachAdds}
+use Rattle.hm_flaw_races.specs.Shortest.{BreaksSoonest, IsFirst}
+use Rattle.hm_flaw_races.specs.Laws.{BrokenTurnsBreak, FirstBreaksSoonest, FirstSticksSoonest, StuckTurnsStick, WholeBreaksNone, WholeNeverSticks}
+use Rattle.hm_flaw_races.proofs.Breaking.{unbroken_breaks_later, unbroken_breaks_none, unstuck_never_sticks, unstuck_sticks_later}
 
-pub whole_is_right : WholeIsRight
-whole_is_right parts l c h known each all missed = unfound_is_right parts l c h (λ turns. none turns (from_map (λ (n : KnownValue FlawPoint). n.form) known (point_after parts l c h turns) (all turns)))
+-- ---- all states
+
+-- a goal that no known state reaches holds after no turns
+unreached : (parts : List Part) (l : Flaw) (c : Program) (h : List Entry) (known : List (KnownValue FlawPoint)) → AreKnown (flaw_system parts l c h) known → HaveForms (flaw_system parts l c h) known
+    → (goal : FlawPoint → Bool) → AreMissed goal known → (turns : List ℕ) → goal (point_after parts l c h turns) ≡ false
+unreached parts l c h known each all goal missed turns = by (from_map (λ (n : KnownValue FlawPoint). n.form) known (point_after parts l c h turns) (all turns))
   where
-    none : (turns : List ℕ) → From (λ (n : KnownValue FlawPoint). n.form) known (point_after parts l c h turns) → is_found l c (point_after parts l c h turns) ≡ false
-    none turns z = sym (ap (is_found l c) z.same) ∙ missed z.item z.listed (each z.item z.listed).ended
+    by : From (λ (n : KnownValue FlawPoint). n.form) known (point_after parts l c h turns) → goal (point_after parts l c h turns) ≡ false
+    by z = sym (ap goal z.same) ∙ missed z.item z.listed (each z.item z.listed).ended
+
+none_broken : (o : Option Part) → is_some o ≡ false → o ≡ None
+none_broken None k = refl
+none_broken (Some part) k = absurd (false≢true (sym k))
+
+pub whole_breaks_none : WholeBreaksNone
+whole_breaks_none parts l c h known each all missed = unbroken_breaks_none parts l c h (λ turns. none_broken (point_after parts l c h turns).broken (unreached parts l c h known each all breaks_at missed turns))
+
+pub whole_never_sticks : WholeNeverSticks
+whole_never_sticks parts l c h known each all missed = unstuck_never_sticks parts l c h (unreached parts l c h known each all (sticks_at l c) missed)
 
 -- ---- the first that is found
 
@@ -35,39 +51,55 @@ later n rest m r k =
     let most : length n.turns ≤ length (turns_at (n ∷ rest) p.place) = r 0 p.place (omega arith) p.within in
     omega (arith, most, ap length p.same)
 
-module _ (parts : List Part) (l : Flaw) (c : Program) (h : List Entry) (known : List (KnownValue FlawPoint)) (each : AreKnown (flaw_system parts l c h) known) (n : KnownValue FlawPoint) (first : IsFirst (is_found l c) known n) where
+module _ (parts : List Part) (l : Flaw) (c : Program) (h : List Entry) (known : List (KnownValue FlawPoint)) (each : AreKnown (flaw_system parts l c h) known) (goal : FlawPoint → Bool) (n : KnownValue FlawPoint) (first : IsFirst goal known n) where
   there : IsListed known n
   there = subst (λ (z : List (KnownValue FlawPoint)). IsListed z n) (sym first.all) (listed_right first.before (n ∷ first.rest) n (inl refl))
 
-  -- nothing is found after fewer turns
-  unfound_before : HaveFewer (flaw_system parts l c h) known → AreRising known → (turns : List ℕ) → length turns < length n.turns → is_found l c (point_after parts l c h turns) ≡ false
-  unfound_before fewer rising turns less = by (fewer n there turns less)
+  -- the goal holds after no fewer turns
+  unreached_before : HaveFewer (flaw_system parts l c h) known → AreRising known → (turns : List ℕ) → length turns < length n.turns → goal (point_after parts l c h turns) ≡ false
+  unreached_before fewer rising turns less = by (fewer n there turns less)
     where
-      at_cases : (w : KnownValue FlawPoint) → IsListed known w → length w.turns ≤ length turns → IsListed first.before w ⊎ IsListed (n ∷ first.rest) w → is_found l c w.form ≡ false
+      at_cases : (w : KnownValue FlawPoint) → IsListed known w → length w.turns ≤ length turns → IsListed first.before w ⊎ IsListed (n ∷ first.rest) w → goal w.form ≡ false
       at_cases w k few (inl z) = first.missed w z (each w k).ended
       at_cases w k few (inr z) = absurd (omega (arith, few, less, later n first.rest w (rising_rest first.before (n ∷ first.rest) (subst AreRising first.all rising)) z))
 
-      by : Within known (point_after parts l c h turns) (length turns) → is_found l c (point_after parts l c h turns) ≡ false
-      by w = sym (ap (is_found l c) w.form) ∙ at_cases w.state w.listed w.few (listed_cases first.before (n ∷ first.rest) w.state (subst (λ (z : List (KnownValue FlawPoint)). IsListed z w.state) first.all w.listed))
+      by : Within known (point_after parts l c h turns) (length turns) → goal (point_after parts l c h turns) ≡ false
+      by w = sym (ap goal w.form) ∙ at_cases w.state w.listed w.few (listed_cases first.before (n ∷ first.rest) w.state (subst (λ (z : List (KnownValue FlawPoint)). IsListed z w.state) first.all w.listed))
 
   adds : EachAdds parts l c h n.turns
   adds = (each n there).adds
 
-  first_breaks : BrokenTurnsBreak → (part : Part) → n.form.broken ≡ Some part → BreaksWith parts l c h (length n.turns) part
-  first_breaks law part b =
-      let t = law parts l c h n.turns part (sym (ap (λ (x : FlawPoint). x.broken) (each n there).form) ∙ b) in
-      record { entries = t.entries; entry = t.entry; breaks = t.breaks; long = t.each adds }
+  same : n.form ≡ point_after parts l c h n.turns
+  same = (each n there).form
 
-  first_sticks : StuckTurnsStick → n.form.broken ≡ None → SticksWith parts l c h (length n.turns)
-  first_sticks law none =
-      let same : n.form ≡ point_after parts l c h n.turns = (each n there).form in
-      let stuck : is_stuck l c n.form.flawed ≡ true = sym (ap (λ (o : Option Part). is_some o || is_stuck l c n.form.flawed) none) ∙ first.reached in
-      let t = law parts l c h n.turns (sym (ap (λ (x : FlawPoint). x.broken) same) ∙ none) (sym (ap (λ (x : FlawPoint). is_stuck l c x.flawed) same) ∙ stuck) in
-      record { entries = t.entries; sticks = t.sticks; long = t.each adds }
+pub first_breaks_soonest : BrokenTurnsBreak → FirstBreaksSoonest
+first_breaks_soonest law parts l c h known each fewer rising n first = by n.form.broken refl
+  where
+    by : (o : Option Part) → n.form.broken ≡ o → BreaksSoonest parts l c h n.turns
+    by None b = absurd (false≢true (sym (ap is_some b) ∙ first.reached))
+    by (Some part) b =
+        let t = law parts l c h n.turns part (sym (ap (λ (x : FlawPoint). x.broken) (same parts l c h known each breaks_at n first)) ∙ b) in
+        record {
+          entry = t.entry;
+          part = part;
+          broken = t.broken;
+          breaks = t.breaks;
+          long = t.each (adds parts l c h known each breaks_at n first);
+          later = unbroken_breaks_later parts l c h (length n.turns) (unreached_before parts l c h known each breaks_at n first fewer rising);
+        }
 
-pub first_is_shortest : BrokenTurnsBreak → StuckTurnsStick → FirstIsShortest
-first_is_shortest breaks sticks parts l c h known each fewer rising n first = record {
-  breaks = first_breaks parts l c h known each n first breaks;
-  sticks = first_sticks parts l c h known each n first sticks;
-  shorter = unfound_is_shorter parts l c h (length n.turns) (unfound_before parts l c h known each n first fewer rising);
-}
+none_is : (o : Option Part) → is_none o ≡ true → o ≡ None
+none_is None k = refl
+none_is (Some part) k = absurd (false≢true k)
+
+pub first_sticks_soonest : StuckTurnsStick → FirstSticksSoonest
+first_sticks_soonest law parts l c h known each fewer rising n first =
+    let is = same parts l c h known each (sticks_at l c) n first in
+    let both = and_parts (is_none n.form.broken) (is_stuck l c n.form.flawed) first.reached in
+    let t = law parts l c h n.turns (sym (ap (λ (x : FlawPoint). x.broken) is) ∙ none_is n.form.broken both.0) (sym (ap (λ (x : FlawPoint). is_stuck l c x.flawed) is) ∙ both.1) in
+    record {
+      unbroken = t.unbroken;
+      sticks = t.sticks;
+      long = t.each (adds parts l c h known each (sticks_at l c) n first);
+      later = unstuck_sticks_later parts l c h (length n.turns) (unreached_before parts l c h known each (sticks_at l c) n first fewer rising);
+    }

@@ -41,7 +41,7 @@ turn_adds parts l c x a None (Progress.Waiting why) b d is = absurd (false≢tru
 turn_adds parts l c x a None Progress.Idle b d is = absurd (false≢true is)
 
 -- or it changes nothing
-turn_stays : (parts : List Part) (l : Flaw) (c : Program) (x : FlawPoint) (a : ℕ) (o : Option Part) (p : Progress) → due_by l c x.flawed a ≡ p → (is_none o && is_entry p) ≡ false → point_on parts l c o x a ≡ x
+pub turn_stays : (parts : List Part) (l : Flaw) (c : Program) (x : FlawPoint) (a : ℕ) (o : Option Part) (p : Progress) → due_by l c x.flawed a ≡ p → (is_none o && is_entry p) ≡ false → point_on parts l c o x a ≡ x
 turn_stays parts l c x a (Some part) p d is = refl
 turn_stays parts l c x a None (Progress.Did e) d is = absurd (false≢true (sym is))
 turn_stays parts l c x a None (Progress.Waiting why) d is = ap (point_turned parts l c x) d

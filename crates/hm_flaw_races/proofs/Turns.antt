@@ -92,7 +92,7 @@ abbrev with_marks : Flawed → Marked → FlawPoint
 with_marks t m = record { flawed = t; marked = m; broken = None }
 
 -- the state's memory is that of all entries
-in_step : (parts : List Part) (l : Flaw) (c : Program) (h : List Entry) (x : Judged) → Goes parts l c h x → x.flawed.state.after ≡ after (h ++ x.entries)
+pub in_step : (parts : List Part) (l : Flaw) (c : Program) (h : List Entry) (x : Judged) → Goes parts l c h x → x.flawed.state.after ≡ after (h ++ x.entries)
 in_step parts l c h x k = ap (λ (t : Flawed). t.state.after) k.same ∙ state_after l c h x.entries
 
 entry_same : (parts : List Part) (l : Flaw) (c : Program) (h : List Entry) (x : Judged) (e : Entry) → Goes parts l c h x → (o : Option Part) → point_entry l c (point_of c h x) e o ≡ point_of c h (judged_entry parts l c h x e o)

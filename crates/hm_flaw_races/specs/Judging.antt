@@ -1,11 +1,11 @@
 -- What turns of such a race come to, in the words of entries that were due to the driver.
-use Rattle.std.specs.Prelude.{◌≡◌, ℕ, ◌+◌, true, false, None, List, ◌++◌, length}
+use Rattle.std.specs.Prelude.{◌≡◌, ℕ, ◌+◌, Bool, true, false, ◌&&◌, Some, None, is_none, is_some, List, ◌++◌, length}
 use Rattle.hm_base.specs.Program.{Program}
 use Rattle.hm_history.specs.declared.Entry.{Entry}
 use Rattle.hm_flaws.specs.declared.flaws.Flaw.{Flaw}
 use Rattle.hm_flaws.specs.declared.parts.Part.{Part}
 use Rattle.hm_flaws.specs.Flawed.{flawed_after}
-use Rattle.hm_flaws.specs.Judged.{Judged, Unbroken, Breaks}
+use Rattle.hm_flaws.specs.Judged.{Judged, Unbroken, Breaks, judged}
 use Rattle.hm_flaws.specs.Races.{is_stuck, part_in}
 use Rattle.hm_search.specs.Systems.{point_at}
 use Rattle.hm_flaw_races.specs.Races.{FlawPoint, marked_of, point_from, entries_at, flaw_system, is_found}
@@ -27,6 +27,10 @@ EachAdds parts l c h turns =
 
 -- ---- a part is broken
 
+-- a part was broken
+abbrev pub breaks_at : FlawPoint → Bool
+breaks_at x = is_some x.broken
+
 -- no turns break a part
 abbrev pub NoTurnsBreak : List Part → Flaw → Program → List Entry → Type 0
 NoTurnsBreak parts l c h = (turns : List ℕ) → (point_after parts l c h turns).broken ≡ None
@@ -34,10 +38,10 @@ NoTurnsBreak parts l c h = (turns : List ℕ) → (point_after parts l c h turns
 -- turns are a race in which the driver breaks this part, with the last of them if each adds an entry
 pub record TurnsBreak (parts : List Part) (l : Flaw) (c : Program) (h : List Entry) (turns : List ℕ) (part : Part)
     : Type 0 where
-  pub entries : List Entry
   pub entry : Entry
-  pub breaks : Breaks parts l c h entries entry part
-  pub each : EachAdds parts l c h turns → length entries + 1 ≡ length turns
+  pub broken : (judged parts l c h turns).broken ≡ Some (entry, part)
+  pub breaks : Breaks parts l c h (judged parts l c h turns).entries entry part
+  pub each : EachAdds parts l c h turns → length (judged parts l c h turns).entries + 1 ≡ length turns
 
 -- ---- nobody can go on
 
@@ -54,9 +58,17 @@ NeverSticks parts l c h =
 
 -- turns are a race after which nobody can go on
 pub record TurnsStick (parts : List Part) (l : Flaw) (c : Program) (h : List Entry) (turns : List ℕ) : Type 0 where
-  pub entries : List Entry
-  pub sticks : Sticks parts l c h entries
-  pub each : EachAdds parts l c h turns → length entries ≡ length turns
+  pub unbroken : (judged parts l c h turns).broken ≡ None
+  pub sticks : Sticks parts l c h (judged parts l c h turns).entries
+  pub each : EachAdds parts l c h turns → length (judged parts l c h turns).entries ≡ length turns
+
+-- no part was broken, and nobody can go on, though some operation has not ended
+abbrev pub sticks_at : Flaw → Program → FlawPoint → Bool
+sticks_at l c x = is_none x.broken && is_stuck l c x.flawed
+
+-- no turns come to where nobody can go on
+abbrev pub NoTurnsStick : List Part → Flaw → Program → List Entry → Type 0
+NoTurnsStick parts l c h = (turns : List ℕ) → sticks_at l c (point_after parts l c h turns) ≡ false
 
 -- ---- either
 

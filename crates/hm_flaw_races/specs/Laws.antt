@@ -10,10 +10,10 @@ use Rattle.hm_flaws.specs.Races.{is_stuck}
 use Rattle.hm_search.specs.Goals.{AreMissed}
 use Rattle.hm_search.specs.Known.{KnownValue, AreKnown, AreRising, HaveFewer, HaveForms}
 use Rattle.hm_search.specs.Systems.{IsSystem}
-use Rattle.hm_flaw_races.specs.Races.{FlawPoint, flaw_system, is_found}
-use Rattle.hm_flaw_races.specs.Judging.{point_after, point_of, NoTurnsBreak, TurnsBreak, NeverSticks, TurnsStick}
-use Rattle.hm_flaw_races.specs.Judging.{NoTurnsFind}
-use Rattle.hm_flaw_races.specs.Shortest.{IsFirst, IsShortest, NoneIsShorter}
+use Rattle.hm_flaw_races.specs.Races.{FlawPoint, flaw_system}
+use Rattle.hm_flaw_races.specs.Judging.{point_after, point_of, breaks_at, sticks_at, NoTurnsBreak, TurnsBreak}
+use Rattle.hm_flaw_races.specs.Judging.{NeverSticks, NoTurnsStick, TurnsStick, NoTurnsFind}
+use Rattle.hm_flaw_races.specs.Shortest.{IsFirst, BreakLater, StickLater, BreaksSoonest, SticksSoonest}
 
 -- ---- turns
 
@@ -49,41 +49,55 @@ abbrev pub UnbrokenBreaksNone : Type 0
 UnbrokenBreaksNone =
     (parts : List Part) (l : Flaw) (c : Program) (h : List Entry) → NoTurnsBreak parts l c h → BreaksNone parts l c h
 
--- if nothing is found after any turns, the driver breaks no part, and is never stuck
-abbrev pub UnfoundIsRight : Type 0
-UnfoundIsRight =
-    (parts : List Part) (l : Flaw) (c : Program) (h : List Entry) → NoTurnsFind parts l c h
-    → BreaksNone parts l c h × NeverSticks parts l c h
+-- if no turns come to where nobody can go on, the driver is never stuck
+abbrev pub UnstuckNeverSticks : Type 0
+UnstuckNeverSticks =
+    (parts : List Part) (l : Flaw) (c : Program) (h : List Entry) → NoTurnsStick parts l c h → NeverSticks parts l c h
 
 -- if no turns that are fewer than n break a part, no race breaks one with fewer than n entries
 abbrev pub UnbrokenBreaksLater : Type 0
 UnbrokenBreaksLater =
     (parts : List Part) (l : Flaw) (c : Program) (h : List Entry) (n : ℕ)
-    → ((turns : List ℕ) → length turns < n → (point_after parts l c h turns).broken ≡ None)
-    → (es : List Entry) (e : Entry) (part : Part) → Breaks parts l c h es e part → n ≤ length es + 1
+    → ((turns : List ℕ) → length turns < n → breaks_at (point_after parts l c h turns) ≡ false)
+    → BreakLater parts l c h n
 
--- if nothing is found after fewer than n turns, no race is shorter
-abbrev pub UnfoundIsShorter : Type 0
-UnfoundIsShorter =
+-- if somebody can go on after all turns that are fewer than n, nobody is stuck after fewer than n entries
+abbrev pub UnstuckSticksLater : Type 0
+UnstuckSticksLater =
     (parts : List Part) (l : Flaw) (c : Program) (h : List Entry) (n : ℕ)
-    → ((turns : List ℕ) → length turns < n → is_found l c (point_after parts l c h turns) ≡ false)
-    → NoneIsShorter parts l c h n
+    → ((turns : List ℕ) → length turns < n → sticks_at l c (point_after parts l c h turns) ≡ false)
+    → StickLater parts l c h n
 
 -- ---- searches
 
--- a search that knows the form after all turns, and finds nothing, has shown the same
-abbrev pub WholeIsRight : Type 0
-WholeIsRight =
+-- a search that knows the form after all turns, and no state at which a part was broken, has shown that the driver
+-- breaks none
+abbrev pub WholeBreaksNone : Type 0
+WholeBreaksNone =
     (parts : List Part) (l : Flaw) (c : Program) (h : List Entry) (known : List (KnownValue FlawPoint))
     → AreKnown (flaw_system parts l c h) known → HaveForms (flaw_system parts l c h) known
-    → AreMissed (is_found l c) known → BreaksNone parts l c h × NeverSticks parts l c h
+    → AreMissed breaks_at known → BreaksNone parts l c h
 
--- the first known state at which something is found is what a race comes to, and no race is shorter
-abbrev pub FirstIsShortest : Type 0
-FirstIsShortest =
+-- if it knows no state at which nobody can go on, it has shown that the driver is never stuck
+abbrev pub WholeNeverSticks : Type 0
+WholeNeverSticks =
+    (parts : List Part) (l : Flaw) (c : Program) (h : List Entry) (known : List (KnownValue FlawPoint))
+    → AreKnown (flaw_system parts l c h) known → HaveForms (flaw_system parts l c h) known
+    → AreMissed (sticks_at l c) known → NeverSticks parts l c h
+
+-- the first known state at which a part was broken is what a race comes to, and none that breaks one is shorter
+abbrev pub FirstBreaksSoonest : Type 0
+FirstBreaksSoonest =
     (parts : List Part) (l : Flaw) (c : Program) (h : List Entry) (known : List (KnownValue FlawPoint))
     → AreKnown (flaw_system parts l c h) known → HaveFewer (flaw_system parts l c h) known → AreRising known
-    → (n : KnownValue FlawPoint) → IsFirst (is_found l c) known n → IsShortest parts l c h n
+    → (n : KnownValue FlawPoint) → IsFirst breaks_at known n → BreaksSoonest parts l c h n.turns
+
+-- the first known state at which nobody can go on is what a race comes to, and no such race is shorter
+abbrev pub FirstSticksSoonest : Type 0
+FirstSticksSoonest =
+    (parts : List Part) (l : Flaw) (c : Program) (h : List Entry) (known : List (KnownValue FlawPoint))
+    → AreKnown (flaw_system parts l c h) known → HaveFewer (flaw_system parts l c h) known → AreRising known
+    → (n : KnownValue FlawPoint) → IsFirst (sticks_at l c) known n → SticksSoonest parts l c h n.turns
 
 -- ---- the right driver
 

@@ -4,10 +4,9 @@ use Rattle.hm_base.specs.Program.{Program}
 use Rattle.hm_history.specs.declared.Entry.{Entry}
 use Rattle.hm_flaws.specs.declared.flaws.Flaw.{Flaw}
 use Rattle.hm_flaws.specs.declared.parts.Part.{Part}
-use Rattle.hm_flaws.specs.Judged.{Breaks}
+use Rattle.hm_flaws.specs.Judged.{Breaks, judged}
 use Rattle.hm_search.specs.Goals.{AreMissed}
 use Rattle.hm_search.specs.Known.{KnownValue}
-use Rattle.hm_flaw_races.specs.Races.{FlawPoint}
 use Rattle.hm_flaw_races.specs.Judging.{Sticks}
 
 -- the goal holds of this known state, and of none that stands before it
@@ -18,28 +17,30 @@ pub record IsFirst {F : Type 0} (goal : F → Bool) (known : List (KnownValue F)
   pub missed : AreMissed goal before
   pub reached : goal n.form ≡ true
 
--- no race breaks a part with fewer than n entries, and after none with fewer nobody can go on
-pub record NoneIsShorter (parts : List Part) (l : Flaw) (c : Program) (h : List Entry) (n : ℕ) : Type 0 where
-  pub breaks : (es : List Entry) (e : Entry) (part : Part) → Breaks parts l c h es e part → n ≤ length es + 1
-  pub sticks : (es : List Entry) → Sticks parts l c h es → n ≤ length es
+-- no race breaks a part with fewer than n entries
+abbrev pub BreakLater : List Part → Flaw → Program → List Entry → ℕ → Type 0
+BreakLater parts l c h n =
+    (es : List Entry) (e : Entry) (part : Part) → Breaks parts l c h es e part → n ≤ length es + 1
 
--- the driver breaks this part with the last of n entries
-pub record BreaksWith (parts : List Part) (l : Flaw) (c : Program) (h : List Entry) (n : ℕ) (part : Part)
+-- after fewer than n entries nobody is stuck
+abbrev pub StickLater : List Part → Flaw → Program → List Entry → ℕ → Type 0
+StickLater parts l c h n = (es : List Entry) → Sticks parts l c h es → n ≤ length es
+
+-- turns, each of which adds an entry, are a race in which the driver breaks a part with the last of them, and no race
+-- that breaks one is shorter
+pub record BreaksSoonest (parts : List Part) (l : Flaw) (c : Program) (h : List Entry) (turns : List ℕ)
     : Type 0 where
-  pub entries : List Entry
   pub entry : Entry
-  pub breaks : Breaks parts l c h entries entry part
-  pub long : length entries + 1 ≡ n
+  pub part : Part
+  pub broken : (judged parts l c h turns).broken ≡ Some (entry, part)
+  pub breaks : Breaks parts l c h (judged parts l c h turns).entries entry part
+  pub long : length (judged parts l c h turns).entries + 1 ≡ length turns
+  pub later : BreakLater parts l c h (length turns)
 
--- nobody can go on after n entries
-pub record SticksWith (parts : List Part) (l : Flaw) (c : Program) (h : List Entry) (n : ℕ) : Type 0 where
-  pub entries : List Entry
-  pub sticks : Sticks parts l c h entries
-  pub long : length entries ≡ n
-
--- this known point is what a race comes to, and no race is shorter
-pub record IsShortest (parts : List Part) (l : Flaw) (c : Program) (h : List Entry) (n : KnownValue FlawPoint)
+-- turns, each of which adds an entry, are a race after which nobody can go on, and no such race is shorter
+pub record SticksSoonest (parts : List Part) (l : Flaw) (c : Program) (h : List Entry) (turns : List ℕ)
     : Type 0 where
-  pub breaks : (part : Part) → n.form.broken ≡ Some part → BreaksWith parts l c h (length n.turns) part
-  pub sticks : n.form.broken ≡ None → SticksWith parts l c h (length n.turns)
-  pub shorter : NoneIsShorter parts l c h (length n.turns)
+  pub unbroken : (judged parts l c h turns).broken ≡ None
+  pub sticks : Sticks parts l c h (judged parts l c h turns).entries
+  pub long : length (judged parts l c h turns).entries ≡ length turns
+  pub later : StickLater parts l c h (length turns)

@@ -2,10 +2,10 @@
 // function that does nothing.
 #![tactic(auto)]
 
-ghost use Rattle.hm_flaw_races.specs.Laws.{BrokenTurnsBreak, FirstIsShortest, FlawRacesAreSystems};
-ghost use Rattle.hm_flaw_races.specs.Laws.{RightTurnsBreakNone, RightTurnsFindNone, StuckTurnsStick, TurnsAreJudged};
-ghost use Rattle.hm_flaw_races.specs.Laws.{UnbrokenBreaksLater, UnbrokenBreaksNone, UnfoundIsRight};
-ghost use Rattle.hm_flaw_races.specs.Laws.{UnfoundIsShorter, WholeIsRight};
+ghost use Rattle.hm_flaw_races.specs.Laws.{BrokenTurnsBreak, FirstBreaksSoonest, FirstSticksSoonest};
+ghost use Rattle.hm_flaw_races.specs.Laws.{FlawRacesAreSystems, RightTurnsBreakNone, RightTurnsFindNone};
+ghost use Rattle.hm_flaw_races.specs.Laws.{StuckTurnsStick, TurnsAreJudged, UnbrokenBreaksLater, UnbrokenBreaksNone};
+ghost use Rattle.hm_flaw_races.specs.Laws.{UnstuckNeverSticks, UnstuckSticksLater, WholeBreaksNone, WholeNeverSticks};
 
 /// A race of a driver with a flaw is a system that can be searched.
 pub fn flaw_races_are_systems()
@@ -39,28 +39,39 @@ pub fn unbroken_breaks_later()
     ensures { UnbrokenBreaksLater }
 {}
 
-/// If nothing is found after any turns, the driver breaks no part, and is never stuck.
-pub fn unfound_is_right()
-    ensures { UnfoundIsRight }
+/// If no turns come to where nobody can go on, the driver is never stuck.
+pub fn unstuck_never_sticks()
+    ensures { UnstuckNeverSticks }
 {}
 
-/// If nothing is found after fewer than n turns, no race breaks a part with fewer than n entries, and none is stuck
-/// after fewer.
-pub fn unfound_is_shorter()
-    ensures { UnfoundIsShorter }
+/// If no turns that are fewer than n come to where nobody can go on, nobody is stuck after fewer than n entries.
+pub fn unstuck_sticks_later()
+    ensures { UnstuckSticksLater }
 {}
 
-/// A search that knows the form after all turns, and finds nothing, has shown that the driver breaks no part, and is
+/// A search that knows the form after all turns, and no state at which a part was broken, has shown that the driver
+/// breaks none.
+pub fn whole_breaks_none()
+    ensures { WholeBreaksNone }
+{}
+
+/// A search that knows the form after all turns, and no state at which nobody can go on, has shown that the driver is
 /// never stuck.
-pub fn whole_is_right()
-    ensures { WholeIsRight }
+pub fn whole_never_sticks()
+    ensures { WholeNeverSticks }
 {}
 
-/// The first known state at which something is found is a shortest race.
-pub fn first_is_shortest()
-    ensures { FirstIsShortest }
+/// The first known state at which a part was broken is a shortest race that breaks one.
+pub fn first_breaks_soonest()
+    ensures { FirstBreaksSoonest }
 {
     broken_turns_break();
+}
+
+/// The first known state at which nobody can go on is a shortest race that comes to that.
+pub fn first_sticks_soonest()
+    ensures { FirstSticksSoonest }
+{
     stuck_turns_stick();
 }
 

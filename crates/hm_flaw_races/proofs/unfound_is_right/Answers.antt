@@ -1,5 +1,0 @@
-use Rattle.hm_flaw_races.proofs.Breaking.{unfound_is_right}
-use Rattle.hm_flaw_races.proofs.unfound_is_right.Goals as goal
-
-pub returns : goal.returns
-returns c = unfound_is_right

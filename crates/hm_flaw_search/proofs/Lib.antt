@@ -1,0 +1,4 @@
+mod Turning
+mod Playing
+mod Firsts
+mod Answering
