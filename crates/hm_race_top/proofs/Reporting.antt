@@ -21,16 +21,24 @@ use Rattle.hm_race_top.specs.Ways.{ways_by}
 use Rattle.hm_race_top.specs.declared.asked.Task.{Task}
 use Rattle.hm_race_top.specs.declared.telling.Telling.{Telling}
 
-script_ends : (c : Program) (o : Option OutcomeBlock) → IsEnding (script_told c o).ends
+-- a call of hmmraces whose text goes out whole ends in one of these ways
+abbrev IsOfOutcomes : Status → Type 0
+IsOfOutcomes Status.Done = Unit {0}
+IsOfOutcomes (Status.Race RaceEnd.NoOutcome) = Unit {0}
+IsOfOutcomes (Status.Race RaceEnd.Fails) = Unit {0}
+IsOfOutcomes (Status.Race RaceEnd.Unsettled) = Unit {0}
+IsOfOutcomes _ = ⊥
+
+script_ends : (c : Program) (o : Option OutcomeBlock) → IsOfOutcomes (script_told c o).ends
 script_ends c None = tt
 script_ends c (Some b) = tt
 
-ruling_ends : (r : Ruling) → IsEnding (ending_of r)
+ruling_ends : (r : Ruling) → IsOfOutcomes (ending_of r)
 ruling_ends Ruling.Holds = tt
 ruling_ends Ruling.Fails = tt
 ruling_ends Ruling.Open = tt
 
-telling_ends : (c : Program) (task : Task) (bs : List OutcomeBlock) (states : ℕ) (end : End) → IsEnding (telling c task bs states end).ends
+telling_ends : (c : Program) (task : Task) (bs : List OutcomeBlock) (states : ℕ) (end : End) → IsOfOutcomes (telling c task bs states end).ends
 telling_ends c Task.Outcomes bs states end = tt
 telling_ends c Task.Table bs states end = tt
 telling_ends c (Task.Script n) bs states end = script_ends c (numbered bs n)
@@ -40,8 +48,8 @@ module _ (most : ℕ) (c : Program) (task : Task) (known : List KnownValue) (end
   found : (status : Status) → HasTold (told c task known end) before after status → Found most c task before after status
   found status w = record { known = known; end = end; holds = holds; written = w; races = none }
 
-  not_so : (status : Status) → (IsEnding status → ⊥) → status ≡ (told c task known end).ends → ⊥
-  not_so status none same = none (subst IsEnding (sym same) (telling_ends c task _ _ end))
+  not_so : (status : Status) → (IsOfOutcomes status → ⊥) → status ≡ (told c task known end).ends → ⊥
+  not_so status none same = none (subst IsOfOutcomes (sym same) (telling_ends c task _ _ end))
 
   race_found : (e : RaceEnd) → HasTold (told c task known end) before after (Status.Race e) → HasFound most c task before after (Status.Race e)
   race_found (RaceEnd.NoCondition m n) w = absurd (not_so (Status.Race (RaceEnd.NoCondition m n)) (λ u. u) w.0)
@@ -90,8 +98,8 @@ whole_told t before after is adds = by t.ends refl is
     by (Status.Race RaceEnd.Unsettled) e i = (e, adds)
     by (Status.Race RaceEnd.NoOutcome) e i = (e, adds)
     by (Status.Race RaceEnd.Drained) e i = absurd i
-    by (Status.Race RaceEnd.Broken) e i = absurd i
-    by (Status.Race RaceEnd.Open) e i = absurd i
+    by (Status.Race RaceEnd.Broken) e i = (e, adds)
+    by (Status.Race RaceEnd.Open) e i = (e, adds)
 
 -- a call that ends so counted no fault, and if the sink sent on what it has, that is so at its end
 pub none_faulted : (status : Status) (n n' : ℕ) → IsEnding status → n' ≡ n → WriteFaulted n n' status
@@ -127,8 +135,8 @@ all_sent (Status.Race RaceEnd.Fails) pending i same = same
 all_sent (Status.Race RaceEnd.Unsettled) pending i same = same
 all_sent (Status.Race RaceEnd.NoOutcome) pending i same = same
 all_sent (Status.Race RaceEnd.Drained) pending i same = absurd i
-all_sent (Status.Race RaceEnd.Broken) pending i same = absurd i
-all_sent (Status.Race RaceEnd.Open) pending i same = absurd i
+all_sent (Status.Race RaceEnd.Broken) pending i same = same
+all_sent (Status.Race RaceEnd.Open) pending i same = same
 
 -- ---- one text
 

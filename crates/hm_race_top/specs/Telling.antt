@@ -63,6 +63,8 @@ IsEnding Status.Done = Unit {0}
 IsEnding (Status.Race RaceEnd.NoOutcome) = Unit {0}
 IsEnding (Status.Race RaceEnd.Fails) = Unit {0}
 IsEnding (Status.Race RaceEnd.Unsettled) = Unit {0}
+IsEnding (Status.Race RaceEnd.Broken) = Unit {0}
+IsEnding (Status.Race RaceEnd.Open) = Unit {0}
 IsEnding _ = ⊥
 
 -- how a text was written after which the call ends so: all of it; or a front of it, or nothing, if the sink failed or
@@ -83,4 +85,6 @@ IsSentOn pending Status.Done = pending ≡ false
 IsSentOn pending (Status.Race RaceEnd.NoOutcome) = pending ≡ false
 IsSentOn pending (Status.Race RaceEnd.Fails) = pending ≡ false
 IsSentOn pending (Status.Race RaceEnd.Unsettled) = pending ≡ false
+IsSentOn pending (Status.Race RaceEnd.Broken) = pending ≡ false
+IsSentOn pending (Status.Race RaceEnd.Open) = pending ≡ false
 IsSentOn pending _ = Unit {0}

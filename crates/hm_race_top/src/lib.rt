@@ -6,7 +6,7 @@ mod call;
 mod laws;
 mod process;
 mod settling;
-mod telling;
+pub mod telling;
 mod ways;
 
 pub use asked::MOST_STATES;
@@ -15,3 +15,4 @@ pub use laws::{
     all_is_listed, complete_is_all, drain_is_last, known_is_true, true_is_real, ways_are_outcomes,
 };
 pub use process::{NAME, USAGE, program};
+pub use ways::has_drain;

@@ -86,7 +86,7 @@ fn tell_rulings(
 }
 
 /// What is to be written for a task, of the outcomes that a search knows, and of how many states it knows.
-pub fn tell(
+pub(crate) fn tell(
     alloc: Global,
     script: &Script,
     task: &Task,
