@@ -5,8 +5,6 @@ mod copies;
 mod looking;
 mod stepped;
 
-pub use copies::copy_entry;
-
 ghost use Rattle.std.specs.Prelude.{◌≡◌, ◌<◌, ◌≤◌, fold, length, slice_get, IfOk, None, Some, false};
 ghost use Rattle.hm_base.specs.declared.limits.TheConstants.{MOST_ACTORS, MOST_ENTRIES};
 ghost use Rattle.hm_base.specs.declared.ops.ScheduleLine.{ScheduleLine};
@@ -18,6 +16,7 @@ ghost use Rattle.hm_world.specs.WorldValue.{opening, halted_by, MayHalt};
 ghost use Rattle.hm_history.specs.Kernel.Overrun.{overruns_line, overruns_lines, overruns_turns, some_overruns};
 ghost use Rattle.hm_machine.specs.Turning.{Turned, TurnsTo, Adds, CameTo};
 
+pub use copies::copy_entry;
 use hm_base::{Actor, MOST_ENTRIES, NoMemory, Schedule, ScheduleLine, Script};
 use hm_history::{Entry, History, Progress, StepError, Why};
 use hm_reads::Reads;
