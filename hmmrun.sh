@@ -6,7 +6,8 @@
 #   ./hmmrun.sh --ready WORD .. [FILE]    the proved one if it is built, or else the unproved one; never proves
 #
 # Words are looked at before anything is built. What this script says itself goes to standard error. The program is
-# hmmrun; with `--program NAME` first it is that of the crate NAME, as hmmraces.sh, hmmview.sh and hmmjudge.sh call it.
+# hmmrun; with `--program NAME` first it is that of the crate NAME, as hmmraces.sh, hmmwithout.sh, hmmview.sh and
+# hmmjudge.sh call it.
 set -u
 top=$(cd "$(dirname "$(realpath "${BASH_SOURCE[0]}")")" && pwd)
 logic=dac8208d650f15bf              # of the kits that prove this repository
@@ -19,6 +20,9 @@ crate=$top/crates/$name
 program=$crate/out/$name
 built=$program.built                # the sum of what the proved program was made from
 quick=$crate/out/quick/$name        # the unproved one, with its sum in $quick.built
+rules='compare compare-sequence entry-right mmap-lock own-device set-sequence erase erase-all erase-in-time own-events
+stop-at-detach write-entry copy-all clear set-moved set-right drop-lost take-from-there evict-first withdraw-first
+wait-for-locked look-again'         # of drivers; hmmwithout takes one of them
 
 say() { echo "$name.sh: $*" >&2; }
 
@@ -55,6 +59,19 @@ words_hmmraces() {
 END
 }
 
+words_hmmwithout() {
+    cat <<END
+  RULE                 reads a script: a shortest race in which a driver without this rule does what it must not do
+  none                 the same of the right driver, of which there is no such race
+  --all                a line for each of these drivers
+  --answers            after these words: judges answers alone, and not the whole protocol
+  --most MOST          after these words: gives up beyond MOST states, and not beyond 20,000
+
+RULE is one of
+$rules.
+END
+}
+
 words_hmmview() {
     cat <<'END'
   (no word)            reads a report: one page of HTML that shows it, of at most 20,000 rows
@@ -73,6 +90,7 @@ END
 usage() {
     local takes='WORD ..'
     [ "$name" = hmmraces ] && takes='[MOST] [--table | --script N | --expect CONDITION .. | --expect-file LINES]'
+    [ "$name" = hmmwithout ] && takes='RULE | none | --all [--answers] [--most MOST]'
     [ "$name" = hmmview ] && takes='[FROM TO]'
     [ "$name" = hmmjudge ] && takes='[--standing | --all]'
     cat <<END
@@ -91,6 +109,7 @@ What is read is FILE, or standard input. A FILE whose name is a number is given 
 With no such word it is the proved program. If it is not built yet it is proved first, which takes 20 minutes or more.
 END
     case $name in
+        hmmwithout) echo 'docs/BROKEN.md explains the rules; docs/TUTORIAL.md scripts. All tools: docs/TOOLS.md.' ;;
         hmmview) echo 'docs/VIEW.md explains a page; docs/REPORT.md each line of a report.' ;;
         hmmjudge) echo 'docs/JUDGE.md explains what is said; docs/REPORT.md each line of a report.' ;;
         *) echo 'Scripts: docs/TUTORIAL.md; tools/hmm.py explains one that is refused. All tools: docs/TOOLS.md.' ;;
@@ -188,6 +207,29 @@ read_race_words() {
     taken=$((all - $#))
 }
 
+# Of the words of hmmwithout: a rule, and what is asked of it. Leaves them in `words`, and the number of those that it
+# has looked at in `taken`.
+read_rule_words() {
+    local all=$# given
+    given=$(printf '%s\n' none --all $rules)
+    [ $# -ge 1 ] || refuse 'which rule?'
+    grep -qxF -e "$1" <<<"$given" || refuse "there is no rule \`$1\`$(nearest "$1" $given)"
+    words=("$1")
+    shift
+    while [ "${1-}" = --answers ] || [ "${1-}" = --most ]; do
+        [[ " ${words[*]} " != *" $1 "* ]] || refuse "\`$1\` is there twice"
+        words+=("$1")
+        if [ "$1" = --most ]; then
+            [ $# -ge 2 ] || refuse '`--most` takes one number'
+            need_numbers "$2"
+            words+=("$2")
+            shift
+        fi
+        shift
+    done
+    taken=$((all - $#))
+}
+
 # Looks at the words, and leaves those of the program in `words` and the file to read in `file`.
 read_words() {
     local takes taken
@@ -195,6 +237,9 @@ read_words() {
     case $name in
         hmmraces)
             read_race_words "$@"
+            shift "$taken" ;;
+        hmmwithout)
+            read_rule_words "$@"
             shift "$taken" ;;
         hmmrun)
             [ $# -gt 0 ] || refuse 'which word?'
@@ -231,7 +276,8 @@ read_words() {
     case ${1-} in
         -?*) refuse "there is no \`$1\` here$(nearest "$1" --quick --ready --help --version \
             $([ "$name" = hmmjudge ] && echo --standing --all) \
-            $([ "$name" = hmmraces ] && echo --table --script --expect --expect-file --most))" ;;
+            $([ "$name" = hmmraces ] && echo --table --script --expect --expect-file --most) \
+            $([ "$name" = hmmwithout ] && echo --answers --most))" ;;
     esac
     [ $# -le 1 ] || refuse "too many words: \`${*:2}\`"
     file=${1--}
@@ -319,7 +365,7 @@ run() {
     [ "$text" = - ] && text=/dev/stdin
     if [ $status -eq 3 ]; then
         "$top/tools/hmm.py" --explain "$text" | tail -n +2 >&2
-    elif [ "$name" = hmmraces ]; then
+    elif [ "$name" = hmmraces ] || [ "$name" = hmmwithout ]; then
         :
     elif [ $status -eq 1 ] && [ "$(head -c 4 "$text")" = 'hmm ' ] && ! grep -q '^history$' "$text"; then
         say 'this is a script; what is read here is the report that `./hmmrun.sh replay` writes of it'

@@ -1,0 +1,4 @@
+pub mod Endings
+pub mod Told
+pub mod Withouts
+pub mod Runs

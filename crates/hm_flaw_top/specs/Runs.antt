@@ -1,0 +1,21 @@
+-- What the program hmmwithout does with the words after its name.
+use Rattle.std.specs.Prelude.{ℕ, List, ◌++◌, codes}
+use Rattle.hm_edge.specs.Traffic.{Traffic}
+use Rattle.hm_edge.specs.declared.status.Status.{Status}
+use Rattle.hm_flaw_top.specs.Withouts.{Withouts}
+
+-- the name that its messages begin with
+abbrev pub name : List ℕ
+name = codes "hmmwithout"
+
+-- what it says if a word is bad
+abbrev pub usage : List ℕ
+usage =
+    codes "usage: hmmwithout RULE | none | --all [--answers] [--most MOST], with RULE one of compare compare-sequence "
+    ++ (codes "entry-right mmap-lock own-device set-sequence erase erase-all erase-in-time own-events stop-at-detach "
+    ++ (codes "write-entry copy-all clear set-moved set-right drop-lost take-from-there evict-first withdraw-first "
+    ++ codes "wait-for-locked look-again"))
+
+-- what the words ask for was done
+abbrev pub Runs : List (List ℕ) → Traffic → Status → Type 0
+Runs = Withouts

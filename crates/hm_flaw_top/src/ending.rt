@@ -1,0 +1,43 @@
+// How a call ends that has searched the races of drivers, if its text goes out whole.
+ghost use Rattle.std.specs.Prelude.{◌≡◌};
+ghost use Rattle.hm_edge.specs.Messages.{code_of};
+ghost use Rattle.hm_flaw_text.specs.Answers.{answer_code};
+ghost use Rattle.hm_race_top.specs.Telling.{IsEnding};
+ghost use Rattle.hm_flaw_top.specs.Endings.{ending_by, ending_of, ending_of_all};
+
+use hm_edge::{RaceEnd, Status};
+use hm_flaw_text::{Answer, RuleAnswer};
+
+/// How a call ends that found a driver which does what it must not do, or one of which that is not known.
+fn ending_by(broken: bool, open: bool) -> Status
+    ensures same { result ≡ ending_by broken open }
+    ensures ends { IsEnding result }
+{
+    if broken {
+        return Status::Race(RaceEnd::Broken);
+    }
+    if open {
+        return Status::Race(RaceEnd::Open);
+    }
+    Status::Done
+}
+
+/// How a call ends that says this of one driver. Its exit code is that of what was found.
+pub fn ending_of(answer: &Answer) -> Status
+    ensures same { result ≡ ending_of answer.now }
+    ensures code { code_of result ≡ answer_code answer.now }
+    ensures ends { IsEnding result }
+{
+    let code = answer.code();
+    ending_by(code == 1, code == 10)
+}
+
+/// How a call ends that says this of several: one that does what it must not do comes before one that is open.
+pub fn ending_of_all(rows: &[RuleAnswer]) -> Status
+    ensures same { result ≡ ending_of_all rows.now }
+    ensures ends { IsEnding result }
+{
+    let broken = rows.iter().any(|row| row.answer.code() == 1);
+    let open = rows.iter().any(|row| row.answer.code() == 10);
+    ending_by(broken, open)
+}

@@ -1,0 +1,11 @@
+// The top call: a script is read, and shortest races of it are written in which a driver that leaves a rule out does
+// what it must not do.
+#![tactic(auto)]
+
+mod call;
+mod ending;
+mod process;
+mod told;
+
+pub use call::without;
+pub use process::{NAME, USAGE, program};

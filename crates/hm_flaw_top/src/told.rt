@@ -1,0 +1,123 @@
+// What is to be written of drivers that leave a rule out, and how the call ends then.
+ghost use Rattle.std.specs.Prelude.{◌≡◌, ◌≤◌, [], length, IfErr, IfOk};
+ghost use Rattle.hm_flaw_parts.specs.Judged.{judged_parts};
+ghost use Rattle.hm_flaw_text.specs.Names.{all_flaws};
+ghost use Rattle.hm_flaw_races.specs.Races.{flaw_system};
+ghost use Rattle.hm_history.specs.Laws.{DueFrom};
+ghost use Rattle.hm_race_top.specs.Telling.{IsEnding};
+ghost use Rattle.hm_search.specs.Known.{MayFail};
+ghost use Rattle.hm_flaw_top.specs.Told.{rules_in, AreAnswers, FailsAtSome, FlawsMayFail, Tells, TellsAll, TellsOne};
+
+use crate::ending::{ending_of, ending_of_all};
+use hm_base::{ListOf, NoMemory, Script};
+use hm_flaw_search::find_race;
+use hm_flaw_text::{RuleAnswer, Task, Which, all_flaws, answer_text, rules_text};
+use hm_flaws::Flaw;
+use hm_history::{Entry, StepError};
+use hm_race_top::telling::Telling;
+use skip_rules::SkipRule;
+use std::alloc::Global;
+
+/// What is to be written of the driver with this flaw. It fails as the search does, and if memory runs out.
+fn tell_one<R: SkipRule>(
+    alloc: Global,
+    script: &Script,
+    set_up: &[Entry],
+    rule: &R,
+    flaw: Flaw,
+    task: Task,
+) -> Result<Telling, StepError>
+    requires due { DueFrom script.now [] set_up.now }
+    requires few { length set_up.now ≤ 2000000 }
+    ensures tells { IfOk result (TellsOne (judged_parts task.judging) task.most flaw script.now set_up.now) }
+    ensures ends { IfOk result (λ t. IsEnding t.ends) }
+    ensures fails { IfErr result
+        (λ e. MayFail (flaw_system (judged_parts task.judging) flaw script.now set_up.now) e) }
+{
+    match find_race(alloc, script, set_up, rule, flaw, task.judging, task.most) {
+        Ok(answer) => match answer_text(alloc, set_up.len() as u64, &answer) {
+            Ok(text) => Ok(Telling {
+                text,
+                ends: ending_of(&answer),
+            }),
+            Err(NoMemory) => Err(StepError::NoMemory),
+        },
+        Err(error) => Err(error),
+    }
+}
+
+/// What was found of each driver, in the order in which their lines are written.
+fn answers_of<R: SkipRule>(
+    alloc: Global,
+    script: &Script,
+    set_up: &[Entry],
+    rule: &R,
+    task: Task,
+) -> Result<ListOf<RuleAnswer>, StepError>
+    requires due { DueFrom script.now [] set_up.now }
+    requires few { length set_up.now ≤ 2000000 }
+    ensures rules { IfOk result (λ rows. rules_in rows ≡ all_flaws) }
+    ensures are { IfOk result (AreAnswers (judged_parts task.judging) task.most script.now set_up.now) }
+    ensures fails { IfErr result (FailsAtSome (judged_parts task.judging) script.now set_up.now) }
+{
+    let mut rows = ListOf::new(alloc);
+    for flaw in &all_flaws() {
+        match find_race(alloc, script, set_up, rule, *flaw, task.judging, task.most) {
+            Ok(answer) => {
+                if rows.push(RuleAnswer { rule: *flaw, answer }).is_err() {
+                    return Err(StepError::NoMemory);
+                }
+            }
+            Err(error) => return Err(error),
+        }
+    }
+    Ok(rows)
+}
+
+/// What is to be written of all drivers. It fails as a search does, and if memory runs out.
+fn tell_all<R: SkipRule>(
+    alloc: Global,
+    script: &Script,
+    set_up: &[Entry],
+    rule: &R,
+    task: Task,
+) -> Result<Telling, StepError>
+    requires due { DueFrom script.now [] set_up.now }
+    requires few { length set_up.now ≤ 2000000 }
+    ensures tells { IfOk result (TellsAll (judged_parts task.judging) task.most script.now set_up.now) }
+    ensures ends { IfOk result (λ t. IsEnding t.ends) }
+    ensures fails { IfErr result (FailsAtSome (judged_parts task.judging) script.now set_up.now) }
+{
+    match answers_of(alloc, script, set_up, rule, task) {
+        Ok(rows) => match rules_text(alloc, rows.as_slice()) {
+            Ok(text) => Ok(Telling {
+                text,
+                ends: ending_of_all(rows.as_slice()),
+            }),
+            Err(NoMemory) => Err(StepError::NoMemory),
+        },
+        Err(error) => Err(error),
+    }
+}
+
+/// What is to be written for a task, after a set-up whose entries were due one after the other. It fails as a search
+/// does, and if memory runs out.
+pub fn tell<R: SkipRule>(
+    alloc: Global,
+    script: &Script,
+    set_up: &[Entry],
+    rule: &R,
+    task: Task,
+) -> Result<Telling, StepError>
+    requires due { DueFrom script.now [] set_up.now }
+    requires few { length set_up.now ≤ 2000000 }
+    ensures tells { IfOk result (Tells task.which (judged_parts task.judging) task.most script.now set_up.now) }
+    ensures ends { IfOk result (λ t. IsEnding t.ends) }
+    ensures fails { IfErr result
+        (FlawsMayFail task.which (judged_parts task.judging) script.now set_up.now) }
+{
+    match task.which {
+        Which::One(flaw) => tell_one(alloc, script, set_up, rule, flaw, task),
+        Which::All => tell_all(alloc, script, set_up, rule, task),
+    }
+}
