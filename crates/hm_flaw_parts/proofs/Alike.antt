@@ -1,8 +1,7 @@
 -- Marks that are the same have the same items, and the other way round.
 use Rattle.std.proofs.Common.{◌≡◌, ℕ, ◌+◌, Bool, Option, Some, None, List, refl, sym, ap, ◌∙◌, add-one}
 use Rattle.std.specs.Prelude.{option_map, if◌then◌else◌}
-use Rattle.hm_race_keys.specs.Sparse.{found, mixed}
-use Rattle.hm_race_keys.specs.declared.sparse.Item.{Item}
+use Rattle.hm_race_keys.specs.Sparse.{mixed}
 use Rattle.hm_flaw_parts.specs.Alike.{SameMarks}
 use Rattle.hm_flaw_parts.specs.Buckets.{mixed_short}
 use Rattle.hm_flaw_parts.specs.Marks.{Marked, at_of, marks_in, set_of}
