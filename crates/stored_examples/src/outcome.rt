@@ -37,21 +37,15 @@ impl Outcome {
     }
 }
 
-/// The rules of a run of hmmrun: which pages a migration skips, and to which side a page leans.
-fn rules(alloc: Global) -> io::Result<(Kept, Leans)> {
+/// Makes the top call for a replay.
+fn replay(alloc: Global, source: &mut MemorySource, sink: &mut MemorySink) -> io::Result<Status> {
+    let words = vec![in alloc; String::from_str(alloc, "replay")?]?;
     let skips: BoxedRule = Box::new(
         alloc,
         |every: u64, page: u64| every != 0 && page % every == 0,
     )?;
-    let skip = Kept::new(skips);
     let leans: BoxedRule = Box::new(alloc, |x: u64, y: u64| x >= 4 && x - 4 >= y)?;
-    Ok((skip, Leans::new(leans)))
-}
-
-/// Makes the top call for a replay.
-fn replay(alloc: Global, source: &mut MemorySource, sink: &mut MemorySink) -> io::Result<Status> {
-    let (skip, leans) = rules(alloc)?;
-    let words = vec![in alloc; String::from_str(alloc, "replay")?]?;
+    let (skip, leans) = (Kept::new(skips), Leans::new(leans));
     Ok(run_alone(alloc, words, source, sink, &skip, &leans).status)
 }
 
