@@ -1,9 +1,10 @@
-// Searches the race of every script of the folder `races`, asks for the conditions there, and draws every report. Compares
-// the outcomes and what is said of the conditions with the files beside them, and the pages with the lines there, between
-// the files of the folder page.
+// Searches the race of every script of the folder `races`, asks for the conditions there, and draws every report; of the
+// scripts of the folder `broken` it asks which rules a driver may leave out. Compares what is written with the files
+// beside the scripts, and the pages with the lines there, between the files of the folder page.
 use crate::files::{stems, text};
 use crate::streams::{empty_sink, source_beside};
 use hm_edge::{RaceEnd, Status};
+use hm_flaw_top::without;
 use hm_io::{MemorySink, MemorySource};
 use hm_race_top::races;
 use hm_view::view;
@@ -26,23 +27,40 @@ enum Made {
     Rulings,
     /// The page of a report.
     Page,
+    /// A line for each rule that a driver may leave out.
+    Rules,
+    /// The same, if answers alone are judged.
+    Answers,
+    /// The shortest race of a driver that leaves a rule out.
+    Shortest,
 }
 
 impl Made {
-    /// How the names of such examples end, and those of the files beside them.
+    /// How the names of such examples end, and those of the files that have what is to be written.
     fn endings(self) -> (&'static str, &'static str) {
         match self {
             Made::Outcomes => (".hmm", ".outcomes"),
             Made::Rulings => (".conditions", ".rulings"),
             Made::Page => (".report", ".lines"),
+            Made::Rules => (".rules", ".rules"),
+            Made::Answers => (".answers", ".answers"),
+            Made::Shortest => (".without", ".shortest"),
+        }
+    }
+
+    /// The folder of such examples.
+    fn folder(self) -> &'static str {
+        match self {
+            Made::Rules | Made::Answers => "broken",
+            _ => "races",
         }
     }
 
     /// How the name of the file ends that is read.
     fn read(self) -> &'static str {
         match self {
-            Made::Outcomes | Made::Rulings => ".hmm",
             Made::Page => ".report",
+            _ => ".hmm",
         }
     }
 
@@ -56,17 +74,29 @@ impl Made {
         match self {
             Made::Outcomes | Made::Rulings => races(alloc, words, source, sink, Multiples),
             Made::Page => view(alloc, words, source, sink),
+            _ => without(alloc, words, source, sink, Multiples),
         }
     }
 
     /// Whether a call that wrote this text ends so.
     fn ends(text: &str, status: &Status) -> bool {
         match status {
-            Status::Done => !text.starts_with("fails "),
-            Status::Race(RaceEnd::Fails) => text.starts_with("fails "),
+            Status::Done => !fails(text) && !finds(text),
+            Status::Race(RaceEnd::Fails) => fails(text),
+            Status::Race(RaceEnd::Broken) => finds(text),
             _ => false,
         }
     }
+}
+
+/// Whether the text says that a condition fails.
+fn fails(text: &str) -> bool {
+    text.starts_with("fails ")
+}
+
+/// Whether the text has a race of a driver that leaves a rule out, or says of one how long it is.
+fn finds(text: &str) -> bool {
+    text.split_once("\nbreaks ").is_some() || text.split_once(" after ").is_some()
 }
 
 /// The file that a line of page.html names, if it names one, and the tag that its text stands in.
@@ -107,20 +137,30 @@ fn page_with(rt: &HostRuntime, lines: &str) -> io::Result<String> {
     }
 }
 
-/// The words that ask for these conditions, one in each line.
-fn conditions(alloc: Global, lines: &str) -> io::Result<Vec<String>> {
-    let mut words = vec![in alloc; String::from_str(alloc, "--expect")?]?;
+/// The words in these lines.
+fn words_in(alloc: Global, lines: &str) -> io::Result<Vec<String>> {
+    let mut words = Vec::new(alloc);
     for line in lines.lines() {
         words.push(String::from_str(alloc, line)?)?;
     }
     Ok(words)
 }
 
-/// The words that ask for the conditions in the file; none of other examples.
+/// The words that ask for the conditions in the file.
+fn expected(rt: &HostRuntime, stem: &str) -> io::Result<Vec<String>> {
+    let conditions = text(rt, stem, ".conditions")?;
+    let lines = format!(in rt.alloc(); "--expect\n{conditions}")?;
+    words_in(rt.alloc(), lines.as_str())
+}
+
+/// The words that ask for such an example.
 fn words_of(rt: &HostRuntime, stem: &str, made: Made) -> io::Result<Vec<String>> {
     match made {
         Made::Outcomes | Made::Page => Ok(Vec::new(rt.alloc())),
-        Made::Rulings => conditions(rt.alloc(), text(rt, stem, ".conditions")?.as_str()),
+        Made::Rulings => expected(rt, stem),
+        Made::Rules => words_in(rt.alloc(), "--all"),
+        Made::Answers => words_in(rt.alloc(), "--all\n--answers"),
+        Made::Shortest => words_in(rt.alloc(), text(rt, stem, ".without")?.as_str()),
     }
 }
 
@@ -129,8 +169,8 @@ fn wanted(rt: &HostRuntime, stem: &str, made: Made) -> io::Result<String> {
     let (_, ending) = made.endings();
     let beside = text(rt, stem, ending)?;
     match made {
-        Made::Outcomes | Made::Rulings => Ok(beside),
         Made::Page => page_with(rt, beside.as_str()),
+        _ => Ok(beside),
     }
 }
 
@@ -159,22 +199,39 @@ fn agrees(rt: &HostRuntime, stem: &str, made: Made) -> io::Result<bool> {
 fn compare(rt: &HostRuntime, made: Made) -> io::Result<u64> {
     let (ending, beside) = made.endings();
     let mut agreeing = 0u64;
-    for stem in stems(rt, "races", ending)?.iter() {
+    for stem in stems(rt, made.folder(), ending)?.iter() {
         if agrees(rt, stem.as_str(), made)? {
             agreeing = agreeing.saturating_add(1);
         } else {
-            println!(rt; "{stem}{ending} does not give {stem}{beside}")?;
+            println!(rt; "{stem}: what is written is not {beside}")?;
         }
     }
     Ok(agreeing)
 }
 
-/// Says how many agree, of each kind.
-pub fn compare_all(rt: &HostRuntime) -> io::Result<()> {
+/// Says how many agree of what is made of races.
+fn compare_races(rt: &HostRuntime) -> io::Result<()> {
     let races = compare(rt, Made::Outcomes)?;
     let rulings = compare(rt, Made::Rulings)?;
     let pages = compare(rt, Made::Page)?;
     println!(rt; "{races} races have the outcomes beside them")?;
     println!(rt; "of {rulings} races it is said what is beside them of their conditions")?;
     println!(rt; "{pages} report has its page")
+}
+
+/// Says how many agree of what is said of drivers that leave a rule out.
+fn compare_rules(rt: &HostRuntime) -> io::Result<()> {
+    let rules = compare(rt, Made::Rules)?;
+    let answers = compare(rt, Made::Answers)?;
+    let shortest = compare(rt, Made::Shortest)?;
+    println!(rt;
+        "of {rules} scripts it is said which rules a driver may leave out, of {answers} by answers"
+    )?;
+    println!(rt; "{shortest} shortest races are those beside their scripts")
+}
+
+/// Says how many agree, of each kind.
+pub fn compare_all(rt: &HostRuntime) -> io::Result<()> {
+    compare_races(rt)?;
+    compare_rules(rt)
 }
