@@ -1,9 +1,9 @@
 // Frames that are taken and given back, against a plain list.
 use crate::drawn::after;
-use crate::frames::{is_held, pool};
+use crate::frames::is_held;
 use frame_pool::Pool;
-use std::test::Fail;
 
+/// The first number from one on whose frame is held, or is not.
 fn next_in(plain: &[bool; 130], from: usize, held: bool) -> Option<u32> {
     for (number, is_held) in plain.iter().enumerate() {
         if from <= number && *is_held == held {
@@ -27,20 +27,28 @@ fn turn(pool: &mut Pool, plain: &mut [bool; 130], x: u64) {
     }
 }
 
-#[test]
-fn a_pool_finds_what_a_scan_finds(rt: HostRuntime) -> Result<(), Fail> {
-    let mut pool = pool(&rt, 130)?;
+/// Whether the pool finds what the list does: its lowest free frame, and the first that is held from a number on.
+fn agree(pool: &Pool, plain: &[bool; 130], from: u32) -> bool {
+    pool.lowest_free() == next_in(plain, 0, false)
+        && pool.held_at_or_after(from) == next_in(plain, from as usize, true)
+}
+
+/// Whether the two agree after each of 3,000 turns.
+fn turns_agree(pool: &mut Pool) -> bool {
     let mut plain = [false; 130];
     let mut x: u64 = 1;
     for _ in 0..3_000u64 {
         x = after(x);
-        turn(&mut pool, &mut plain, x);
-        let from = (x >> 41) % 130;
-        assert_eq!(rt; pool.lowest_free(), next_in(&plain, 0, false));
-        assert_eq!(rt;
-            pool.held_at_or_after(from as u32),
-            next_in(&plain, from as usize, true)
-        );
+        turn(pool, &mut plain, x);
+        if !agree(pool, &plain, ((x >> 41) % 130) as u32) {
+            return false;
+        }
     }
-    Ok(())
+    true
+}
+
+#[test]
+fn a_pool_finds_what_a_scan_finds(rt: HostRuntime) {
+    let mut pool = Pool::new(rt.alloc(), 130).expect(&rt, "memory");
+    assert!(rt; turns_agree(&mut pool));
 }

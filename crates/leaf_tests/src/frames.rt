@@ -1,14 +1,10 @@
-// Pools for the tests of frames.
+// What the tests of frames ask first.
 ghost use Rattle.std.specs.Prelude.{◌≡◌};
 ghost use Rattle.frame_pool.specs.Frames.{is_held};
 
 use frame_pool::Pool;
-use std::test::Fail;
 
-pub fn pool(rt: &HostRuntime, frames: u32) -> Result<Pool, Fail> {
-    Ok(Pool::new(rt.alloc(), frames).map_err(|_| "no memory")?)
-}
-
+/// Whether the frame is held.
 pub fn is_held(pool: &Pool, number: u32) -> bool
     ensures { result ≡ is_held pool.now number }
 {

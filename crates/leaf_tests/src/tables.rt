@@ -4,23 +4,27 @@ ghost use Rattle.std.specs.Prelude.{◌^◌, ◌<◌};
 use crate::drawn::after;
 use hm_base::Page;
 use radix_tables::Radix;
-use std::test::Fail;
 
-/// Gives the page this word, if there is such a page and the word is one: what a test compares later tells.
-fn set(map: &mut Radix, page: u64, word: u64) -> Result<(), Fail> {
+/// Gives the page this word, if there is such a page and the word is one; whether there was memory for that. What a
+/// test compares later tells whether it was given.
+fn set(map: &mut Radix, page: u64, word: u64) -> bool {
     if page < 1 << 36 && word != 0 {
-        map.reserve(Page::new(page)).map_err(|_| "no memory")?;
+        if map.reserve(Page::new(page)).is_err() {
+            return false;
+        }
         map.set_reserved(Page::new(page), word);
     }
-    Ok(())
+    true
 }
 
+/// Takes the word of the page away, if there is such a page.
 fn clear(map: &mut Radix, page: u64) {
     if page < 1 << 36 {
         map.clear(Page::new(page));
     }
 }
 
+/// The first page from one on that has a word.
 fn next(map: &Radix, page: u64) -> Option<u64>
     requires { page < 2 ^ 36 }
 {
@@ -36,6 +40,7 @@ fn page_of(choice: u64) -> u64
     (a * 45 | b << 14 | c << 26) % (1 << 36)
 }
 
+/// The first page from one on that has a word in the list.
 fn next_in(plain: &[u64], from: u64) -> Option<u64> {
     let mut best = None;
     for choice in 0..plain.len() as u64 {
@@ -49,33 +54,51 @@ fn next_in(plain: &[u64], from: u64) -> Option<u64> {
     best
 }
 
-#[test]
-fn answers_as_a_plain_list(rt: HostRuntime) -> Result<(), Fail> {
-    let mut map = Radix::new(rt.alloc());
-    let mut plain = [0; 64];
-    let mut random: u64 = 1;
-    for _step in 0..400u64 {
-        random = after(random);
-        let choice = (random >> 40) % 64;
-        let page = page_of(choice);
-        if random >> 63 == 0 {
-            clear(&mut map, page);
-            plain[choice as usize] = 0;
-        } else {
-            set(&mut map, page, choice + 1)?;
-            plain[choice as usize] = choice + 1;
-        }
-        let other = (random >> 33) % 64;
-        assert_eq!(rt; map.get(Page::new(page_of(other))), plain[other as usize]);
-        assert_eq!(rt; next(&map, page_of(other)), next_in(&plain, page_of(other)));
+/// A page of the list loses its word, or gets one; whether there was memory for that.
+fn turn(map: &mut Radix, plain: &mut [u64; 64], x: u64) -> bool {
+    let choice = (x >> 40) % 64;
+    let page = page_of(choice);
+    if x >> 63 == 0 {
+        clear(map, page);
+        plain[choice as usize] = 0;
+        true
+    } else {
+        plain[choice as usize] = choice + 1;
+        set(map, page, choice + 1)
     }
-    Ok(())
+}
+
+/// Whether the map and the list say the same of a page, and of the next that has a word.
+fn agree(map: &Radix, plain: &[u64; 64], choice: u64) -> bool
+    requires { choice < 64 }
+{
+    let page = page_of(choice);
+    map.get(Page::new(page)) == plain[choice as usize] && next(map, page) == next_in(plain, page)
+}
+
+/// Whether the two agree after each of 400 turns.
+fn turns_agree(map: &mut Radix) -> bool {
+    let mut plain = [0; 64];
+    let mut x: u64 = 1;
+    for _step in 0..400u64 {
+        x = after(x);
+        if !turn(map, &mut plain, x) || !agree(map, &plain, (x >> 33) % 64) {
+            return false;
+        }
+    }
+    true
+}
+
+#[test]
+fn answers_as_a_plain_list(rt: HostRuntime) {
+    let mut map = Radix::new(rt.alloc());
+    assert!(rt; turns_agree(&mut map));
 }
 
 /// Pages at the ends of tables of 512 entries, of tables of their tables, and the last page of all.
 const ENDS: [u64; 5] = [0, 511, 512, 262_144, 68_719_476_735];
 
-/// What the map holds of the ends: a word for each; those from `first` on are set.
+/// Whether the map has a word for each of the ends from `first` on, and none for those before.
 fn holds(map: &Radix, first: usize) -> bool {
     for (at, page) in ENDS.iter().enumerate() {
         if *page >= 1 << 36 {
@@ -94,17 +117,29 @@ fn holds(map: &Radix, first: usize) -> bool {
     true
 }
 
-#[test]
-fn pages_at_the_ends_of_tables(rt: HostRuntime) -> Result<(), Fail> {
-    let mut map = Radix::new(rt.alloc());
-    assert!(rt; holds(&map, ENDS.len()));
+/// Whether the ends get words one after another, the last first.
+fn fills(map: &mut Radix) -> bool {
     for (at, page) in ENDS.iter().enumerate().rev() {
-        set(&mut map, *page, at as u64 + 1)?;
-        assert!(rt; holds(&map, at));
+        if !set(map, *page, at as u64 + 1) || !holds(map, at) {
+            return false;
+        }
     }
+    true
+}
+
+/// Whether the ends lose them one after another, the first first.
+fn empties(map: &mut Radix) -> bool {
     for (at, page) in ENDS.iter().enumerate() {
-        clear(&mut map, *page);
-        assert!(rt; holds(&map, at + 1));
+        clear(map, *page);
+        if !holds(map, at + 1) {
+            return false;
+        }
     }
-    Ok(())
+    true
+}
+
+#[test]
+fn pages_at_the_ends_of_tables(rt: HostRuntime) {
+    let mut map = Radix::new(rt.alloc());
+    assert!(rt; holds(&map, ENDS.len()) && fills(&mut map) && empties(&mut map));
 }
