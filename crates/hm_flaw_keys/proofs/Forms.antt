@@ -33,10 +33,10 @@ flawed_made u d = record { state = u; driver = d }
 pub one_flawed : (x y : Flawed) → x.state ≡ y.state → x.driver ≡ y.driver → x ≡ y
 one_flawed x y u d = ap (λ (z : State). flawed_made z x.driver) u ∙ ap (flawed_made y.state) d
 
-abbrev point_made : Flawed → Marked → Option Part → FlawPoint
-point_made t m o = record { flawed = t; marked = m; broken = o }
+abbrev form_made : Flawed → Marked → Option Part → FlawPoint
+form_made t m o = record { flawed = t; marked = m; broken = o }
 
 pub one_point : (x y : FlawPoint) → x.flawed ≡ y.flawed → x.marked ≡ y.marked → x.broken ≡ y.broken → x ≡ y
 one_point x y t m o =
-    ap (λ (z : Flawed). point_made z x.marked x.broken) t
-    ∙ (ap (λ (z : Marked). point_made y.flawed z x.broken) m ∙ ap (point_made y.flawed y.marked) o)
+    ap (λ (z : Flawed). form_made z x.marked x.broken) t
+    ∙ (ap (λ (z : Marked). form_made y.flawed z x.broken) m ∙ ap (form_made y.flawed y.marked) o)
