@@ -10,22 +10,19 @@ use Rattle.hm_history.specs.Memory.Sequences.{interval_seq}
 use Rattle.hm_flaws.specs.Drivers.{Driver, driver_of}
 use Rattle.hm_flaws.specs.Flawed.{Flawed}
 use Rattle.hm_flaws.specs.declared.parts.Part.{Part}
-use Rattle.hm_drivers.specs.FrameBytes.{contents_in}
-use Rattle.hm_drivers.specs.LateSpans.{late_in}
-use Rattle.hm_drivers.specs.OwnTables.{table_in}
-use Rattle.hm_drivers.specs.Owns.{driver_in, seq_in}
-use Rattle.hm_drivers.specs.declared.owns.Own.{Own}
 use Rattle.hm_flaw_parts.specs.Marks.{Marked}
 use Rattle.hm_flaw_races.specs.Races.{FlawPoint}
 
+abbrev driver_by : (ℕ → ℕ → Option TableEntry) → (ℕ → ℕ) → (ℕ → List (ℕ × Pages)) → (Frame → ℕ → ℕ) → Driver
+driver_by t q l b = record { table = t; seq = q; late = l; contents = b }
+
 -- what the right driver has of its own is in the state
-pub right_own : (x : Own) (s : After) → table_in x.table ≡ s.places.table → ((m : ℕ) → seq_in x.seqs m ≡ interval_seq s.sequences m)
-    → ((a : ℕ) → late_in x.late.of_actors.items a ≡ []) → contents_in x.bytes ≡ s.contents → driver_in x ≡ driver_of s
-right_own x s t q l b =
-    ap (λ (z : ℕ → ℕ → Option TableEntry). let d : Driver = record (driver_in x) { table = z } in d) t
-    ∙ (ap (λ (z : ℕ → ℕ). let d : Driver = record (driver_in x) { table = s.places.table; seq = z } in d) (fun_ext q)
-    ∙ (ap (λ (z : ℕ → List (ℕ × Pages)). let d : Driver = record (driver_of s) { late = z; contents = contents_in x.bytes } in d) (fun_ext l)
-    ∙ ap (λ (z : Frame → ℕ → ℕ). let d : Driver = record (driver_of s) { contents = z } in d) b))
+pub right_own : (s : After) (t : ℕ → ℕ → Option TableEntry) (q : ℕ → ℕ) (l : ℕ → List (ℕ × Pages)) (b : Frame → ℕ → ℕ)
+    → t ≡ s.places.table → ((m : ℕ) → q m ≡ interval_seq s.sequences m) → ((a : ℕ) → l a ≡ []) → b ≡ s.contents → driver_by t q l b ≡ driver_of s
+right_own s t q l b it iq il ib =
+    ap (λ z. driver_by z q l b) it
+    ∙ (ap (λ z. driver_by s.places.table z l b) (fun_ext iq)
+    ∙ (ap (λ z. driver_by s.places.table (driver_of s).seq z b) (fun_ext il) ∙ ap (driver_by s.places.table (driver_of s).seq (driver_of s).late) ib))
 
 abbrev flawed_made : State → Driver → Flawed
 flawed_made u d = record { state = u; driver = d }

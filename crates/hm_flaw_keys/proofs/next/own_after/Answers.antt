@@ -6,7 +6,7 @@ use Rattle.hm_flaw_keys.proofs.next.own_after.Goals as goal
 pub returns-then-not-may_change : goal.returns-then-not-may_change
 returns-then-not-may_change g c =
     own_kept c.args.flaw (g.W.Reads.program c.args.world.now) (g.W.Reads.state c.args.world.now) (driver_in c.args.own.now.value) (driver_in c.in_ok-clone.field-0.value) c.args.entry.now
-    (ap driver_in c.in_ok-clone.ensures.cases) (c.may_change.ensures c.if-not-may_change.false)
+    (ap driver_in c.in_ok-clone.ensures.cases) (c.may_change.ensures c.if-not-may_change.true)
 
 pub returns : goal.returns
 returns g c =
