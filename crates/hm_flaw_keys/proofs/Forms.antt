@@ -13,16 +13,15 @@ use Rattle.hm_flaws.specs.declared.parts.Part.{Part}
 use Rattle.hm_flaw_parts.specs.Marks.{Marked}
 use Rattle.hm_flaw_races.specs.Races.{FlawPoint}
 
-abbrev driver_by : (ℕ → ℕ → Option TableEntry) → (ℕ → ℕ) → (ℕ → List (ℕ × Pages)) → (Frame → ℕ → ℕ) → Driver
-driver_by t q l b = record { table = t; seq = q; late = l; contents = b }
-
 -- what the right driver has of its own is in the state
 pub right_own : (s : After) (t : ℕ → ℕ → Option TableEntry) (q : ℕ → ℕ) (l : ℕ → List (ℕ × Pages)) (b : Frame → ℕ → ℕ)
-    → t ≡ s.places.table → ((m : ℕ) → q m ≡ interval_seq s.sequences m) → ((a : ℕ) → l a ≡ []) → b ≡ s.contents → driver_by t q l b ≡ driver_of s
+    → t ≡ s.places.table → ((m : ℕ) → q m ≡ interval_seq s.sequences m) → ((a : ℕ) → l a ≡ []) → b ≡ s.contents
+    → (let x : Driver = record { table = t; seq = q; late = l; contents = b } in x) ≡ driver_of s
 right_own s t q l b it iq il ib =
-    ap (λ z. driver_by z q l b) it
-    ∙ (ap (λ z. driver_by s.places.table z l b) (fun_ext iq)
-    ∙ (ap (λ z. driver_by s.places.table (driver_of s).seq z b) (fun_ext il) ∙ ap (driver_by s.places.table (driver_of s).seq (driver_of s).late) ib))
+    ap (λ (z : ℕ → ℕ → Option TableEntry). let x : Driver = record { table = z; seq = q; late = l; contents = b } in x) it
+    ∙ (ap (λ (z : ℕ → ℕ). let x : Driver = record { table = s.places.table; seq = z; late = l; contents = b } in x) (fun_ext iq)
+    ∙ (ap (λ (z : ℕ → List (ℕ × Pages)). let x : Driver = record (driver_of s) { late = z; contents = b } in x) (fun_ext il)
+    ∙ ap (λ (z : Frame → ℕ → ℕ). let x : Driver = record (driver_of s) { contents = z } in x) ib))
 
 abbrev flawed_made : State → Driver → Flawed
 flawed_made u d = record { state = u; driver = d }
