@@ -10,22 +10,18 @@ use Rattle.hm_history.specs.Memory.Sequences.{interval_seq}
 use Rattle.hm_flaws.specs.Drivers.{Driver, driver_of}
 use Rattle.hm_flaws.specs.Flawed.{Flawed}
 use Rattle.hm_flaws.specs.declared.parts.Part.{Part}
-use Rattle.hm_drivers.specs.FrameBytes.{contents_in}
-use Rattle.hm_drivers.specs.LateSpans.{late_in}
-use Rattle.hm_drivers.specs.OwnTables.{table_in}
-use Rattle.hm_drivers.specs.Owns.{driver_in, seq_in}
-use Rattle.hm_drivers.specs.declared.owns.Own.{Own}
 use Rattle.hm_flaw_parts.specs.Marks.{Marked}
 use Rattle.hm_flaw_races.specs.Races.{FlawPoint}
 
 -- what the right driver has of its own is in the state
-pub right_own : (x : Own) (s : After) → table_in x.table ≡ s.places.table → ((m : ℕ) → seq_in x.seqs m ≡ interval_seq s.sequences m)
-    → ((a : ℕ) → late_in x.late.of_actors.items a ≡ []) → contents_in x.bytes ≡ s.contents → driver_in x ≡ driver_of s
-right_own x s t q l b =
-    ap (λ (z : ℕ → ℕ → Option TableEntry). let d : Driver = record (driver_in x) { table = z } in d) t
-    ∙ (ap (λ (z : ℕ → ℕ). let d : Driver = record (driver_in x) { table = s.places.table; seq = z } in d) (fun_ext q)
-    ∙ (ap (λ (z : ℕ → List (ℕ × Pages)). let d : Driver = record (driver_of s) { late = z; contents = contents_in x.bytes } in d) (fun_ext l)
-    ∙ ap (λ (z : Frame → ℕ → ℕ). let d : Driver = record (driver_of s) { contents = z } in d) b))
+pub right_own : (s : After) (t : ℕ → ℕ → Option TableEntry) (q : ℕ → ℕ) (l : ℕ → List (ℕ × Pages)) (b : Frame → ℕ → ℕ)
+    → t ≡ s.places.table → ((m : ℕ) → q m ≡ interval_seq s.sequences m) → ((a : ℕ) → l a ≡ []) → b ≡ s.contents
+    → (let x : Driver = record { table = t; seq = q; late = l; contents = b } in x) ≡ driver_of s
+right_own s t q l b it iq il ib =
+    ap (λ (z : ℕ → ℕ → Option TableEntry). let x : Driver = record { table = z; seq = q; late = l; contents = b } in x) it
+    ∙ (ap (λ (z : ℕ → ℕ). let x : Driver = record { table = s.places.table; seq = z; late = l; contents = b } in x) (fun_ext iq)
+    ∙ (ap (λ (z : ℕ → List (ℕ × Pages)). let x : Driver = record (driver_of s) { late = z; contents = b } in x) (fun_ext il)
+    ∙ ap (λ (z : Frame → ℕ → ℕ). let x : Driver = record (driver_of s) { contents = z } in x) ib))
 
 abbrev flawed_made : State → Driver → Flawed
 flawed_made u d = record { state = u; driver = d }
@@ -33,10 +29,10 @@ flawed_made u d = record { state = u; driver = d }
 pub one_flawed : (x y : Flawed) → x.state ≡ y.state → x.driver ≡ y.driver → x ≡ y
 one_flawed x y u d = ap (λ (z : State). flawed_made z x.driver) u ∙ ap (flawed_made y.state) d
 
-abbrev point_made : Flawed → Marked → Option Part → FlawPoint
-point_made t m o = record { flawed = t; marked = m; broken = o }
+abbrev form_made : Flawed → Marked → Option Part → FlawPoint
+form_made t m o = record { flawed = t; marked = m; broken = o }
 
 pub one_point : (x y : FlawPoint) → x.flawed ≡ y.flawed → x.marked ≡ y.marked → x.broken ≡ y.broken → x ≡ y
 one_point x y t m o =
-    ap (λ (z : Flawed). point_made z x.marked x.broken) t
-    ∙ (ap (λ (z : Marked). point_made y.flawed z x.broken) m ∙ ap (point_made y.flawed y.marked) o)
+    ap (λ (z : Flawed). form_made z x.marked x.broken) t
+    ∙ (ap (λ (z : Marked). form_made y.flawed z x.broken) m ∙ ap (form_made y.flawed y.marked) o)

@@ -4,3 +4,4 @@ mod Following
 mod Forms
 mod SetUps
 mod Turns
+mod Going

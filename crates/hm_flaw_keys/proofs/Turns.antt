@@ -1,54 +1,20 @@
--- What a turn comes to, by whether its entry breaks a part.
-use Rattle.std.proofs.Common.{◌≡◌, ℕ, Bool, true, false, ◌&&◌, Option, Some, None, List, [], ◌∷◌, ◌++◌, refl, sym, ap, ◌∙◌}
+-- Nothing is due to an actor: a part was broken, or it waits, or is idle.
+use Rattle.std.proofs.Common.{◌≡◌, ℕ, Bool, true, false, ◌&&◌, Option, Some, None, refl, sym, ap, ◌∙◌}
 use Rattle.std.specs.Prelude.{is_none, is_some}
 use Rattle.std.proofs.lemmas.Bool.{false≢true}
-use Rattle.std.proofs.lemmas.Option.{none-some, same_Some}
 use Rattle.hm_base.specs.Program.{Program}
 use Rattle.hm_history.specs.Kernel.Run.{is_entry}
-use Rattle.hm_history.specs.declared.Entry.{Entry}
 use Rattle.hm_history.specs.declared.Progress.{Progress}
+use Rattle.hm_drivers.specs.Owns.{driver_in}
+use Rattle.hm_drivers.specs.declared.owns.Own.{Own}
 use Rattle.hm_flaws.specs.Flawed.{due_by}
 use Rattle.hm_flaws.specs.declared.flaws.Flaw.{Flaw}
 use Rattle.hm_flaws.specs.declared.parts.Part.{Part}
-use Rattle.hm_flaw_races.specs.Races.{broken_at, is_due_at, point_entry}
-use Rattle.hm_flaw_keys.specs.Keyed.{broken_in, entries_in, form_in}
-use Rattle.hm_flaw_keys.specs.Nexts.{IsTurned}
+use Rattle.hm_flaw_races.specs.Races.{is_due_at}
+use Rattle.hm_flaw_states.specs.States.{state_in}
+use Rattle.hm_flaw_states.specs.declared.state.FlawState.{FlawState}
+use Rattle.hm_flaw_keys.specs.Keyed.{form_in}
 use Rattle.hm_flaw_keys.specs.declared.key.FlawKey.{FlawKey}
-
--- ---- an entry is due
-
-module _ (parts : List Part) (l : Flaw) (c : Program) (k : FlawKey) (a : ℕ) (n : FlawKey) (e : Entry) (none : (form_in k).broken ≡ None) (due : due_by l c (form_in k).flawed a ≡ Progress.Did e) where
-  -- it breaks no part
-  pub turned_on : broken_at parts c (form_in k) e ≡ None → form_in n ≡ point_entry l c (form_in k) e None → entries_in n ≡ entries_in k ++ e ∷ [] → broken_in n ≡ None → IsTurned parts l c k a n
-  turned_on o form trail broken = record {
-    entry = e;
-    none = none;
-    due = due;
-    form = form ∙ ap (point_entry l c (form_in k) e) (sym o);
-    on = λ q. (trail, broken);
-    ended = λ part q. absurd (none-some part (sym o ∙ q));
-  }
-
-  -- it breaks a part
-  pub turned_ended : (part : Part) → broken_at parts c (form_in k) e ≡ Some part → form_in n ≡ point_entry l c (form_in k) e (Some part) → entries_in n ≡ entries_in k → broken_in n ≡ Some (e, part) → IsTurned parts l c k a n
-  turned_ended part o form trail broken = record {
-    entry = e;
-    none = none;
-    due = due;
-    form = form ∙ ap (point_entry l c (form_in k) e) (sym o);
-    on = λ q. absurd (none-some part (sym q ∙ o));
-    ended = λ p q. (trail, broken ∙ ap (λ (r : Part). Some (e, r)) (same_Some part p (sym o ∙ q)));
-  }
-
--- ---- nothing is due
-
-none_there : (o : Option Part) → is_some o ≡ false → o ≡ None
-none_there None k = refl
-none_there (Some part) k = absurd (false≢true (sym k))
-
--- no part was broken
-pub unbroken : (p o : Option Part) → p ≡ o → is_some p ≡ false → o ≡ None
-unbroken p o same k = sym same ∙ none_there p k
 
 after_break : (o : Option Part) (b : Bool) → is_some o ≡ true → (is_none o && b) ≡ false
 after_break None b k = absurd (false≢true k)
@@ -65,3 +31,10 @@ no_entry (Some part) b k = refl
 -- the actor waits, or is idle
 pub due_none : (l : Flaw) (c : Program) (k : FlawKey) (a : ℕ) (p : Progress) → due_by l c (form_in k).flawed a ≡ p → is_entry p ≡ false → is_due_at l c (form_in k) a ≡ false
 due_none l c k a p d is = no_entry (form_in k).broken (is_entry (due_by l c (form_in k).flawed a)) (ap is_entry d ∙ is)
+
+-- what is due to an actor is due in the state that is kept
+pub due_kept : (l : Flaw) (c : Program) (x y : FlawState) (d o : Own) (a : ℕ) (p : Progress) → x ≡ y → d ≡ o → p ≡ due_by l c (record { state = state_in x; driver = driver_in d }) a
+    → due_by l c (record { state = state_in y; driver = driver_in o }) a ≡ p
+due_kept l c x y d o a p s t is =
+    sym (ap (λ (z : FlawState). due_by l c (record { state = state_in z; driver = driver_in d }) a) s
+    ∙ ap (λ (z : Own). due_by l c (record { state = state_in y; driver = driver_in z }) a) t) ∙ sym is

@@ -1,5 +1,5 @@
-// The states of a race of a driver with a flaw, as a search keeps them: with the marks and the entries that the parts of
-// legality are judged by.
+// The states of a race of a driver with a flaw, as a search keeps them: with the marks and the entries by which the
+// parts of legality are judged.
 #![tactic(auto)]
 
 mod compare;

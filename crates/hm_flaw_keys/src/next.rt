@@ -59,7 +59,7 @@ fn broken_at(
         state: &key.state,
     };
     let records = records_of(&key.state.tasks, entry.actor);
-    first_broken(alloc, judging, &here, records, &key.trail, entry)
+    Ok(first_broken(alloc, judging, &here, records, &key.trail, entry)?)
 }
 
 // Whether such an entry may change what a driver has of its own. It may say so of one that does not.

@@ -271,7 +271,7 @@ impl Marks {
         same_parts(self, other)
     }
 
-    /// A sum with a number of the marks mixed in, which is the same for the same marks, and should mostly be another for
+    /// A sum with a number of the marks mixed in. It is the same for the same marks, and should mostly be another for
     /// others.
     pub fn bucket(&self, sum: u64) -> u64
         ensures { result ≡ marks_number sum (marks_in self.now) }

@@ -1,4 +1,5 @@
 use Rattle.std.proofs.Common.{refl, sym, ap, ◌∙◌}
+use Rattle.hm_base.specs.Program.{Program}
 use Rattle.hm_drivers.specs.Owns.{driver_in}
 use Rattle.hm_flaw_parts.specs.Marks.{marks_in}
 use Rattle.hm_flaw_races.specs.Races.{marked_of}
@@ -20,7 +21,7 @@ pub invariant_of-result-clause-noted : goal.invariant_of-result-clause-noted
 invariant_of-result-clause-noted g c = λ p e.
     let r = c.in_ok-so_far.ensures in
     ap marks_in c.in_ok-new-3.ensures.ok ∙ (r.marked
-    ∙ (sym (marked_same p c.args.script.now e c.args.set_up.now) ∙ ap (marked_of p) (sym r.trail)))
+    ∙ (sym (marked_same p c.args.script.now (e ∙ ap (λ (v : Program). v.frames) c.script.view_is) c.args.set_up.now) ∙ ap (marked_of p) (sym r.trail)))
 
 pub returns-clause-form : goal.returns-clause-form
 returns-clause-form g c =

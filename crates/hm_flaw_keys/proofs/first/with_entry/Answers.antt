@@ -1,6 +1,5 @@
 use Rattle.hm_flaw_keys.proofs.SetUps.{more_after}
 use Rattle.hm_flaw_keys.proofs.Trails.{longer_by}
-use Rattle.hm_flaw_keys.specs.declared.first.SoFar.{SoFar}
 use Rattle.hm_flaw_keys.proofs.first.with_entry.Goals as goal
 
 pub returns : goal.returns
