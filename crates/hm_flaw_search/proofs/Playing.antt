@@ -58,7 +58,7 @@ judged_more parts l c h [] a x = refl
 judged_more parts l c h (b ∷ turns) a x = judged_more parts l c h turns a (judged_on parts l c h x.broken x b)
 
 module _ (parts : List Part) (l : Flaw) (c : Program) (h : List Entry) (turns : List ℕ) (a : ℕ) (k : FlawKey) (p : IsPlayed parts l c h turns k) where
-  so_far : Judged
+  abbrev so_far : Judged
   so_far = judged parts l c h turns
 
   same : form_in k ≡ point_of c h so_far
@@ -82,7 +82,7 @@ module _ (parts : List Part) (l : Flaw) (c : Program) (h : List Entry) (turns : 
   }
 
   module _ (n : FlawKey) (z : IsTurned parts l c k a n) where
-    breaks : Option Part
+    abbrev breaks : Option Part
     breaks = broken_at parts c (form_in k) z.entry
 
     none_before : so_far.broken ≡ None

@@ -1,3 +1,4 @@
 pub mod Answers
 pub mod Finding
 pub mod Played
+pub mod Races

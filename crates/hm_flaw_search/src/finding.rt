@@ -19,8 +19,8 @@ fn found_first<R: SkipRule, G: Goal<FlawKey>>(
     goal: &G,
     known: &[Known<FlawKey>],
 ) -> Result<Found, NoMemory>
-    ensures { IfOk result (IsFoundFirst (judged_parts race.now.judging) race.now.flaw race.now.script.now
-        race.now.set_up.now (all_known form_in known.now) (map (at_goal G.read (G.reached goal.now)) known.now)) }
+    ensures { IfOk result (IsFoundFirst (judged_parts race.now.judging) race.now.flaw race.now.script
+        race.now.set_up (all_known form_in known.now) (map (at_goal G.read (G.reached goal.now)) known.now)) }
 {
     match first_reached(goal, known)? {
         Some(at) => {
@@ -38,9 +38,9 @@ pub fn found_of<R: SkipRule>(
     known: &[Known<FlawKey>],
     end: End,
 ) -> Result<Found, NoMemory>
-    ensures { IfOk result (IsFoundFirst (judged_parts race.now.judging) race.now.flaw race.now.script.now
-        race.now.set_up.now (all_known form_in known.now)
-        (map (at_goal form_in (goal_of race.now.flaw race.now.script.now end)) known.now)) }
+    ensures { IfOk result (IsFoundFirst (judged_parts race.now.judging) race.now.flaw race.now.script
+        race.now.set_up (all_known form_in known.now)
+        (map (at_goal form_in (goal_of race.now.flaw race.now.script end)) known.now)) }
 {
     match end {
         End::Reached => found_first(race, &Broken, known),

@@ -24,7 +24,7 @@ impl Goal<FlawKey> for Broken {
     ghost reached = { λ _ x. breaks_at x };
 
     fn is_reached(&self, key: &FlawKey) -> Result<bool, NoMemory> {
-        Ok(key.broken.is_some())
+        Ok(key.part().is_some())
     }
 }
 
@@ -39,14 +39,24 @@ impl<'a, R: SkipRule> Goal<FlawKey> for Stuck<'a, R> {
 
     ghost read = { form_in };
 
-    ghost reached = { λ s x. sticks_at s.race.now.flaw s.race.now.script.now x };
+    ghost reached = { λ s x. sticks_at s.race.now.flaw s.race.now.script x };
 
     fn is_reached(&self, key: &FlawKey) -> Result<bool, NoMemory> {
-        if key.broken.is_some() {
+        if key.part().is_some() {
             return Ok(false);
         }
         self.race.is_stuck_at(key)
     }
+}
+
+// Whether the state counts as ended, and reaches the goal.
+fn is_at<G: Goal<FlawKey>>(goal: &G, state: &Known<FlawKey>) -> Result<bool, NoMemory>
+    ensures { IfOk result (λ b. b ≡ at_goal G.read (G.reached goal.now) state.now) }
+{
+    if !state.ended {
+        return Ok(false);
+    }
+    goal.is_reached(&state.key)
 }
 
 /// The place of the first known state that reaches the goal, if one does.
@@ -57,7 +67,7 @@ pub fn first_reached<G: Goal<FlawKey>>(
     ensures { IfOk result (IsFirstTrue (map (at_goal G.read (G.reached goal.now)) known.now)) }
 {
     for at in 0..known.len() {
-        if known[at].ended && goal.is_reached(&known[at].key)? {
+        if is_at(goal, &known[at])? {
             return Ok(Some(at));
         }
     }

@@ -29,8 +29,8 @@ fn listed(alloc: Global, entries: &[Rc<Entry>]) -> Result<ListOf<Entry>, NoMemor
 impl<'a, R: SkipRule> FlawRace<'a, R> {
     // The key after turns of these actors. One to whom nothing is due changes nothing.
     fn played(&self, turns: &[Actor]) -> Result<FlawKey, NoMemory>
-        ensures { IfOk result (IsPlayed (judged_parts self.now.judging) self.now.flaw self.now.script.now
-            self.now.set_up.now turns.now) }
+        ensures { IfOk result (IsPlayed (judged_parts self.now.judging) self.now.flaw self.now.script
+            self.now.set_up turns.now) }
     {
         let mut key = self.first_key()?;
         for actor in turns {
@@ -46,7 +46,7 @@ impl<'a, R: SkipRule> FlawRace<'a, R> {
     /// stuck. It fails as `next_key` of hm_flaw_keys.
     pub fn race_of(&self, turns: &[Actor]) -> Result<Found, NoMemory>
         ensures { IfOk result (λ f. f ≡ found_by (judged (judged_parts self.now.judging) self.now.flaw
-            self.now.script.now self.now.set_up.now turns.now)) }
+            self.now.script self.now.set_up turns.now)) }
     {
         let key = self.played(turns)?;
         let entries = listed(self.alloc, &key.trail[self.set_up.len()..])?;

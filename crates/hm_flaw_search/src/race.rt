@@ -1,6 +1,5 @@
 // The race of a driver with a flaw, for the search.
-ghost use Rattle.std.specs.Prelude.{◌≡◌, ◌≤◌, [], length, IfOk};
-ghost use Rattle.hm_history.specs.Laws.{DueFrom};
+ghost use Rattle.std.specs.Prelude.{◌≡◌, ◌≤◌, length, IfOk};
 ghost use Rattle.hm_flaw_parts.specs.Judged.{judged_parts};
 ghost use Rattle.hm_flaw_keys.specs.Keyed.{entries_in, form_in};
 ghost use Rattle.hm_flaw_keys.specs.Nexts.{IsNextKey};
@@ -15,6 +14,7 @@ use hm_history::{Entry, StepError};
 use hm_search::System;
 use skip_rules::SkipRule;
 use std::alloc::Global;
+use std::marker::Model;
 
 /// The race of a script after a set-up by a right driver, if the driver has this flaw, and is judged by these parts.
 #[derive(Drop)]
@@ -25,32 +25,56 @@ pub struct FlawRace<'a, R> {
     pub rule: &'a R,
     pub flaw: Flaw,
     pub judging: Judging,
-    ghost due: { DueFrom script.now [] set_up.now },
-    ghost few: { length set_up.now ≤ 2000000 },
+}
+
+impl<'a, R> Model for FlawRace<'a, R> {
+    ghost use Rattle.hm_flaw_search.specs.Races.{FlawRaceValue, IsFlawRace};
+
+    ghost Value = { FlawRaceValue };
+
+    ghost view = {
+        λ r. record { script = r.script.now; set_up = r.set_up.now; flaw = r.flaw; judging = r.judging }
+    };
+
+    ghost invariant = {
+        λ r. IsFlawRace
+            (record { script = r.script.now; set_up = r.set_up.now; flaw = r.flaw; judging = r.judging })
+    };
 }
 
 impl<'a, R: SkipRule> FlawRace<'a, R> {
+    ghost use Rattle.hm_flaw_search.specs.Races.{IsFlawRace};
+
+    /// Costs nothing: it hands the prover what holds of every race.
+    pub fn stands(&self)
+        ensures { IsFlawRace self.now }
+    {
+        let _ = &self.script;
+    }
+
     /// How many actors the script has.
     pub fn count(&self) -> u32
-        ensures same { result ≡ length self.now.script.now.actors }
+        ensures same { result ≡ length self.now.script.actors }
         ensures few { result ≤ 16 }
     {
-        self.script.facts();
-        self.script.actors.len() as u32
+        let script = self.script;
+        script.facts();
+        script.actors.len() as u32
     }
 
     /// The key after the set-up. It fails as `first_key` of hm_flaw_keys.
     pub fn first_key(&self) -> Result<FlawKey, NoMemory>
-        ensures form { IfOk result (λ k. form_in k ≡ point_from self.now.script.now self.now.set_up.now) }
-        ensures trail { IfOk result (λ k. entries_in k ≡ self.now.set_up.now) }
+        ensures form { IfOk result (λ k. form_in k ≡ point_from self.now.script self.now.set_up) }
+        ensures trail { IfOk result (λ k. entries_in k ≡ self.now.set_up) }
     {
+        self.stands();
         first_key(self.alloc, self.script, self.rule, self.set_up)
     }
 
     /// The key after a turn of the actor, or `None` if nothing is due to it. It fails as `next_key` of hm_flaw_keys.
     pub fn next_key(&self, key: &FlawKey, actor: Actor) -> Result<Option<FlawKey>, NoMemory>
         ensures { IfOk result
-            (IsNextKey (judged_parts self.now.judging) self.now.flaw self.now.script.now key.now actor) }
+            (IsNextKey (judged_parts self.now.judging) self.now.flaw self.now.script key.now actor) }
     {
         let (flaw, judging) = (self.flaw, self.judging);
         next_key(self.alloc, self.script, self.rule, flaw, judging, key, actor)
@@ -66,11 +90,13 @@ impl<'a, R: SkipRule> System for FlawRace<'a, R> {
 
     ghost form = { form_in };
 
-    ghost value = { λ r. flaw_system (judged_parts r.judging) r.flaw r.script.now r.set_up.now };
+    ghost value = { λ r. flaw_system (judged_parts r.judging) r.flaw r.script r.set_up };
 
     fn facts(&self) {
         hm_flaw_races::flaw_races_are_systems();
-        self.script.facts();
+        let script = self.script;
+        script.facts();
+        self.stands();
     }
 
     fn actors(&self) -> u32 {

@@ -20,7 +20,7 @@ impl<'a, R: SkipRule> FlawRace<'a, R> {
     // Whether an entry is due to the actor.
     fn can_go(&self, key: &FlawKey, actor: Actor) -> Result<bool, NoMemory>
         ensures { IfOk result
-            (λ b. b ≡ is_entry (due_by self.now.flaw self.now.script.now (form_in key.now).flawed actor)) }
+            (λ b. b ≡ is_entry (due_by self.now.flaw self.now.script (form_in key.now).flawed actor)) }
     {
         let here = FlawHere {
             script: self.script,
@@ -35,8 +35,8 @@ impl<'a, R: SkipRule> FlawRace<'a, R> {
     // Whether an entry is due to no actor.
     fn none_can_go(&self, key: &FlawKey) -> Result<bool, NoMemory>
         ensures { IfOk result (λ b. b
-            ≡ list_all (λ a. not (is_entry (due_by self.now.flaw self.now.script.now (form_in key.now).flawed a)))
-            (actors_of self.now.script.now)) }
+            ≡ list_all (λ a. not (is_entry (due_by self.now.flaw self.now.script (form_in key.now).flawed a)))
+            (actors_of self.now.script)) }
     {
         for number in 0..self.count() {
             if self.can_go(key, Actor::new(number))? {
@@ -48,7 +48,7 @@ impl<'a, R: SkipRule> FlawRace<'a, R> {
 
     // Whether all operations of all actors have ended.
     fn have_ended(&self, key: &FlawKey) -> bool
-        ensures { result ≡ ended_in self.now.script.now (form_in key.now).flawed.state }
+        ensures { result ≡ ended_in self.now.script (form_in key.now).flawed.state }
     {
         let here = FlawHere {
             script: self.script,
@@ -65,7 +65,7 @@ impl<'a, R: SkipRule> FlawRace<'a, R> {
     /// Whether nothing is due to any actor at the state with this key, and some operation has not ended.
     pub fn is_stuck_at(&self, key: &FlawKey) -> Result<bool, NoMemory>
         ensures { IfOk result
-            (λ b. b ≡ is_stuck self.now.flaw self.now.script.now (form_in key.now).flawed) }
+            (λ b. b ≡ is_stuck self.now.flaw self.now.script (form_in key.now).flawed) }
     {
         if self.none_can_go(key)? {
             return Ok(!self.have_ended(key));

@@ -1,0 +1,19 @@
+-- The race of a driver with a flaw, as contracts see it.
+use Rattle.std.specs.Prelude.{◌≤◌, List, [], length}
+use Rattle.hm_base.specs.Program.{Program}
+use Rattle.hm_history.specs.Laws.{DueFrom}
+use Rattle.hm_history.specs.declared.Entry.{Entry}
+use Rattle.hm_flaws.specs.declared.flaws.Flaw.{Flaw}
+use Rattle.hm_flaw_parts.specs.declared.judged.Judging.{Judging}
+
+-- a script, the entries of its set-up, the flaw of the driver, and which parts it is judged by
+pub record FlawRaceValue : Type 0 where
+  pub script : Program
+  pub set_up : List Entry
+  pub flaw : Flaw
+  pub judging : Judging
+
+-- the set-up is a history of entries that were due, and not too long
+pub record IsFlawRace (r : FlawRaceValue) : Type 0 where
+  pub due : DueFrom r.script [] r.set_up
+  pub few : length r.set_up ≤ 2000000
