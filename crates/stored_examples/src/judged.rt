@@ -13,22 +13,29 @@ fn asked_of(name: &str) -> Asked {
     }
 }
 
-/// Writes what is said of one report.
-fn tell(rt: &HostRuntime, stem: &str) -> io::Result<()> {
-    let name = name(stem);
-    let bytes = bytes(rt, stem, ".report")?;
-    println!(rt; "{name}")?;
-    let asked = asked_of(name);
-    let Ok(answer) = answer_on(rt.alloc(), asked, bytes.as_slice()) else {
+/// Writes what is said of these bytes.
+fn tell_answer(rt: &HostRuntime, asked: Asked, bytes: &[u8]) -> io::Result<()> {
+    let Ok(answer) = answer_on(rt.alloc(), asked, bytes) else {
         return println!(rt; "out of memory");
     };
     match answer_text(rt.alloc(), asked, &answer) {
-        Ok(text) => match str::from_utf8(text.as_slice()) {
-            Ok(said) => println!(rt; "{said}"),
-            Err(_) => println!(rt; "no text"),
-        },
+        Ok(text) => tell_text(rt, text.as_slice()),
         Err(_) => println!(rt; "out of memory"),
     }
+}
+
+fn tell_text(rt: &HostRuntime, text: &[u8]) -> io::Result<()> {
+    match str::from_utf8(text) {
+        Ok(said) => println!(rt; "{said}"),
+        Err(_) => println!(rt; "no text"),
+    }
+}
+
+/// Writes what is said of one report.
+fn tell(rt: &HostRuntime, stem: &str) -> io::Result<()> {
+    let name = name(stem);
+    println!(rt; "{name}")?;
+    tell_answer(rt, asked_of(name), bytes(rt, stem, ".report")?.as_slice())
 }
 
 pub fn tell_all(rt: &HostRuntime) -> io::Result<()> {

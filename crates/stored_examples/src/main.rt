@@ -11,6 +11,7 @@ mod linux;
 mod outcome;
 mod races;
 mod replays;
+mod streams;
 mod words;
 
 use std::io;

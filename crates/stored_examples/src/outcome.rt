@@ -1,17 +1,12 @@
 // What a script comes to, by a replay and by the files beside it.
-use crate::files::{no_memory, text as text_of};
+use crate::files::{no_memory, text};
+use crate::streams::{empty_sink, source_of, text_of};
 use hm_edge::{Status, message};
 use hm_io::{MemorySink, MemorySource};
 use hm_top::{USAGE, run_alone};
 use skip_rules::{BoxedRule, Kept, Leans};
 use std::alloc::Global;
 use std::io;
-
-/// So few bytes come at a time that no script of a few lines is read at once.
-const PIECE: usize = 16;
-
-/// No report of an example is longer.
-const ROOM: usize = 1_048_576;
 
 /// How a replay ends, what it says, and what it writes.
 #[derive(Drop)]
@@ -42,36 +37,51 @@ impl Outcome {
     }
 }
 
-fn text(bytes: &[u8]) -> io::Result<&str> {
-    match str::from_utf8(bytes) {
-        Ok(text) => Ok(text),
-        Err(_) => Err(io::Error::from(io::ErrorKind::InvalidData)),
-    }
-}
-
-/// What the top call comes to on these bytes.
-pub fn replayed(alloc: Global, script: &[u8]) -> io::Result<Outcome> {
-    let mut source = MemorySource::new(alloc, script, PIECE, &[]).map_err(no_memory)?;
-    let mut sink = MemorySink::new(alloc, ROOM, &[]).map_err(no_memory)?;
-    let words = vec![in alloc; String::from_str(alloc, "replay")?]?;
+/// The rules of a run of hmmrun: which pages a migration skips, and to which side a page leans.
+fn rules(alloc: Global) -> io::Result<(Kept, Leans)> {
     let skips: BoxedRule = Box::new(
         alloc,
         |every: u64, page: u64| every != 0 && page % every == 0,
     )?;
+    let skip = Kept::new(skips);
     let leans: BoxedRule = Box::new(alloc, |x: u64, y: u64| x >= 4 && x - 4 >= y)?;
-    let (skip, leans) = (Kept::new(skips), Leans::new(leans));
-    let ended = run_alone(alloc, words, &mut source, &mut sink, &skip, &leans);
-    let message = message(alloc, USAGE, &ended.status).map_err(no_memory)?;
+    Ok((skip, Leans::new(leans)))
+}
+
+/// Makes the top call for a replay.
+fn replay(alloc: Global, source: &mut MemorySource, sink: &mut MemorySink) -> io::Result<Status> {
+    let (skip, leans) = rules(alloc)?;
+    let words = vec![in alloc; String::from_str(alloc, "replay")?]?;
+    Ok(run_alone(alloc, words, source, sink, &skip, &leans).status)
+}
+
+/// What the program says of this status.
+fn message_of(alloc: Global, status: &Status) -> io::Result<String> {
+    let message = message(alloc, USAGE, status).map_err(no_memory)?;
+    text_of(alloc, message.as_slice())
+}
+
+/// How a replay ended, with what the sink holds of it.
+fn outcome_of(alloc: Global, status: &Status, sink: &MemorySink) -> io::Result<Outcome> {
+    let message = message_of(alloc, status)?;
     Ok(Outcome {
-        code: ended.status.code(),
-        message: String::from_str(alloc, text(message.as_slice())?)?,
-        report: String::from_str(alloc, text(sink.held())?)?,
+        code: status.code(),
+        message,
+        report: text_of(alloc, sink.held())?,
     })
+}
+
+/// What the top call comes to on these bytes.
+pub fn replayed(alloc: Global, script: &[u8]) -> io::Result<Outcome> {
+    let mut source = source_of(alloc, script)?;
+    let mut sink = empty_sink(alloc)?;
+    let status = replay(alloc, &mut source, &mut sink)?;
+    outcome_of(alloc, &status, &sink)
 }
 
 /// The text of a file beside the script; there is none if there is no such file.
 fn beside(rt: &HostRuntime, stem: &str, ending: &str) -> io::Result<String> {
-    match text_of(rt, stem, ending) {
+    match text(rt, stem, ending) {
         Err(e) if e.kind() == io::ErrorKind::NotFound => Ok(String::new(rt.alloc())),
         read => read,
     }
@@ -88,13 +98,20 @@ fn code(text: &str) -> io::Result<u8> {
     }
 }
 
+/// The message beside the script.
+fn message_beside(rt: &HostRuntime, stem: &str) -> io::Result<String> {
+    let message = beside(rt, stem, ".message")?;
+    Ok(String::from_str(rt.alloc(), message.as_str().trim_end())?)
+}
+
 /// What the files beside the script say that it comes to: all done, no message and nothing written, if they are
 /// missing.
 pub fn wanted(rt: &HostRuntime, stem: &str) -> io::Result<Outcome> {
-    let message = beside(rt, stem, ".message")?;
+    let code = code(beside(rt, stem, ".status")?.as_str())?;
+    let message = message_beside(rt, stem)?;
     Ok(Outcome {
-        code: code(beside(rt, stem, ".status")?.as_str())?,
-        message: String::from_str(rt.alloc(), message.as_str().trim_end())?,
+        code,
+        message,
         report: beside(rt, stem, ".report")?,
     })
 }

@@ -1,7 +1,8 @@
 // Searches the race of every script of the folder `races`, asks for the conditions there, and draws every report. Compares
 // the outcomes and what is said of the conditions with the files beside them, and the pages with the lines there, between
 // the files of the folder page.
-use crate::files::{bytes, no_memory, stems, text};
+use crate::files::{stems, text};
+use crate::streams::{empty_sink, source_beside};
 use hm_edge::{RaceEnd, Status};
 use hm_io::{MemorySink, MemorySource};
 use hm_race_top::races;
@@ -9,12 +10,6 @@ use hm_view::view;
 use skip_rules::Multiples;
 use std::alloc::Global;
 use std::io;
-
-/// So few bytes come at a time that no text of a few lines is read at once.
-const PIECE: usize = 16;
-
-/// No outcomes and no page of an example take more bytes.
-const ROOM: usize = 1_048_576;
 
 /// The folder of the files that a page is made of.
 const PAGE: &str = "races/page/";
@@ -112,34 +107,52 @@ fn page_with(rt: &HostRuntime, lines: &str) -> io::Result<String> {
     }
 }
 
-/// The words that ask for the conditions in the file, one in each line; none of other examples.
-fn words_of(rt: &HostRuntime, stem: &str, made: Made) -> io::Result<Vec<String>> {
-    let mut words = Vec::new(rt.alloc());
-    if matches!(made, Made::Rulings) {
-        words.push(String::from_str(rt.alloc(), "--expect")?)?;
-        for line in text(rt, stem, ".conditions")?.lines() {
-            words.push(String::from_str(rt.alloc(), line)?)?;
-        }
+/// The words that ask for these conditions, one in each line.
+fn conditions(alloc: Global, lines: &str) -> io::Result<Vec<String>> {
+    let mut words = vec![in alloc; String::from_str(alloc, "--expect")?]?;
+    for line in lines.lines() {
+        words.push(String::from_str(alloc, line)?)?;
     }
     Ok(words)
 }
 
+/// The words that ask for the conditions in the file; none of other examples.
+fn words_of(rt: &HostRuntime, stem: &str, made: Made) -> io::Result<Vec<String>> {
+    match made {
+        Made::Outcomes | Made::Page => Ok(Vec::new(rt.alloc())),
+        Made::Rulings => conditions(rt.alloc(), text(rt, stem, ".conditions")?.as_str()),
+    }
+}
+
+/// What is to be made of the example.
+fn wanted(rt: &HostRuntime, stem: &str, made: Made) -> io::Result<String> {
+    let (_, ending) = made.endings();
+    let beside = text(rt, stem, ending)?;
+    match made {
+        Made::Outcomes | Made::Rulings => Ok(beside),
+        Made::Page => page_with(rt, beside.as_str()),
+    }
+}
+
+/// Whether this text is made of the example, with these words.
+fn gives(
+    rt: &HostRuntime,
+    stem: &str,
+    made: Made,
+    words: &[String],
+    wanted: &str,
+) -> io::Result<bool> {
+    let mut source = source_beside(rt, stem, made.read())?;
+    let mut sink = empty_sink(rt.alloc())?;
+    let status = made.write(rt.alloc(), words, &mut source, &mut sink);
+    Ok(Made::ends(wanted, &status) && sink.held() == wanted.as_bytes())
+}
+
 /// Whether what is made of the example is what the file beside it has.
 fn agrees(rt: &HostRuntime, stem: &str, made: Made) -> io::Result<bool> {
-    let (_, beside) = made.endings();
-    let example = bytes(rt, stem, made.read())?;
-    let beside = text(rt, stem, beside)?;
+    let wanted = wanted(rt, stem, made)?;
     let words = words_of(rt, stem, made)?;
-    let wanted = match made {
-        Made::Outcomes | Made::Rulings => beside,
-        Made::Page => page_with(rt, beside.as_str())?,
-    };
-    let mut source = MemorySource::new(rt.alloc(), example.as_slice(), PIECE, &[]).map_err(
-        no_memory,
-    )?;
-    let mut sink = MemorySink::new(rt.alloc(), ROOM, &[]).map_err(no_memory)?;
-    let status = made.write(rt.alloc(), words.as_slice(), &mut source, &mut sink);
-    Ok(Made::ends(wanted.as_str(), &status) && sink.held() == wanted.as_str().as_bytes())
+    gives(rt, stem, made, words.as_slice(), wanted.as_str())
 }
 
 /// How many examples agree; each that does not is named.

@@ -1,16 +1,21 @@
 // Replays every script in the folders of `replays`, and compares what comes of each with the files beside it: a status, a
 // message and a report. Then it compares the words that the reports use with those that the pages of docs tell.
 use crate::files::{bytes, folders, stems};
-use crate::outcome::{replayed, wanted};
+use crate::outcome::{Outcome, replayed, wanted};
 use crate::words::{Used, compare};
 use std::io;
 
+/// Whether the script comes to this.
+fn comes_to(rt: &HostRuntime, stem: &str, wanted: &Outcome) -> io::Result<bool> {
+    let script = bytes(rt, stem, ".hmm")?;
+    Ok(replayed(rt.alloc(), script.as_slice())?.is(wanted))
+}
+
 /// Whether the script comes to what the files beside it say; notes the words of its report.
 fn agrees(rt: &HostRuntime, stem: &str, used: &mut Used) -> io::Result<bool> {
-    let script = bytes(rt, stem, ".hmm")?;
     let wanted = wanted(rt, stem)?;
     used.note_report(rt.alloc(), wanted.report())?;
-    Ok(replayed(rt.alloc(), script.as_slice())?.is(&wanted))
+    comes_to(rt, stem, &wanted)
 }
 
 /// Names each script of the folder that comes to something else, and counts the others.

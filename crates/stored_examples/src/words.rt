@@ -79,22 +79,34 @@ fn told(rt: &HostRuntime, page: &str) -> io::Result<Vec<String>> {
     Ok(words)
 }
 
-/// Prints each word that is used and not told, or told and not used, and how many are both.
-fn compare_page(rt: &HostRuntime, page: &str, used: &[String]) -> io::Result<()> {
-    let told = told(rt, page)?;
+/// Prints each word that is used and not told, and counts the others.
+fn count_told(rt: &HostRuntime, page: &str, told: &[String], used: &[String]) -> io::Result<u64> {
     let mut count = 0u64;
     for word in used {
-        if has(told.as_slice(), word.as_str()) {
+        if has(told, word.as_str()) {
             count = count.saturating_add(1);
         } else {
             println!(rt; "{page} does not tell {word}")?;
         }
     }
-    for word in told.iter() {
+    Ok(count)
+}
+
+/// Prints each word that is told and not used.
+fn tell_unused(rt: &HostRuntime, page: &str, told: &[String], used: &[String]) -> io::Result<()> {
+    for word in told {
         if !has(used, word.as_str()) {
             println!(rt; "no example uses {word} of {page}")?;
         }
     }
+    Ok(())
+}
+
+/// Prints each word that is used and not told, or told and not used, and how many are both.
+fn compare_page(rt: &HostRuntime, page: &str, used: &[String]) -> io::Result<()> {
+    let told = told(rt, page)?;
+    let count = count_told(rt, page, told.as_slice(), used)?;
+    tell_unused(rt, page, told.as_slice(), used)?;
     println!(rt; "{page} tells {count} words")
 }
 

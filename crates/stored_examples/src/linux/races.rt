@@ -95,30 +95,53 @@ fn is_kept(kept: &str, outcome: &str) -> bool {
     })
 }
 
-/// Compares the outcomes of one race, and prints those that have no place.
-fn compare(rt: &HostRuntime, names: &Names, stem: &str, counts: &mut Counts) -> io::Result<()> {
-    let told = outcomes(rt.alloc(), bytes(rt, stem, ".hmm")?.as_slice())?;
-    if !told.as_str().ends_with(" whole\n") {
-        println!(rt; "{stem}: hmmraces gave up")?;
-    }
-    let listed = listed(rt.alloc(), told.as_str())?;
-    let kept = text(rt, stem, ".seen")?;
-    counts.races = counts.races.saturating_add(1);
-    for line in kept.as_str().lines() {
+/// Prints each seen line that has no place, and counts the others.
+fn compare_seen(
+    rt: &HostRuntime,
+    names: &Names,
+    stem: &str,
+    listed: &[String],
+    kept: &str,
+    counts: &mut Counts,
+) -> io::Result<()> {
+    for line in kept.lines() {
         if let Some(line) = parts(line) {
-            if has_place(names, listed.as_slice(), &line) {
+            if has_place(names, listed, &line) {
                 count(&line, counts);
             } else {
                 println!(rt; "{stem}: {} {}", line.name, line.outcome)?;
             }
         }
     }
-    for outcome in listed.iter() {
-        if !is_kept(kept.as_str(), outcome.as_str()) {
+    Ok(())
+}
+
+/// Prints each outcome that no line of the kept text is.
+fn tell_others(rt: &HostRuntime, stem: &str, listed: &[String], kept: &str) -> io::Result<()> {
+    for outcome in listed {
+        if !is_kept(kept, outcome.as_str()) {
             println!(rt; "{stem}: not kept: {outcome}")?;
         }
     }
     Ok(())
+}
+
+/// The outcomes of one race; says if not all are known.
+fn listed_of(rt: &HostRuntime, stem: &str) -> io::Result<Vec<String>> {
+    let told = outcomes(rt.alloc(), bytes(rt, stem, ".hmm")?.as_slice())?;
+    if !told.as_str().ends_with(" whole\n") {
+        println!(rt; "{stem}: hmmraces gave up")?;
+    }
+    listed(rt.alloc(), told.as_str())
+}
+
+/// Compares the outcomes of one race, and prints those that have no place.
+fn compare(rt: &HostRuntime, names: &Names, stem: &str, counts: &mut Counts) -> io::Result<()> {
+    let listed = listed_of(rt, stem)?;
+    let kept = text(rt, stem, ".seen")?;
+    counts.races = counts.races.saturating_add(1);
+    compare_seen(rt, names, stem, listed.as_slice(), kept.as_str(), counts)?;
+    tell_others(rt, stem, listed.as_slice(), kept.as_str())
 }
 
 /// Compares the outcomes of all races.
