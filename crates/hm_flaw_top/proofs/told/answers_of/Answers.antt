@@ -17,7 +17,7 @@ loop-flaw-preserved g c =
     let rows = c.loop-flaw.rows in
     let below : i < length flaws = omega (arith, c.loop-flaw-test.true, ap length c.all_flaws-flaws.ensures) in
     let new : RuleAnswer = record { rule = get_or flaws i Flaw.NoFlaw; answer = c.in-Ok.answer } in
-    subst (λ (xs : List RuleAnswer). SoFar parts most s h flaws xs (i + 1)) {y = c.push.new.self} (sym c.in-Ok-push.ensures.ok) (record {
+    subst (λ (xs : List RuleAnswer). SoFar parts most s h flaws xs (i + 1)) {y = c.push.new.self} (sym {a = c.push.new.self} c.in-Ok-push.ensures.ok) (record {
       rules = rules_more rows new flaws i Flaw.NoFlaw below refl c.loop-flaw.invariant.rules;
       are = one_more parts most s h rows new c.loop-flaw.invariant.are c.in-Ok.ensures.answer;
     })
