@@ -20,7 +20,8 @@ use Rattle.hm_race_top.specs.declared.telling.Telling.{Telling}
 use Rattle.hm_script.specs.Built.{has_drain}
 use Rattle.hm_flaw_top.specs.Told.{FlawsMayFail, Tells}
 
--- The races of the drivers that are asked for were searched, after the script's run as the set-up, and this was written.
+-- The races of the drivers that are asked for were searched, with the script's run as the set-up, and this was
+-- written.
 pub record Found (task : Task) (c : Program) (before after : SinkState) (status : Status) : Type 0 where
   pub telling : Telling
   -- It is what the searches have shown: of one driver what was found, of all drivers a line for each.

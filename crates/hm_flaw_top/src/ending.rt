@@ -3,20 +3,20 @@ ghost use Rattle.std.specs.Prelude.{◌≡◌};
 ghost use Rattle.hm_edge.specs.Messages.{code_of};
 ghost use Rattle.hm_flaw_text.specs.Answers.{answer_code};
 ghost use Rattle.hm_race_top.specs.Telling.{IsEnding};
-ghost use Rattle.hm_flaw_top.specs.Endings.{ending_by, ending_of, ending_of_all};
+ghost use Rattle.hm_flaw_top.specs.Endings.{ending_by, ending_of, ending_of_all, has_code};
 
 use hm_edge::{RaceEnd, Status};
 use hm_flaw_text::{Answer, RuleAnswer};
 
 /// How a call ends that found a driver which does what it must not do, or one of which that is not known.
-fn ending_by(broken: bool, open: bool) -> Status
-    ensures same { result ≡ ending_by broken open }
+fn ending_by(broken: bool, cut: bool) -> Status
+    ensures same { result ≡ ending_by broken cut }
     ensures ends { IsEnding result }
 {
     if broken {
         return Status::Race(RaceEnd::Broken);
     }
-    if open {
+    if cut {
         return Status::Race(RaceEnd::Open);
     }
     Status::Done
@@ -32,12 +32,22 @@ pub fn ending_of(answer: &Answer) -> Status
     ending_by(code == 1, code == 10)
 }
 
-/// How a call ends that says this of several: one that does what it must not do comes before one that is open.
+/// Whether one of the lines has this exit status.
+fn has_code(code: u8, rows: &[RuleAnswer]) -> bool
+    ensures { result ≡ has_code code rows.now }
+{
+    for row in rows {
+        if row.answer.code() == code {
+            return true;
+        }
+    }
+    false
+}
+
+/// How a call ends that says this of several: by the worst of them.
 pub fn ending_of_all(rows: &[RuleAnswer]) -> Status
     ensures same { result ≡ ending_of_all rows.now }
     ensures ends { IsEnding result }
 {
-    let broken = rows.iter().any(|row| row.answer.code() == 1);
-    let open = rows.iter().any(|row| row.answer.code() == 10);
-    ending_by(broken, open)
+    ending_by(has_code(1, rows), has_code(10, rows))
 }

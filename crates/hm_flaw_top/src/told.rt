@@ -60,15 +60,19 @@ fn answers_of<R: SkipRule>(
     ensures are { IfOk result (AreAnswers (judged_parts task.judging) task.most script.now set_up.now) }
     ensures fails { IfErr result (FailsAtSome (judged_parts task.judging) script.now set_up.now) }
 {
+    let flaws = all_flaws();
     let mut rows = ListOf::new(alloc);
-    for flaw in &all_flaws() {
-        match find_race(alloc, script, set_up, rule, *flaw, task.judging, task.most) {
-            Ok(answer) => {
-                if rows.push(RuleAnswer { rule: *flaw, answer }).is_err() {
-                    return Err(StepError::NoMemory);
-                }
-            }
+    for flaw in &flaws {
+        let answer = match find_race(alloc, script, set_up, rule, *flaw, task.judging, task.most) {
+            Ok(answer) => answer,
             Err(error) => return Err(error),
+        };
+        match rows.push(RuleAnswer {
+            rule: *flaw,
+            answer,
+        }) {
+            Ok(()) => (),
+            Err(NoMemory) => return Err(StepError::NoMemory),
         }
     }
     Ok(rows)

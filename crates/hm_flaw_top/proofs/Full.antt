@@ -1,0 +1,15 @@
+-- Why a call ends with a history that is full.
+use Rattle.std.proofs.Common.{ℕ, List, subst}
+use Rattle.hm_base.specs.Program.{Program}
+use Rattle.hm_flaws.specs.declared.parts.Part.{Part}
+use Rattle.hm_flaw_text.specs.declared.task.Which.{Which}
+use Rattle.hm_history.specs.declared.Entry.{Entry}
+use Rattle.hm_history.specs.declared.StepError.{StepError}
+use Rattle.hm_search.specs.Known.{MayFail}
+use Rattle.hm_flaw_races.specs.Races.{flaw_system}
+use Rattle.hm_flaw_top.specs.Told.{FlawsMayFail}
+
+-- it has as many entries as a history has
+pub full_flaws : (x : Which) (parts : List Part) (c : Program) (h : List Entry) (n : ℕ) → FlawsMayFail x parts c h (StepError.Full n) → FlawsMayFail x parts c h (StepError.Full 2000000)
+full_flaws (Which.One l) parts c h n f = subst (λ (m : ℕ). MayFail (flaw_system parts l c h) (StepError.Full m)) f.0 f
+full_flaws Which.All parts c h n f = record { flaw = f.flaw; fails = subst (λ (m : ℕ). MayFail (flaw_system parts f.flaw c h) (StepError.Full m)) f.fails.0 f.fails }
