@@ -1,4 +1,5 @@
 mod Turning
+mod Stuck
 mod Playing
 mod Firsts
 mod Answering

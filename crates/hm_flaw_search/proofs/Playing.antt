@@ -1,10 +1,10 @@
 -- A key after turns, one after the other, and the entries that led to it.
-use Rattle.std.proofs.Common.{◌≡◌, ℕ, ◌+◌, ◌<◌, ◌≤◌, true, false, ◌&&◌, Option, Some, None, List, [], ◌∷◌, ◌++◌, length, map, drop, take, refl, sym, ap, ◌∙◌, subst, append_assoc, append-nil, get_or, arith}
+use Rattle.std.proofs.Common.{◌≡◌, ℕ, ◌+◌, ◌≤◌, false, ◌&&◌, Option, Some, None, List, [], ◌∷◌, ◌++◌, length, map, drop, refl, sym, ap, ◌∙◌, subst, append_assoc, append-nil, arith}
 use Rattle.std.specs.Option.{option_map}
 use Rattle.std.specs.Prelude.{is_none}
 use Rattle.std.specs.Rc.{rc_value}
 use Rattle.std.proofs.lemmas.Bool.{false≢true}
-use Rattle.std.proofs.lemmas.List.{length-append, length-map, take_more}
+use Rattle.std.proofs.lemmas.List.{length-append, length-map}
 use Rattle.std.proofs.lemmas.List.Sums.{fold-append}
 use Rattle.std.proofs.lemmas.Option.{none-some}
 use Rattle.std.proofs.Math.Seq.{drop-append_seam}
@@ -15,15 +15,15 @@ use Rattle.hm_history.specs.declared.Entry.{Entry}
 use Rattle.hm_history.specs.declared.Progress.{Progress}
 use Rattle.hm_flaws.specs.declared.flaws.Flaw.{Flaw}
 use Rattle.hm_flaws.specs.declared.parts.Part.{Part}
-use Rattle.hm_flaws.specs.Flawed.{Flawed, due_by}
+use Rattle.hm_flaws.specs.Flawed.{due_by}
 use Rattle.hm_flaws.specs.Judged.{Judged, judged, judged_after, judged_entry, judged_from, judged_on, judged_turn}
 use Rattle.hm_flaws.specs.Parts.{broken_part}
 use Rattle.hm_flaws.specs.Races.{part_in}
-use Rattle.hm_flaw_keys.specs.Keyed.{break_of, broken_in, entries_in, form_in, part_of}
-use Rattle.hm_flaw_keys.specs.Nexts.{IsNextKey, IsTurned}
+use Rattle.hm_flaw_keys.specs.Keyed.{break_of, entries_in, form_in, part_of}
+use Rattle.hm_flaw_keys.specs.Nexts.{IsTurned}
 use Rattle.hm_flaw_keys.specs.declared.key.BrokenBy.{BrokenBy}
 use Rattle.hm_flaw_keys.specs.declared.key.FlawKey.{FlawKey}
-use Rattle.hm_flaw_races.specs.Races.{FlawPoint, broken_at, is_due_at, point_entry, point_from, point_on, point_turn}
+use Rattle.hm_flaw_races.specs.Races.{FlawPoint, broken_at, is_due_at, point_from, point_turn}
 use Rattle.hm_flaw_races.specs.Judging.{point_after, point_of}
 use Rattle.hm_flaw_races.proofs.Breaking.{no_entry}
 use Rattle.hm_flaw_races.proofs.Marking.{broken_same}
