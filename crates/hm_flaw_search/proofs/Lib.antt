@@ -1,5 +1,5 @@
 mod Turning
-mod Stuck
+mod Waiting
 mod Playing
 mod Firsts
 mod Answering

@@ -1,5 +1,5 @@
 use Rattle.hm_flaw_keys.specs.Keyed.{form_in}
-use Rattle.hm_flaw_search.proofs.Stuck.{all_wait, one_goes, one_waits}
+use Rattle.hm_flaw_search.proofs.Waiting.{all_wait, one_goes, one_waits}
 use Rattle.hm_flaw_search.proofs.race.FlawRace.none_can_go.Goals as goal
 
 pub returns-then-branch : goal.returns-then-branch
