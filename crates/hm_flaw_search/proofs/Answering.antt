@@ -1,5 +1,5 @@
 -- What was found is an answer.
-use Rattle.std.proofs.Common.{◌≡◌, ℕ, ◌+◌, ◌≤◌, ◌⊎◌, inl, Bool, true, false, Option, Some, None, List, [], ◌∷◌, length, map, refl, sym, ap, ◌∙◌, subst, arith}
+use Rattle.std.proofs.Common.{◌≡◌, ℕ, ◌+◌, ◌≤◌, inl, Bool, true, Option, Some, None, List, [], ◌∷◌, length, map, refl, sym, ap, ◌∙◌, subst, arith}
 use Rattle.std.specs.Prelude.{◌↔◌, is_none, is_some}
 use Rattle.std.proofs.lemmas.Bool.{and_parts, false≢true, or_left, or_right}
 use Rattle.hm_base.specs.Program.{Program, IsScript}
@@ -22,7 +22,6 @@ use Rattle.hm_flaw_races.specs.Judging.{point_after, breaks_at, sticks_at, Never
 use Rattle.hm_flaw_races.specs.Shortest.{BreakLater, IsFirst, StickLater}
 use Rattle.hm_flaw_races.specs.Laws.{FirstBreaksSoonest, FirstSticksSoonest, RightTurnsFindNone, WholeBreaksNone, WholeNeverSticks}
 use Rattle.hm_flaw_text.specs.Answers.{race_length}
-use Rattle.hm_flaw_text.specs.declared.answer.Answer.{Answer}
 use Rattle.hm_flaw_text.specs.declared.answer.Found.{Found}
 use Rattle.hm_flaw_search.specs.Answers.{IsAnswer, IsFound, is_broken}
 use Rattle.hm_flaw_search.specs.Finding.{IsFirstTrue, IsFoundFirst, found_at, goal_of}

@@ -1,4 +1,5 @@
 mod Turning
+mod Waiting
 mod Playing
 mod Firsts
 mod Answering

@@ -1,5 +1,5 @@
 -- A key after turns, one after the other, and the entries that led to it.
-use Rattle.std.proofs.Common.{◌≡◌, ℕ, ◌+◌, ◌<◌, ◌≤◌, true, false, ◌&&◌, Option, Some, None, List, [], ◌∷◌, ◌++◌, length, map, drop, take, refl, sym, ap, ◌∙◌, subst, append_assoc, append-nil, get_or, arith}
+use Rattle.std.proofs.Common.{◌≡◌, ℕ, ◌+◌, ◌<◌, ◌≤◌, false, ◌&&◌, Option, Some, None, List, [], ◌∷◌, ◌++◌, length, map, drop, take, refl, sym, ap, ◌∙◌, subst, append_assoc, append-nil, get_or, arith}
 use Rattle.std.specs.Option.{option_map}
 use Rattle.std.specs.Prelude.{is_none}
 use Rattle.std.specs.Rc.{rc_value}
@@ -15,15 +15,15 @@ use Rattle.hm_history.specs.declared.Entry.{Entry}
 use Rattle.hm_history.specs.declared.Progress.{Progress}
 use Rattle.hm_flaws.specs.declared.flaws.Flaw.{Flaw}
 use Rattle.hm_flaws.specs.declared.parts.Part.{Part}
-use Rattle.hm_flaws.specs.Flawed.{Flawed, due_by}
+use Rattle.hm_flaws.specs.Flawed.{due_by}
 use Rattle.hm_flaws.specs.Judged.{Judged, judged, judged_after, judged_entry, judged_from, judged_on, judged_turn}
 use Rattle.hm_flaws.specs.Parts.{broken_part}
 use Rattle.hm_flaws.specs.Races.{part_in}
-use Rattle.hm_flaw_keys.specs.Keyed.{break_of, broken_in, entries_in, form_in, part_of}
+use Rattle.hm_flaw_keys.specs.Keyed.{break_of, entries_in, form_in, part_of}
 use Rattle.hm_flaw_keys.specs.Nexts.{IsNextKey, IsTurned}
 use Rattle.hm_flaw_keys.specs.declared.key.BrokenBy.{BrokenBy}
 use Rattle.hm_flaw_keys.specs.declared.key.FlawKey.{FlawKey}
-use Rattle.hm_flaw_races.specs.Races.{FlawPoint, broken_at, is_due_at, point_entry, point_from, point_on, point_turn}
+use Rattle.hm_flaw_races.specs.Races.{FlawPoint, broken_at, is_due_at, point_from, point_turn}
 use Rattle.hm_flaw_races.specs.Judging.{point_after, point_of}
 use Rattle.hm_flaw_races.proofs.Breaking.{no_entry}
 use Rattle.hm_flaw_races.proofs.Marking.{broken_same}
@@ -123,10 +123,17 @@ module _ (parts : List Part) (l : Flaw) (c : Program) (h : List Entry) (turns : 
     pub played_on : IsPlayed parts l c h (turns ++ a ∷ []) n
     played_on = by_part breaks refl
 
--- ---- the entries after the set-up
+module _ (parts : List Part) (l : Flaw) (c : Program) (h : List Entry) (turns : List ℕ) (i a : ℕ) (k m : FlawKey) (o : Option FlawKey) (p : IsPlayed parts l c h (take i turns) k) (below : i < length turns) (is : a ≡ get_or turns i a) (next : IsNextKey parts l c k a o) where
+  more : take i turns ++ a ∷ [] ≡ take (i + 1) turns
+  more = ap (λ (j : ℕ). take i turns ++ j ∷ []) is ∙ sym (take_more turns i a below)
 
-pub trail_long : (parts : List Part) (l : Flaw) (c : Program) (h : List Entry) (turns : List ℕ) (k : FlawKey) → IsPlayed parts l c h turns k → length h ≤ length k.trail.items
-trail_long parts l c h turns k p = omega (arith, length-map k.trail.items rc_value, ap length p.entries, length-append h (judged parts l c h turns).entries)
+  pub goes_on : (n : FlawKey) → o ≡ Some n → m ≡ n → IsPlayed parts l c h (take (i + 1) turns) m
+  goes_on n some same = subst (IsPlayed parts l c h (take (i + 1) turns)) (sym same) (subst (λ (ts : List ℕ). IsPlayed parts l c h ts n) more (played_on parts l c h (take i turns) a k p n (subst (IsNextKey parts l c k a) some next)))
+
+  pub goes_not : o ≡ None → m ≡ k → IsPlayed parts l c h (take (i + 1) turns) m
+  goes_not none same = subst (IsPlayed parts l c h (take (i + 1) turns)) (sym same) (subst (λ (ts : List ℕ). IsPlayed parts l c h ts k) more (played_stays parts l c h (take i turns) a k p (subst (IsNextKey parts l c k a) none next)))
+
+-- ---- the entries after the set-up
 
 -- the entries of a key, without as many as the set-up has
 pub trail_after : (parts : List Part) (l : Flaw) (c : Program) (h : List Entry) (turns : List ℕ) (k : FlawKey) (n : ℕ) → IsPlayed parts l c h turns k → n ≡ length h → map rc_value (drop n k.trail.items) ≡ (judged parts l c h turns).entries

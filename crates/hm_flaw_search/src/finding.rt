@@ -1,5 +1,5 @@
 // What was found by a search that ended.
-ghost use Rattle.std.specs.Prelude.{◌≡◌, map, IfOk};
+ghost use Rattle.std.specs.Prelude.{map, IfOk};
 ghost use Rattle.hm_search.specs.Values.{all_known, at_goal};
 ghost use Rattle.hm_flaw_parts.specs.Judged.{judged_parts};
 ghost use Rattle.hm_flaw_keys.specs.Keyed.{form_in};

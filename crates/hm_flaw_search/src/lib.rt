@@ -2,7 +2,7 @@
 // at any time.
 #![tactic(auto)]
 
-ghost use Rattle.std.specs.Prelude.{◌≡◌, ◌≤◌, [], length, map, IfOk, IfErr};
+ghost use Rattle.std.specs.Prelude.{◌≤◌, [], length, IfOk, IfErr};
 ghost use Rattle.hm_history.specs.Laws.{DueFrom};
 ghost use Rattle.hm_search.specs.Known.{MayFail};
 ghost use Rattle.hm_flaw_parts.specs.Judged.{judged_parts};

@@ -7,4 +7,4 @@ pub loop-at-preserved : goal.loop-at-preserved
 loop-at-preserved g c =
     let asked = at_goal g.G.Goal.read (g.G.Goal.reached c.args.goal.now) in
     none_more (map asked c.args.known.now) c.loop-at.at c.loop-at.invariant
-    (answer_at asked c.args.known.now c.loop-at.at c.index-known-at.result c.loop-at-test.true c.index-known-at.is ∙ (sym c.in_ok-is_at.ensures ∙ c.if-is_at.false))
+    (answer_at asked c.args.known.now c.loop-at.at c.index-known-at.result c.loop-at-test.true c.index-known-at.is ∙ (sym c.in_ok-is_at.ensures ∙ c.if-branch.false))

@@ -1,0 +1,20 @@
+use Rattle.std.proofs.Common.{List, drop, length, map, ap, ◌∙◌}
+use Rattle.std.specs.Rc.{Rc, rc_value}
+use Rattle.hm_history.specs.declared.Entry.{Entry}
+use Rattle.hm_flaw_parts.specs.Judged.{judged_parts}
+use Rattle.hm_flaw_search.specs.Races.{FlawRaceValue}
+use Rattle.hm_flaw_search.proofs.Playing.{found_broken, found_unbroken, trail_after}
+use Rattle.hm_flaw_search.proofs.race.FlawRace.race_of.Goals as goal
+
+pub returns-in-Some : goal.returns-in-Some
+returns-in-Some g c =
+    let r = c.args.self.now in
+    found_broken (judged_parts r.judging) r.flaw r.script r.set_up c.args.turns.now c.in_ok-key.key c.in-Some.by c.in_ok-entries.entries c.in_ok-copy_entry-in-Some.field-0 c.in_ok-key.ensures c.in-Some.is
+    (c.in_ok-entries.ensures ∙ (ap (λ (xs : List (Rc Entry)). map rc_value (drop (length c.self.inside.set_up.now) xs)) c.deref.ensures.value ∙ trail_after (judged_parts r.judging) r.flaw r.script r.set_up c.args.turns.now c.in_ok-key.key (length c.self.inside.set_up.now) c.in_ok-key.ensures (ap (λ (v : FlawRaceValue). length v.set_up) c.self.view_is)))
+    (c.in_ok-copy_entry-in-Some.ensures ∙ c.deref-in-Some.ensures)
+
+pub returns : goal.returns
+returns g c =
+    let r = c.args.self.now in
+    found_unbroken (judged_parts r.judging) r.flaw r.script r.set_up c.args.turns.now c.in_ok-key.key c.in_ok-entries.entries c.in_ok-key.ensures c.in-None.is
+    (c.in_ok-entries.ensures ∙ (ap (λ (xs : List (Rc Entry)). map rc_value (drop (length c.self.inside.set_up.now) xs)) c.deref.ensures.value ∙ trail_after (judged_parts r.judging) r.flaw r.script r.set_up c.args.turns.now c.in_ok-key.key (length c.self.inside.set_up.now) c.in_ok-key.ensures (ap (λ (v : FlawRaceValue). length v.set_up) c.self.view_is)))
