@@ -32,14 +32,10 @@ impl<'a, R> Model for FlawRace<'a, R> {
 
     ghost Value = { FlawRaceValue };
 
-    ghost view = {
-        λ r. record { script = r.script.now; set_up = r.set_up.now; flaw = r.flaw; judging = r.judging }
-    };
+    ghost view = { λ r. record { script = r.script.now; set_up = r.set_up.now; flaw = r.flaw; judging = r.judging } };
 
-    ghost invariant = {
-        λ r. IsFlawRace
-            (record { script = r.script.now; set_up = r.set_up.now; flaw = r.flaw; judging = r.judging })
-    };
+    ghost invariant = { λ r. IsFlawRace
+        (record { script = r.script.now; set_up = r.set_up.now; flaw = r.flaw; judging = r.judging }) };
 }
 
 impl<'a, R: SkipRule> FlawRace<'a, R> {
@@ -77,7 +73,15 @@ impl<'a, R: SkipRule> FlawRace<'a, R> {
             (IsNextKey (judged_parts self.now.judging) self.now.flaw self.now.script key.now actor) }
     {
         let (flaw, judging) = (self.flaw, self.judging);
-        next_key(self.alloc, self.script, self.rule, flaw, judging, key, actor)
+        next_key(
+            self.alloc,
+            self.script,
+            self.rule,
+            flaw,
+            judging,
+            key,
+            actor,
+        )
     }
 }
 

@@ -8,11 +8,15 @@ returns-then-is_some g c = record { next = due_after c.args.flaw c.args.script.n
 pub returns-in-Waiting : goal.returns-in-Waiting
 returns-in-Waiting g c =
     let k = c.args.key.now in
-    record { next = due_none c.args.flaw c.args.script.now k c.args.actor _
-    (due_kept c.args.flaw c.args.script.now c.deref.result.now k.state.value c.deref-2.result.now k.own.value c.args.actor _ c.deref.ensures c.deref-2.ensures c.in_ok-entry.ensures ∙ c.in-Waiting.is) refl }
+    record {
+      next = due_none c.args.flaw c.args.script.now k c.args.actor _
+          (due_kept c.args.flaw c.args.script.now c.deref.result.now k.state.value c.deref-2.result.now k.own.value c.args.actor _ c.deref.ensures c.deref-2.ensures c.in_ok-entry.ensures ∙ c.in-Waiting.is) refl;
+    }
 
 pub returns-in-Idle : goal.returns-in-Idle
 returns-in-Idle g c =
     let k = c.args.key.now in
-    record { next = due_none c.args.flaw c.args.script.now k c.args.actor _
-    (due_kept c.args.flaw c.args.script.now c.deref.result.now k.state.value c.deref-2.result.now k.own.value c.args.actor _ c.deref.ensures c.deref-2.ensures c.in_ok-entry.ensures ∙ c.in-Idle.is) refl }
+    record {
+      next = due_none c.args.flaw c.args.script.now k c.args.actor _
+          (due_kept c.args.flaw c.args.script.now c.deref.result.now k.state.value c.deref-2.result.now k.own.value c.args.actor _ c.deref.ensures c.deref-2.ensures c.in_ok-entry.ensures ∙ c.in-Idle.is) refl;
+    }
