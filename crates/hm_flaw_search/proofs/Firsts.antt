@@ -77,13 +77,6 @@ first_known goal (v ∷ vs) (suc at) is = first_on goal v vs at (is.1 0 (omega a
 
 -- ---- a loop over answers
 
-pub all_none : (bs : List Bool) (n : ℕ) → length bs ≤ n → ((i : ℕ) → i < n → get_or bs i false ≡ false) → IsFirstTrue bs None
-all_none bs n all each i = by (cases_lt i n)
-  where
-    by : (i < n) ⊎ (n ≤ i) → get_or bs i false ≡ false
-    by (inl k) = each i k
-    by (inr k) = get_or_past bs i false (omega (arith, all, k))
-
 -- one more was asked
 pub none_more : (bs : List Bool) (n : ℕ) → ((i : ℕ) → i < n → get_or bs i false ≡ false) → get_or bs n false ≡ false → (i : ℕ) → i < n + 1 → get_or bs i false ≡ false
 none_more bs n each here i less = by (cases_lt i n)

@@ -35,17 +35,6 @@ use Rattle.hm_flaw_search.proofs.Turning.{turned_point}
 
 -- ---- no turn
 
-none_broken : (o : Option BrokenBy) → option_map part_of o ≡ None → option_map break_of o ≡ None
-none_broken None k = refl
-none_broken (Some by) k = absurd (none-some (part_of by) (sym k))
-
-pub played_none : (parts : List Part) (l : Flaw) (c : Program) (h : List Entry) (k : FlawKey) → form_in k ≡ point_from c h → entries_in k ≡ h → IsPlayed parts l c h [] k
-played_none parts l c h k form entries = record {
-  form = form;
-  entries = entries ∙ sym (append-nil h);
-  broken = none_broken k.broken (ap (λ (x : FlawPoint). x.broken) form);
-}
-
 -- ---- one turn more
 
 -- the point after it

@@ -1,4 +1,4 @@
-use Rattle.std.proofs.Common.{◌≡◌, ◌≤◌, ℕ, Bool, List, length, map, sym, ◌∙◌, subst}
+use Rattle.std.proofs.Common.{◌≡◌, ◌≤◌, ℕ, Bool, List, length, map, ap, sym, ◌∙◌, subst}
 use Rattle.hm_flaw_parts.specs.Judged.{judged_parts}
 use Rattle.hm_search.specs.Known.{IsCut}
 use Rattle.hm_search.specs.Values.{all_known, at_goal}
@@ -40,6 +40,6 @@ returns-in-Ok-clause-answer g c =
       reached = found.reached;
       missed = found.missed;
     } in
-    answered law parts l s c.facts.ensures h c.requires.due c.requires.few c.args.most known c.len.result (c.len.ensures ∙ many) end c.in-Ok.found searched
+    answered law parts l s c.facts.ensures h c.requires.due c.requires.few c.args.most known c.len.result (c.len.ensures ∙ (sym c.deref.ensures.len ∙ (ap (λ (xs : List (Known FlawKey)). length xs) c.deref.ensures.value ∙ many))) end c.in-Ok.found searched
     (subst (λ (bs : List Bool). IsFoundFirst parts l s h known bs c.in-Ok.found) (same_answers form_in (goal_of l s end) ns)
     (subst (λ (xs : List (Known FlawKey)). IsFoundFirst parts l s h (all_known form_in xs) (map (at_goal form_in (goal_of l s end)) xs) c.in-Ok.found) c.deref.ensures.value c.in-Ok.ensures))
