@@ -78,25 +78,24 @@ impl Made {
         }
     }
 
+    /// Whether this text says that a condition fails, or that a driver does wrong.
+    fn fails(self, text: &str) -> bool {
+        match self {
+            Made::Outcomes | Made::Page => false,
+            Made::Rulings => text.starts_with("fails "),
+            Made::Rules | Made::Answers => text.split_once(" after ").is_some(),
+            Made::Shortest => text.split_once("\nbreaks ").is_some(),
+        }
+    }
+
     /// Whether a call that wrote this text ends so.
-    fn ends(text: &str, status: &Status) -> bool {
+    fn ends(self, text: &str, status: &Status) -> bool {
         match status {
-            Status::Done => !fails(text) && !finds(text),
-            Status::Race(RaceEnd::Fails) => fails(text),
-            Status::Race(RaceEnd::Broken) => finds(text),
+            Status::Done => !self.fails(text),
+            Status::Race(RaceEnd::Fails | RaceEnd::Broken) => self.fails(text),
             _ => false,
         }
     }
-}
-
-/// Whether the text says that a condition fails.
-fn fails(text: &str) -> bool {
-    text.starts_with("fails ")
-}
-
-/// Whether the text has a race of a driver that leaves a rule out, or says of one how long it is.
-fn finds(text: &str) -> bool {
-    text.split_once("\nbreaks ").is_some() || text.split_once(" after ").is_some()
 }
 
 /// The file that a line of page.html names, if it names one, and the tag that its text stands in.
@@ -185,7 +184,7 @@ fn gives(
     let mut source = source_beside(rt, stem, made.read())?;
     let mut sink = empty_sink(rt.alloc())?;
     let status = made.write(rt.alloc(), words, &mut source, &mut sink);
-    Ok(Made::ends(wanted, &status) && sink.held() == wanted.as_bytes())
+    Ok(made.ends(wanted, &status) && sink.held() == wanted.as_bytes())
 }
 
 /// Whether what is made of the example is what the file beside it has.
