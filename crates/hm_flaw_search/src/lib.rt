@@ -27,11 +27,11 @@ use race::FlawRace;
 use skip_rules::SkipRule;
 use std::alloc::Global;
 
-/// Searches the race of a driver with this flaw after a set-up, each state once and the nearest first, for an entry that
-/// breaks a part of legality, and stops after the step in which one is due. If there is none, it looks at the states
-/// that it knows for one at which nothing is due to anybody and some operation has not ended. It stops if it knows more
-/// than `most` states. It fails if memory runs out, and if a history has all its entries and one more is due; and, as if
-/// memory had run out, where a state cannot be kept.
+/// Searches the race of a driver with this flaw after a set-up, each state once and the nearest first, for an entry
+/// that breaks a part of legality, and stops after the step in which one is due. If there is none, it looks at the
+/// states that it knows for one at which nothing is due to anybody and some operation has not ended. It stops if it
+/// knows more than `most` states. It fails if memory runs out, and if a history has all its entries and one more is
+/// due; and, as if memory had run out, if a state cannot be kept.
 pub fn find_race<R: SkipRule>(
     alloc: Global,
     script: &Script,

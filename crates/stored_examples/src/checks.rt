@@ -1,5 +1,5 @@
-// Checks every report of the folder `checks`, and says of each what the verdict is. The history of a legal one is folded
-// too.
+// Checks every report of the folder `checks`, and says of each what the verdict is. The history of a legal one is
+// folded too.
 use crate::files::{bytes, name, stems};
 use crate::folded::fold;
 use hm_check::{Report, Verdict, check};

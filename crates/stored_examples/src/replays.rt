@@ -1,5 +1,5 @@
-// Replays every script in the folders of `replays`, and compares what comes of each with the files beside it: a status, a
-// message and a report. Then it compares the words that the reports use with those that the pages of docs tell.
+// Replays every script in the folders of `replays`, and compares what comes of each with the files beside it: a status,
+// a message and a report. Then it compares the words that the reports use with those that the pages of docs tell.
 use crate::files::{bytes, folders, stems};
 use crate::outcome::{Outcome, replayed, wanted};
 use crate::words::{Used, compare};
