@@ -1,6 +1,6 @@
 -- The states of a driver with a flaw, and what is due in them.
-use Rattle.std.specs.Prelude.{ℕ, ◌%◌, Bool, true, false, ◌==◌, if◌then◌else◌, Option, Some, None, List, ◌∷◌, fold, map}
-use Rattle.std.specs.Prelude.{length}
+use Rattle.std.specs.Prelude.{ℕ, ◌%◌, Bool, true, false, ◌==◌, if◌then◌else◌, Option, Some, None, List, [], ◌∷◌, fold}
+use Rattle.std.specs.Prelude.{length, map}
 use Rattle.hm_base.specs.Program.{Program}
 use Rattle.hm_base.specs.declared.Frame.{Frame}
 use Rattle.hm_base.specs.declared.ops.Op.{Op}
@@ -19,6 +19,8 @@ use Rattle.hm_history.specs.declared.Who.{Who}
 use Rattle.hm_history.specs.declared.Entry.{Entry}
 use Rattle.hm_history.specs.declared.Progress.{Progress}
 use Rattle.hm_history.specs.declared.phases.Migrating.{Migrating}
+use Rattle.hm_history.specs.declared.phases.MoveStep.{MoveStep}
+use Rattle.hm_history.specs.declared.phases.Touch.TheVariants.{Walk}
 use Rattle.hm_history.specs.declared.phases.Phase.{Phase}
 use Rattle.hm_history.specs.declared.phases.Next.{Next}
 use Rattle.hm_history.specs.declared.phases.Next.TheVariants.{Do}
@@ -101,11 +103,26 @@ due_by l c t a = let g = t.state.going a in
 
 -- ---- the next state
 
--- the stack without a step that is left out: the last part of a copy, or the drop of a lost page's frame
+-- the stack without a step that is left out: the last part of a copy, the drop of a lost page's frame, or the freezing
+-- of a frame's other mappings
 abbrev pub without_step : Flaw → List Phase → List Phase
 without_step Flaw.PartCopied (Phase.Copy f g k ∷ below) = if k == 7 then below else (Phase.Copy f g k ∷ below)
 without_step Flaw.LostHeld (Phase.Drop g ∷ Phase.Moves step v ∷ below) = Phase.Moves step v ∷ below
+without_step Flaw.OthersLeft (Phase.Moves MoveStep.FreezeOthers v ∷ below) = Phase.Moves MoveStep.TakeAndCopy v ∷ below
 without_step l stack = stack
+
+-- the stack of a look-up that reads its sequence after the walk, given the one before the entry: the lock is that of a
+-- walk, and the begin, which has this position, goes to the commit
+abbrev pub led_on : Option Op → ℕ → List Phase → Kind → List Phase → List Phase
+led_on o at (Phase.Piece k ∷ before) (Kind.Rlock p) stack =
+    if some_device_access o then Phase.Decide (Walk k 0 0) ∷ [] else stack
+led_on o at (Phase.Noted k since q x ∷ before) (Kind.Begin m n) stack = Phase.Noted k at n x ∷ []
+led_on o at before k stack = stack
+
+-- the stack after an entry, given the operation, the entry's position, and the stack before it
+abbrev pub stack_by : Flaw → Option Op → ℕ → List Phase → Kind → List Phase → List Phase
+stack_by Flaw.BegunLast o at before k stack = led_on o at before k stack
+stack_by l o at before k stack = without_step l stack
 
 -- the record counts as moved, if it is that of the page
 abbrev pub as_moved : ℕ → Migrating → Migrating
@@ -116,10 +133,11 @@ abbrev pub recorded_by : Flaw → Kind → List Migrating → List Migrating
 recorded_by Flaw.LostAsMoved (Kind.Kept (KeptAt.Page v) KeptWhy.Lost) xs = map (as_moved v) xs
 recorded_by l k xs = xs
 
--- how far an actor is after its entry
-abbrev pub going_by : Flaw → Kind → Going → Going
-going_by Flaw.NoFlaw k g = g
-going_by l k g = record { index = g.index; stack = without_step l g.stack; pages = recorded_by l k g.pages }
+-- how far an actor is after its entry, given the operation, the entry's position, and the stack before it
+abbrev pub going_by : Flaw → Option Op → ℕ → List Phase → Kind → Going → Going
+going_by Flaw.NoFlaw o at before k g = g
+going_by l o at before k g =
+    record { index = g.index; stack = stack_by l o at before k g.stack; pages = recorded_by l k g.pages }
 
 -- the state after one entry more
 abbrev pub flawed_next : Flaw → Program → Flawed → Entry → Flawed
@@ -127,7 +145,9 @@ flawed_next l c t e = let g = t.state.going e.actor in record {
   state = record {
     after = after_entry t.state.after e;
     going =
-        with_at t.state.going e.actor (going_by l e.kind (going_next c (found l c t) e.actor g e.kind));
+        with_at t.state.going e.actor
+        (going_by l (op_at c e.actor g.index) t.state.after.length g.stack e.kind
+        (going_next c (found l c t) e.actor g e.kind));
   };
   driver =
       driver_next l t.state.after (tells_own t.state.after (op_at c e.actor g.index) g.stack e.kind) t.driver e.actor

@@ -1,24 +1,31 @@
 -- What is due at a phase to a driver with a flaw, in place of what is due to the right one.
-use Rattle.std.specs.Prelude.{ℕ, ◌+◌, ◌%◌, Bool, true, false, not, ◌&&◌, ◌||◌, Option, Some, None, is_some, List}
+use Rattle.std.specs.Prelude.{ℕ, zero, suc, ◌+◌, ◌%◌, Bool, true, false, not, ◌&&◌, ◌||◌, ◌==◌, Option, Some, None}
+use Rattle.std.specs.Prelude.{is_some, if◌then◌else◌, List}
+use Rattle.hm_base.specs.Pages.{Pages}
 use Rattle.hm_base.specs.Program.{Program}
+use Rattle.hm_base.specs.declared.Frame.{Frame}
 use Rattle.hm_base.specs.declared.Place.{Place}
 use Rattle.hm_base.specs.declared.ops.Op.{Op}
-use Rattle.hm_history.specs.Memory.Words.{page_of, dev_frame, names, writable}
-use Rattle.hm_history.specs.Memory.Plain.{is_attached, mirror_proc}
+use Rattle.hm_history.specs.Memory.Words.{page_of, dev_frame, names, writable, place_in}
+use Rattle.hm_history.specs.Memory.Plain.{is_attached, mirror_proc, rights_of, is_read_write}
 use Rattle.hm_history.specs.Memory.Places.{TableEntry, entry_passes, may_read, held_from}
 use Rattle.hm_history.specs.Kernel.Operation.{op_mirror, op_writes, op_piece}
+use Rattle.hm_history.specs.Memory.Sequences.{Sequences, is_odd, interval_seq}
 use Rattle.hm_history.specs.Memory.After.{After}
 use Rattle.hm_history.specs.Kernel.Going.{touch_page, touch_proc}
 use Rattle.hm_history.specs.Kernel.Due.{due_phase, due_noted, right_of, is_invalidating, repeats, fault, suits}
-use Rattle.hm_history.specs.Kernel.Due.{is_usable}
+use Rattle.hm_history.specs.Kernel.Due.{is_usable, rlock, begin_look_up, child_of}
 use Rattle.hm_history.specs.Kernel.Due.{answer_of_piece, frames_end, frame_at}
 use Rattle.hm_history.specs.declared.TableRight.{TableRight}
 use Rattle.hm_history.specs.declared.Kind.{Kind}
+use Rattle.hm_history.specs.declared.Why.{Why}
+use Rattle.hm_history.specs.declared.phases.Body.{Body}
 use Rattle.hm_history.specs.declared.phases.Migrating.{Migrating}
+use Rattle.hm_history.specs.declared.phases.Touch.{Touch}
 use Rattle.hm_history.specs.declared.phases.Touch.TheVariants.{Walk}
 use Rattle.hm_history.specs.declared.phases.Phase.{Phase}
 use Rattle.hm_history.specs.declared.phases.Next.{Next}
-use Rattle.hm_history.specs.declared.phases.Next.TheVariants.{Do}
+use Rattle.hm_history.specs.declared.phases.Next.TheVariants.{Do, Wait}
 use Rattle.hm_flaws.specs.declared.flaws.Flaw.{Flaw}
 
 -- ---- the commit of a look-up
@@ -42,6 +49,40 @@ is_left s o = not (is_attached s.plain (op_mirror o))
 abbrev pub for_writes : Next → Next
 for_writes (Do (Kind.Set m v f w from)) = Do (Kind.Set m v f TableRight.Write from)
 for_writes n = n
+
+-- ---- the begin of a look-up
+
+-- it begins with the sequence that its interval has, though that is being invalidated
+abbrev pub begun_anyway : Next → Next
+begun_anyway (Wait (Why.Invalidating m q)) = Do (Kind.Begin m q)
+begun_anyway n = n
+
+-- the mmap lock is taken in place of the begin, whether or not that would wait
+abbrev pub walked_first : After → Next → Next
+walked_first s (Do (Kind.Begin m q)) = rlock s (mirror_proc s.plain m)
+walked_first s (Wait (Why.Invalidating m q)) = rlock s (mirror_proc s.plain m)
+walked_first s n = n
+
+-- a walk that has read no sequence decides as if its interval had not changed
+abbrev pub unread : After → Op → Touch → Touch
+unread s o (Walk k since q) = Walk k since (interval_seq s.sequences (op_mirror o))
+unread s o touch = touch
+
+-- after such a walk the look-up begins, and then it commits as is due. A look-up that has not begun has the position 0,
+-- which is that of no `begin`: the process is mapped and its mirror attached before that
+abbrev pub begun_late : After → Op → ℕ → Next → Next
+begun_late s o zero n = elim (is_left s o) [
+  | true ↦ Do (Kind.Retry (op_mirror o))
+  | false ↦ begin_look_up s (op_mirror o)
+]
+begun_late s o (suc since) n = n
+
+-- ---- the detach of a mirror
+
+-- it is detached, though it is being invalidated
+abbrev pub detached_now : Next → Next
+detached_now (Do (Kind.Detaching m q)) = Do (Kind.Detached m)
+detached_now n = n
 
 -- ---- an access through the driver's table
 
@@ -91,9 +132,10 @@ walk_any c s a o k q p v = elim (repeats s (op_mirror o) q) [
 abbrev pub all_withdrawn : Bool → After → After
 all_withdrawn b s = record s { places = record s.places { withdrawn = λ d. b } }
 
--- a removal ends, whatever the device holds; anything else does what is due
+-- a removal that has withdrawn its device ends, whatever that holds; anything else does what is due
 abbrev pub removed_now : After → Op → ℕ → Next → Next
-removed_now s (Op.Remove d) n next = Do (frames_end s d true n)
+removed_now s (Op.Remove d) n next =
+    elim (s.places.withdrawn d) [ false ↦ next | true ↦ Do (frames_end s d true n) ]
 removed_now s o n next = next
 
 -- a removal that has withdrawn its device keeps a frame that another actor has locked, as an eviction does
@@ -111,6 +153,76 @@ abbrev pub added_at : Op → ℕ → Next → Next
 added_at (Op.Add m at n) old next = Do (Kind.Added m at old ((old + n) % 256))
 added_at o old next = next
 
+-- ---- the memory manager: invalidations
+
+-- what is due after the last entry of a body comes before it: the mirrors are told then
+abbrev pub told_last : Next → Next → Next
+told_last (Do (Kind.End p r q)) next = next
+told_last n next = n
+
+-- the sequence after an end, as if no other invalidation were under way: an odd one becomes even
+abbrev pub seq_ended_alone : Sequences → ℕ → ℕ
+seq_ended_alone s p = if is_odd (s.seq p) then s.seq p + 1 else s.seq p
+
+-- the end leaves an even sequence, as if no other invalidation were under way
+abbrev pub ended_now : After → Next → Next
+ended_now s (Do (Kind.End p r q)) = Do (Kind.End p r (seq_ended_alone s.sequences p))
+ended_now s n = n
+
+-- a body that found its page changed, and would end, places the frame there
+abbrev pub placed_anyway : Pages → Frame → Bool → Next → Next
+placed_anyway r g w (Do (Kind.End p e q)) = Do (Kind.Place p r.first (place_in g w))
+placed_anyway r g w n = n
+
+-- so it does in the guard of a fault
+abbrev pub replaced_anyway : Pages → Body → Next → Next
+replaced_anyway r (Body.Replace over g) n = placed_anyway r g true n
+replaced_anyway r body n = n
+
+-- and in that of a fresh page, with the right that its area has
+abbrev pub fresh_anyway : After → ℕ → Pages → Body → Next → Next
+fresh_anyway s p r (Body.Fresh g) n = placed_anyway r g (is_read_write (rights_of s.plain p r.first)) n
+fresh_anyway s p r body n = n
+
+-- ---- the memory manager: rights
+
+-- the place with the right to write
+abbrev pub widened : Place → Place
+widened (Place.Sys n w) = Place.Sys n true
+widened (Place.Own d n w) = Place.Own d n true
+widened x = x
+
+-- a page is placed for writes in place of the right that is due
+abbrev pub placed_for_writes : Next → Next
+placed_for_writes (Do (Kind.Place p v x)) = Do (Kind.Place p v (widened x))
+placed_for_writes n = n
+
+-- so a fresh page is
+abbrev pub fresh_for_writes : Body → Next → Next
+fresh_for_writes (Body.Fresh g) n = placed_for_writes n
+fresh_for_writes body n = n
+
+-- a fork that would take the parent's right places the child's page at once, with that right
+abbrev pub forked_whole : After → Op → ℕ → Next → Next
+forked_whole s o p (Do (Kind.Place q v x)) = elim (q == p) [
+  | true ↦ Do (Kind.Place (child_of o) v (s.places.place p v))
+  | false ↦ Do (Kind.Place q v x)
+]
+forked_whole s o p n = n
+
+-- so it does at each page of the parent
+abbrev pub forked_at : After → Op → ℕ → Body → Next → Next
+forked_at s o p (Body.Fork v false) n = forked_whole s o p n
+forked_at s o p body n = n
+
+-- a load or a store of the CPU finds a place that it may use, a device's memory among them
+abbrev pub has_any_place : After → Op → ℕ → Bool
+has_any_place s (Op.Load p at n) k =
+    s.plain.there p && suits_any false (s.places.place p (page_of (op_piece (Op.Load p at n) k).0))
+has_any_place s (Op.Store p at bs) k =
+    s.plain.there p && suits_any true (s.places.place p (page_of (op_piece (Op.Store p at bs) k).0))
+has_any_place s o k = false
+
 -- ---- all of them
 
 -- what is due at a phase to a driver with a flaw: if the flaw says nothing of the phase, what is due to the right one
@@ -123,6 +235,12 @@ due_flawed Flaw.WalksUnlocked c s a o xs (Phase.Begun k since q) =
     Do (Kind.Rlock (mirror_proc s.plain (op_mirror o)))
 due_flawed Flaw.AnyDevice c s a o xs (Phase.Decide (Walk k since q)) =
     walk_any c s a o k q (touch_proc s o) (touch_page o (Walk k since q))
+due_flawed Flaw.BegunAnyway c s a o xs (Phase.Piece k) = begun_anyway (due_phase c s a o xs (Phase.Piece k))
+due_flawed Flaw.BegunLast c s a o xs (Phase.Piece k) = walked_first s (due_phase c s a o xs (Phase.Piece k))
+due_flawed Flaw.BegunLast c s a o xs (Phase.Decide touch) = due_phase c s a o xs (Phase.Decide (unread s o touch))
+due_flawed Flaw.BegunLast c s a o xs (Phase.Noted k since q x) =
+    begun_late s o since (due_phase c s a o xs (Phase.Noted k since q x))
+due_flawed Flaw.DetachedAtOnce c s a o xs Phase.Begin = detached_now (due_phase c s a o xs Phase.Begin)
 due_flawed Flaw.UsedDetached c s a o xs (Phase.Piece k) =
     answered (has_usable s o k) s o k (due_phase c s a o xs (Phase.Piece k))
 due_flawed Flaw.ReadsWritten c s a o xs (Phase.Piece k) =
@@ -138,4 +256,23 @@ due_flawed Flaw.LockedPassed c s a o xs (Phase.Frames v n) =
     passes_locked c s a o v (due_phase c s a o xs (Phase.Frames v n))
 due_flawed Flaw.AddedAnyway c s a o xs (Phase.Fetched old) =
     added_at o old (due_phase c s a o xs (Phase.Fetched old))
+due_flawed Flaw.ToldLast c s a o xs (Phase.Guard p r met told body) =
+    told_last (due_phase c s a o xs (Phase.Guard p r false told body))
+    (due_phase c s a o xs (Phase.Guard p r met told body))
+due_flawed Flaw.EndedAtOnce c s a o xs (Phase.Guard p r met told body) =
+    ended_now s (due_phase c s a o xs (Phase.Guard p r met told body))
+due_flawed Flaw.ForkedWhole c s a o xs (Phase.Guard p r met told body) =
+    forked_at s o p body (due_phase c s a o xs (Phase.Guard p r met told body))
+due_flawed Flaw.ReplacedAnyway c s a o xs (Phase.Guard p r met told body) =
+    replaced_anyway r body (due_phase c s a o xs (Phase.Guard p r met told body))
+due_flawed Flaw.DeviceAccessed c s a o xs (Phase.Piece k) =
+    answered (has_any_place s o k) s o k (due_phase c s a o xs (Phase.Piece k))
+due_flawed Flaw.FreshAnyway c s a o xs (Phase.Guard p r met told body) =
+    fresh_anyway s p r body (due_phase c s a o xs (Phase.Guard p r met told body))
+due_flawed Flaw.FreshForWrites c s a o xs (Phase.Guard p r met told body) =
+    fresh_for_writes body (due_phase c s a o xs (Phase.Guard p r met told body))
+due_flawed Flaw.BackForWrites c s a o xs (Phase.Finish f to) =
+    placed_for_writes (due_phase c s a o xs (Phase.Finish f to))
+due_flawed Flaw.BackForWrites c s a o xs (Phase.Moves step v) =
+    placed_for_writes (due_phase c s a o xs (Phase.Moves step v))
 due_flawed l c s a o xs top = due_phase c s a o xs top

@@ -1,6 +1,6 @@
-// Flaws of a driver: each is one thing that it does otherwise than is due, or leaves out.
+// Flaws of a driver, and some of the memory manager: each is one thing that is done otherwise than is due, or left out.
 
-/// Which flaw a driver has; the right driver has none.
+/// Which flaw a driver has; the right driver has none. With one of the memory manager's, the driver is a right one.
 #[derive(Clone, Copy, PartialEq, Eq, Debug)]
 pub enum Flaw {
     NoFlaw,
@@ -15,6 +15,10 @@ pub enum Flaw {
     WalksUnlocked,
     /// It takes another device's memory for its own.
     AnyDevice,
+    /// It begins while its interval is being invalidated.
+    BegunAnyway,
+    /// It reads the sequence of its interval after the walk, not before.
+    BegunLast,
     // a mirror that is told
     /// It leaves the interval's sequence as it was.
     SequenceLeft,
@@ -31,6 +35,8 @@ pub enum Flaw {
     UsedDetached,
     /// It writes through an entry for reads.
     ReadsWritten,
+    /// It detaches its mirror while that is being invalidated.
+    DetachedAtOnce,
     // migrations
     /// It copies seven eighths of a frame.
     PartCopied,
@@ -54,4 +60,23 @@ pub enum Flaw {
     // additions
     /// It adds to the byte, though its actor may have lost the page since it was fetched.
     AddedAnyway,
+    // the memory manager's own rules, which are left out for everybody
+    /// An invalidation changes places first, and tells mirrors at its end.
+    ToldLast,
+    /// The end of an invalidation makes the sequence even, though another is under way.
+    EndedAtOnce,
+    /// A fork gives the child the parent's right, and leaves the parent that right.
+    ForkedWhole,
+    /// A fault replaces a page without a second look at it.
+    ReplacedAnyway,
+    /// The CPU accesses a device's memory.
+    DeviceAccessed,
+    /// A migration freezes no mapping of a frame but the first.
+    OthersLeft,
+    /// A migration places a fresh page without a second look at it.
+    FreshAnyway,
+    /// A migration places a fresh page for writes, whatever right its area has.
+    FreshForWrites,
+    /// A page that comes back is for writes, whatever right it had.
+    BackForWrites,
 }
