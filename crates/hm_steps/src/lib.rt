@@ -9,6 +9,7 @@ mod moves;
 mod operations;
 mod phases;
 
+pub use bodies::due_guard;
 use hm_base::{Actor, NoMemory};
 use hm_history::Progress;
 use hm_reads::Reads;
