@@ -1,10 +1,12 @@
 -- What is due to an actor of a driver with a flaw, in a state as it finds it.
-use Rattle.std.specs.Prelude.{ℕ, Bool, true, false, ◌==◌, Option, Some, None}
+use Rattle.std.specs.Prelude.{ℕ, Bool, true, false, ◌&&◌, ◌==◌, Option, Some, None}
 use Rattle.hm_base.specs.Program.{Program}
 use Rattle.hm_base.specs.declared.ops.Op.{Op}
 use Rattle.hm_history.specs.Kernel.Going.{State, op_at}
+use Rattle.hm_history.specs.Memory.Words.{page_of}
 use Rattle.hm_history.specs.Memory.Plain.{mirror_dev}
 use Rattle.hm_history.specs.Memory.After.{After}
+use Rattle.hm_history.specs.Kernel.Operation.{op_writes, op_piece}
 use Rattle.hm_history.specs.Kernel.Due.{due_phase, due_decide}
 use Rattle.hm_history.specs.declared.Kind.{Kind}
 use Rattle.hm_history.specs.declared.KeptWhy.{KeptWhy}
@@ -16,7 +18,7 @@ use Rattle.hm_history.specs.declared.phases.Next.{Next}
 use Rattle.hm_history.specs.declared.phases.Next.TheVariants.{Do, Wait}
 use Rattle.hm_flaws.specs.declared.flaws.Flaw.{Flaw}
 use Rattle.hm_flaws.specs.Drivers.{Driver, is_own_body}
-use Rattle.hm_flaws.specs.Overrides.{due_flawed, walk_any}
+use Rattle.hm_flaws.specs.Overrides.{due_flawed, walk_any, suits_any}
 use Rattle.hm_flaws.specs.Flawed.{due_flawed_top}
 
 -- what is due at a phase to the right driver
@@ -46,6 +48,10 @@ is_wanting n = false
 abbrev pub any_decides : Program → After → ℕ → Op → Touch → ℕ → ℕ → Next
 any_decides c s a o (Walk k since q) p v = walk_any c s a o k q p v
 any_decides c s a o touch p v = due_decide c s a o touch p v
+
+-- the process is there, and its place for the piece allows the access, a device's memory among others
+abbrev pub any_place : After → Op → ℕ → ℕ → Bool
+any_place s o k p = s.plain.there p && suits_any (op_writes o) (s.places.place p (page_of (op_piece o k).0))
 
 -- it is the first of what was found
 abbrev pub is_first : ℕ → Option ℕ → Bool

@@ -4,22 +4,29 @@
 
 ghost use Rattle.std.specs.Prelude.{◌≡◌, IsTrue, IfOk};
 ghost use Rattle.hm_base.specs.Program.{op_in_range};
+ghost use Rattle.hm_history.specs.Memory.Plain.{plain_bytes};
 ghost use Rattle.hm_history.specs.Kernel.Due as spec;
+ghost use Rattle.hm_history.specs.declared.Who as who;
+ghost use Rattle.hm_reads.specs.Ranges.{phase_in_range};
 ghost use Rattle.hm_flaws.specs.Drivers.{Driver};
 ghost use Rattle.hm_flaws.specs.Overrides.{is_readable};
 ghost use Rattle.hm_flaws.specs.Flawed.{device_bytes, as_read};
 ghost use Rattle.hm_flaw_steps.specs.Found.{right_at, flawed_at, due_found, next_of};
 
 mod accesses;
+mod begins;
+mod cpu_accesses;
 mod flawed;
+mod invalidations;
 mod look_ups;
 mod migrations;
+mod placing;
 mod reading;
 mod removals;
 mod telling;
 
 use flawed::flawed;
-use hm_base::{Actor, Bytes, MirrorId, NoMemory, Op, Page};
+use hm_base::{Actor, Bytes, MirrorId, NoMemory, Op, Page, Proc};
 use hm_flaws::Flaw;
 use hm_history::phases::{Next, Phase};
 use hm_history::{Entry, Progress};
@@ -48,6 +55,17 @@ pub trait Finds: Reads {
         len: u64,
     ) -> Result<Bytes, NoMemory>
         ensures { IfOk result (λ bytes. bytes ≡ device_bytes (driver self.now) mirror addr len) };
+
+    /// The bytes of a process, in whatever memory its pages lie.
+    fn process_bytes(
+        &self,
+        alloc: Global,
+        proc: Proc,
+        addr: u64,
+        len: u64,
+    ) -> Result<Bytes, NoMemory>
+        ensures { IfOk result
+            (λ bytes. bytes ≡ plain_bytes (Self.state self.now).after.plain (who.Who.Cpu proc) addr len) };
 }
 
 // The entry or the wait that a turn comes to.
@@ -81,6 +99,7 @@ fn due_at<W: Finds>(
     right: Next,
 ) -> Result<Progress, NoMemory>
     requires range { IsTrue (op_in_range op.now) }
+    requires top { IsTrue (phase_in_range top.now) }
     requires right { right ≡ right_at (W.program found.now) (W.state found.now) actor op.now top.now }
     ensures { IfOk result
         (λ p. p

@@ -74,7 +74,8 @@ pub fn for_writes(next: Next) -> Next
     }
 }
 
-fn suits_any(writes: bool, place: &Place) -> bool
+/// Whether an access may do this at the place, if any device's memory is its own.
+pub fn suits_any(writes: bool, place: &Place) -> bool
     ensures { result ≡ suits_any writes place.now }
 {
     match place {

@@ -66,12 +66,23 @@ fn passing<W: Reads>(
     }
 }
 
+// The end of a removal, if it has withdrawn its device; before that it does what is due.
+fn withdrawn_now<W: Reads>(found: &W, dev: Dev, emptied: u64, right: Next) -> Next
+    ensures { result ≡ removed_now (W.state found.now).after (op.Op.Remove dev) emptied right }
+{
+    if found.is_withdrawn(dev) {
+        Next::Do(removed(found, dev))
+    } else {
+        right
+    }
+}
+
 // The end of a removal; another operation does what is due.
-fn ended_now<W: Reads>(found: &W, op: &Op, emptied: u64, right: Next) -> Next
+fn removed_now<W: Reads>(found: &W, op: &Op, emptied: u64, right: Next) -> Next
     ensures { result ≡ removed_now (W.state found.now).after op.now emptied right }
 {
     match op {
-        Op::Remove { dev } => Next::Do(removed(found, *dev)),
+        Op::Remove { dev } => withdrawn_now(found, *dev, emptied, right),
         _ => right,
     }
 }
@@ -107,7 +118,7 @@ fn passed<W: Reads>(found: &W, actor: Actor, op: &Op, next: u64, emptied: u64, r
     }
 }
 
-/// A removal that ends at once.
+/// A removal that ends once its device is withdrawn.
 pub fn removed_at_once<W: Reads>(found: &W, actor: Actor, op: &Op, top: &Phase, right: Next) -> Next
     requires { right ≡ right_at (W.program found.now) (W.state found.now) actor op.now top.now }
     ensures { result
@@ -115,7 +126,7 @@ pub fn removed_at_once<W: Reads>(found: &W, actor: Actor, op: &Op, top: &Phase, 
 {
     let _ = actor;
     match top {
-        Phase::Frames { next: _, emptied } => ended_now(found, op, *emptied, right),
+        Phase::Frames { next: _, emptied } => removed_now(found, op, *emptied, right),
         _ => right,
     }
 }

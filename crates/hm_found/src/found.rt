@@ -378,4 +378,14 @@ impl<'a, W: Details> Finds for Found<'a, W> {
     ) -> Result<Bytes, NoMemory> {
         self.read_from(alloc, mirror, addr, len)
     }
+
+    fn process_bytes(
+        &self,
+        alloc: Global,
+        proc: Proc,
+        addr: u64,
+        len: u64,
+    ) -> Result<Bytes, NoMemory> {
+        self.shown_from(alloc, proc, addr, len)
+    }
 }

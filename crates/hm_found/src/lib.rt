@@ -17,6 +17,7 @@ use hm_flaw_steps::due_found;
 use hm_flaws::Flaw;
 use hm_history::Progress;
 use hm_steps::due;
+pub use locks::is_device_access;
 use skip_rules::SkipRule;
 use std::alloc::Global;
 

@@ -13,7 +13,8 @@ use hm_drivers::details::Details;
 use hm_flaws::Flaw;
 use hm_history::locks::MapLock;
 
-fn is_device_access(op: &Op) -> bool
+/// Whether the operation is a load or a store through a mirror.
+pub fn is_device_access(op: &Op) -> bool
     ensures { result ≡ is_device_access op.now }
 {
     match op {
