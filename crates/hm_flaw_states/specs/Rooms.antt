@@ -23,7 +23,7 @@ grows _ seen = 0
 abbrev pub HasRoom : List Phase → Seen → Type 0
 HasRoom st seen = (o : Op) (k : Kind) → length (stack_after o st k seen) ≤ 3
 
--- the top is a step that the driver leaves out
+-- the top is a step that the driver leaves out, with nothing in its place
 abbrev pub leaves_out : Flaw → List Phase → Bool
 leaves_out Flaw.PartCopied (Phase.Copy f g k ∷ below) = k == 7
 leaves_out Flaw.LostHeld (Phase.Drop g ∷ Phase.Moves step v ∷ below) = true

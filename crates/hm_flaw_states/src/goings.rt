@@ -1,14 +1,15 @@
 // How far an actor is after its entry.
-ghost use Rattle.std.specs.Prelude.{◌≡◌, true, map, if◌then◌else◌, IfOk};
-ghost use Rattle.hm_history.specs.Kernel.Going.{going_next};
+ghost use Rattle.std.specs.Prelude.{◌≡◌, true, map, option_copied, IfOk};
+ghost use Rattle.hm_history.specs.Kernel.Going.{going_next, op_at};
 ghost use Rattle.hm_history.specs.Memory.After.{After};
 ghost use Rattle.hm_actors.specs.Actors.{IsSeen};
-ghost use Rattle.hm_flaws.specs.Flawed.{as_moved, going_by, recorded_by, without_step};
+ghost use Rattle.hm_flaws.specs.Flawed.{as_moved, going_by, recorded_by, stack_by};
 ghost use Rattle.hm_phases.specs.Items.{catches, phases_of};
 ghost use Rattle.hm_race_states.specs.Tasks.{going_in};
-ghost use Rattle.hm_flaw_states.specs.Rooms.{HasRoom, grows, leaves_out, without_top};
+ghost use Rattle.hm_flaw_states.specs.Rooms.{HasRoom, grows};
 
-use hm_base::{Actor, Frame, NoMemory, Page, PoolId, Script};
+use crate::stacks::stack_by;
+use hm_base::{Actor, Frame, NoMemory, Op, Page, PoolId, Script};
 use hm_flaws::Flaw;
 use hm_history::phases::{Body, Migrating, MoveStep, Phase, Seen};
 use hm_history::{KeptAt, KeptWhy, Kind};
@@ -49,50 +50,6 @@ fn has_room(items: &Items, seen: &Seen) -> bool
         Items::One(top) => grows(top, seen) <= 2,
         Items::Two(top, _) => grows(top, seen) <= 1,
         Items::Three(top, _, _) => grows(top, seen) == 0,
-    }
-}
-
-// ---- what a flaw leaves out
-
-// Whether the top is a step that the driver leaves out.
-fn leaves_out(flaw: Flaw, items: &Items) -> bool
-    ensures { result ≡ leaves_out flaw (phases_of items.now) }
-{
-    match flaw {
-        Flaw::PartCopied => match items {
-            Items::One(Phase::Copy { part, .. })
-            | Items::Two(Phase::Copy { part, .. }, _)
-            | Items::Three(Phase::Copy { part, .. }, _, _) => *part == 7,
-            _ => false,
-        },
-        Flaw::LostHeld => match items {
-            Items::Two(Phase::Drop { .. }, Phase::Moves { .. })
-            | Items::Three(Phase::Drop { .. }, Phase::Moves { .. }, _) => true,
-            _ => false,
-        },
-        _ => false,
-    }
-}
-
-fn without_top(items: Items) -> Items
-    ensures { phases_of result ≡ without_top (phases_of items) }
-{
-    match items {
-        Items::Zero => Items::Zero,
-        Items::One(_) => Items::Zero,
-        Items::Two(_, lowest) => Items::One(lowest),
-        Items::Three(_, second, lowest) => Items::Two(second, lowest),
-    }
-}
-
-// The phases without a step that is left out.
-fn without_step(flaw: Flaw, items: Items) -> Items
-    ensures { phases_of result ≡ without_step flaw (phases_of items) }
-{
-    if leaves_out(flaw, &items) {
-        without_top(items)
-    } else {
-        items
     }
 }
 
@@ -207,27 +164,45 @@ fn made(index: u64, stack: SharedPhases, records: SharedRecords) -> Result<RaceT
     })
 }
 
-// The actor with what the flaw makes of its stack and its records.
-fn with_flaw(alloc: Global, flaw: Flaw, kind: &Kind, task: RaceTask) -> Result<RaceTask, NoMemory>
+// The actor with what the flaw makes of its stack and its records, given the operation, the entry's position, and the
+// stack before the entry.
+fn with_flaw(
+    alloc: Global,
+    flaw: Flaw,
+    op: Option<&Op>,
+    at: u64,
+    before: &SharedPhases,
+    kind: &Kind,
+    task: RaceTask,
+) -> Result<RaceTask, NoMemory>
     ensures { IfOk result (λ t. going_in t ≡ record {
       index = (going_in task).index;
-      stack = without_step flaw (going_in task).stack;
+      stack = stack_by flaw (option_copied op.entry) at before.now kind.now (going_in task).stack;
       pages = recorded_by flaw kind.now (going_in task).pages;
     }) }
 {
     let records = recorded_by(alloc, flaw, kind, &task.records)?;
-    let items = without_step(flaw, task.stack.items());
+    let items = stack_by(flaw, op, at, before, kind, task.stack.items());
     let stack = SharedPhases::of(alloc, &items, &task.stack)?;
     Ok(made(task.index, stack, records)?)
 }
 
-// The actor by the driver's flaw.
-fn going_by(alloc: Global, flaw: Flaw, kind: &Kind, task: RaceTask) -> Result<RaceTask, NoMemory>
-    ensures { IfOk result (λ t. going_in t ≡ going_by flaw kind.now (going_in task)) }
+// The actor by the driver's flaw, given the operation, the entry's position, and the stack before the entry.
+fn going_by(
+    alloc: Global,
+    flaw: Flaw,
+    op: Option<&Op>,
+    at: u64,
+    before: &SharedPhases,
+    kind: &Kind,
+    task: RaceTask,
+) -> Result<RaceTask, NoMemory>
+    ensures { IfOk result
+        (λ t. going_in t ≡ going_by flaw (option_copied op.entry) at before.now kind.now (going_in task)) }
 {
     match flaw {
         Flaw::NoFlaw => Ok(task),
-        _ => Ok(with_flaw(alloc, flaw, kind, task)?),
+        _ => Ok(with_flaw(alloc, flaw, op, at, before, kind, task)?),
     }
 }
 
@@ -243,11 +218,14 @@ pub fn task_after(
     seen: &Seen,
 ) -> Result<RaceTask, NoMemory>
     ensures { IfOk result (λ t. (s : After) → IsSeen script.now s actor (going_in task.now) kind.now seen.now
-        → going_in t ≡ going_by flaw kind.now (going_next script.now s actor (going_in task.now) kind.now)) }
+        → going_in t
+        ≡ going_by flaw (op_at script.now actor (going_in task.now).index) seen.now.at (going_in task.now).stack
+        kind.now (going_next script.now s actor (going_in task.now) kind.now)) }
 {
     if !has_room(&task.stack.items(), seen) {
         return Err(NoMemory);
     }
     let moved = task.after(alloc, script, actor, kind, seen)?;
-    Ok(going_by(alloc, flaw, kind, moved)?)
+    let op = task.op(script, actor);
+    Ok(going_by(alloc, flaw, op, seen.at, &task.stack, kind, moved)?)
 }

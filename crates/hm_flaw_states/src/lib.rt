@@ -16,5 +16,6 @@ pub mod placed;
 pub mod placing;
 mod same_parts;
 mod seen;
+mod stacks;
 pub mod start;
 pub mod state;

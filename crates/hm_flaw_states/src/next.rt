@@ -1,7 +1,7 @@
 // A state after an entry.
 ghost use Rattle.std.specs.Prelude.{◌≡◌, ◌<◌, ◌≤◌, ◌+◌, ℕ, length, map, IfOk};
 ghost use Rattle.std.specs.Rc.{rc_value};
-ghost use Rattle.hm_history.specs.Kernel.Going.{going_next};
+ghost use Rattle.hm_history.specs.Kernel.Going.{going_next, op_at};
 ghost use Rattle.hm_history.specs.Memory.After.{after_entry};
 ghost use Rattle.hm_actors.specs.Actors.{IsSeen};
 ghost use Rattle.hm_flaws.specs.Flawed.{found, flawed_next, going_by};
@@ -73,9 +73,10 @@ fn tasks_with(
 impl FlawState {
     // What the actor sees at its entry, in the state as actors find it.
     fn seen(&self, script: &Script, flaw: Flaw, own: &Own, actor: Actor, kind: &Kind) -> Seen
-        ensures { IsSeen script.now
+        ensures seen { IsSeen script.now
             (found flaw script.now (record { state = state_in self.now; driver = driver_in own.now })) actor
             ((state_in self.now).going actor) kind.now result }
+        ensures at { result.at ≡ (state_in self.now).after.length }
     {
         let here = FlawHere {
             script,
@@ -105,11 +106,12 @@ impl FlawState {
         entry: &Entry,
     ) -> Result<RaceTask, NoMemory>
         requires { entry.now.actor < length self.now.tasks.items }
-        ensures { IfOk result (λ t. going_in t
-            ≡ going_by flaw entry.now.kind
+        ensures { IfOk result (λ t. let g = (state_in self.now).going entry.now.actor in going_in t
+            ≡ going_by flaw (op_at script.now entry.now.actor g.index) (state_in self.now).after.length g.stack
+            entry.now.kind
             (going_next script.now
             (found flaw script.now (record { state = state_in self.now; driver = driver_in own.now }))
-            entry.now.actor ((state_in self.now).going entry.now.actor) entry.now.kind)) }
+            entry.now.actor g entry.now.kind)) }
     {
         let seen = self.seen(script, flaw, own, entry.actor, &entry.kind);
         let task = &self.tasks[entry.actor.number() as usize];

@@ -1,5 +1,7 @@
-use Rattle.std.proofs.Common.{List, ap, ◌∙◌, subst}
+use Rattle.std.proofs.Common.{Option, List, ap, ◌∙◌, subst}
+use Rattle.hm_base.specs.declared.ops.Op.{Op}
 use Rattle.hm_flaws.specs.Flawed.{going_by}
+use Rattle.hm_history.specs.Kernel.Going.{op_at}
 use Rattle.hm_history.specs.declared.phases.Phase.{Phase}
 use Rattle.hm_race_states.specs.Tasks.{going_in}
 use Rattle.hm_race_states.proofs.Seens.{task_is}
@@ -11,5 +13,8 @@ after-requires c = λ o e. subst (λ (st : List Phase). HasRoom st c.args.seen.n
 
 pub returns : goal.returns
 returns c = λ s is.
+    let g = going_in c.args.task.now in
+    let k = c.args.kind.now in
     c.in_ok-going_by.ensures
-    ∙ ap (going_by c.args.flaw c.args.kind.now) (c.in_ok-moved.ensures ∙ task_is c.args.script.now s c.args.actor (going_in c.args.task.now) c.args.kind.now c.args.seen.now is)
+    ∙ (ap (λ (o : Option Op). going_by c.args.flaw o c.args.seen.now.at g.stack k (going_in c.in_ok-moved.moved)) c.op-op.ensures
+    ∙ ap (going_by c.args.flaw (op_at c.args.script.now c.args.actor g.index) c.args.seen.now.at g.stack k) (c.in_ok-moved.ensures ∙ task_is c.args.script.now s c.args.actor g k c.args.seen.now is))

@@ -1,5 +1,5 @@
-use Rattle.std.proofs.Common.{◌≡◌, sym, ap, ◌∙◌, subst}
-use Rattle.hm_history.specs.Kernel.Going.{Going, going_next}
+use Rattle.std.proofs.Common.{◌≡◌, ℕ, sym, ap, ◌∙◌, subst}
+use Rattle.hm_history.specs.Kernel.Going.{Going, going_next, op_at}
 use Rattle.hm_actors.specs.Actors.{IsSeen}
 use Rattle.hm_drivers.specs.Owns.{driver_in}
 use Rattle.hm_flaws.specs.Flawed.{found, going_by}
@@ -14,7 +14,11 @@ returns c =
     let a = c.args.entry.now.actor in
     let k = c.args.entry.now.kind in
     let p = c.args.script.now in
-    let s = found c.args.flaw p (record { state = u; driver = driver_in c.args.own.now }) in
-    let there : going_in c.deref.result.now ≡ u.going a = ap going_in c.deref.ensures ∙ sym (task_there c.args.self.now.tasks.items c.number.result a c.index-task.result.now c.number.ensures.same c.requires c.index-task.ensures) in
-    let seen : IsSeen p s a (going_in c.deref.result.now) k c.seen-seen.result = subst (λ (g : Going). IsSeen p s a g k c.seen-seen.result) (sym there) c.seen-seen.ensures in
-    c.in_ok-task_after.ensures s seen ∙ ap (λ (g : Going). going_by c.args.flaw k (going_next p s a g k)) there
+    let l = c.args.flaw in
+    let t = going_in c.deref.result.now in
+    let s = found l p (record { state = u; driver = driver_in c.args.own.now }) in
+    let there : t ≡ u.going a = ap going_in c.deref.ensures ∙ sym (task_there c.args.self.now.tasks.items c.number.result a c.index-task.result.now c.number.ensures.same c.requires c.index-task.ensures) in
+    let seen : IsSeen p s a t k c.seen-seen.result = subst (λ (g : Going). IsSeen p s a g k c.seen-seen.result) (sym there) c.seen-seen.ensures.seen in
+    c.in_ok-task_after.ensures s seen
+    ∙ (ap (λ (n : ℕ). going_by l (op_at p a t.index) n t.stack k (going_next p s a t k)) c.seen-seen.ensures.at
+    ∙ ap (λ (g : Going). going_by l (op_at p a g.index) u.after.length g.stack k (going_next p s a g k)) there)
