@@ -20,9 +20,10 @@ crate=$top/crates/$name
 program=$crate/out/$name
 built=$program.built                # the sum of what the proved program was made from
 quick=$crate/out/quick/$name        # the unproved one, with its sum in $quick.built
-rules='compare compare-sequence entry-right mmap-lock own-device set-sequence erase erase-all erase-in-time own-events
-stop-at-detach write-entry copy-all clear set-moved set-right drop-lost take-from-there evict-first withdraw-first
-wait-for-locked look-again'         # of drivers; hmmwithout takes one of them
+rules='compare compare-sequence entry-right mmap-lock own-device begin-waits begin-first set-sequence erase erase-all
+erase-in-time own-events stop-at-detach write-entry detach-waits copy-all clear set-moved set-right drop-lost
+take-from-there evict-first withdraw-first wait-for-locked look-again tell-first end-last fork-narrows
+fault-looks-again bring-home freeze-others fresh-looks-again fresh-right back-right'     # hmmwithout takes one of them
 
 say() { echo "$name.sh: $*" >&2; }
 

@@ -18,6 +18,8 @@ named-again Flaw.ComparedNow = refl
 named-again Flaw.AllForWrites = refl
 named-again Flaw.WalksUnlocked = refl
 named-again Flaw.AnyDevice = refl
+named-again Flaw.BegunAnyway = refl
+named-again Flaw.BegunLast = refl
 named-again Flaw.SequenceLeft = refl
 named-again Flaw.TableLeft = refl
 named-again Flaw.FirstErased = refl
@@ -25,6 +27,7 @@ named-again Flaw.ErasedAtEnd = refl
 named-again Flaw.OwnIgnored = refl
 named-again Flaw.UsedDetached = refl
 named-again Flaw.ReadsWritten = refl
+named-again Flaw.DetachedAtOnce = refl
 named-again Flaw.PartCopied = refl
 named-again Flaw.NotCleared = refl
 named-again Flaw.LostAsMoved = refl
@@ -35,6 +38,15 @@ named-again Flaw.RemovedAtOnce = refl
 named-again Flaw.NotWithdrawn = refl
 named-again Flaw.LockedPassed = refl
 named-again Flaw.AddedAnyway = refl
+named-again Flaw.ToldLast = refl
+named-again Flaw.EndedAtOnce = refl
+named-again Flaw.ForkedWhole = refl
+named-again Flaw.ReplacedAnyway = refl
+named-again Flaw.DeviceAccessed = refl
+named-again Flaw.OthersLeft = refl
+named-again Flaw.FreshAnyway = refl
+named-again Flaw.FreshForWrites = refl
+named-again Flaw.BackForWrites = refl
 
 -- a word that names a driver is its own
 pub named_own : (w : List ℕ) (l : Flaw) → flaw_named w ≡ Some l → name_of l ≡ w

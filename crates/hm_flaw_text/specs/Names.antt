@@ -5,7 +5,7 @@ use Rattle.std.specs.Str.{bytes_eq}
 use Rattle.hm_flaws.specs.declared.flaws.Flaw.{Flaw}
 use Rattle.hm_flaws.specs.declared.parts.Part.{Part}
 
--- the word of the rule that the driver leaves out; of the right driver `none`
+-- the word of the rule that the driver leaves out, or the memory manager does; of the right driver `none`
 abbrev pub name_of : Flaw → List ℕ
 name_of Flaw.NoFlaw = codes "none"
 name_of Flaw.NotCompared = codes "compare"
@@ -13,6 +13,8 @@ name_of Flaw.ComparedNow = codes "compare-sequence"
 name_of Flaw.AllForWrites = codes "entry-right"
 name_of Flaw.WalksUnlocked = codes "mmap-lock"
 name_of Flaw.AnyDevice = codes "own-device"
+name_of Flaw.BegunAnyway = codes "begin-waits"
+name_of Flaw.BegunLast = codes "begin-first"
 name_of Flaw.SequenceLeft = codes "set-sequence"
 name_of Flaw.TableLeft = codes "erase"
 name_of Flaw.FirstErased = codes "erase-all"
@@ -20,6 +22,7 @@ name_of Flaw.ErasedAtEnd = codes "erase-in-time"
 name_of Flaw.OwnIgnored = codes "own-events"
 name_of Flaw.UsedDetached = codes "stop-at-detach"
 name_of Flaw.ReadsWritten = codes "write-entry"
+name_of Flaw.DetachedAtOnce = codes "detach-waits"
 name_of Flaw.PartCopied = codes "copy-all"
 name_of Flaw.NotCleared = codes "clear"
 name_of Flaw.LostAsMoved = codes "set-moved"
@@ -30,6 +33,15 @@ name_of Flaw.RemovedAtOnce = codes "evict-first"
 name_of Flaw.NotWithdrawn = codes "withdraw-first"
 name_of Flaw.LockedPassed = codes "wait-for-locked"
 name_of Flaw.AddedAnyway = codes "look-again"
+name_of Flaw.ToldLast = codes "tell-first"
+name_of Flaw.EndedAtOnce = codes "end-last"
+name_of Flaw.ForkedWhole = codes "fork-narrows"
+name_of Flaw.ReplacedAnyway = codes "fault-looks-again"
+name_of Flaw.DeviceAccessed = codes "bring-home"
+name_of Flaw.OthersLeft = codes "freeze-others"
+name_of Flaw.FreshAnyway = codes "fresh-looks-again"
+name_of Flaw.FreshForWrites = codes "fresh-right"
+name_of Flaw.BackForWrites = codes "back-right"
 
 -- all drivers, the right one first, in the order in which their lines are written
 abbrev pub all_flaws : List Flaw
@@ -40,6 +52,8 @@ all_flaws =
     ∷ Flaw.AllForWrites
     ∷ Flaw.WalksUnlocked
     ∷ Flaw.AnyDevice
+    ∷ Flaw.BegunAnyway
+    ∷ Flaw.BegunLast
     ∷ Flaw.SequenceLeft
     ∷ Flaw.TableLeft
     ∷ Flaw.FirstErased
@@ -47,6 +61,7 @@ all_flaws =
     ∷ Flaw.OwnIgnored
     ∷ Flaw.UsedDetached
     ∷ Flaw.ReadsWritten
+    ∷ Flaw.DetachedAtOnce
     ∷ Flaw.PartCopied
     ∷ Flaw.NotCleared
     ∷ Flaw.LostAsMoved
@@ -57,6 +72,15 @@ all_flaws =
     ∷ Flaw.NotWithdrawn
     ∷ Flaw.LockedPassed
     ∷ Flaw.AddedAnyway
+    ∷ Flaw.ToldLast
+    ∷ Flaw.EndedAtOnce
+    ∷ Flaw.ForkedWhole
+    ∷ Flaw.ReplacedAnyway
+    ∷ Flaw.DeviceAccessed
+    ∷ Flaw.OthersLeft
+    ∷ Flaw.FreshAnyway
+    ∷ Flaw.FreshForWrites
+    ∷ Flaw.BackForWrites
     ∷ []
 
 -- the driver that the word names

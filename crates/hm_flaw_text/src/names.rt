@@ -6,13 +6,15 @@ ghost use Rattle.hm_flaw_text.specs.Names.{all_flaws, flaw_named, name_of, part_
 use hm_flaws::{Flaw, Part};
 
 /// All drivers, in the order of the table of rules; the right one comes first.
-const FLAWS: [Flaw; 23] = [
+const FLAWS: [Flaw; 35] = [
     Flaw::NoFlaw,
     Flaw::NotCompared,
     Flaw::ComparedNow,
     Flaw::AllForWrites,
     Flaw::WalksUnlocked,
     Flaw::AnyDevice,
+    Flaw::BegunAnyway,
+    Flaw::BegunLast,
     Flaw::SequenceLeft,
     Flaw::TableLeft,
     Flaw::FirstErased,
@@ -20,6 +22,7 @@ const FLAWS: [Flaw; 23] = [
     Flaw::OwnIgnored,
     Flaw::UsedDetached,
     Flaw::ReadsWritten,
+    Flaw::DetachedAtOnce,
     Flaw::PartCopied,
     Flaw::NotCleared,
     Flaw::LostAsMoved,
@@ -30,10 +33,19 @@ const FLAWS: [Flaw; 23] = [
     Flaw::NotWithdrawn,
     Flaw::LockedPassed,
     Flaw::AddedAnyway,
+    Flaw::ToldLast,
+    Flaw::EndedAtOnce,
+    Flaw::ForkedWhole,
+    Flaw::ReplacedAnyway,
+    Flaw::DeviceAccessed,
+    Flaw::OthersLeft,
+    Flaw::FreshAnyway,
+    Flaw::FreshForWrites,
+    Flaw::BackForWrites,
 ];
 
 /// All drivers, in the order in which their lines are written: the right one, and then those with a flaw.
-pub fn all_flaws() -> [Flaw; 23]
+pub fn all_flaws() -> [Flaw; 35]
     ensures { result ≡ all_flaws }
 {
     FLAWS
@@ -44,7 +56,7 @@ pub fn names_are_theirs()
     ensures { NamesAreTheirs }
 {}
 
-/// The word of the rule that the driver leaves out; of the right driver `none`.
+/// The word of the rule that the driver leaves out, or the memory manager does; of the right driver `none`.
 pub fn rule_name(flaw: Flaw) -> &'static str
     ensures { result.now ≡ name_of flaw }
 {
@@ -55,6 +67,8 @@ pub fn rule_name(flaw: Flaw) -> &'static str
         Flaw::AllForWrites => "entry-right",
         Flaw::WalksUnlocked => "mmap-lock",
         Flaw::AnyDevice => "own-device",
+        Flaw::BegunAnyway => "begin-waits",
+        Flaw::BegunLast => "begin-first",
         Flaw::SequenceLeft => "set-sequence",
         Flaw::TableLeft => "erase",
         Flaw::FirstErased => "erase-all",
@@ -62,6 +76,7 @@ pub fn rule_name(flaw: Flaw) -> &'static str
         Flaw::OwnIgnored => "own-events",
         Flaw::UsedDetached => "stop-at-detach",
         Flaw::ReadsWritten => "write-entry",
+        Flaw::DetachedAtOnce => "detach-waits",
         Flaw::PartCopied => "copy-all",
         Flaw::NotCleared => "clear",
         Flaw::LostAsMoved => "set-moved",
@@ -72,6 +87,15 @@ pub fn rule_name(flaw: Flaw) -> &'static str
         Flaw::NotWithdrawn => "withdraw-first",
         Flaw::LockedPassed => "wait-for-locked",
         Flaw::AddedAnyway => "look-again",
+        Flaw::ToldLast => "tell-first",
+        Flaw::EndedAtOnce => "end-last",
+        Flaw::ForkedWhole => "fork-narrows",
+        Flaw::ReplacedAnyway => "fault-looks-again",
+        Flaw::DeviceAccessed => "bring-home",
+        Flaw::OthersLeft => "freeze-others",
+        Flaw::FreshAnyway => "fresh-looks-again",
+        Flaw::FreshForWrites => "fresh-right",
+        Flaw::BackForWrites => "back-right",
     }
 }
 
