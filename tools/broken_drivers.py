@@ -1,12 +1,12 @@
 #!/usr/bin/env python3
-"""The shortest race that punishes a driver which leaves one rule out.
+"""The shortest race that punishes a driver, or the memory manager, if it leaves one rule out.
 
     tools/broken_drivers.py RULE [--answers] [--most N] [FILE]    the race, and the part of legality that its end breaks
     tools/broken_drivers.py --all [--answers] [--most N] [FILE]   a line for each rule
-    tools/broken_drivers.py --rules                               the rules, and what a driver without each does
+    tools/broken_drivers.py --rules                               the rules, and what is done without each
 
-The script's schedule is the set-up, which a right driver makes. From there every actor may take its turn at any time,
-and the driver leaves the rule out. The search goes breadth first over all orders of turns, so the first entry that
+The script's schedule is the set-up, in which all rules are kept. From there every actor may take its turn at any time,
+and the rule is left out: by the driver, or, if it is one of the memory manager's own, by that. The search goes breadth first over all orders of turns, so the first entry that
 breaks a part of legality is the last one of a shortest race. With --answers only answers are judged: the first byte
 that is wrong, or the first access that should have failed. `stuck` says that an operation has not ended and nothing is
 due to anybody; `none`, with `whole`, that no order of turns lets this driver do wrong in this script. The search gives

@@ -8,8 +8,7 @@ FILEs, or the scripts of examples/broken and examples/gallery if none is named; 
 of two actors, drawn as tools/race_outcomes.py draws them. What is found must be the same part of legality, or `stuck`,
 or `none`, after the same number of entries; and each race that is written must end in an entry that breaks it. Where one
 of the two gave up at N states (2,000) without finding anything, nothing is compared, and it is counted. The numbers of
-states are not compared: the programs tell states apart in different ways. Nor is `evict-first`: without it the driver of
-hmmwithout does not withdraw the device either, and so goes wrong one entry sooner.
+states are not compared: the programs tell states apart in different ways.
 
 COMMAND is './hmmwithout.sh --ready'; any program of the same behaviour will do. Ends with status 1 at the first
 difference, whose script is then printed. It is run by hand, outside the gate: what hmmwithout writes is proved.
@@ -22,10 +21,6 @@ import race_outcomes
 import script as scripts
 import words as given
 from drivers.race import RULES, search
-
-
-# the rules that the two programs read in different ways
-APART = ('evict-first',)
 
 
 class Wrong(Exception):
@@ -61,7 +56,7 @@ def compare(command, text, most):
     for options in ([], ['--answers']):
         table = table_of(command, text, [*options, '--most', str(most)])
         for rule in ['none', *RULES]:
-            if rule in table and rule not in APART:
+            if rule in table:
                 same = compare_rule(script, rule, table[rule], bool(options), most)
                 agree, cut = agree + same, cut + (not same)
     return agree, cut

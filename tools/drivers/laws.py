@@ -2,7 +2,9 @@
 from collections import defaultdict
 
 from script import PAGE_BYTES, one_page
-from state import NONE, ZERO, State
+from state import NONE, ZERO
+
+from drivers.world import Onward
 
 PARTS = 'answers places frames sequences untold guarded kept'.split()
 
@@ -11,7 +13,7 @@ class Broken(Exception):
     """A part of legality that an entry breaks."""
 
 
-class Laws(State):
+class Laws(Onward):
     """The state that the history gives, and the seven parts of legality but that an entry is due."""
 
     def __init__(self, script):

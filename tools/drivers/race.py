@@ -1,4 +1,4 @@
-"""A race of a driver that leaves a rule out: the set-up by a right driver, turns, and the search over all orders."""
+"""A race in which a rule is left out: the set-up by a right driver, turns, and the search over all orders."""
 import report as reports
 from due import Record, Wait
 from run import Machine
@@ -8,14 +8,15 @@ from drivers.driver import Driver
 from drivers.laws import Broken, Laws
 from drivers.world import World
 
-# what a driver does that leaves the rule out
+# what a driver does that leaves the rule out, or the memory manager
 RULES = {
     'compare': 'commits a look-up without comparing sequences',
     'compare-sequence': 'commits unless its interval is being invalidated at that moment',
-    'begin-first': 'reads the sequence after the walk, not before',
     'entry-right': 'enters every page for writes',
     'mmap-lock': 'walks without the mmap lock',
     'own-device': "takes another device's memory for its own",
+    'begin-waits': 'begins a look-up while its interval is being invalidated',
+    'begin-first': 'reads the sequence after the walk, not before',
     'set-sequence': 'the callback leaves the sequence of the interval',
     'erase': 'the callback leaves the entries',
     'erase-all': 'the callback erases the first page of the span alone',
@@ -23,6 +24,7 @@ RULES = {
     'own-events': 'the callback ignores migrations of its own device, as lib/test_hmm.c does',
     'stop-at-detach': 'uses its table after the detach',
     'write-entry': 'writes through an entry for reads',
+    'detach-waits': 'detaches its mirror while that is being invalidated',
     'copy-all': 'copies seven of eight parts',
     'clear': 'gives a fresh page a frame that was not cleared',
     'set-moved': 'enters the new frame though the page was lost',
@@ -34,6 +36,16 @@ RULES = {
     'withdraw-first': 'evicts before it withdraws the device',
     'wait-for-locked': 'passes over locked frames, and removes the device',
     'look-again': 'adds to an exclusive page without a second look',
+    # the memory manager's own
+    'tell-first': 'an invalidation changes places first, and tells the mirrors at its end',
+    'end-last': 'an invalidation ends as if no other were under way',
+    'fork-narrows': "a fork gives the child the parent's right, and leaves the parent that right",
+    'fault-looks-again': 'a fault replaces a page without a second look at it',
+    'bring-home': "the CPU reads and writes a device's memory",
+    'freeze-others': 'a migration freezes no mapping of a frame but the first',
+    'fresh-looks-again': 'a migration places a fresh page without a second look at it',
+    'fresh-right': 'a migration places each fresh page for writes',
+    'back-right': 'each page that comes back is for writes',
 }
 
 

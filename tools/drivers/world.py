@@ -5,7 +5,21 @@ from script import PAGE_BYTES, one_page
 from state import State
 
 
-class World(State):
+class Onward(State):
+    """A state that goes on after any entry, also after one that breaks a part of legality."""
+
+    def apply(self, actor, entry):
+        match entry:
+            case ('end', p, span, _):           # the sequence after it is not taken from the entry
+                entry = 'end', p, span, self.seq_ended(p)
+            case ('drop', frame) if frame.number not in self.held[frame.device]:
+                self.length += 1
+                self.locker.pop(frame, None)
+                return
+        super().apply(actor, entry)
+
+
+class World(Onward):
     """The state that all actors see: the driver's own table and sequences, and frames with bytes."""
 
     def __init__(self, script, rule=None):
@@ -42,6 +56,8 @@ class World(State):
             case ('copied', source, to, part):
                 first, last = (0, PAGE_BYTES) if part is None else (512 * part, 512 * part + 512)
                 self.contents(to)[first:last] = self.contents(source)[first:last]
+                if rule == 'own-events' and source.device is not None:
+                    self.forget(source)         # as lib/test_hmm.c erases what it brings home
             case ('stored', who, at, data):
                 frame, offset = self.target(who, at // PAGE_BYTES), at % PAGE_BYTES
                 if frame:
@@ -69,6 +85,11 @@ class World(State):
     def erase(self, m, span):
         for page in [v for v in self.tables[m] if span.has(v)]:
             del self.tables[m][page]
+
+    def forget(self, frame):
+        for table in self.tables.values():
+            for page in [v for v, entry in table.items() if entry[0] == frame]:
+                del table[page]
 
     def callback(self, actor, m, span, seq):
         own = self.rule == 'own-events' and self.is_own_event(actor, m)
