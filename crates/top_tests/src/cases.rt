@@ -1,10 +1,12 @@
 // What a program is run on, and what it has to come to.
+use crate::calls::words_in;
 use hm_io::{MemorySink, MemorySource, SureSink};
 use std::alloc::Global;
 use std::env::Args;
 use std::io;
 use std::process::Abort;
-use std::test::Fail;
+use std::sync::Wait;
+use std::thread::Threads;
 
 /// The report of a script with nothing to do. Without its last two lines it is that script.
 pub const EMPTY_REPORT: &str = "hmm 1\nframes 0\nhistory\nend 0\n";
@@ -12,10 +14,37 @@ pub const EMPTY_REPORT: &str = "hmm 1\nframes 0\nhistory\nend 0\n";
 /// That script.
 pub const EMPTY: &str = "hmm 1\nframes 0\n";
 
+/// A program, but for the real streams.
+#[derive(Clone, Copy)]
+pub enum Program {
+    Hmmrun,
+    Hmmraces,
+    Hmmview,
+}
+
+impl Program {
+    /// Runs the program, and gives its exit code. Threads of hmmrun mix by draws from 7.
+    fn code<R: Threads + Wait + Sync>(
+        self,
+        rt: &R,
+        alloc: Global,
+        args: io::Result<Args>,
+        source: &mut MemorySource,
+        sink: &mut MemorySink,
+        errors: &mut SureSink,
+    ) -> u8 {
+        match self {
+            Program::Hmmrun => hm_top::program(rt, alloc, args, source, sink, errors, 7),
+            Program::Hmmraces => hm_race_top::program(alloc, args, source, sink, errors),
+            Program::Hmmview => hm_view::program(alloc, args, source, sink, errors),
+        }
+    }
+}
+
 /// A run of a program, and what it has to come to.
 #[derive(Clone, Copy)]
 pub struct Case<'a> {
-    /// The words after the program's name, with a blank between two.
+    /// The program's name and the words after it, with a blank between two.
     pub words: &'a str,
     pub input: &'a [u8],
     /// The read that fails, from 1; 0 if none does.
@@ -47,37 +76,86 @@ pub fn expected<'a>(
     }
 }
 
-/// The arguments of a program, of which the first is its name.
-pub fn arguments(alloc: Global, words: &str) -> Result<io::Result<Args>, Fail> {
-    let mut listed = Vec::new(alloc);
-    listed.push(String::from_str(alloc, "program")?)?;
-    if !words.is_empty() {
-        for word in words.split(' ') {
-            listed.push(String::from_str(alloc, word)?)?;
-        }
-    }
-    Ok(Ok(listed.into_iter()))
-}
-
 /// The three streams of a case.
 #[derive(Drop)]
-pub struct Streams {
-    pub source: MemorySource,
-    pub sink: MemorySink,
-    pub errors: SureSink,
+struct Streams {
+    source: MemorySource,
+    sink: MemorySink,
+    errors: SureSink,
 }
 
-pub fn open_streams(alloc: Global, case: &Case<'_>) -> Result<Streams, Fail> {
-    Ok(Streams {
-        source: MemorySource::new(alloc, case.input, 4096, &[case.bad_read])?,
-        sink: MemorySink::new(alloc, 65536, &[case.bad_write])?,
+fn open_streams<R: Abort>(rt: &R, alloc: Global, case: &Case<'_>) -> Streams {
+    let source = MemorySource::new(alloc, case.input, 4096, &[case.bad_read]).expect(rt, "memory");
+    let sink = MemorySink::new(alloc, 65536, &[case.bad_write]).expect(rt, "memory");
+    Streams {
+        source,
+        sink,
         errors: SureSink::new(alloc),
-    })
+    }
 }
 
-/// Compares what a run came to with what its case wants.
-pub fn compare<R: Abort>(rt: &R, case: &Case<'_>, streams: &Streams, code: u8) {
-    assert_eq!(rt; code, case.code);
-    assert_eq!(rt; streams.errors.held(), case.says.as_bytes());
-    assert_eq!(rt; streams.sink.held(), case.output.as_bytes());
+/// Whether a run with this exit code, and these streams in the end, is what its case wants.
+fn is_wanted(case: &Case<'_>, streams: &Streams, code: u8) -> bool {
+    code == case.code
+        && streams.errors.held() == case.says.as_bytes()
+        && streams.sink.held() == case.output.as_bytes()
+}
+
+/// Whether the program comes to what the case wants.
+fn comes_to<R: Abort + Threads + Wait + Sync>(
+    rt: &R,
+    alloc: Global,
+    program: Program,
+    case: &Case<'_>,
+) -> bool {
+    let mut streams = open_streams(rt, alloc, case);
+    let args = Ok(words_in(rt, alloc, case.words).into_iter());
+    let code = program.code(
+        rt,
+        alloc,
+        args,
+        &mut streams.source,
+        &mut streams.sink,
+        &mut streams.errors,
+    );
+    is_wanted(case, &streams, code)
+}
+
+/// Whether the program comes to what each of the cases wants.
+pub fn all_come_to<R: Abort + Threads + Wait + Sync>(
+    rt: &R,
+    alloc: Global,
+    program: Program,
+    cases: &[Case<'_>],
+) -> bool {
+    for case in cases {
+        if !comes_to(rt, alloc, program, case) {
+            return false;
+        }
+    }
+    true
+}
+
+/// So many bytes of a text that is no script.
+pub fn long_text<R: Abort>(rt: &R, alloc: Global, count: usize) -> Vec<u8> {
+    let mut bytes = Vec::new(alloc);
+    bytes.resize(count, b'h').expect(rt, "memory");
+    bytes
+}
+
+/// Whether the program with these words refuses a script of one byte too many, and says so.
+pub fn refuses_too_long<R: Abort + Threads + Wait + Sync>(
+    rt: &R,
+    alloc: Global,
+    program: Program,
+    words: &str,
+    says: &str,
+) -> bool {
+    let bytes = long_text(rt, alloc, 4_194_305);
+    let whole = expected(words, "", 8, "", says);
+    let case = Case {
+        input: bytes.as_slice(),
+        ..whole
+    };
+    comes_to(rt, alloc, program, &case)
 }

@@ -1,5 +1,5 @@
 // A store comes between a copy and its check.
-ghost use Rattle.std.specs.Prelude.{◌≡◌, ◌<◌, [], length, None, IfOk};
+ghost use Rattle.std.specs.Prelude.{◌≡◌, ◌<◌, [], length, None};
 
 use crate::meeting::Sign;
 use crate::watched::{Counted, Held};
@@ -7,14 +7,13 @@ use hm_base::{Actor, NoMemory, Proc};
 use hm_machine::Machine;
 use hm_script::parse;
 use hm_turns::{Looks, Pass, Stepped, Turns};
-use hm_workers::peek_all;
+use hm_workers::{PeekList, peek_all};
 use seq_copies::{Snapshot, Taken, still, take_copy};
 use skip_rules::Multiples;
 use std::alloc::Global;
 use std::process::Abort;
 use std::sync::Wait;
 use std::sync::atomic::AtomicU64;
-use std::test::Fail;
 use std::thread::{Threads, join_mut};
 
 /// Two stores of a byte. The first is the seventh entry, the second the eighth.
@@ -34,7 +33,7 @@ fn make_turns<S: Stepped>(turns: &Turns<S>, pass: &mut Pass, count: u32)
 }
 
 /// What a watcher sees of a copy when it is checked.
-#[derive(Drop)]
+#[derive(Clone, Copy)]
 enum Seen {
     /// There was no copy, or no sign in time.
     Nothing,
@@ -47,6 +46,15 @@ enum Seen {
 /// The byte that the copy has.
 fn byte_of(copy: &Snapshot) -> u8 {
     copy.bytes.as_slice().first().copied().unwrap_or(0)
+}
+
+/// What it sees of a copy that has this byte, if it sees the sign in time and the copy holds.
+fn seen_of(in_time: bool, holds: bool, byte: u8) -> Seen {
+    match (in_time, holds) {
+        (false, _) => Seen::Nothing,
+        (true, true) => Seen::Holds(byte),
+        (true, false) => Seen::IsStale(byte),
+    }
 }
 
 /// Takes a copy, signs, waits for the sign that the memory may have changed, and checks the copy.
@@ -64,14 +72,9 @@ fn watch<S: Looks>(
         return Seen::Nothing;
     };
     copied.show();
-    if !changed.is_seen() {
-        return Seen::Nothing;
-    }
-    if still(turns, pass, &copy).holds {
-        Seen::Holds(byte_of(&copy))
-    } else {
-        Seen::IsStale(byte_of(&copy))
-    }
+    let in_time = changed.is_seen();
+    let holds = still(turns, pass, &copy).holds;
+    seen_of(in_time, holds, byte_of(&copy))
 }
 
 /// Waits for the sign of a copy, makes one turn, and signs.
@@ -87,7 +90,7 @@ fn store<S: Stepped>(turns: &Turns<S>, pass: &mut Pass, copied: &Sign, changed: 
 }
 
 /// What a watcher sees of two copies.
-#[derive(Drop)]
+#[derive(Clone, Copy)]
 struct Looked {
     /// Of the first, which another thread's turn comes after.
     first: Seen,
@@ -126,37 +129,47 @@ fn meet<R: Threads + Wait + Sync, S: Stepped + Looks + Send>(
 }
 
 /// The machine of the script with the two stores.
-fn machine<R: Abort>(rt: &R, alloc: Global) -> Result<Machine<Multiples>, Fail>
-    ensures { IfOk result (λ m. (m.history ≡ []) × (m.halted ≡ None) × (length m.script.actors ≡ 1)) }
+fn machine<R: Abort>(rt: &R, alloc: Global) -> Machine<Multiples>
+    ensures { (result.history ≡ []) × (result.halted ≡ None) × (length result.script.actors ≡ 1) }
 {
-    let script = parse(alloc, STORES)?;
+    let script = parse(alloc, STORES)
+        .ok()
+        .expect(rt, "the bytes are a script");
     assert!(rt; script.actors.len() == 1);
-    Ok(Machine::new(alloc, script, Multiples)?)
+    Machine::new(alloc, script, Multiples).expect(rt, "memory")
 }
 
 #[test]
-fn a_store_between_copy_and_check(rt: HostRuntime) -> Result<(), Fail> {
-    let looked = meet(&rt, rt.alloc(), machine(&rt, rt.alloc())?, 7)?;
-    assert!(rt; looked.was_copied);
-    assert!(rt; matches!(looked.first, Seen::IsStale(0x41)));
-    assert!(rt; matches!(looked.second, Seen::Holds(0x42)));
-    Ok(())
+fn a_store_between_copy_and_check(rt: HostRuntime) {
+    let looked = meet(&rt, rt.alloc(), machine(&rt, rt.alloc()), 7).expect(&rt, "memory");
+    assert!(rt;
+        looked.was_copied
+            && matches!(looked.first, Seen::IsStale(0x41))
+            && matches!(looked.second, Seen::Holds(0x42))
+    );
 }
 
 #[test]
-fn no_store_between_copy_and_check(rt: HostRuntime) -> Result<(), Fail> {
-    let looked = meet(&rt, rt.alloc(), machine(&rt, rt.alloc())?, 8)?;
-    assert!(rt; looked.was_copied);
-    assert!(rt; matches!(looked.first, Seen::Holds(0x42)));
-    assert!(rt; matches!(looked.second, Seen::Holds(0x42)));
-    Ok(())
+fn no_store_between_copy_and_check(rt: HostRuntime) {
+    let looked = meet(&rt, rt.alloc(), machine(&rt, rt.alloc()), 8).expect(&rt, "memory");
+    assert!(rt;
+        looked.was_copied
+            && matches!(looked.first, Seen::Holds(0x42))
+            && matches!(looked.second, Seen::Holds(0x42))
+    );
+}
+
+/// Whether the last peek was after so many entries.
+fn end_at(peeks: &PeekList, count: u64) -> bool {
+    let last = peeks.get(peeks.len().saturating_sub(1));
+    last.is_some_and(|peek| peek.count == count)
 }
 
 #[test]
-fn a_watcher_looks_after_each_store(rt: HostRuntime) -> Result<(), Fail> {
+fn a_watcher_looks_after_each_store(rt: HostRuntime) {
     let looks = AtomicU64::new(0);
     let gate = Held::new(7, &looks);
-    let inner = machine(&rt, rt.alloc())?;
+    let inner = machine(&rt, rt.alloc());
     let counted = Counted {
         inner,
         looks: &looks,
@@ -171,10 +184,6 @@ fn a_watcher_looks_after_each_store(rt: HostRuntime) -> Result<(), Fail> {
         proc,
         0x10000,
         1,
-    )?;
-    assert!(rt; gate.missed() == 0);
-    assert!(rt; counted.length() == 8);
-    let last = peeks.get(peeks.len().saturating_sub(1));
-    assert!(rt; last.is_some_and(|peek| peek.count == 8));
-    Ok(())
+    ).expect(&rt, "memory");
+    assert!(rt; gate.missed() == 0 && counted.length() == 8 && end_at(&peeks, 8));
 }

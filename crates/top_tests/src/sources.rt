@@ -1,6 +1,9 @@
 // `why`: where each byte of each load came from.
-use crate::calls::writes;
-use std::test::Fail;
+use crate::calls::{ALONE, DONE, Ending, NOT_LEGAL, writes};
+use std::alloc::Global;
+use std::process::Abort;
+use std::sync::Wait;
+use std::thread::Threads;
 
 /// One byte was stored, and the one beside it was never written.
 const ONE_PAGE: &str =
@@ -31,28 +34,44 @@ const ADDED: &str =
     24 a0 place p0 16 excl s0 a0\n25 a0 end p0 16 1 8\n26 a0 set m0 16 s0 x 26\n27 a0 runlock p0\n\
     28 a0 fetched m0 0x10000 05\n29 a0 added m0 0x10000 05 04\nend 30\n";
 
-#[test]
-fn sources_of_loads(rt: HostRuntime) -> Result<(), Fail> {
-    for (report, written) in [
-        (ONE_PAGE, "why 7 6 1\nend 1\n"),
-        (THROUGH_A_FORK, "why 22 6\nwhy 23 17\nend 2\n"),
-        (ADDED, "why 20 13\nend 1\n"),
-        ("hmm 1\nframes 0\nhistory\nend 0\n", "end 0\n"),
-    ] {
-        writes(&rt, rt.alloc(), "why", report, (0, "", written))?;
-    }
-    Ok(())
+/// Whether the call ends so on a report, and this is written of its loads.
+fn tells<R: Abort + Threads + Wait + Sync>(
+    rt: &R,
+    alloc: Global,
+    report: &str,
+    wanted: Ending<'_>,
+    written: &str,
+) -> bool {
+    let (text, written) = (report.as_bytes(), written.as_bytes());
+    writes(rt, alloc, ALONE, "why", text, wanted, written)
 }
 
 #[test]
-fn no_sources_in_what_is_not_legal(rt: HostRuntime) -> Result<(), Fail> {
-    let spoiled = ONE_PAGE.replace(rt.alloc(), "4100\n", "4101\n")?;
-    writes(
-        &rt,
-        rt.alloc(),
-        "why",
-        spoiled.as_str(),
-        (1, "not legal", "bad 16\n"),
-    )?;
-    writes(&rt, rt.alloc(), "why", "", (1, "not legal", "bad 1\n"))
+fn sources_of_loads(rt: HostRuntime) {
+    let alloc = rt.alloc();
+    let empty = "hmm 1\nframes 0\nhistory\nend 0\n";
+    assert!(rt;
+        tells(&rt, alloc, ONE_PAGE, DONE, "why 7 6 1\nend 1\n")
+            && tells(
+                &rt,
+                alloc,
+                THROUGH_A_FORK,
+                DONE,
+                "why 22 6\nwhy 23 17\nend 2\n"
+            )
+            && tells(&rt, alloc, ADDED, DONE, "why 20 13\nend 1\n")
+            && tells(&rt, alloc, empty, DONE, "end 0\n")
+    );
+}
+
+#[test]
+fn no_sources_in_what_is_not_legal(rt: HostRuntime) {
+    let alloc = rt.alloc();
+    let spoiled = ONE_PAGE
+        .replace(alloc, "4100\n", "4101\n")
+        .expect(&rt, "memory");
+    assert!(rt;
+        tells(&rt, alloc, spoiled.as_str(), NOT_LEGAL, "bad 16\n")
+            && tells(&rt, alloc, "", NOT_LEGAL, "bad 1\n")
+    );
 }
