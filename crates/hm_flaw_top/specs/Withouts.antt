@@ -13,7 +13,7 @@ use Rattle.hm_edge.specs.Traffic.{NoFault, Traffic}
 use Rattle.hm_edge.specs.Writing.{WriteFaulted}
 use Rattle.hm_edge.specs.declared.status.RaceEnd.{RaceEnd}
 use Rattle.hm_edge.specs.declared.status.Status.{Status}
-use Rattle.hm_race_search.specs.Known.{MayFail}
+use Rattle.hm_race_run.specs.Known.{MayFail}
 use Rattle.hm_race_top.specs.Races.{HasRefused, HasStopped, IsSure}
 use Rattle.hm_race_top.specs.Telling.{HasTold, IsSentOn}
 use Rattle.hm_race_top.specs.declared.telling.Telling.{Telling}

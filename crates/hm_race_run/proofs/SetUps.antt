@@ -8,7 +8,7 @@ use Rattle.hm_history.specs.declared.StepError.{StepError}
 use Rattle.hm_machine.specs.Turning.{CameTo}
 use Rattle.hm_world.specs.WorldValue.{WorldValue, opening, now, MayHalt, HaltsRightly}
 use Rattle.hm_world.proofs.Shown.{now_length}
-use Rattle.hm_race_search.specs.Known.{MayFail}
+use Rattle.hm_race_run.specs.Known.{MayFail}
 
 -- a world after its set-up
 abbrev set_up_made : Program → List Entry → WorldValue

@@ -18,7 +18,7 @@ use Rattle.hm_history.specs.Memory.Words.{with_at}
 use Rattle.hm_race_laws.specs.Positions.{forget_kind}
 use Rattle.hm_race_laws.specs.Numbers.{small_kind}
 use Rattle.hm_race_keys.specs.Trail.{answers_in}
-use Rattle.hm_race_search.specs.Known.{IsNext}
+use Rattle.hm_race_run.specs.Known.{IsNext}
 use Rattle.hm_race_states.specs.Keyed.{form_in}
 use Rattle.hm_race_states.specs.declared.key.StateKey.{StateKey}
 use Rattle.hm_race_laws.specs.Forms.{ListsPlaces, Adds, AddsAlike, TurnsAlike, opened_form}

@@ -4,7 +4,7 @@ ghost use Rattle.hm_history.specs.Laws.{DueFrom};
 ghost use Rattle.hm_history.specs.declared.Entry.{Entry as AnyEntry};
 ghost use Rattle.hm_race_laws.specs.Blur.{form_of};
 ghost use Rattle.hm_race_laws.specs.Outcomes.{Point, Reached, ended_in, point_from};
-ghost use Rattle.hm_race_search.specs.Known.{IsNext};
+ghost use Rattle.hm_race_run.specs.Known.{IsNext};
 ghost use Rattle.hm_race_states.specs.Keyed.{form_in};
 ghost use Rattle.hm_race_states.specs.States.{state_in};
 ghost use Rattle.hm_race_run.specs.Turns.{IsShown, Shows};

@@ -1,11 +1,12 @@
-// All outcomes of a script's race: its schedule is the set-up, from there every actor may take its turn at any time.
+// All outcomes of a script's race: its schedule is the set-up, from there every actor may take its turn at any time. A
+// race is a system that can be searched; what a search knows of it, and laws that lead from there to its outcomes.
 #![tactic(auto)]
 
 ghost use Rattle.std.specs.Prelude.{◌≡◌, ◌≤◌, length, IfOk, IfErr};
 ghost use Rattle.hm_history.specs.Kernel.Run.{run};
 ghost use Rattle.hm_race_laws.specs.Closed.{AreDistinct};
-ghost use Rattle.hm_race_search.specs.Known.{AreFewest, AreKnown, AreReal, HaveForms, IsComplete};
-ghost use Rattle.hm_race_search.specs.Known.{IsCut, IsNear, IsSoon, MayFail};
+ghost use Rattle.hm_race_run.specs.Known.{AreFewest, AreKnown, AreReal, HaveForms, IsComplete};
+ghost use Rattle.hm_race_run.specs.Known.{IsCut, IsNear, IsSoon, MayFail};
 ghost use Rattle.hm_search.specs.Goals.{AreMissed, Reaches};
 ghost use Rattle.hm_search.specs.Known.{forms, AreRising};
 ghost use Rattle.hm_search.specs.Values.{all_known};
@@ -13,6 +14,7 @@ ghost use Rattle.hm_race_states.specs.Keyed.{form_in};
 
 mod copies;
 mod keys;
+mod laws;
 mod race;
 mod turn;
 
@@ -21,6 +23,7 @@ use hm_base::Script;
 use hm_history::StepError;
 use hm_race_states::key::StateKey;
 use hm_search::{End, Explored, Goal, explore};
+pub use laws::{forms_have_outcomes, known_are_real, races_are_systems, turns_are_all};
 use race::ScriptRace;
 pub use race::set_up_of;
 use skip_rules::SkipRule;
@@ -57,9 +60,9 @@ pub fn search<R: SkipRule, G: Goal<StateKey>>(
     ensures fewest { IfOk result (λ x. AreFewest script (run script) (all_known form_in x.known.items)) }
     ensures fails { IfErr result (λ e. MayFail script (run script) e) }
 {
-    hm_race_search::turns_are_all();
-    hm_race_search::forms_have_outcomes();
-    hm_race_search::known_are_real();
+    turns_are_all();
+    forms_have_outcomes();
+    known_are_real();
     let race = ScriptRace::new(alloc, script, rule)?;
     Ok(explore(&race, alloc, goal, most)?)
 }

@@ -5,13 +5,14 @@ ghost use Rattle.hm_history.specs.Kernel.Run.{run};
 ghost use Rattle.hm_race_laws.specs.Blur.{form_of};
 ghost use Rattle.hm_race_laws.specs.Closed.{Stands};
 ghost use Rattle.hm_race_laws.specs.Outcomes.{Point, Reached, point_from};
-ghost use Rattle.hm_race_search.specs.Known.{IsNext, MayFail};
-ghost use Rattle.hm_race_search.specs.Races.{race_of};
+ghost use Rattle.hm_race_run.specs.Known.{IsNext, MayFail};
+ghost use Rattle.hm_race_run.specs.Systems.{race_of};
 ghost use Rattle.hm_race_states.specs.Keyed.{form_in};
 ghost use Rattle.hm_world.specs.WorldValue.{opening};
 
 use crate::copies::copy_script;
 use crate::keys::{first_key, has_ended, next_key};
+use crate::laws::races_are_systems;
 use hm_base::{Actor, NoMemory, Script};
 use hm_history::{History, StepError};
 use hm_machine::Machine;
@@ -154,7 +155,7 @@ impl<R: SkipRule> System for ScriptRace<R> {
     ghost value = { λ r. race_of r.script r.set_up };
 
     fn facts(&self) {
-        hm_race_search::races_are_systems();
+        races_are_systems();
         self.stands();
     }
 

@@ -5,7 +5,7 @@ use Rattle.hm_history.specs.Laws.{RunsAreDue}
 use Rattle.hm_history.specs.Kernel.Run.{run}
 use Rattle.hm_laws.specs.Laws.{HistoryIsLegal}
 use Rattle.hm_race_laws.specs.Outcomes.{Point, point_at, outcome, ended_in, raced}
-use Rattle.hm_race_search.specs.Known.{KnownValue, IsKnown}
+use Rattle.hm_race_run.specs.Known.{KnownValue, IsKnown}
 use Rattle.hm_race_text.specs.Laws.{TurnsLead, TurnsStand, SameLegal, LeadsTo, PointsAreLed, BlocksAreFound}
 use Rattle.hm_race_text.specs.Schedule.{with_turns}
 use Rattle.hm_race_text.specs.Text.{Way}

@@ -1,12 +1,12 @@
 -- What holds of the states that a search knows.
 use Rattle.std.proofs.Common.{◌≡◌, ℕ, ◌≤◌, Bool, true, false, List, length, refl}
 use Rattle.hm_base.specs.Program.{Program, IsScript}
-use Rattle.hm_conditions.specs.Rulings.{RulingsAreRight}
-use Rattle.hm_conditions.specs.Texts.{is_whole}
-use Rattle.hm_conditions.specs.declared.question.Question.{Question}
+use Rattle.hm_race_text.specs.Conditions.Rulings.{RulingsAreRight}
+use Rattle.hm_race_text.specs.Conditions.Texts.{is_whole}
+use Rattle.hm_race_text.specs.declared.conditions.question.Question.{Question}
 use Rattle.hm_history.specs.Kernel.Run.{run}
 use Rattle.hm_search.specs.Goals.{AreMissed, Reaches}
-use Rattle.hm_race_search.specs.Known.{KnownValue, AreFewest, AreKnown, HaveForms, IsComplete, IsCut, IsNear}
+use Rattle.hm_race_run.specs.Known.{KnownValue, AreFewest, AreKnown, HaveForms, IsComplete, IsCut, IsNear}
 use Rattle.hm_search.specs.Known.{forms, AreRising}
 use Rattle.hm_search.specs.declared.search.End.{End}
 use Rattle.hm_race_laws.specs.Closed.{AreDistinct}

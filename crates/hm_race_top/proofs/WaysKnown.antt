@@ -6,7 +6,7 @@ use Rattle.std.proofs.lemmas.List.Sums.{fold-append}
 use Rattle.hm_history.specs.declared.Kind.{Kind}
 use Rattle.hm_race_laws.specs.Closed.{IsListed}
 use Rattle.hm_race_laws.specs.Outcomes.{outcome, answers_of}
-use Rattle.hm_race_search.specs.Known.{KnownValue, outcomes_of}
+use Rattle.hm_race_run.specs.Known.{KnownValue, outcomes_of}
 use Rattle.hm_race_text.specs.Answers.{answer_lines}
 use Rattle.hm_race_text.specs.Laws.{lines_of, WaysAreShown}
 use Rattle.hm_race_text.specs.Text.{Way, block_of, with_block, blocks_of}

@@ -1,7 +1,7 @@
 -- Where a search for conditions stops.
 use Rattle.std.specs.Prelude.{ℕ, ◌≤◌, Bool, List, map}
-use Rattle.hm_conditions.specs.Rulings.{settles}
-use Rattle.hm_conditions.specs.declared.question.Question.{Question}
+use Rattle.hm_race_text.specs.Conditions.Rulings.{settles}
+use Rattle.hm_race_text.specs.declared.conditions.question.Question.{Question}
 use Rattle.hm_history.specs.Memory.Words.{numbers}
 use Rattle.hm_race_laws.specs.Outcomes.{Point}
 use Rattle.hm_race_text.specs.Answers.{answer_lines}

@@ -3,8 +3,8 @@ use Rattle.std.specs.Prelude.{◌≡◌, ℕ, true, false, List, map}
 use Rattle.hm_base.specs.Program.{Program, IsScript}
 use Rattle.hm_history.specs.Kernel.Run.{run}
 use Rattle.hm_race_laws.specs.Outcomes.{raced}
-use Rattle.hm_race_search.specs.Known.{KnownValue, IsComplete, AreKnown, outcomes_of}
-use Rattle.hm_conditions.specs.Laws.{AllListed, AllReal}
+use Rattle.hm_race_run.specs.Known.{KnownValue, IsComplete, AreKnown, outcomes_of}
+use Rattle.hm_race_text.specs.Conditions.Laws.{AllListed, AllReal}
 use Rattle.hm_race_text.specs.Laws.{lines_of}
 use Rattle.hm_race_text.specs.Text.{Way}
 use Rattle.hm_race_text.specs.declared.block.OutcomeBlock.{OutcomeBlock}

@@ -1,15 +1,15 @@
 -- What a call comes to: what was read, and what was written of its race.
 use Rattle.std.specs.Prelude.{◌≡◌, ◌⊎◌, ◌≤◌, ℕ, true, false, List, length, Option, Some, None, IfSome, ⊤}
 use Rattle.hm_base.specs.Program.{Program}
-use Rattle.hm_conditions.specs.Rulings.{ruling_of, settles, IsRuled}
-use Rattle.hm_conditions.specs.Texts.{is_whole}
-use Rattle.hm_conditions.specs.declared.question.Question.{Question}
+use Rattle.hm_race_text.specs.Conditions.Rulings.{ruling_of, settles, IsRuled}
+use Rattle.hm_race_text.specs.Conditions.Texts.{is_whole}
+use Rattle.hm_race_text.specs.declared.conditions.question.Question.{Question}
 use Rattle.hm_history.specs.Kernel.Run.{run}
 use Rattle.hm_history.specs.declared.StepError.{StepError}
 use Rattle.hm_search.specs.Goals.{AreMissed, Reaches}
-use Rattle.hm_race_search.specs.Known.{KnownValue, AreFewest, AreKnown, HaveForms}
+use Rattle.hm_race_run.specs.Known.{KnownValue, AreFewest, AreKnown, HaveForms}
 use Rattle.hm_search.specs.Known.{forms, AreRising}
-use Rattle.hm_race_search.specs.Known.{IsCut, IsNear, MayFail}
+use Rattle.hm_race_run.specs.Known.{IsCut, IsNear, MayFail}
 use Rattle.hm_search.specs.declared.search.End.{End}
 use Rattle.hm_race_laws.specs.Closed.{AreDistinct, IsListed}
 use Rattle.hm_race_text.specs.Laws.{lines_of}

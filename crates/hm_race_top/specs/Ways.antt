@@ -8,7 +8,7 @@ use Rattle.hm_history.specs.Memory.Words.{numbers}
 use Rattle.hm_history.specs.declared.Entry.{Entry}
 use Rattle.hm_race_laws.specs.Closed.{IsListed}
 use Rattle.hm_race_laws.specs.Outcomes.{Point, outcome, answers_of, ended}
-use Rattle.hm_race_search.specs.Known.{KnownValue}
+use Rattle.hm_race_run.specs.Known.{KnownValue}
 use Rattle.hm_search.specs.Known.{turns_at}
 use Rattle.hm_race_text.specs.Answers.{answer_lines}
 use Rattle.hm_race_text.specs.Laws.{lines_of}

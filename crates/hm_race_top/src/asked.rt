@@ -4,8 +4,8 @@ ghost use Rattle.std.specs.Prelude.{MatchOption};
 ghost use Rattle.hm_race_top.specs.Asked.{after_most, front, questions_in, HasNoTask, IsTask};
 
 use hm_base::ListOf;
-use hm_conditions::{BadQuestion, Question, questions_of};
 use hm_edge::{RaceEnd, Status};
+use hm_race_text::{BadQuestion, Question, questions_of};
 use hm_script::number;
 use std::alloc::Global;
 

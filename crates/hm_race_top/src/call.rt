@@ -68,7 +68,7 @@ fn search_race<R: SkipRule, K: Sink>(
     true_is_real();
     all_is_listed();
     hm_race_text::none_twice();
-    hm_conditions::rulings_are_right();
+    hm_race_text::rulings_are_right();
     let Ok(copy) = copy_script(alloc, script) else {
         return Status::NoMemory;
     };

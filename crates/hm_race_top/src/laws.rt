@@ -38,7 +38,7 @@ pub fn complete_is_all()
 pub fn true_is_real()
     ensures { TrueIsReal }
 {
-    hm_conditions::same_end();
+    hm_race_text::same_end();
 }
 
 /// If they are all, every outcome is listed.

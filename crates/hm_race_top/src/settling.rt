@@ -5,9 +5,8 @@ ghost use Rattle.hm_race_states.specs.Keyed.{form_in};
 ghost use Rattle.hm_race_top.specs.Goals.{IsGoal, settled};
 
 use hm_base::NoMemory;
-use hm_conditions::{Question, settles};
 use hm_race_states::key::StateKey;
-use hm_race_text::answer_lines;
+use hm_race_text::{Question, answer_lines, settles};
 use hm_search::Goal;
 use std::alloc::Global;
 use std::marker::Model;

@@ -1,6 +1,6 @@
 // What is written of a race, and how the call ends then.
 ghost use Rattle.std.specs.Prelude.{◌≡◌, IfOk, MatchOption, None, Some};
-ghost use Rattle.hm_conditions.specs.Texts.{is_whole};
+ghost use Rattle.hm_race_text.specs.Conditions.Texts.{is_whole};
 ghost use Rattle.hm_race_text.specs.Laws.{lines_of};
 ghost use Rattle.hm_race_top.specs.Telling.{HasTold, IsEnding, IsSentOn, ending_of, rulings_told, numbered};
 ghost use Rattle.hm_race_top.specs.Telling.{script_told, telling};
@@ -8,11 +8,12 @@ ghost use Rattle.hm_edge.specs.Writing.{WriteFaulted};
 
 use crate::asked::Task;
 use hm_base::{NoMemory, Script, Text};
-use hm_conditions::{Question, Ruling, is_whole, rulings_text, summary};
 use hm_edge::{RaceEnd, Status};
 use hm_io::Sink;
-use hm_race_table::table_text;
-use hm_race_text::{OutcomeBlock, outcomes_text, text_with_turns};
+use hm_race_text::{
+    OutcomeBlock, Question, Ruling, is_whole, outcomes_text, rulings_text, summary, table_text,
+    text_with_turns,
+};
 use hm_report::{Written, write_text};
 use hm_search::End;
 use std::alloc::Global;

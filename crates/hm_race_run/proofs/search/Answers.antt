@@ -1,7 +1,7 @@
 use Rattle.std.proofs.Common.{◌≡◌, ap, ◌∙◌, subst}
 use Rattle.hm_history.specs.Kernel.Run.{run}
 use Rattle.hm_race_states.specs.Keyed.{form_in}
-use Rattle.hm_race_search.specs.Races.{race_of}
+use Rattle.hm_race_run.specs.Systems.{race_of}
 use Rattle.hm_search.specs.Known as search
 use Rattle.hm_search.specs.Values.{all_known}
 use Rattle.hm_race_run.proofs.search.Goals as goal

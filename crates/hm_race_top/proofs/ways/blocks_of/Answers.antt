@@ -1,5 +1,5 @@
 use Rattle.std.proofs.Common.{◌≡◌, ◌<◌, ◌∙◌, ap, length, get_or, arith}
-use Rattle.hm_race_search.specs.Known.{KnownValue}
+use Rattle.hm_race_run.specs.Known.{KnownValue}
 use Rattle.hm_search.specs.Known.{turns_at}
 use Rattle.hm_search.specs.Values.{all_known}
 use Rattle.hm_search.proofs.Exploring.{known_length}

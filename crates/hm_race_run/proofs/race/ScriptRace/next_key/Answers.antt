@@ -3,7 +3,7 @@ use Rattle.hm_history.specs.Laws.{DueFrom}
 use Rattle.hm_history.specs.declared.Entry.{Entry}
 use Rattle.hm_race_laws.specs.Blur.{form_of}
 use Rattle.hm_race_laws.specs.Outcomes.{Point, Reached}
-use Rattle.hm_race_search.specs.Known.{IsNext}
+use Rattle.hm_race_run.specs.Known.{IsNext}
 use Rattle.hm_race_states.specs.Keyed.{form_in}
 use Rattle.hm_race_run.specs.Races.{RaceValue}
 use Rattle.hm_race_run.specs.Turns.{IsShown}

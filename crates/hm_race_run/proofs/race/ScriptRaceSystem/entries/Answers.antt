@@ -1,5 +1,5 @@
 use Rattle.std.proofs.Common.{length, sym, ap, ◌∙◌}
-use Rattle.hm_race_search.proofs.Turns.{entries_from}
+use Rattle.hm_race_run.proofs.Turns.{entries_from}
 use Rattle.hm_race_run.specs.Races.{RaceValue}
 use Rattle.hm_race_run.proofs.race.ScriptRaceSystem.entries.Goals as goal
 

@@ -1,5 +1,5 @@
 use Rattle.hm_race_states.specs.Keyed.{form_in}
-use Rattle.hm_race_search.proofs.Turns.{stands_for, next_after}
+use Rattle.hm_race_run.proofs.Turns.{stands_for, next_after}
 use Rattle.hm_race_run.proofs.race.ScriptRaceSystem.next.Goals as goal
 
 pub next_key-requires : goal.next_key-requires

@@ -1,9 +1,0 @@
-pub mod Meets
-pub mod Judged
-pub mod Laws
-pub mod Grammar
-pub mod Tails
-pub mod Reading
-pub mod Questions
-pub mod Rulings
-pub mod Texts

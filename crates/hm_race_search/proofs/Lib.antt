@@ -1,3 +1,0 @@
-mod Systems
-mod Outcomes
-pub mod Turns

@@ -1,5 +1,0 @@
-use Rattle.hm_race_search.proofs.Outcomes.{turns_are_all}
-use Rattle.hm_race_search.proofs.turns_are_all.Goals as goal
-
-pub returns : goal.returns
-returns c = turns_are_all
