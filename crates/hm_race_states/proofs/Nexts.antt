@@ -13,7 +13,7 @@ use Rattle.hm_history.specs.Memory.Sequences.{Sequences, sequences_start, sequen
 use Rattle.hm_history.specs.Memory.Locks.{Locks, locks_start, map_next, frame_next, frame_placed, left_behind, orphan, with_lock}
 use Rattle.hm_history.specs.Memory.Words.{names}
 use Rattle.hm_base.specs.declared.ops.Op.{Op}
-use Rattle.hm_history.specs.Kernel.Going.{State, Going, first_stack, op_at, going_from, going_next, state_start, state_next}
+use Rattle.hm_history.specs.Kernel.Going.{State, Going, first_stack, op_at, going_next, state_start, state_next}
 use Rattle.hm_history.specs.declared.Who.{Who}
 use Rattle.hm_history.specs.declared.Kind.{Kind}
 use Rattle.hm_history.specs.declared.Entry.{Entry}
@@ -21,20 +21,23 @@ use Rattle.hm_history.specs.declared.locks.MapLock.{MapLock}
 use Rattle.hm_race_laws.specs.Positions.{placeless, forget_going, forget_stack}
 use Rattle.hm_race_laws.specs.Numbers.{mirror_of, small_going, small_stack}
 use Rattle.hm_race_laws.specs.Blur.{tidied, unlisted}
-use Rattle.hm_race_keys.specs.Arrays.{flag_in, lock_in}
 use Rattle.hm_race_keys.specs.FrameTables.{held_in, lockers_in}
-use Rattle.hm_race_keys.specs.PagePlaces.{places_in, places_of}
+use Rattle.hm_race_keys.specs.PagePlaces.{places_in}
 use Rattle.hm_race_keys.specs.TableEntries.{table_in, entry_of}
 use Rattle.hm_race_keys.specs.Sparse.{found}
 use Rattle.hm_race_keys.specs.declared.table_entries.Mapping.{Mapping}
-use Rattle.hm_race_keys.specs.Trail.{mirrors_next, place_next, held_next, withdrawn_next, removed_next, table_next, lockers_next, entry_old}
+use Rattle.hm_race_keys.specs.Trail.{place_next, held_next, withdrawn_next, removed_next, table_next, lockers_next, entry_old}
 use Rattle.hm_race_states.specs.Afters.{bytes_next}
 use Rattle.hm_race_states.specs.Goings.{blurred_goings, goings_with}
 use Rattle.hm_race_states.specs.Bytes.{bytes_in}
 use Rattle.hm_race_states.specs.Mirrors.{mirrors_in}
+use Rattle.hm_race_states.specs.Parts.{joined, ProcessesStart, PlacesStart, ActorsStart, ProcessesGo, PlacesGo, ActorsGo}
 use Rattle.hm_race_states.specs.Small.{kept_seqs, settled, unguarded}
-use Rattle.hm_race_states.specs.Spaces.{bare, spaces_in}
+use Rattle.hm_race_states.specs.Spaces.{bare}
 use Rattle.hm_race_states.specs.States.{goings_in, state_in}
+use Rattle.hm_race_states.specs.declared.parts.ActorParts.{ActorParts}
+use Rattle.hm_race_states.specs.declared.parts.PlaceParts.{PlaceParts}
+use Rattle.hm_race_states.specs.declared.parts.ProcessParts.{ProcessParts}
 use Rattle.hm_race_states.specs.declared.state.RaceState.{RaceState}
 use Rattle.hm_race_states.proofs.Blurring.{unguarded_going}
 use Rattle.hm_race_states.proofs.Seens.{orphans}
@@ -195,48 +198,39 @@ entry_plain (Some x) = refl
 table_plain : (x : RaceState) → table_in x.tables.value ≡ (λ m v. placeless (table_in x.tables.value m v))
 table_plain x = fun_ext (λ m. fun_ext (λ v. entry_plain (found x.tables.value m v)))
 
--- what is kept after an entry, part by part, is the next state without positions and absolute sequences
-pub record PartsGo (c : Program) (x : RaceState) (e : Entry) (y : RaceState) : Type 0 where
-  pub spaces : spaces_in y.spaces.value ≡ bare (plain_next (spaces_in x.spaces.value) e.kind)
-  pub bytes : bytes_in y.bytes.value ≡ bytes_next (bytes_in x.bytes.value) (mirrors_in x.mirrors.value) e.kind
-  pub mirrors : mirrors_in y.mirrors.value ≡ mirrors_next (mirrors_in x.mirrors.value) e.kind
-  pub place : places_in y.places.value ≡ place_next (places_in x.places.value) e.kind
-  pub held : held_in y.held.value ≡ held_next (held_in x.held.value) e.kind
-  pub withdrawn : flag_in y.marks.value.withdrawn ≡ withdrawn_next (flag_in x.marks.value.withdrawn) e.kind
-  pub removed : flag_in y.marks.value.removed ≡ removed_next (flag_in x.marks.value.removed) e.kind
-  pub table : table_in y.tables.value ≡ table_next (table_in x.tables.value) e.kind
-  pub locks : lockers_in y.locks.value
-      ≡ lockers_next (lockers_in x.locks.value) e.actor e.kind (entry_old (places_in x.places.value) e.kind)
-      (orphan (record locks_start { frame = lockers_in x.locks.value }) (places_of x.places.value) e.kind)
-  pub maps : lock_in y.maps.value.locks ≡ map_next (record locks_start { map = lock_in x.maps.value.locks }) e.actor e.kind
-  pub seqs : kept_seqs y.seqs.value ≡ settled (sequences_next (kept_seqs x.seqs.value) e.actor e.kind)
-  pub goings : (a : ℕ) → goings_in (map rc_value y.tasks.items) a
-      ≡ blurred_goings c (sequences_next (kept_seqs x.seqs.value) e.actor e.kind) (state_next c (state_in x) e).going a
+-- what is kept after an entry, group by group, is the next state without positions and absolute sequences
+pub record PartsGo (c : Program) (x : RaceState) (e : Entry) (p : ProcessParts) (q : PlaceParts) (a : ActorParts) : Type 0 where
+  pub processes : ProcessesGo x e.kind p
+  pub places : PlacesGo x e.actor e.kind q
+  pub actors : ActorsGo x e.actor e.kind a
+  pub seqs : kept_seqs p.seqs.value ≡ settled (sequences_next (kept_seqs x.seqs.value) e.actor e.kind)
+  pub goings : (n : ℕ) → goings_in (map rc_value a.tasks.items) n
+      ≡ blurred_goings c (sequences_next (kept_seqs x.seqs.value) e.actor e.kind) (state_next c (state_in x) e).going n
 
-module _ (c : Program) (x : RaceState) (e : Entry) (y : RaceState) (p : PartsGo c x e y) where
+module _ (c : Program) (x : RaceState) (e : Entry) (p : ProcessParts) (q : PlaceParts) (a : ActorParts) (g : PartsGo c x e p q a) where
   abbrev u : State
   u = state_in x
 
-  lockers : lockers_in y.locks.value ≡ frame_next u.after.locks u.after.places e.actor e.kind
-  lockers = p.locks ∙ (ap (λ o. lockers_next u.after.locks.frame e.actor e.kind (entry_old u.after.places.place e.kind) o) (orphans x e.kind) ∙ lockers_go u.after.locks u.after.places e.actor e.kind)
+  lockers : lockers_in q.locks.value ≡ frame_next u.after.locks u.after.places e.actor e.kind
+  lockers = g.places.locks ∙ (ap (λ o. lockers_next u.after.locks.frame e.actor e.kind (entry_old u.after.places.place e.kind) o) (orphans x e.kind) ∙ lockers_go u.after.locks u.after.places e.actor e.kind)
 
-  tables : table_in y.tables.value ≡ (λ m v. placeless ((places_next u.after.places e.kind).table m v))
-  tables = p.table ∙ (ap (λ f. table_next f e.kind) (table_plain x) ∙ table_goes u.after.places e.kind)
+  tables : table_in q.tables.value ≡ (λ m v. placeless ((places_next u.after.places e.kind).table m v))
+  tables = g.places.table ∙ (ap (λ f. table_next f e.kind) (table_plain x) ∙ table_goes u.after.places e.kind)
 
-  pub parts_on : unlisted (state_in y) ≡ tidied c (state_next c (state_in x) e)
+  pub parts_on : unlisted (state_in (joined p q a)) ≡ tidied c (state_next c (state_in x) e)
   parts_on = same_by
-      (p.spaces ∙ spaces_go u.after.plain e.kind)
-      (p.bytes ∙ bytes_go u.after.plain e.kind)
-      (p.mirrors ∙ mirrors_alone u.after.plain e.kind)
-      (p.place ∙ place_goes u.after.places e.kind)
-      (p.held ∙ held_goes u.after.places e.kind)
-      (p.withdrawn ∙ withdrawn_goes u.after.places e.kind)
-      (p.removed ∙ removed_goes u.after.places e.kind)
+      (g.processes.spaces ∙ spaces_go u.after.plain e.kind)
+      (g.processes.bytes ∙ bytes_go u.after.plain e.kind)
+      (g.processes.mirrors ∙ mirrors_alone u.after.plain e.kind)
+      (g.places.place ∙ place_goes u.after.places e.kind)
+      (g.places.held ∙ held_goes u.after.places e.kind)
+      (g.actors.withdrawn ∙ withdrawn_goes u.after.places e.kind)
+      (g.actors.removed ∙ removed_goes u.after.places e.kind)
       tables
-      p.seqs
-      (p.maps ∙ map_goes u.after.locks e.actor e.kind)
+      g.seqs
+      (g.actors.maps ∙ map_goes u.after.locks e.actor e.kind)
       lockers
-      (fun_ext p.goings)
+      (fun_ext g.goings)
 
 -- actors after one of them went on
 pub goings_on : (c : Program) (x : RaceState) (e : Entry) (s : Sequences) (g : Going) → s ≡ unguarded (sequences_next (kept_seqs x.seqs.value) e.actor e.kind) → g ≡ going_next c (state_in x).after e.actor ((state_in x).going e.actor) e.kind
@@ -258,21 +252,8 @@ first_same s m (Some (Op.Evict d)) = refl
 first_same s m (Some (Op.Remove d)) = refl
 first_same s m (Some _) = refl
 
--- what is kept before the first entry, part by part
-pub record PartsStart (c : Program) (y : RaceState) : Type 0 where
-  pub spaces : spaces_in y.spaces.value ≡ bare plain_start
-  pub bytes : y.bytes.value ≡ []
-  pub mirrors : y.mirrors.value ≡ []
-  pub places : y.places.value ≡ []
-  pub held : y.held.value ≡ []
-  pub withdrawn : (d : ℕ) → flag_in y.marks.value.withdrawn d ≡ false
-  pub removed : (d : ℕ) → flag_in y.marks.value.removed d ≡ false
-  pub tables : y.tables.value ≡ []
-  pub locks : y.locks.value ≡ []
-  pub maps : (a : ℕ) → lock_in y.maps.value.locks a ≡ None
-  pub seqs : kept_seqs y.seqs.value ≡ sequences_start
-  pub goings : (a : ℕ) → goings_in (map rc_value y.tasks.items) a ≡ going_from c a 0
-
-pub starts_on : (c : Program) (y : RaceState) → PartsStart c y → unlisted (state_in y) ≡ tidied c (state_start c)
-starts_on c y p = same_by p.spaces (ap bytes_in p.bytes) (ap mirrors_in p.mirrors) (ap places_in p.places) (ap held_in p.held) (fun_ext p.withdrawn) (fun_ext p.removed) (ap table_in p.tables) p.seqs (fun_ext p.maps) (ap lockers_in p.locks)
-    (fun_ext (λ a. p.goings a ∙ ap {B = Going} (λ z. record { index = 0; stack = z; pages = [] }) (first_same sequences_start (mirror_of (op_at c a 0)) (op_at c a 0))))
+-- what is kept before the first entry, group by group
+pub starts_on : (c : Program) (p : ProcessParts) (q : PlaceParts) (r : ActorParts) → ProcessesStart p → PlacesStart q → ActorsStart c r
+    → unlisted (state_in (joined p q r)) ≡ tidied c (state_start c)
+starts_on c p q r sp sq sr = same_by sp.spaces (ap bytes_in sp.bytes) (ap mirrors_in sp.mirrors) (ap places_in sq.places) (ap held_in sq.held) (fun_ext sr.withdrawn) (fun_ext sr.removed) (ap table_in sq.tables) sp.seqs (fun_ext sr.maps) (ap lockers_in sq.locks)
+    (fun_ext (λ a. sr.goings a ∙ ap {B = Going} (λ z. record { index = 0; stack = z; pages = [] }) (first_same sequences_start (mirror_of (op_at c a 0)) (op_at c a 0))))

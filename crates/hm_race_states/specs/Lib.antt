@@ -10,6 +10,7 @@ pub mod Tasks
 pub mod Mirrors
 pub mod Bytes
 pub mod States
+pub mod Parts
 pub mod Goings
 pub mod Keyed
 pub mod Buckets

@@ -1,5 +1,5 @@
 // The parts of a state after an entry. What the entry does not change is shared.
-ghost use Rattle.std.specs.Prelude.{◌≡◌, is_some, IfOk};
+ghost use Rattle.std.specs.Prelude.{◌≡◌, ◌≤◌, is_some, length, IfOk};
 ghost use Rattle.hm_history.specs.Memory.Locks.{locks_start, map_next, orphan};
 ghost use Rattle.hm_history.specs.Memory.Plain.{owner, plain_next, written_for};
 ghost use Rattle.hm_race_laws.specs.Outcomes.{answer_of, answers_next};
@@ -12,13 +12,17 @@ ghost use Rattle.hm_race_keys.specs.Trail.{removed_next, table_next, withdrawn_n
 ghost use Rattle.hm_race_states.specs.Afters.{bytes_next};
 ghost use Rattle.hm_race_states.specs.Bytes.{bytes_in};
 ghost use Rattle.hm_race_states.specs.Mirrors.{mirrors_in, plain_by};
+ghost use Rattle.hm_race_states.specs.Parts.{ActorsGo, PlacesGo, ProcessesGo};
 ghost use Rattle.hm_race_states.specs.Small.{kept_seqs};
 ghost use Rattle.hm_race_states.specs.Spaces.{bare, spaces_in};
 
 use crate::memory::RaceBytes;
 use crate::mirrors::RaceMirrors;
+use crate::parts::{ActorParts, PlaceParts, ProcessParts};
 use crate::small::SmallSeqs;
 use crate::spaces::RaceSpaces;
+use crate::state::RaceState;
+use crate::tasks::RaceTask;
 use hm_base::{Actor, NoMemory, Place, Proc};
 use hm_history::{Entry, Kind, Who};
 use hm_race_keys::device_marks::DeviceMarks;
@@ -31,7 +35,7 @@ use hm_race_keys::table_entries::TableEntries;
 use std::alloc::Global;
 use std::rc::Rc;
 
-pub(crate) fn spaces_after(
+fn spaces_after(
     alloc: Global,
     spaces: &Rc<RaceSpaces>,
     kind: &Kind,
@@ -80,7 +84,7 @@ fn with_written(
     }
 }
 
-pub(crate) fn bytes_after(
+fn bytes_after(
     alloc: Global,
     bytes: &Rc<RaceBytes>,
     mirrors: &RaceMirrors,
@@ -131,7 +135,7 @@ pub(crate) fn bytes_after(
     }
 }
 
-pub(crate) fn mirrors_after(
+fn mirrors_after(
     alloc: Global,
     mirrors: &Rc<RaceMirrors>,
     kind: &Kind,
@@ -148,11 +152,7 @@ pub(crate) fn mirrors_after(
     }
 }
 
-pub(crate) fn places_after(
-    alloc: Global,
-    places: &Rc<Places>,
-    kind: &Kind,
-) -> Result<Rc<Places>, NoMemory>
+fn new_places(alloc: Global, places: &Rc<Places>, kind: &Kind) -> Result<Rc<Places>, NoMemory>
     ensures { IfOk result (λ x. places_in x.value ≡ place_next (places_in places.now.value) kind.now) }
 {
     match kind {
@@ -165,11 +165,7 @@ pub(crate) fn places_after(
     }
 }
 
-pub(crate) fn held_after(
-    alloc: Global,
-    held: &Rc<HeldFrames>,
-    kind: &Kind,
-) -> Result<Rc<HeldFrames>, NoMemory>
+fn held_after(alloc: Global, held: &Rc<HeldFrames>, kind: &Kind) -> Result<Rc<HeldFrames>, NoMemory>
     ensures { IfOk result (λ x. held_in x.value ≡ held_next (held_in held.now.value) kind.now) }
 {
     match kind {
@@ -182,7 +178,7 @@ pub(crate) fn held_after(
     }
 }
 
-pub(crate) fn marks_after(
+fn marks_after(
     alloc: Global,
     marks: &Rc<DeviceMarks>,
     kind: &Kind,
@@ -202,7 +198,7 @@ pub(crate) fn marks_after(
     }
 }
 
-pub(crate) fn tables_after(
+fn tables_after(
     alloc: Global,
     tables: &Rc<TableEntries>,
     kind: &Kind,
@@ -233,8 +229,8 @@ fn place_before(places: &Places, kind: &Kind) -> Place
     }
 }
 
-/// `places` are those before the entry.
-pub(crate) fn locks_after(
+// `places` are those before the entry.
+fn locks_after(
     alloc: Global,
     locks: &Rc<FrameLocks>,
     places: &Places,
@@ -257,7 +253,7 @@ pub(crate) fn locks_after(
     }
 }
 
-pub(crate) fn maps_after(
+fn maps_after(
     alloc: Global,
     maps: &Rc<MapLocks>,
     actor: Actor,
@@ -272,6 +268,60 @@ pub(crate) fn maps_after(
         return Ok(maps.clone()?);
     }
     Ok(Rc::new(alloc, new)?)
+}
+
+/// What a state has by process and by mirror after an entry, with these sequences.
+pub(crate) fn processes_after(
+    alloc: Global,
+    state: &RaceState,
+    kind: &Kind,
+    seqs: Rc<SmallSeqs>,
+) -> Result<ProcessParts, NoMemory>
+    ensures parts { IfOk result (ProcessesGo state.now kind.now) }
+    ensures seqs { IfOk result (λ y. y.seqs ≡ seqs) }
+{
+    Ok(ProcessParts {
+        spaces: spaces_after(alloc, &state.spaces, kind)?,
+        bytes: bytes_after(alloc, &state.bytes, &state.mirrors, kind)?,
+        mirrors: mirrors_after(alloc, &state.mirrors, kind)?,
+        seqs,
+    })
+}
+
+/// What it has by page and by frame after an entry of this actor.
+pub(crate) fn places_after(
+    alloc: Global,
+    state: &RaceState,
+    actor: Actor,
+    kind: &Kind,
+) -> Result<PlaceParts, NoMemory>
+    ensures { IfOk result (PlacesGo state.now actor kind.now) }
+{
+    Ok(PlaceParts {
+        places: new_places(alloc, &state.places, kind)?,
+        held: held_after(alloc, &state.held, kind)?,
+        tables: tables_after(alloc, &state.tables, kind)?,
+        locks: locks_after(alloc, &state.locks, &state.places, actor, kind)?,
+    })
+}
+
+/// What it has by actor after an entry of this one, and the marks of devices, with these actors.
+pub(crate) fn actors_after(
+    alloc: Global,
+    state: &RaceState,
+    actor: Actor,
+    kind: &Kind,
+    tasks: Vec<Rc<RaceTask>>,
+) -> Result<ActorParts, NoMemory>
+    requires { length tasks.items ≤ 16 }
+    ensures parts { IfOk result (ActorsGo state.now actor kind.now) }
+    ensures tasks { IfOk result (λ y. y.tasks.items ≡ tasks.items) }
+{
+    Ok(ActorParts {
+        marks: marks_after(alloc, &state.marks, kind)?,
+        maps: maps_after(alloc, &state.maps, actor, kind)?,
+        tasks,
+    })
 }
 
 /// These sequences; if they are as before, those from before, so that the states share them.

@@ -13,12 +13,10 @@ ghost use Rattle.hm_race_states.specs.Small.{kept_seqs, settled};
 ghost use Rattle.hm_race_states.specs.States.{goings_in, state_in};
 ghost use Rattle.hm_race_states.specs.Tasks.{going_in};
 
-use crate::after::{
-    bytes_after, held_after, locks_after, maps_after, marks_after, mirrors_after, places_after,
-    shared_seqs, spaces_after, tables_after,
-};
+use crate::after::{actors_after, places_after, processes_after, shared_seqs};
 use crate::came::{Came, is_still};
 use crate::here::Here;
+use crate::joined::joined;
 use crate::small::SmallSeqs;
 use crate::state::RaceState;
 use crate::tasks::RaceTask;
@@ -142,19 +140,10 @@ impl RaceState {
             ≡ tidied script.now (state_next script.now (state_in self.now) entry.now)) }
     {
         let kind = &entry.kind;
-        Ok(RaceState {
-            spaces: spaces_after(alloc, &self.spaces, kind)?,
-            bytes: bytes_after(alloc, &self.bytes, &self.mirrors, kind)?,
-            mirrors: mirrors_after(alloc, &self.mirrors, kind)?,
-            places: places_after(alloc, &self.places, kind)?,
-            held: held_after(alloc, &self.held, kind)?,
-            marks: marks_after(alloc, &self.marks, kind)?,
-            tables: tables_after(alloc, &self.tables, kind)?,
-            locks: locks_after(alloc, &self.locks, &self.places, entry.actor, kind)?,
-            maps: maps_after(alloc, &self.maps, entry.actor, kind)?,
-            seqs,
-            tasks,
-        })
+        let processes = processes_after(alloc, self, kind, seqs)?;
+        let places = places_after(alloc, self, entry.actor, kind)?;
+        let actors = actors_after(alloc, self, entry.actor, kind, tasks)?;
+        Ok(joined(processes, places, actors))
     }
 
     // The state after an entry that may change sequences.

@@ -3,10 +3,13 @@ ghost use Rattle.std.specs.Prelude.{◌≡◌, ◌≤◌, ℕ, length, map, IfOk
 ghost use Rattle.std.specs.Rc.{rc_value};
 ghost use Rattle.hm_history.specs.Kernel.Going.{going_from, state_start};
 ghost use Rattle.hm_race_laws.specs.Blur.{tidied, unlisted};
+ghost use Rattle.hm_race_states.specs.Parts.{ActorsStart, PlacesStart, ProcessesStart};
 ghost use Rattle.hm_race_states.specs.States.{goings_in, state_in};
 
+use crate::joined::joined;
 use crate::memory::RaceBytes;
 use crate::mirrors::RaceMirrors;
+use crate::parts::{ActorParts, PlaceParts, ProcessParts};
 use crate::small::SmallSeqs;
 use crate::spaces::RaceSpaces;
 use crate::state::RaceState;
@@ -44,23 +47,49 @@ pub fn first_tasks(alloc: Global, script: &Script) -> Result<Vec<Rc<RaceTask>>, 
     Ok(all)
 }
 
+// What the state before the first entry has by process and by mirror.
+fn first_processes(alloc: Global) -> Result<ProcessParts, NoMemory>
+    ensures { IfOk result ProcessesStart }
+{
+    Ok(ProcessParts {
+        spaces: Rc::new(alloc, RaceSpaces::start(alloc)?)?,
+        bytes: Rc::new(alloc, RaceBytes::new(alloc))?,
+        mirrors: Rc::new(alloc, RaceMirrors::new(alloc))?,
+        seqs: Rc::new(alloc, SmallSeqs::start(alloc))?,
+    })
+}
+
+// What it has by page and by frame.
+fn first_places(alloc: Global) -> Result<PlaceParts, NoMemory>
+    ensures { IfOk result PlacesStart }
+{
+    Ok(PlaceParts {
+        places: Rc::new(alloc, Places::new(alloc))?,
+        held: Rc::new(alloc, HeldFrames::new(alloc))?,
+        tables: Rc::new(alloc, TableEntries::new(alloc))?,
+        locks: Rc::new(alloc, FrameLocks::new(alloc))?,
+    })
+}
+
+// What it has by actor, and the marks of devices.
+fn first_actors(alloc: Global, script: &Script) -> Result<ActorParts, NoMemory>
+    ensures { IfOk result (ActorsStart script.now) }
+{
+    Ok(ActorParts {
+        marks: Rc::new(alloc, DeviceMarks::new())?,
+        maps: Rc::new(alloc, MapLocks::new())?,
+        tasks: first_tasks(alloc, script)?,
+    })
+}
+
 impl RaceState {
     /// The state before the first entry.
     pub fn start(alloc: Global, script: &Script) -> Result<RaceState, NoMemory>
         ensures { IfOk result (λ x. unlisted (state_in x) ≡ tidied script.now (state_start script.now)) }
     {
-        Ok(RaceState {
-            spaces: Rc::new(alloc, RaceSpaces::start(alloc)?)?,
-            bytes: Rc::new(alloc, RaceBytes::new(alloc))?,
-            mirrors: Rc::new(alloc, RaceMirrors::new(alloc))?,
-            places: Rc::new(alloc, Places::new(alloc))?,
-            held: Rc::new(alloc, HeldFrames::new(alloc))?,
-            marks: Rc::new(alloc, DeviceMarks::new())?,
-            tables: Rc::new(alloc, TableEntries::new(alloc))?,
-            locks: Rc::new(alloc, FrameLocks::new(alloc))?,
-            maps: Rc::new(alloc, MapLocks::new())?,
-            seqs: Rc::new(alloc, SmallSeqs::start(alloc))?,
-            tasks: first_tasks(alloc, script)?,
-        })
+        let processes = first_processes(alloc)?;
+        let places = first_places(alloc)?;
+        let actors = first_actors(alloc, script)?;
+        Ok(joined(processes, places, actors))
     }
 }
