@@ -19,10 +19,10 @@ use Rattle.hm_flaws.specs.Flawed.{due_by}
 use Rattle.hm_flaws.specs.Judged.{Judged, judged, judged_after, judged_entry, judged_from, judged_on, judged_turn}
 use Rattle.hm_flaws.specs.Parts.{broken_part}
 use Rattle.hm_flaws.specs.Races.{part_in}
-use Rattle.hm_flaw_keys.specs.Keyed.{break_of, entries_in, form_in, part_of}
-use Rattle.hm_flaw_keys.specs.Nexts.{IsNextKey, IsTurned}
-use Rattle.hm_flaw_keys.specs.declared.key.BrokenBy.{BrokenBy}
-use Rattle.hm_flaw_keys.specs.declared.key.FlawKey.{FlawKey}
+use Rattle.hm_flaw_states.specs.Keyed.{break_of, entries_in, form_in, part_of}
+use Rattle.hm_flaw_states.specs.Turns.{IsNextKey, IsTurned}
+use Rattle.hm_flaw_states.specs.declared.key.BrokenBy.{BrokenBy}
+use Rattle.hm_flaw_states.specs.declared.key.FlawKey.{FlawKey}
 use Rattle.hm_flaw_races.specs.Races.{FlawPoint, broken_at, is_due_at, point_from, point_turn}
 use Rattle.hm_flaw_races.specs.Judging.{point_after, point_of}
 use Rattle.hm_flaw_races.proofs.Breaking.{no_entry}

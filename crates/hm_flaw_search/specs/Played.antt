@@ -5,8 +5,8 @@ use Rattle.hm_history.specs.declared.Entry.{Entry}
 use Rattle.hm_flaws.specs.declared.flaws.Flaw.{Flaw}
 use Rattle.hm_flaws.specs.declared.parts.Part.{Part}
 use Rattle.hm_flaws.specs.Judged.{Judged, judged}
-use Rattle.hm_flaw_keys.specs.Keyed.{form_in, entries_in, broken_in}
-use Rattle.hm_flaw_keys.specs.declared.key.FlawKey.{FlawKey}
+use Rattle.hm_flaw_states.specs.Keyed.{form_in, entries_in, broken_in}
+use Rattle.hm_flaw_states.specs.declared.key.FlawKey.{FlawKey}
 use Rattle.hm_flaw_races.specs.Judging.{point_after}
 use Rattle.hm_flaw_text.specs.declared.answer.Found.{Found}
 

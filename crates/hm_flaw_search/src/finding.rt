@@ -2,13 +2,13 @@
 ghost use Rattle.std.specs.Prelude.{map, IfOk};
 ghost use Rattle.hm_search.specs.Values.{all_known, at_goal};
 ghost use Rattle.hm_flaw_parts.specs.Judged.{judged_parts};
-ghost use Rattle.hm_flaw_keys.specs.Keyed.{form_in};
+ghost use Rattle.hm_flaw_states.specs.Keyed.{form_in};
 ghost use Rattle.hm_flaw_search.specs.Finding.{goal_of, IsFoundFirst};
 
 use crate::goals::{Broken, Stuck, first_reached};
 use crate::race::FlawRace;
 use hm_base::NoMemory;
-use hm_flaw_keys::key::FlawKey;
+use hm_flaw_states::key::FlawKey;
 use hm_flaw_text::Found;
 use hm_search::{End, Goal, Known, turns_to};
 use skip_rules::SkipRule;

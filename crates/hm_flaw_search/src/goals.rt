@@ -1,14 +1,14 @@
 // What a search looks for, and the first known state that reaches it.
 ghost use Rattle.std.specs.Prelude.{◌≡◌, map, IfOk};
 ghost use Rattle.hm_search.specs.Values.{at_goal};
-ghost use Rattle.hm_flaw_keys.specs.Keyed.{form_in};
+ghost use Rattle.hm_flaw_states.specs.Keyed.{form_in};
 ghost use Rattle.hm_flaw_races.specs.Judging.{breaks_at, sticks_at};
 ghost use Rattle.hm_flaw_races.specs.Races.{FlawPoint};
 ghost use Rattle.hm_flaw_search.specs.Finding.{IsFirstTrue};
 
 use crate::race::FlawRace;
 use hm_base::NoMemory;
-use hm_flaw_keys::key::FlawKey;
+use hm_flaw_states::key::FlawKey;
 use hm_search::{Goal, Known};
 use skip_rules::SkipRule;
 

@@ -7,7 +7,7 @@ ghost use Rattle.hm_flaw_search.specs.Played.{IsPlayed, found_by};
 
 use crate::race::FlawRace;
 use hm_base::{Actor, ListOf, NoMemory};
-use hm_flaw_keys::key::FlawKey;
+use hm_flaw_states::key::FlawKey;
 use hm_flaw_text::Found;
 use hm_history::Entry;
 use hm_machine::copy_entry;
@@ -43,7 +43,7 @@ impl<'a, R: SkipRule> FlawRace<'a, R> {
     }
 
     /// What turns of these actors come to: a part is broken, or else the entries are told as those of a race that is
-    /// stuck. It fails as `next_key` of hm_flaw_keys.
+    /// stuck. It fails as `next_key` of hm_flaw_states.
     pub fn race_of(&self, turns: &[Actor]) -> Result<Found, NoMemory>
         ensures { IfOk result (λ f. f ≡ found_by (judged (judged_parts self.now.judging) self.now.flaw
             self.now.script self.now.set_up turns.now)) }

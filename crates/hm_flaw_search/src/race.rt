@@ -1,14 +1,14 @@
 // The race of a driver with a flaw, for the search.
 ghost use Rattle.std.specs.Prelude.{◌≡◌, ◌≤◌, length, IfOk};
 ghost use Rattle.hm_flaw_parts.specs.Judged.{judged_parts};
-ghost use Rattle.hm_flaw_keys.specs.Keyed.{entries_in, form_in};
-ghost use Rattle.hm_flaw_keys.specs.Nexts.{IsNextKey};
+ghost use Rattle.hm_flaw_states.specs.Keyed.{entries_in, form_in};
+ghost use Rattle.hm_flaw_states.specs.Turns.{IsNextKey};
 ghost use Rattle.hm_flaw_races.specs.Races.{FlawPoint, flaw_system, point_from};
 
 use hm_base::{Actor, NoMemory, Script};
-use hm_flaw_keys::key::FlawKey;
-use hm_flaw_keys::{first_key, next_key};
 use hm_flaw_parts::Judging;
+use hm_flaw_states::key::FlawKey;
+use hm_flaw_states::{first_key, next_key};
 use hm_flaws::Flaw;
 use hm_history::{Entry, StepError};
 use hm_search::System;
@@ -58,7 +58,7 @@ impl<'a, R: SkipRule> FlawRace<'a, R> {
         script.actors.len() as u32
     }
 
-    /// The key after the set-up. It fails as `first_key` of hm_flaw_keys.
+    /// The key after the set-up. It fails as `first_key` of hm_flaw_states.
     pub fn first_key(&self) -> Result<FlawKey, NoMemory>
         ensures form { IfOk result (λ k. form_in k ≡ point_from self.now.script self.now.set_up) }
         ensures trail { IfOk result (λ k. entries_in k ≡ self.now.set_up) }
@@ -67,7 +67,7 @@ impl<'a, R: SkipRule> FlawRace<'a, R> {
         first_key(self.alloc, self.script, self.rule, self.set_up)
     }
 
-    /// The key after a turn of the actor, or `None` if nothing is due to it. It fails as `next_key` of hm_flaw_keys.
+    /// The key after a turn of the actor, or `None` if nothing is due to it. It fails as `next_key` of hm_flaw_states.
     pub fn next_key(&self, key: &FlawKey, actor: Actor) -> Result<Option<FlawKey>, NoMemory>
         ensures { IfOk result
             (IsNextKey (judged_parts self.now.judging) self.now.flaw self.now.script key.now actor) }

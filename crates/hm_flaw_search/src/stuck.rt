@@ -5,13 +5,13 @@ ghost use Rattle.hm_history.specs.Kernel.Run.{actors_of, is_entry};
 ghost use Rattle.hm_flaws.specs.Flawed.{due_by};
 ghost use Rattle.hm_flaws.specs.Races.{is_stuck};
 ghost use Rattle.hm_race_laws.specs.Outcomes.{ended_in};
-ghost use Rattle.hm_flaw_keys.specs.Keyed.{form_in};
+ghost use Rattle.hm_flaw_states.specs.Keyed.{form_in};
 
 use crate::race::FlawRace;
 use hm_base::{Actor, NoMemory};
-use hm_flaw_keys::key::FlawKey;
+use hm_flaw_states::due_by;
 use hm_flaw_states::here::FlawHere;
-use hm_found::due_by;
+use hm_flaw_states::key::FlawKey;
 use hm_history::Progress;
 use hm_reads::Reads;
 use skip_rules::SkipRule;

@@ -12,8 +12,8 @@ use Rattle.hm_history.specs.declared.locks.MapLock.{MapLock}
 use Rattle.hm_flaws.specs.Drivers.{Driver}
 use Rattle.hm_folds.proofs.PlainParts.{same_plain}
 use Rattle.hm_folds.proofs.SeqSteps.{same_state}
-use Rattle.hm_drivers.specs.Owns.{driver_in}
-use Rattle.hm_drivers.specs.declared.owns.Own.{Own}
+use Rattle.hm_flaw_states.specs.Owns.{driver_in}
+use Rattle.hm_flaw_states.specs.declared.owns.Own.{Own}
 use Rattle.hm_race_states.specs.Spaces.{bare}
 use Rattle.hm_flaw_states.specs.Alike.{SameProcesses, SamePlaces, SameActors, SameOwns}
 use Rattle.hm_flaw_states.specs.States.{device_of, state_in}

@@ -1,5 +1,9 @@
-pub mod Pages
-pub mod Committed
+mod Erasing
+mod Late
+mod Writing
+mod Finding
+mod Pages
+mod Committed
 mod Rooms
 mod Wholes
 mod Windows
@@ -10,3 +14,10 @@ mod Mixing
 mod Nexts
 mod Compared
 mod Mirrors
+mod Frames
+mod Trails
+mod Following
+mod Forms
+mod SetUps
+mod Waits
+mod Going

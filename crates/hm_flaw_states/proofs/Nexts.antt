@@ -27,8 +27,8 @@ use Rattle.hm_race_states.specs.Small.{between_seqs, unguarded}
 use Rattle.hm_race_states.specs.Spaces.{bare, spaces_in}
 use Rattle.hm_race_states.specs.States.{goings_in}
 use Rattle.hm_race_states.specs.declared.mirrors.RaceMirror.{RaceMirror}
-use Rattle.hm_drivers.specs.FrameBytes.{contents_in}
-use Rattle.hm_drivers.specs.OwnTables.{table_in}
+use Rattle.hm_flaw_states.specs.FrameBytes.{contents_in}
+use Rattle.hm_flaw_states.specs.OwnTables.{table_in}
 use Rattle.hm_flaw_states.specs.Commits.{commits_in, commits_next}
 use Rattle.hm_flaw_states.specs.Placed.{pages_in, placed_next}
 use Rattle.hm_flaw_states.specs.Seqs.{guards_in, seqs_in}
@@ -36,7 +36,7 @@ use Rattle.hm_flaw_states.specs.States.{device_of, plain_in, all_places, locks_i
 use Rattle.hm_flaw_states.specs.Windows.{SameWindows, window_of, window_in}
 use Rattle.hm_flaw_states.specs.declared.state.FlawState.{FlawState}
 use Rattle.hm_flaw_states.proofs.Wholes.{same_places, same_locks, same_after}
-use Rattle.hm_drivers.proofs.Erasing.{no_bytes}
+use Rattle.hm_flaw_states.proofs.Erasing.{no_bytes}
 use Rattle.hm_flaw_states.proofs.Steps.{placed_goes, commits_go, seqs_go}
 use Rattle.hm_flaw_states.proofs.Windows.{devices_go, windows_go}
 

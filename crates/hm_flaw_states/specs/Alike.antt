@@ -11,11 +11,11 @@ use Rattle.hm_race_states.specs.Mirrors.{mirrors_in}
 use Rattle.hm_race_states.specs.Small.{between_seqs}
 use Rattle.hm_race_states.specs.Spaces.{spaces_in}
 use Rattle.hm_race_states.specs.States.{goings_in}
-use Rattle.hm_drivers.specs.FrameBytes.{contents_in}
-use Rattle.hm_drivers.specs.LateSpans.{late_in}
-use Rattle.hm_drivers.specs.OwnTables.{table_in}
-use Rattle.hm_drivers.specs.Owns.{seq_in}
-use Rattle.hm_drivers.specs.declared.owns.Own.{Own}
+use Rattle.hm_flaw_states.specs.FrameBytes.{contents_in}
+use Rattle.hm_flaw_states.specs.LateSpans.{late_in}
+use Rattle.hm_flaw_states.specs.OwnTables.{table_in}
+use Rattle.hm_flaw_states.specs.Owns.{seq_in}
+use Rattle.hm_flaw_states.specs.declared.owns.Own.{Own}
 use Rattle.hm_flaw_states.specs.Commits.{commits_in}
 use Rattle.hm_flaw_states.specs.Placed.{pages_in}
 use Rattle.hm_flaw_states.specs.Seqs.{guards_in}

@@ -1,3 +1,8 @@
+pub mod FrameBytes
+pub mod LateSpans
+pub mod OwnTables
+pub mod Owns
+pub mod Found
 pub mod Placed
 pub mod Placing
 pub mod Commits
@@ -7,3 +12,7 @@ pub mod Windows
 pub mod States
 pub mod Alike
 pub mod Buckets
+pub mod Keyed
+pub mod Turns
+pub mod Numbered
+pub mod SetUps

@@ -5,6 +5,7 @@ ghost use Rattle.hm_history.specs.Kernel.Going.{is_direct, sets_now, concerns};
 ghost use Rattle.hm_flaw_states.specs.States.{state_in};
 ghost use Rattle.hm_flaw_states.specs.Windows.{first_in};
 
+use crate::details::Details;
 use crate::placing;
 use crate::state::FlawState;
 use hm_actors::{Concerns, op_at};
@@ -12,7 +13,6 @@ use hm_base::{
     Actor, Bytes, Cause, Dev, Frame, MirrorId, NoMemory, Op, Page, Place, PoolId, Proc, Rights,
     Script, Span,
 };
-use hm_drivers::details::Details;
 use hm_history::TableRight;
 use hm_history::locks::MapLock;
 use hm_history::phases::{Migrating, MoveStep, Phase};

@@ -7,9 +7,9 @@ ghost use Rattle.hm_flaws.specs.declared.flaws.Flaw as flaws;
 ghost use Rattle.hm_phases.specs.Items.{phases_of};
 ghost use Rattle.hm_flaw_states.specs.Rooms.{leaves_out, without_top};
 
+use crate::held_locks::is_device_access;
 use hm_base::Op;
 use hm_flaws::Flaw;
-use hm_found::is_device_access;
 use hm_history::Kind;
 use hm_history::phases::{MoveStep, Phase, Touch};
 use hm_phases::Items;

@@ -7,12 +7,12 @@ ghost use Rattle.hm_flaw_states.specs.States.{state_in};
 
 use crate::commits::FrameCommits;
 use crate::exact_seqs::ExactSeqs;
+use crate::frame_bytes::FrameBytes;
 use crate::guards::ActorGuards;
+use crate::own_tables::OwnTables;
 use crate::placed::PlacedPages;
 use crate::state::FlawState;
 use hm_base::{NoMemory, Script};
-use hm_drivers::frame_bytes::FrameBytes;
-use hm_drivers::own_tables::OwnTables;
 use hm_race_keys::device_marks::DeviceMarks;
 use hm_race_keys::frame_locks::FrameLocks;
 use hm_race_keys::held_frames::HeldFrames;

@@ -4,8 +4,8 @@ use Rattle.hm_search.specs.Known.{IsCut}
 use Rattle.hm_search.specs.Values.{all_known, at_goal}
 use Rattle.hm_search.specs.declared.known.Known.{Known}
 use Rattle.hm_search.proofs.Exploring.{known_length}
-use Rattle.hm_flaw_keys.specs.Keyed.{form_in}
-use Rattle.hm_flaw_keys.specs.declared.key.FlawKey.{FlawKey}
+use Rattle.hm_flaw_states.specs.Keyed.{form_in}
+use Rattle.hm_flaw_states.specs.declared.key.FlawKey.{FlawKey}
 use Rattle.hm_flaw_search.specs.Finding.{IsFoundFirst, goal_of}
 use Rattle.hm_flaw_search.proofs.Answering.{Laws, Searched, answered}
 use Rattle.hm_flaw_search.proofs.Firsts.{same_answers}

@@ -1,6 +1,6 @@
 use Rattle.std.proofs.Common.{◌≡◌, ℕ, ◌<◌, None}
 use Rattle.hm_history.specs.Kernel.Going.{op_at}
-use Rattle.hm_flaw_keys.specs.Keyed.{form_in}
+use Rattle.hm_flaw_states.specs.Keyed.{form_in}
 use Rattle.hm_flaw_search.proofs.race.FlawRace.have_ended.Given as goal
 
 -- none of the actors so far has an operation left

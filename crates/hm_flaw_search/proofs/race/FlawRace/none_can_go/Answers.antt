@@ -1,4 +1,4 @@
-use Rattle.hm_flaw_keys.specs.Keyed.{form_in}
+use Rattle.hm_flaw_states.specs.Keyed.{form_in}
 use Rattle.hm_flaw_search.proofs.Waiting.{all_wait, one_goes, one_waits}
 use Rattle.hm_flaw_search.proofs.race.FlawRace.none_can_go.Goals as goal
 

@@ -1,7 +1,7 @@
 use Rattle.std.proofs.Common.{◌≡◌, ℕ, ◌<◌, false}
 use Rattle.hm_history.specs.Kernel.Run.{is_entry}
 use Rattle.hm_flaws.specs.Flawed.{due_by}
-use Rattle.hm_flaw_keys.specs.Keyed.{form_in}
+use Rattle.hm_flaw_states.specs.Keyed.{form_in}
 use Rattle.hm_flaw_search.proofs.race.FlawRace.none_can_go.Given as goal
 
 -- none of the actors so far can go on

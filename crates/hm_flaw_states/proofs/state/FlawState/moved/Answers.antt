@@ -1,7 +1,7 @@
 use Rattle.std.proofs.Common.{◌≡◌, ℕ, sym, ap, ◌∙◌, subst}
 use Rattle.hm_history.specs.Kernel.Going.{Going, going_next, op_at}
 use Rattle.hm_actors.specs.Actors.{IsSeen}
-use Rattle.hm_drivers.specs.Owns.{driver_in}
+use Rattle.hm_flaw_states.specs.Owns.{driver_in}
 use Rattle.hm_flaws.specs.Flawed.{found, going_by}
 use Rattle.hm_race_states.specs.Tasks.{going_in}
 use Rattle.hm_race_states.proofs.Lists.{task_there}

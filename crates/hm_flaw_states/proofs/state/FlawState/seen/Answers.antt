@@ -1,7 +1,7 @@
 use Rattle.std.proofs.Common.{sym, ap, ◌∙◌, subst}
 use Rattle.hm_actors.specs.Actors.{IsSeen}
 use Rattle.hm_history.specs.Memory.After.{After}
-use Rattle.hm_drivers.specs.Owns.{driver_in}
+use Rattle.hm_flaw_states.specs.Owns.{driver_in}
 use Rattle.hm_flaws.specs.Flawed.{found}
 use Rattle.hm_flaws.specs.declared.flaws.Flaw.{Flaw}
 use Rattle.hm_flaw_states.specs.States.{state_in}

@@ -1,3 +1,0 @@
-pub mod Erasing
-mod Late
-mod Writing

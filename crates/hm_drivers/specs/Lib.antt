@@ -1,4 +1,0 @@
-pub mod FrameBytes
-pub mod LateSpans
-pub mod OwnTables
-pub mod Owns

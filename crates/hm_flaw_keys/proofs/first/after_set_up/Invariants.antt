@@ -1,6 +1,0 @@
-use Rattle.std.proofs.Common.{take}
-use Rattle.hm_flaw_keys.specs.SetUps.{IsAfter}
-use Rattle.hm_flaw_keys.proofs.first.after_set_up.Given as goal
-
-abbrev pub invariant-loop-entry : goal.invariant-loop-entry
-invariant-loop-entry g l = IsAfter l.script (take l.entry-index l.set_up) l.so_far

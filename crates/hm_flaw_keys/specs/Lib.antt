@@ -1,4 +1,0 @@
-pub mod Keyed
-pub mod Nexts
-pub mod Numbered
-pub mod SetUps

@@ -1,0 +1,16 @@
+-- A set-up that is made again, entry by entry.
+use Rattle.std.specs.Prelude.{◌≡◌, List, map}
+use Rattle.std.specs.Rc.{rc_value}
+use Rattle.hm_base.specs.Program.{Program}
+use Rattle.hm_history.specs.Kernel.Going.{state_of}
+use Rattle.hm_history.specs.declared.Entry.{Entry}
+use Rattle.hm_flaw_parts.specs.Marks.{marks_in}
+use Rattle.hm_flaw_races.specs.Races.{marked_of}
+use Rattle.hm_flaw_states.specs.States.{state_in}
+use Rattle.hm_flaw_states.specs.declared.set_ups.SoFar.{SoFar}
+
+-- the state and the marks are those after these entries, which are kept
+pub record IsAfter (c : Program) (h : List Entry) (x : SoFar) : Type 0 where
+  pub state : state_in x.state ≡ state_of c h
+  pub marked : marks_in x.marks ≡ marked_of c h
+  pub trail : map rc_value x.trail.items ≡ h

@@ -1,7 +1,0 @@
-use Rattle.std.proofs.Common.{◌≡◌, ℕ, ◌<◌, false}
-use Rattle.hm_flaws.specs.Flawed.{locks_held}
-use Rattle.hm_found.specs.Found.{is_writer}
-use Rattle.hm_found.proofs.locks.writer.Given as goal
-
-abbrev pub invariant-loop-at : goal.invariant-loop-at
-invariant-loop-at g l = (k : ℕ) → k < l.at → is_writer (locks_held l.flaw (g.W.Reads.program l.world) (g.W.Reads.state l.world)) l.proc k ≡ false
