@@ -16,6 +16,7 @@ pub mod exact_seqs;
 pub mod found;
 pub mod frame_bytes;
 mod goings;
+mod groups;
 pub mod guards;
 mod held_locks;
 pub mod here;

@@ -11,15 +11,11 @@ ghost use Rattle.hm_race_states.specs.States.{goings_in};
 ghost use Rattle.hm_race_states.specs.Tasks.{going_in};
 ghost use Rattle.hm_flaw_states.specs.States.{state_in};
 
-use crate::commits::commits_after;
-use crate::exact_seqs::seqs_after;
 use crate::found::Found;
 use crate::goings::task_after;
-use crate::guards::guards_after;
 use crate::here::FlawHere;
 use crate::owns::Own;
 use crate::parts::been_after;
-use crate::placed::placed_after;
 use crate::seen::seen;
 use crate::state::FlawState;
 use hm_base::{Actor, NoMemory, Script};
@@ -137,23 +133,28 @@ impl FlawState {
             script,
             state: self,
         };
+        let entries = one_more(self.entries)?;
+        let processes = self.processes_after(alloc, kind)?;
+        let pages = self.pages_after(alloc, kind)?;
+        let devices = here.devices_after(alloc, kind)?;
+        let locking = self.locking_after(alloc, entry.actor, kind)?;
         Ok(FlawState {
-            entries: one_more(self.entries)?,
+            entries,
             been: been_after(&self.been, kind),
-            spaces: self.spaces_after(alloc, kind)?,
-            bytes: self.bytes_after(alloc, kind)?,
-            mirrors: self.mirrors_after(alloc, kind)?,
-            places: self.places_after(alloc, kind)?,
-            placed: placed_after(alloc, &self.placed, kind)?,
-            held: self.held_after(alloc, kind)?,
-            commits: commits_after(alloc, &self.commits, kind)?,
-            marks: self.marks_after(alloc, kind)?,
-            tables: here.tables_after(alloc, kind)?,
-            locks: self.locks_after(alloc, entry.actor, kind)?,
-            maps: self.maps_after(alloc, entry.actor, kind)?,
-            seqs: seqs_after(alloc, &self.seqs, kind)?,
-            guards: guards_after(alloc, &self.guards, &self.seqs, entry.actor, kind)?,
-            contents: here.contents_after(alloc, kind)?,
+            spaces: processes.spaces,
+            bytes: processes.bytes,
+            mirrors: processes.mirrors,
+            places: pages.places,
+            placed: pages.placed,
+            held: pages.held,
+            commits: pages.commits,
+            marks: devices.marks,
+            tables: devices.tables,
+            locks: locking.locks,
+            maps: locking.maps,
+            seqs: locking.seqs,
+            guards: locking.guards,
+            contents: devices.contents,
             tasks,
         })
     }
