@@ -8,8 +8,8 @@ use Rattle.hm_history.specs.declared.Entry.{Entry}
 use Rattle.hm_flaws.specs.Parts.{all_parts, broken_part}
 use Rattle.hm_flaws.specs.Recalled.{recalled_of}
 use Rattle.hm_flaws.proofs.Recalling.{IsRecalled, broken_is, is_recalled}
-use Rattle.hm_rules.specs.Followed.{AreRules}
-use Rattle.hm_rules.specs.declared.rules.Rules.{Rules}
+use Rattle.hm_parts.specs.Follower.{AreRules}
+use Rattle.hm_parts.specs.declared.rules.Rules.{Rules}
 use Rattle.hm_flaw_parts.specs.Judged.{first_of}
 
 abbrev of : Bool → Bool → Bool → Bool → Bool → Bool → Bool → Rules

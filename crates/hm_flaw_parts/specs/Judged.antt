@@ -5,9 +5,9 @@ use Rattle.hm_history.specs.declared.Entry.{Entry}
 use Rattle.hm_flaws.specs.Parts.{all_parts, answers_alone}
 use Rattle.hm_flaws.specs.declared.parts.Part.{Part}
 use Rattle.hm_flaws.specs.Recalled.{recalled_of}
-use Rattle.hm_rules.specs.Followed.{IsFollowed}
-use Rattle.hm_rules.specs.declared.follower.Follower.{Follower}
-use Rattle.hm_rules.specs.declared.rules.Rules.{Rules}
+use Rattle.hm_parts.specs.Follower.{IsFollowed}
+use Rattle.hm_parts.specs.declared.follower.Follower.{Follower}
+use Rattle.hm_parts.specs.declared.rules.Rules.{Rules}
 use Rattle.hm_flaw_parts.specs.declared.judged.Judging.{Judging}
 
 -- the parts

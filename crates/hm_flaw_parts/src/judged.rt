@@ -13,9 +13,8 @@ use hm_flaws::Part;
 use hm_folds::PlainState;
 use hm_history::Entry;
 use hm_history::phases::Migrating;
-use hm_parts::{has_taken, meets_kept};
+use hm_parts::{Follower, Rules, has_taken, meets_kept};
 use hm_reads::Reads;
-use hm_rules::{Follower, Rules};
 use std::alloc::Global;
 use std::rc::Rc;
 

@@ -2,7 +2,7 @@
 use Rattle.std.proofs.Common.{◌≡◌, ℕ, ◌+◌, ◌<◌, ◌≤◌, List, [], ◌∷◌, ◌++◌, length, get_or, drop, refl, sym, ap, ◌∙◌, arith, append_assoc, append-nil}
 use Rattle.std.proofs.lemmas.List.{drop_all, drop_more}
 use Rattle.hm_history.specs.declared.Entry.{Entry}
-use Rattle.hm_rules.specs.declared.rules.Rules.{Rules}
+use Rattle.hm_parts.specs.declared.rules.Rules.{Rules}
 use Rattle.hm_judge.specs.LaterTexts.{also_line, also_lines}
 
 -- the text so far, and what is to be said of the entries that are left

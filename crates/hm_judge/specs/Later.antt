@@ -4,7 +4,7 @@ use Rattle.hm_base.specs.Program.{Program}
 use Rattle.hm_entry_reading.specs.declared.reader.Unfinished.{Unfinished}
 use Rattle.hm_report_reading.specs.Reports.{IsFirstUnread}
 use Rattle.hm_report_reading.specs.Texts.{HasText, text_of}
-use Rattle.hm_rules.specs.Kept.{rules_from}
+use Rattle.hm_parts.specs.Rules.{rules_from}
 use Rattle.hm_script.specs.Automaton.{lines}
 use Rattle.hm_script.specs.Spelling.{text}
 use Rattle.hm_judge.specs.declared.asked.Asked.{Asked}

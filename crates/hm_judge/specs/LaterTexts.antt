@@ -4,8 +4,8 @@ use Rattle.std.specs.Prelude.{◌++◌, length, codes, slice_get}
 use Rattle.std.specs.Fmt.{decimal}
 use Rattle.hm_history.specs.declared.Entry.{Entry}
 use Rattle.hm_report.specs.Report.{entry_line}
-use Rattle.hm_rules.specs.Kept.{keeps_all}
-use Rattle.hm_rules.specs.declared.rules.Rules.{Rules}
+use Rattle.hm_parts.specs.Rules.{keeps_all}
+use Rattle.hm_parts.specs.declared.rules.Rules.{Rules}
 use Rattle.hm_judge.specs.Texts.{breaks, judgement_text}
 use Rattle.hm_judge.specs.declared.answer.Answer.{Answer}
 use Rattle.hm_judge.specs.declared.asked.Asked.{Asked}

@@ -2,7 +2,7 @@
 ghost use Rattle.std.specs.Prelude.{◌+◌, ◌^◌, ◌≤◌, length};
 
 use hm_history::History;
-use hm_rules::Rules;
+use hm_parts::Rules;
 
 /// What is said of the entries of a report after its first bad line.
 #[derive(Drop)]

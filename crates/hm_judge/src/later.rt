@@ -6,8 +6,8 @@ use crate::asked::Asked;
 use crate::followed::{Followed, Later};
 use crate::judgement::Judgement;
 use hm_base::NoMemory;
+use hm_parts::follow;
 use hm_report_reading::read_report;
-use hm_rules::follow;
 use std::alloc::Global;
 
 /// Reads bytes as a report, be it legal or not, and follows its entries.

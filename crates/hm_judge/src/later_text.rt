@@ -13,8 +13,8 @@ use crate::judgement::Judgement;
 use crate::text::{add_break, add_judgement, add_numbered};
 use hm_base::{NoMemory, Text};
 use hm_history::Entry;
+use hm_parts::Rules;
 use hm_report::{Buffer, add_entry, put_decimal};
-use hm_rules::Rules;
 use std::alloc::Global;
 
 // ---- one entry

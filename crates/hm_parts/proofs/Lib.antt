@@ -3,3 +3,7 @@ pub mod Lasts
 pub mod PlacesOn
 pub mod Saying
 pub mod Showing
+pub mod PastsOn
+pub mod Recalling
+pub mod Going
+pub mod Steps

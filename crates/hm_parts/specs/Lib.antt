@@ -3,3 +3,8 @@ pub mod Followed
 pub mod Reasons
 pub mod Parts
 pub mod Shown
+pub mod Rules
+pub mod Sets
+pub mod Lookups
+pub mod Pasts
+pub mod Follower

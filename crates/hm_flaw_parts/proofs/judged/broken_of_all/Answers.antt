@@ -2,7 +2,7 @@ use Rattle.std.proofs.Common.{◌∙◌, map, subst}
 use Rattle.std.specs.Rc.{rc_value}
 use Rattle.hm_base.specs.Program.{Program}
 use Rattle.hm_flaws.specs.Recalled.{recalled_of}
-use Rattle.hm_rules.specs.Followed.{IsFollowed}
+use Rattle.hm_parts.specs.Follower.{IsFollowed}
 use Rattle.hm_flaw_parts.proofs.Breaking.{first_is}
 use Rattle.hm_flaw_parts.proofs.judged.broken_of_all.Goals as goal
 

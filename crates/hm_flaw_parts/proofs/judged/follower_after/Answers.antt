@@ -4,8 +4,8 @@ use Rattle.std.proofs.lemmas.List.{length-map, take_all}
 use Rattle.std.specs.Rc.{rc_value}
 use Rattle.hm_history.specs.declared.Entry.{Entry}
 use Rattle.hm_flaws.specs.Recalled.{Recalled, recalled_of}
-use Rattle.hm_rules.specs.Followed.{IsFollowed}
-use Rattle.hm_rules.proofs.Recalling.{recalled_long, recalled_more}
+use Rattle.hm_parts.specs.Follower.{IsFollowed}
+use Rattle.hm_parts.proofs.Recalling.{recalled_long, recalled_more}
 use Rattle.hm_flaw_parts.proofs.Shared.{entry_there}
 use Rattle.hm_flaw_parts.proofs.judged.follower_after.Goals as goal
 

@@ -1,7 +1,7 @@
 use Rattle.std.proofs.Common.{map, take}
 use Rattle.std.specs.Rc.{rc_value}
 use Rattle.hm_flaws.specs.Recalled.{recalled_of}
-use Rattle.hm_rules.specs.Followed.{IsFollowed}
+use Rattle.hm_parts.specs.Follower.{IsFollowed}
 use Rattle.hm_flaw_parts.proofs.judged.follower_after.Given as goal
 
 -- the entries so far were followed

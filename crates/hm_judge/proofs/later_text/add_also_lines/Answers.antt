@@ -1,5 +1,5 @@
 use Rattle.std.proofs.Common.{◌≡◌, ℕ, ◌<◌, ◌≤◌, zero, suc, false, List, [], ◌∷◌, length, get_or, refl, arith}
-use Rattle.hm_rules.specs.declared.rules.Rules.{Rules}
+use Rattle.hm_parts.specs.declared.rules.Rules.{Rules}
 use Rattle.hm_judge.proofs.LaterLines.{says_all, says_more}
 use Rattle.hm_judge.proofs.later_text.add_also_lines.Goals as goal
 

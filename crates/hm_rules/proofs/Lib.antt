@@ -1,4 +1,0 @@
-pub mod Lasts
-pub mod Recalling
-pub mod Going
-pub mod Steps
