@@ -1,5 +1,5 @@
 -- What is kept by frame, in five lists by pool: a write of one, and what five alike show.
-use Rattle.std.proofs.Common.{◌≡◌, ◌≢◌, ℕ, ◌<◌, ◌⊎◌, Bool, true, false, ◌==◌, ◌&&◌, Option, Some, List, [], ◌∷◌, length, slice_set, get_or, refl, sym, ap, ◌∙◌, arith}
+use Rattle.std.proofs.Common.{◌≡◌, ℕ, ◌<◌, Bool, true, false, ◌==◌, ◌&&◌, ◌||◌, not, Option, Some, List, length, slice_set, get_or, refl, sym, ap, ◌∙◌, arith}
 use Rattle.std.specs.Prelude.{if◌then◌else◌, slice_get}
 use Rattle.std.proofs.lemmas.Grind.{elements}
 use Rattle.std.proofs.lemmas.Bool.Decides.{nat_tests}
@@ -9,6 +9,9 @@ use Rattle.hm_base.specs.PlaceWords.{pool_index, same_pool, same_frame, with_fra
 use Rattle.hm_folds.specs.TableMap.{pool_of, dev_of_pool}
 use Rattle.hm_folds.specs.Shares.{less, shares_in, shares_of, shares_at}
 use Rattle.hm_folds.specs.Commits.{frame_in, frame_of, committed_at}
+use Rattle.hm_folds.specs.HeldFrames.{held_of, held_at}
+use Rattle.hm_folds.specs.Numbers.{has_number}
+use Rattle.hm_folds.specs.declared.held.HeldNumbers.{HeldNumbers}
 use Rattle.hm_folds.specs.declared.shares.Shares.{Shares}
 use Rattle.hm_folds.specs.declared.shares.PoolShares.{PoolShares}
 use Rattle.hm_folds.specs.declared.commits.PoolCommits.{PoolCommits}
@@ -26,6 +29,14 @@ read_pool of xs i k d e l = grind (arith, elements)
 
 get_set : {X : Type 0} (xs : List X) (i j : ℕ) (y : X) → i < length xs → slice_get (slice_set xs i y) j ≡ (if j == i then Some y else slice_get xs j)
 get_set xs i j y l = grind (arith, nat_tests, elements)
+
+-- a write of a pool that leaves this as it was
+pub pool_same : {X Y : Type 0} (of : Option X → Y) (xs : List X) (i j : ℕ) (d y : X) → i < length xs → of (Some y) ≡ of (Some (get_or xs i d)) → of (slice_get (slice_set xs i y) j) ≡ of (slice_get xs j)
+pool_same of xs i j d y l h = ap of (get_set xs i j y l) ∙ by (j == i) refl
+  where
+    by : (b : Bool) → (j == i) ≡ b → of (if b then Some y else slice_get xs j) ≡ of (slice_get xs j)
+    by false a = refl
+    by true a = h ∙ read_pool of xs i j d (grind (arith, nat_tests)) l
 
 -- a write of a frame's pool, of that frame alone
 pub pool_set : {X Y : Type 0} (of : ℕ → Option X → Y) (xs : List X) (i : ℕ) (f : Frame) (y : X) (z : Y) → i ≡ pool_index f.pool → i < length xs →
@@ -78,9 +89,18 @@ committed_set xs i k f g d y dev e l m o h = pool_set frame_of xs i f y (Some g)
     says : (n : ℕ) → frame_of n (Some y) ≡ (if n == f.number then Some g else frame_of n (slice_get xs i))
     says n = h n ∙ ap (λ z. if n == k then Some z else frame_in (get_or xs i d) n) (frame_back g dev g.number o refl) ∙ ap (λ z. if n == k then Some g else z) (read_pool (frame_of n) xs i i d refl l) ∙ ap (λ j. if n == j then Some g else frame_of n (slice_get xs i)) m
 
-pub committed_same : (xs : List PoolCommits) (i : ℕ) (f : Frame) (d y : PoolCommits) → i ≡ pool_index f.pool → i < length xs → ((n : ℕ) → frame_in y n ≡ frame_in (get_or xs i d) n) → (q : Frame) → committed_at (slice_set xs i y) q ≡ committed_at xs q
-committed_same xs i f d y e l h q = ap (frame_of q.number) (get_set xs i (pool_index q.pool) y l) ∙ by (pool_index q.pool == i) refl
+-- of frames that are held
+pub held_set : (xs : List HeldNumbers) (i k : ℕ) (f : Frame) (z : Bool) (d y : HeldNumbers) → i ≡ pool_index f.pool → i < length xs → k ≡ f.number → ((n : ℕ) → has_number y.held n ≡ (if n == k then z else has_number (get_or xs i d).held n)) → (g : Frame) → held_at (slice_set xs i y) g ≡ with_frame (held_at xs) f z g
+held_set xs i k f z d y e l m h = pool_set held_of xs i f y z e l says
   where
-    by : (b : Bool) → (pool_index q.pool == i) ≡ b → frame_of q.number (if b then Some y else slice_get xs (pool_index q.pool)) ≡ committed_at xs q
-    by false a = refl
-    by true a = h q.number ∙ read_pool (frame_of q.number) xs i (pool_index q.pool) d (grind (arith, nat_tests)) l
+    says : (n : ℕ) → held_of n (Some y) ≡ (if n == f.number then z else held_of n (slice_get xs i))
+    says n = h n ∙ ap (λ b. if n == k then z else b) (read_pool (held_of n) xs i i d refl l) ∙ ap (λ j. if n == j then z else held_of n (slice_get xs i)) m
+
+-- one number more is held, or one fewer
+pub or_if : (a b : Bool) → (a || b) ≡ (if a then true else b)
+or_if true b = refl
+or_if false b = refl
+
+pub not_and_if : (a b : Bool) → (not a && b) ≡ (if a then false else b)
+not_and_if true b = refl
+not_and_if false b = refl

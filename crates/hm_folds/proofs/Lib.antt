@@ -1,3 +1,4 @@
+pub mod Alike
 pub mod Sets
 pub mod Writes
 pub mod Counts

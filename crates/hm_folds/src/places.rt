@@ -50,15 +50,17 @@ impl PlaceState {
         ensures owners { IfOk result (λ x. (m : ℕ) → owners_of x m ≡ mirror_owner plain_start m) }
     {
         script.facts();
+        let tables = PageTables::new(alloc, script)?;
+        let mirror_tables = MirrorTables::new(alloc)?;
         Ok(PlaceState {
-            tables: PageTables::new(alloc, script)?,
+            tables,
             held: HeldFrames::new(alloc, script),
             commits: Commits::new(alloc),
             standing: FrameShares::new(alloc),
             moving: FrameShares::new(alloc),
             withdrawn: [false; 4],
             removed: [false; 4],
-            mirror_tables: MirrorTables::new(alloc)?,
+            mirror_tables,
             devices: [None; 32],
             owners: [None; 32],
         })

@@ -32,12 +32,13 @@ impl Shares {
     fn plus(self, more: Shares) -> Result<Shares, NoMemory>
         ensures { IfOk result (λ x. x ≡ plus self more) }
     {
-        let pages = self.pages.checked_add(more.pages);
-        let writers = self.writers.checked_add(more.writers);
-        match (pages, writers) {
-            (Some(pages), Some(writers)) => Ok(Shares { pages, writers }),
-            _ => Err(NoMemory),
-        }
+        let Some(pages) = self.pages.checked_add(more.pages) else {
+            return Err(NoMemory);
+        };
+        let Some(writers) = self.writers.checked_add(more.writers) else {
+            return Err(NoMemory);
+        };
+        Ok(Shares { pages, writers })
     }
 
     /// So many fewer.
