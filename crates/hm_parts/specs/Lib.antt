@@ -1,5 +1,6 @@
 pub mod Short
 pub mod Followed
+pub mod PlaceParts
 pub mod Reasons
 pub mod Parts
 pub mod Shown

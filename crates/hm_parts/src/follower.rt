@@ -41,10 +41,10 @@ impl Follower {
         ensures { IfOk result (IsFollowed script.now recalled_start) }
     {
         Ok(Follower {
-            plain: PlainState::start(alloc, script)?,
-            places: PlaceState::start(alloc, script)?,
             sequences: SeqState::start(alloc, script)?,
             pasts: Pasts::new(alloc)?,
+            plain: PlainState::start(alloc, script)?,
+            places: PlaceState::start(alloc, script)?,
             short: [false; 16],
         })
     }

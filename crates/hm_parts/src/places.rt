@@ -1,14 +1,17 @@
 // Places, frames, mirror tables and sequences.
-ghost use Rattle.std.specs.Prelude.{◌≡◌, ◌||◌, not, IfOk, OnOk};
+ghost use Rattle.std.specs.Prelude.{◌≡◌, ◌||◌, not, List, IfOk, OnOk};
+ghost use Rattle.hm_base.specs.Program.{Program};
 ghost use Rattle.hm_history.specs.Memory.Plain.{mirror_owner};
 ghost use Rattle.hm_history.specs.Memory.Places.{places_accept};
 ghost use Rattle.hm_history.specs.Memory.Rules.{fails_rightly};
 ghost use Rattle.hm_history.specs.Memory.Lookups.{is_guarded, loses, narrows_guarded};
 ghost use Rattle.hm_history.specs.Memory.Sequences.{sequences_accept};
 ghost use Rattle.hm_history.specs.Memory.After.{after};
+ghost use Rattle.hm_history.specs.declared.Entry.{Entry as AnyEntry};
 ghost use Rattle.hm_folds.specs.Kept.{sequences_of};
 ghost use Rattle.hm_folds.specs.Places.{ForShown};
 ghost use Rattle.hm_parts.specs.Followed.{PlacesFollow, GoesOn};
+ghost use Rattle.hm_parts.specs.PlaceParts.{ArePlaceParts};
 
 use crate::answers::has_taken;
 use crate::frames::{is_full, needs_full, short_next};
@@ -44,10 +47,13 @@ fn go_on(so_far: &mut PlacesSoFar, actor: Actor, entry: &Entry) -> Result<(), No
     ensures { OnOk result (GoesOn actor so_far.old entry.now so_far.new) }
 {
     so_far.short = short_next(&so_far.state, actor, so_far.short, entry);
-    match (so_far.state.apply(entry), so_far.sequences.apply(entry)) {
-        (Ok(()), Ok(())) => Ok(()),
-        _ => Err(NoMemory),
-    }
+    let Ok(()) = so_far.state.apply(entry) else {
+        return Err(NoMemory);
+    };
+    let Ok(()) = so_far.sequences.apply(entry) else {
+        return Err(NoMemory);
+    };
+    Ok(())
 }
 
 /// The places and sequences after the entries, of which each has to be legal after those before it.
@@ -60,8 +66,8 @@ pub fn places_after(
     ensures { IfOk result (PlacesFollow script.now entries.now actor) }
 {
     let mut so_far = PlacesSoFar {
-        state: PlaceState::start(alloc, script)?,
         sequences: SeqState::start(alloc, script)?,
+        state: PlaceState::start(alloc, script)?,
         short: false,
     };
     for entry in entries {
@@ -100,6 +106,32 @@ pub fn is_guarded_by(state: &PlaceState, sequences: &SeqState, entry: &Entry) ->
     }
 }
 
+/// Whether what fails for want of a frame does so if none was free.
+fn meets_frames(so_far: &PlacesSoFar, entry: &Entry) -> bool
+    ensures { (c : Program) (h : List AnyEntry) → PlacesFollow c h entry.now.actor so_far.now
+        → result ≡ fails_rightly c h entry.now }
+{
+    !needs_full(&entry.kind) || is_full(&so_far.state) || so_far.short
+}
+
+/// Whether the entry meets these parts, after a history for which this is kept. It is taken, so what is kept stands for
+/// that history no longer.
+fn meets_there(so_far: &mut PlacesSoFar, entry: &Entry) -> Result<PlaceParts, NoMemory>
+    ensures { IfOk result (λ x. (c : Program) (h : List AnyEntry) → PlacesFollow c h entry.now.actor so_far.old
+        → ArePlaceParts c h entry.now x) }
+{
+    let guarded = is_guarded_by(&so_far.state, &so_far.sequences, entry);
+    let frames = meets_frames(so_far, entry);
+    let sequences = has_taken(so_far.sequences.apply(entry))?;
+    let places = has_taken(so_far.state.apply(entry))?;
+    Ok(PlaceParts {
+        places,
+        frames,
+        sequences,
+        guarded,
+    })
+}
+
 /// Whether the entry, after a legal history, meets these parts. It goes over the history once.
 pub fn meets_places(
     alloc: Global,
@@ -120,14 +152,5 @@ pub fn meets_places(
         entry.now.kind) }
 {
     let mut so_far = places_after(alloc, script, entries, entry.actor)?;
-    let guarded = is_guarded_by(&so_far.state, &so_far.sequences, entry);
-    let frames = !needs_full(&entry.kind) || is_full(&so_far.state) || so_far.short;
-    let sequences = has_taken(so_far.sequences.apply(entry))?;
-    let places = has_taken(so_far.state.apply(entry))?;
-    Ok(PlaceParts {
-        places,
-        frames,
-        sequences,
-        guarded,
-    })
+    meets_there(&mut so_far, entry)
 }

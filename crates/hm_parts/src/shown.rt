@@ -74,9 +74,9 @@ pub fn shown_of<W: Reads>(
     ensures { IfOk result (AreShown (W.program world.now) entries.now entry.now) }
 {
     let kind = &entry.kind;
-    let answers = shows_answers(alloc, world, entries, kind)?;
-    let last = last_told(entries, entry.actor);
     let found = table_of(alloc, world.script(), entries, kind)?;
+    let last = last_told(entries, entry.actor);
+    let answers = shows_answers(alloc, world, entries, kind)?;
     Ok(ShownParts {
         answers,
         places: shows_places(world, kind, &found),
