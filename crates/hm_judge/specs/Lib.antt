@@ -1,6 +1,7 @@
 pub mod Asked
 pub mod Nearest
 pub mod Judgements
+pub mod Instead
 pub mod Standing
 pub mod Texts
 pub mod Later

@@ -4,11 +4,12 @@ ghost use Rattle.hm_check.specs.Parts.{BeginsNoEntry, TakenFrom, tail_of};
 ghost use Rattle.hm_script.specs.Automaton.{lines};
 ghost use Rattle.hm_judge.specs.Judgements.{IsBadThere, IsJudgementAt, IsLegalOf, IsNear};
 ghost use Rattle.hm_judge.specs.Nearest.{could_stand};
+ghost use Rattle.hm_judge.specs.Instead.{IsInstead};
 ghost use Rattle.hm_judge.specs.Judging.{IsJudgementBehind};
 
 use crate::fault::fault_at;
 use crate::judgement::{BadReport, Fault, Judgement, LegalReport};
-use crate::lines::copy_line;
+use crate::lines::{copy_line, line_or_empty};
 use crate::nearest::nearest_line;
 use crate::standing::standings;
 use hm_base::{NoMemory, Script, Text};
@@ -67,6 +68,48 @@ fn nearest_to(
     }
 }
 
+/// What could stand in the place of a bad line: how each actor stands there, the line that goes on to end the report,
+/// and the nearest to the line that stands there.
+#[derive(Drop)]
+pub struct Instead {
+    standing: Vec<Progress>,
+    ending: Text,
+    nearest: Text,
+}
+
+/// What could stand in the place of the line after the first `same` of those that end the report, if this is wrong with
+/// that line.
+fn instead_of(
+    alloc: Global,
+    world: &World,
+    tail: &[u8],
+    rest: &[u8],
+    same: u64,
+    fault: &Fault,
+) -> Result<Instead, NoMemory>
+    requires { tail.now ≡ tail_of world.now.script world.now.history }
+    ensures { IfOk result (IsInstead world.now.script world.now.history (lines rest.now) same fault.now) }
+{
+    world.facts();
+    let at = world.history().len();
+    let line = line_or_empty(rest, same);
+    let ending = copy_line(alloc, tail, same)?;
+    let standing = standings(alloc, world)?;
+    let nearest = nearest_to(
+        alloc,
+        fault,
+        line,
+        at,
+        standing.as_slice(),
+        ending.as_slice(),
+    )?;
+    Ok(Instead {
+        standing,
+        ending,
+        nearest,
+    })
+}
+
 /// What is said if the lines after the entries are not those that end the report: the first `same` of them are. The
 /// first line after `history` has the number `first`.
 fn bad_report(
@@ -87,17 +130,11 @@ fn bad_report(
     world.facts();
     let at = world.history().len();
     let fault = fault_at(alloc, world, rest, same)?;
-    let standing = standings(alloc, world)?;
-    let ending = copy_line(alloc, tail, same)?;
-    let line = copy_line(alloc, rest, same)?;
-    let nearest = nearest_to(
-        alloc,
-        &fault,
-        line.as_slice(),
-        at,
-        standing.as_slice(),
-        ending.as_slice(),
-    )?;
+    let Instead {
+        standing,
+        ending,
+        nearest,
+    } = instead_of(alloc, world, tail, rest, same, &fault)?;
     Ok(BadReport {
         line: first + at + same,
         at,

@@ -1,6 +1,7 @@
 // What is wrong with a bad line.
 ghost use Rattle.std.specs.Prelude.{IfOk, slice_get};
 ghost use Rattle.hm_check.specs.Parts.{BeginsNoEntry, IsNoEntry};
+ghost use Rattle.hm_entry_reading.specs.Entries.{IsRead};
 ghost use Rattle.hm_parts.specs.Parts.{AreParts};
 ghost use Rattle.hm_parts.specs.Shown.{AreShown};
 ghost use Rattle.hm_script.specs.Automaton.{lines};
@@ -32,6 +33,31 @@ fn shown_in(alloc: Global, world: &World, entry: &Entry) -> Result<ShownParts, N
     shown_of(alloc, world, world.history().as_slice(), entry)
 }
 
+/// Which parts of legality an entry meets, and what bears on each.
+#[derive(Drop)]
+struct Findings {
+    parts: Parts,
+    shown: ShownParts,
+}
+
+/// What is found of the entry after the world's history.
+fn find(alloc: Global, world: &World, entry: &Entry) -> Result<Findings, NoMemory>
+    ensures parts { IfOk result (λ x. AreParts world.now.script world.now.history entry.now x.parts) }
+    ensures shown { IfOk result (λ x. AreShown world.now.script world.now.history entry.now x.shown) }
+{
+    let parts = parts_in(alloc, world, entry)?;
+    let shown = shown_in(alloc, world, entry)?;
+    Ok(Findings { parts, shown })
+}
+
+/// The entry that has this line at this position, if one has.
+fn entry_on(alloc: Global, line: &[u8], at: u64) -> Result<Option<Entry>, NoMemory>
+    ensures { IfOk result (IsRead at line.now) }
+{
+    let mut reader = LineReader::new(alloc)?;
+    reader.entry(alloc, line, at)
+}
+
 /// What is wrong with a line that is that of no entry that is due.
 fn line_fault(alloc: Global, world: &World, line: &[u8]) -> Result<Fault, NoMemory>
     requires { IsNoEntry world.now.script world.now.history line.now }
@@ -42,11 +68,9 @@ fn line_fault(alloc: Global, world: &World, line: &[u8]) -> Result<Fault, NoMemo
     if at == MOST_ENTRIES {
         return Ok(Fault::Full);
     }
-    let mut reader = LineReader::new(alloc)?;
-    match reader.entry(alloc, line, at)? {
+    match entry_on(alloc, line, at)? {
         Some(entry) => {
-            let parts = parts_in(alloc, world, &entry)?;
-            let shown = shown_in(alloc, world, &entry)?;
+            let Findings { parts, shown } = find(alloc, world, &entry)?;
             Ok(Fault::Entry(entry, parts, shown))
         }
         None => Ok(Fault::NoEntry),

@@ -45,12 +45,19 @@ pub fn first_lines(bytes: &[u8], count: u64) -> &[u8]
     first
 }
 
+/// The line at a place; empty if there is none.
+pub fn line_or_empty(bytes: &[u8], place: u64) -> &[u8]
+    ensures { result.now ≡ line_or_none (lines bytes.now) place }
+{
+    match line_at(bytes, place) {
+        Some(line) => line,
+        None => b"",
+    }
+}
+
 /// A copy of the line at a place; empty if there is none.
 pub fn copy_line(alloc: Global, bytes: &[u8], place: u64) -> Result<Text, NoMemory>
     ensures { IfOk result (λ t. t ≡ line_or_none (lines bytes.now) place) }
 {
-    match line_at(bytes, place) {
-        Some(line) => Text::from_slice(alloc, line),
-        None => Ok(Text::new(alloc)),
-    }
+    Text::from_slice(alloc, line_or_empty(bytes, place))
 }
