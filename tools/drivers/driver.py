@@ -2,9 +2,9 @@
 
 It asks at each turn whether the rule is left out, since a set-up by a right driver may end within an operation.
 """
-from due import Actor, Wait
+from due import Actor, Record, Wait
 from script import PAGE_BYTES, one_page
-from state import NONE, ZERO, Frame, place_in
+from state import NONE, ZERO, Frame, moving, place_in
 
 
 class Driver(Actor):
@@ -68,7 +68,11 @@ class Driver(Actor):
     def catch(self, process, page, frame):
         # what an invalidation is for: a fault of a device's page
         self.s.caught = {**self.s.caught, self.a: frame.device}
-        caught = yield from super().catch(process, page, frame)
+        if self.rule == 'lock-page':
+            caught = yield from self.one_guard(lambda x: x.frame == frame, process, page,
+                                               lambda x: moving(frame, x.writable))
+        else:
+            caught = yield from super().catch(process, page, frame)
         self.s.caught = {a: d for a, d in self.s.caught.items() if a != self.a}
         return caught
 
@@ -84,8 +88,14 @@ class Driver(Actor):
             if is_last:
                 return
 
+    def settle(self, frame):
+        if self.rule == 'drop-unnamed':
+            yield 'done', frame
+        else:
+            yield from super().settle(frame)
+
     def finish(self, frame, to):
-        while user := self.s.lowest_user(frame, ('moving',)):
+        while (user := self.s.lowest_user(frame, ('moving',))) and not (self.rule == 'put-back' and to is None):
             writable = self.s.place(*user).writable or self.rule == 'back-right'
             yield 'place', *user, place_in(to or frame, writable)
         if to:
@@ -238,6 +248,17 @@ class Driver(Actor):
                 yield 'done', x.taken
         return 'migrated', sum(x.moved for x in records)
 
+    def select(self, process, device, span, to_device, records):
+        for page in range(span.first, span.end):
+            place = self.s.place(process, page)
+            is_kind = place.kind == ('sys' if to_device else 'own') and (to_device or place.frame.device == device)
+            is_locked = is_kind and self.s.other_locker(place.frame, self.a) is not None
+            if self.rule == 'lock-page' and (place.kind == 'moving' or is_locked):
+                records.append(Record(page, place.frame))
+                yield 'place', process, page, moving(place.frame, place.writable)
+            else:
+                yield from super().select(process, device, one_page(page), to_device, records)
+
     def sets_moved(self, mirror, x):
         """Whether the driver sets the new frame of a page in its own table."""
         moved = x.moved or self.rule == 'set-moved' and x.taken
@@ -280,7 +301,7 @@ class Driver(Actor):
             if number is None:
                 break
             frame = Frame(device, number)
-            b = s.other_locker(frame, self.a)
+            b = None if self.rule == 'lock-page' and not remove else s.other_locker(frame, self.a)
             if b is not None and remove and self.rule != 'wait-for-locked':
                 yield Wait('frame', (frame,), (b,))
             elif b is not None:

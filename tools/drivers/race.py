@@ -22,6 +22,8 @@ RULES = {
     'erase-all': 'the callback erases the first page of the span alone',
     'erase-in-time': 'the callback has the entries erased when the invalidation ends',
     'own-events': 'the callback ignores migrations of its own device, as lib/test_hmm.c does',
+    'own-sequence': 'the callback ignores them too, but the entries of a frame are erased when it is copied',
+    'own-entries': 'so it does, but it sets the sequence',
     'stop-at-detach': 'uses its table after the detach',
     'write-entry': 'writes through an entry for reads',
     'detach-waits': 'detaches its mirror while that is being invalidated',
@@ -46,6 +48,9 @@ RULES = {
     'fresh-looks-again': 'a migration places a fresh page without a second look at it',
     'fresh-right': 'a migration places each fresh page for writes',
     'back-right': 'each page that comes back is for writes',
+    'lock-page': 'a migration or an eviction takes a page that another one has locked',
+    'put-back': 'a page that was not moved stays a migration entry',
+    'drop-unnamed': 'a frame that no place names any more at the end of a migration is not dropped',
 }
 
 

@@ -5,8 +5,19 @@ from script import PAGE_BYTES, one_page
 from state import State
 
 
+class Lockers(dict):
+    """Who has each frame locked; nobody, if it is not locked: a page may move that nobody brings back."""
+
+    def __missing__(self, frame):
+        return None
+
+
 class Onward(State):
     """A state that goes on after any entry, also after one that breaks a part of legality."""
+
+    def __init__(self, script):
+        super().__init__(script)
+        self.locker = Lockers()
 
     def apply(self, actor, entry):
         match entry:
@@ -56,8 +67,8 @@ class World(Onward):
             case ('copied', source, to, part):
                 first, last = (0, PAGE_BYTES) if part is None else (512 * part, 512 * part + 512)
                 self.contents(to)[first:last] = self.contents(source)[first:last]
-                if rule == 'own-events' and source.device is not None:
-                    self.forget(source)         # as lib/test_hmm.c erases what it brings home
+                if rule == 'own-events' and source.device is not None or rule in ('own-sequence', 'own-entries'):
+                    self.forget(source)         # lib/test_hmm.c erases what it brings home, the two others what they move
             case ('stored', who, at, data):
                 frame, offset = self.target(who, at // PAGE_BYTES), at % PAGE_BYTES
                 if frame:
@@ -92,8 +103,8 @@ class World(Onward):
                 del table[page]
 
     def callback(self, actor, m, span, seq):
-        own = self.rule == 'own-events' and self.is_own_event(actor, m)
-        if self.rule != 'set-sequence' and not own:
+        own = self.rule in ('own-events', 'own-sequence', 'own-entries') and self.is_own_event(actor, m)
+        if self.rule != 'set-sequence' and not (own and self.rule != 'own-entries'):
             self.mirrors[m].seq = seq
         if self.rule == 'erase-in-time':
             self.late[actor].append((m, span))

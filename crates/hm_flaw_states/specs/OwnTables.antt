@@ -1,8 +1,6 @@
 -- The tables that a driver has, as contracts see them.
-use Rattle.std.specs.Prelude.{◌≡◌, ℕ, ◌^◌, ◌<◌, true, if◌then◌else◌, Option, Some, None, is_some, List}
-use Rattle.hm_base.specs.declared.Frame.{Frame}
+use Rattle.std.specs.Prelude.{◌≡◌, ℕ, ◌^◌, ◌<◌, true, Option, Some, None, is_some, List}
 use Rattle.hm_history.specs.Memory.Places.{TableEntry}
-use Rattle.hm_flaws.specs.Drivers.{names_frame}
 use Rattle.hm_race_keys.specs.Sparse.{found, mixed}
 use Rattle.hm_race_keys.specs.TableEntries.{mixed_mapping}
 use Rattle.hm_race_keys.specs.declared.sparse.Item.{Item}
@@ -20,10 +18,6 @@ table_in xs m v = entry_of (found xs m v)
 -- each entry is a page's
 abbrev pub AreOfPages : List (Item OwnEntry) → Type 0
 AreOfPages xs = (m v : ℕ) → is_some (found xs m v) ≡ true → v < 2 ^ 36
-
--- the tables without the entries that name a frame
-abbrev pub without_frame : (ℕ → ℕ → Option TableEntry) → Frame → ℕ → ℕ → Option TableEntry
-without_frame t f m v = if names_frame (t m v) f then None else t m v
 
 -- a sum with an entry mixed in
 abbrev pub mixed_entry : OwnEntry → ℕ → ℕ

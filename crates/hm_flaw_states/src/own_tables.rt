@@ -3,8 +3,9 @@ ghost use Rattle.std.specs.Prelude.{◌≡◌, ◌==◌, ◌&&◌, ℕ, true, []
 ghost use Rattle.hm_base.specs.Pages.{covers};
 ghost use Rattle.hm_history.specs.Memory.Places.{with_entry, erased_table};
 ghost use Rattle.hm_flaws.specs.Drivers.{told_table, left_table, brought_table, erased_all, names_frame, is_device};
+ghost use Rattle.hm_flaws.specs.Drivers.{without_frame};
 ghost use Rattle.hm_race_keys.specs.Sparse.{mixed_items};
-ghost use Rattle.hm_flaw_states.specs.OwnTables.{table_in, entry_of, without_frame, mixed_entry, AreOfPages};
+ghost use Rattle.hm_flaw_states.specs.OwnTables.{table_in, entry_of, mixed_entry, AreOfPages};
 ghost use Rattle.hm_flaw_states.specs.LateSpans.{pair_of};
 
 use crate::details::Details;
@@ -120,6 +121,16 @@ impl OwnTables {
         self.items.remove_row(mirror.number());
     }
 
+    // The mirror's span is erased, but not for a migration of its own device.
+    fn erase_others(&mut self, own: bool, mirror: MirrorId, span: Span)
+        ensures { table_in self.new
+            ≡ (if own then table_in self.old else erased_table (table_in self.old) mirror (covers span)) }
+    {
+        if !own {
+            self.erase(mirror, span);
+        }
+    }
+
     /// A mirror was told of a span; `own` says that it was for a migration of its own device.
     pub fn tell<W: Details>(
         &mut self,
@@ -136,11 +147,9 @@ impl OwnTables {
             Flaw::TableLeft => {}
             Flaw::ErasedAtEnd => {}
             Flaw::FirstErased => self.erase_page(mirror, world.first_within(mirror, span)),
-            Flaw::OwnIgnored => {
-                if !own {
-                    self.erase(mirror, span);
-                }
-            }
+            Flaw::OwnIgnored => self.erase_others(own, mirror, span),
+            Flaw::OwnSequenceLeft => self.erase_others(own, mirror, span),
+            Flaw::OwnTableLeft => self.erase_others(own, mirror, span),
             _ => self.erase(mirror, span),
         }
     }
@@ -203,6 +212,8 @@ impl OwnTables {
                     Ok(())
                 }
             }
+            Flaw::OwnSequenceLeft => self.erase_frame(alloc, frame),
+            Flaw::OwnTableLeft => self.erase_frame(alloc, frame),
             _ => Ok(()),
         }
     }

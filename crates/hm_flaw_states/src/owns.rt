@@ -40,6 +40,7 @@ fn leaves_seq(flaw: Flaw, own: bool) -> bool
     match flaw {
         Flaw::SequenceLeft => true,
         Flaw::OwnIgnored => own,
+        Flaw::OwnSequenceLeft => own,
         _ => false,
     }
 }

@@ -121,6 +121,11 @@ back_for_writes c s a o xs (Phase.Finish f to) h i = absurd (h f to refl)
 back_for_writes c s a o xs (Phase.Moves step v) h i = absurd (i step v refl)
 back_for_writes c s a o xs top h i = refl
 
+pub locked_taken : (c : Program) (s : After) (a : ℕ) (o : Op) (xs : List Migrating) (top : Phase) → ((p : ℕ) (r : Pages) (met : Bool) (told : Option ℕ) (body : Body) → top ≡ Phase.Guard p r met told body → ⊥) → ((v n : ℕ) → top ≡ Phase.Frames v n → ⊥) → due_phase c s a o xs top ≡ due_flawed Flaw.LockedTaken c s a o xs top
+locked_taken c s a o xs (Phase.Guard p r met told body) h i = absurd (h p r met told body refl)
+locked_taken c s a o xs (Phase.Frames v n) h i = absurd (i v n refl)
+locked_taken c s a o xs top h i = refl
+
 -- a look-up that has begun does what is due
 pub has_begun : (s : After) (o : Op) (since : ℕ) (n : Next) → 0 < since → n ≡ begun_late s o since n
 has_begun s o zero n h = absurd (omega (arith, h))

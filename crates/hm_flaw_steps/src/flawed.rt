@@ -8,7 +8,9 @@ use crate::Finds;
 use crate::accesses::{added_anyway, reads_written, used_detached};
 use crate::begins::{begun_anyway, begun_last, detached_at_once};
 use crate::cpu_accesses::device_accessed;
+use crate::endings::{not_put_back, unnamed_held};
 use crate::invalidations::{ended_at_once, told_last};
+use crate::locking::locked_taken;
 use crate::look_ups::{all_for_writes, any_device, compared_now, not_compared, walks_unlocked};
 use crate::migrations::{own_for_writes, withdrawn_taken};
 use crate::placing::{
@@ -61,6 +63,9 @@ pub fn flawed<W: Finds>(
         Flaw::FreshAnyway => Ok(fresh_anyway(found, actor, op, top, right)),
         Flaw::FreshForWrites => Ok(fresh_for_writes(found, actor, op, top, right)),
         Flaw::BackForWrites => Ok(back_for_writes(found, actor, op, top, right)),
+        Flaw::LockedTaken => Ok(locked_taken(found, actor, op, top, right)),
+        Flaw::NotPutBack => Ok(not_put_back(found, actor, op, top, right)),
+        Flaw::UnnamedHeld => Ok(unnamed_held(found, actor, op, top, right)),
         _ => Ok(right),
     }
 }

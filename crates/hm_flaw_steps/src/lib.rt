@@ -16,8 +16,10 @@ ghost use Rattle.hm_flaw_steps.specs.Found.{right_at, flawed_at, due_found, next
 mod accesses;
 mod begins;
 mod cpu_accesses;
+mod endings;
 mod flawed;
 mod invalidations;
+mod locking;
 mod look_ups;
 mod migrations;
 mod placing;

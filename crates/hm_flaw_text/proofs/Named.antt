@@ -25,6 +25,8 @@ named-again Flaw.TableLeft = refl
 named-again Flaw.FirstErased = refl
 named-again Flaw.ErasedAtEnd = refl
 named-again Flaw.OwnIgnored = refl
+named-again Flaw.OwnSequenceLeft = refl
+named-again Flaw.OwnTableLeft = refl
 named-again Flaw.UsedDetached = refl
 named-again Flaw.ReadsWritten = refl
 named-again Flaw.DetachedAtOnce = refl
@@ -47,6 +49,9 @@ named-again Flaw.OthersLeft = refl
 named-again Flaw.FreshAnyway = refl
 named-again Flaw.FreshForWrites = refl
 named-again Flaw.BackForWrites = refl
+named-again Flaw.LockedTaken = refl
+named-again Flaw.NotPutBack = refl
+named-again Flaw.UnnamedHeld = refl
 
 -- a word that names a driver is its own
 pub named_own : (w : List ℕ) (l : Flaw) → flaw_named w ≡ Some l → name_of l ≡ w

@@ -5,6 +5,22 @@ use Rattle.std.specs.Str.{bytes_eq}
 use Rattle.hm_flaws.specs.declared.flaws.Flaw.{Flaw}
 use Rattle.hm_flaws.specs.declared.parts.Part.{Part}
 
+-- the word of a rule of the memory manager's own
+abbrev pub manager_name : Flaw → List ℕ
+manager_name Flaw.ToldLast = codes "tell-first"
+manager_name Flaw.EndedAtOnce = codes "end-last"
+manager_name Flaw.ForkedWhole = codes "fork-narrows"
+manager_name Flaw.ReplacedAnyway = codes "fault-looks-again"
+manager_name Flaw.DeviceAccessed = codes "bring-home"
+manager_name Flaw.OthersLeft = codes "freeze-others"
+manager_name Flaw.FreshAnyway = codes "fresh-looks-again"
+manager_name Flaw.FreshForWrites = codes "fresh-right"
+manager_name Flaw.BackForWrites = codes "back-right"
+manager_name Flaw.LockedTaken = codes "lock-page"
+manager_name Flaw.NotPutBack = codes "put-back"
+manager_name Flaw.UnnamedHeld = codes "drop-unnamed"
+manager_name l = []
+
 -- the word of the rule that the driver leaves out, or the memory manager does; of the right driver `none`
 abbrev pub name_of : Flaw → List ℕ
 name_of Flaw.NoFlaw = codes "none"
@@ -20,6 +36,8 @@ name_of Flaw.TableLeft = codes "erase"
 name_of Flaw.FirstErased = codes "erase-all"
 name_of Flaw.ErasedAtEnd = codes "erase-in-time"
 name_of Flaw.OwnIgnored = codes "own-events"
+name_of Flaw.OwnSequenceLeft = codes "own-sequence"
+name_of Flaw.OwnTableLeft = codes "own-entries"
 name_of Flaw.UsedDetached = codes "stop-at-detach"
 name_of Flaw.ReadsWritten = codes "write-entry"
 name_of Flaw.DetachedAtOnce = codes "detach-waits"
@@ -33,15 +51,7 @@ name_of Flaw.RemovedAtOnce = codes "evict-first"
 name_of Flaw.NotWithdrawn = codes "withdraw-first"
 name_of Flaw.LockedPassed = codes "wait-for-locked"
 name_of Flaw.AddedAnyway = codes "look-again"
-name_of Flaw.ToldLast = codes "tell-first"
-name_of Flaw.EndedAtOnce = codes "end-last"
-name_of Flaw.ForkedWhole = codes "fork-narrows"
-name_of Flaw.ReplacedAnyway = codes "fault-looks-again"
-name_of Flaw.DeviceAccessed = codes "bring-home"
-name_of Flaw.OthersLeft = codes "freeze-others"
-name_of Flaw.FreshAnyway = codes "fresh-looks-again"
-name_of Flaw.FreshForWrites = codes "fresh-right"
-name_of Flaw.BackForWrites = codes "back-right"
+name_of l = manager_name l
 
 -- all drivers, the right one first, in the order in which their lines are written
 abbrev pub all_flaws : List Flaw
@@ -59,6 +69,8 @@ all_flaws =
     ∷ Flaw.FirstErased
     ∷ Flaw.ErasedAtEnd
     ∷ Flaw.OwnIgnored
+    ∷ Flaw.OwnSequenceLeft
+    ∷ Flaw.OwnTableLeft
     ∷ Flaw.UsedDetached
     ∷ Flaw.ReadsWritten
     ∷ Flaw.DetachedAtOnce
@@ -81,6 +93,9 @@ all_flaws =
     ∷ Flaw.FreshAnyway
     ∷ Flaw.FreshForWrites
     ∷ Flaw.BackForWrites
+    ∷ Flaw.LockedTaken
+    ∷ Flaw.NotPutBack
+    ∷ Flaw.UnnamedHeld
     ∷ []
 
 -- the driver that the word names

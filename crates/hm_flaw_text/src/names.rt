@@ -1,12 +1,12 @@
 // The words of rules, each by the driver that leaves the rule out, and of the parts of legality.
 ghost use Rattle.std.specs.Prelude.{◌≡◌, Some, IfSome};
 ghost use Rattle.hm_flaws.specs.declared.flaws.Flaw.{Flaw as AnyFlaw};
-ghost use Rattle.hm_flaw_text.specs.Names.{all_flaws, flaw_named, name_of, part_text, NamesAreTheirs};
+ghost use Rattle.hm_flaw_text.specs.Names.{all_flaws, flaw_named, manager_name, name_of, part_text, NamesAreTheirs};
 
 use hm_flaws::{Flaw, Part};
 
 /// All drivers, in the order of the table of rules; the right one comes first.
-const FLAWS: [Flaw; 35] = [
+const FLAWS: [Flaw; 40] = [
     Flaw::NoFlaw,
     Flaw::NotCompared,
     Flaw::ComparedNow,
@@ -20,6 +20,8 @@ const FLAWS: [Flaw; 35] = [
     Flaw::FirstErased,
     Flaw::ErasedAtEnd,
     Flaw::OwnIgnored,
+    Flaw::OwnSequenceLeft,
+    Flaw::OwnTableLeft,
     Flaw::UsedDetached,
     Flaw::ReadsWritten,
     Flaw::DetachedAtOnce,
@@ -42,10 +44,13 @@ const FLAWS: [Flaw; 35] = [
     Flaw::FreshAnyway,
     Flaw::FreshForWrites,
     Flaw::BackForWrites,
+    Flaw::LockedTaken,
+    Flaw::NotPutBack,
+    Flaw::UnnamedHeld,
 ];
 
 /// All drivers, in the order in which their lines are written: the right one, and then those with a flaw.
-pub fn all_flaws() -> [Flaw; 35]
+pub fn all_flaws() -> [Flaw; 40]
     ensures { result ≡ all_flaws }
 {
     FLAWS
@@ -55,6 +60,27 @@ pub fn all_flaws() -> [Flaw; 35]
 pub fn names_are_theirs()
     ensures { NamesAreTheirs }
 {}
+
+// The word of a rule of the memory manager's own; it is empty if the flaw is a driver's.
+fn manager_name(flaw: Flaw) -> &'static str
+    ensures { result.now ≡ manager_name flaw }
+{
+    match flaw {
+        Flaw::ToldLast => "tell-first",
+        Flaw::EndedAtOnce => "end-last",
+        Flaw::ForkedWhole => "fork-narrows",
+        Flaw::ReplacedAnyway => "fault-looks-again",
+        Flaw::DeviceAccessed => "bring-home",
+        Flaw::OthersLeft => "freeze-others",
+        Flaw::FreshAnyway => "fresh-looks-again",
+        Flaw::FreshForWrites => "fresh-right",
+        Flaw::BackForWrites => "back-right",
+        Flaw::LockedTaken => "lock-page",
+        Flaw::NotPutBack => "put-back",
+        Flaw::UnnamedHeld => "drop-unnamed",
+        _ => "",
+    }
+}
 
 /// The word of the rule that the driver leaves out, or the memory manager does; of the right driver `none`.
 pub fn rule_name(flaw: Flaw) -> &'static str
@@ -74,6 +100,8 @@ pub fn rule_name(flaw: Flaw) -> &'static str
         Flaw::FirstErased => "erase-all",
         Flaw::ErasedAtEnd => "erase-in-time",
         Flaw::OwnIgnored => "own-events",
+        Flaw::OwnSequenceLeft => "own-sequence",
+        Flaw::OwnTableLeft => "own-entries",
         Flaw::UsedDetached => "stop-at-detach",
         Flaw::ReadsWritten => "write-entry",
         Flaw::DetachedAtOnce => "detach-waits",
@@ -87,15 +115,7 @@ pub fn rule_name(flaw: Flaw) -> &'static str
         Flaw::NotWithdrawn => "withdraw-first",
         Flaw::LockedPassed => "wait-for-locked",
         Flaw::AddedAnyway => "look-again",
-        Flaw::ToldLast => "tell-first",
-        Flaw::EndedAtOnce => "end-last",
-        Flaw::ForkedWhole => "fork-narrows",
-        Flaw::ReplacedAnyway => "fault-looks-again",
-        Flaw::DeviceAccessed => "bring-home",
-        Flaw::OthersLeft => "freeze-others",
-        Flaw::FreshAnyway => "fresh-looks-again",
-        Flaw::FreshForWrites => "fresh-right",
-        Flaw::BackForWrites => "back-right",
+        _ => manager_name(flaw),
     }
 }
 

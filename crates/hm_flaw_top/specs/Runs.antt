@@ -13,10 +13,10 @@ abbrev pub usage : List ℕ
 usage =
     codes "usage: hmmwithout RULE | none | --all [--answers] [--most MOST], with RULE one of compare compare-sequence "
     ++ (codes "entry-right mmap-lock own-device begin-waits begin-first set-sequence erase erase-all erase-in-time "
-    ++ (codes "own-events stop-at-detach write-entry detach-waits copy-all clear set-moved set-right drop-lost "
-    ++ (codes "take-from-there evict-first withdraw-first wait-for-locked look-again, or of the memory manager's own: "
-    ++ (codes "tell-first end-last fork-narrows fault-looks-again bring-home freeze-others fresh-looks-again "
-    ++ codes "fresh-right back-right"))))
+    ++ (codes "own-events own-sequence own-entries stop-at-detach write-entry detach-waits copy-all clear set-moved "
+    ++ (codes "set-right drop-lost take-from-there evict-first withdraw-first wait-for-locked look-again, "
+    ++ (codes "or of the memory manager's own: tell-first end-last fork-narrows fault-looks-again bring-home "
+    ++ codes "freeze-others fresh-looks-again fresh-right back-right lock-page put-back drop-unnamed"))))
 
 -- what the words ask for was done
 abbrev pub Runs : List (List ℕ) → Traffic → Status → Type 0

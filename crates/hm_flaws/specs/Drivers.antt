@@ -63,12 +63,15 @@ told_table Flaw.TableLeft s own t m r = t
 told_table Flaw.ErasedAtEnd s own t m r = t
 told_table Flaw.FirstErased s own t m r = erased_table t m (λ v. v == first_within (s.plain.mirrors m) r)
 told_table Flaw.OwnIgnored s own t m r = if own then t else erased_table t m (covers r)
+told_table Flaw.OwnSequenceLeft s own t m r = if own then t else erased_table t m (covers r)
+told_table Flaw.OwnTableLeft s own t m r = if own then t else erased_table t m (covers r)
 told_table l s own t m r = erased_table t m (covers r)
 
 -- the interval's sequence is left when its mirror is told
 abbrev pub leaves_seq : Flaw → Bool → Bool
 leaves_seq Flaw.SequenceLeft own = true
 leaves_seq Flaw.OwnIgnored own = own
+leaves_seq Flaw.OwnSequenceLeft own = own
 leaves_seq l own = false
 
 -- the sequences after the mirror was told in an invalidation whose process has sequence q
@@ -105,10 +108,16 @@ abbrev pub names_frame : Option TableEntry → Frame → Bool
 names_frame None f = false
 names_frame (Some x) f = is_frame x.target f
 
+-- the tables without the entries that name a frame
+abbrev pub without_frame : (ℕ → ℕ → Option TableEntry) → Frame → ℕ → ℕ → Option TableEntry
+without_frame t f m v = if names_frame (t m v) f then None else t m v
+
 -- the table after a part of the frame was copied: a driver that ignores the invalidations of its own migrations erases
--- what it brings home only now
+-- only now what it brings home, or what it moves either way
 abbrev pub brought_table : Flaw → (ℕ → ℕ → Option TableEntry) → Frame → ℕ → ℕ → Option TableEntry
-brought_table Flaw.OwnIgnored t f = λ m v. if is_device f && names_frame (t m v) f then None else t m v
+brought_table Flaw.OwnIgnored t f = if is_device f then without_frame t f else t
+brought_table Flaw.OwnSequenceLeft t f = without_frame t f
+brought_table Flaw.OwnTableLeft t f = without_frame t f
 brought_table l t f = t
 
 -- ---- the bytes of frames

@@ -1,26 +1,29 @@
 -- What is due at a phase to a driver with a flaw, in place of what is due to the right one.
 use Rattle.std.specs.Prelude.{ℕ, zero, suc, ◌+◌, ◌%◌, Bool, true, false, not, ◌&&◌, ◌||◌, ◌==◌, Option, Some, None}
 use Rattle.std.specs.Prelude.{is_some, if◌then◌else◌, List}
-use Rattle.hm_base.specs.Pages.{Pages}
+use Rattle.hm_base.specs.Pages.{Pages, one_page}
 use Rattle.hm_base.specs.Program.{Program}
 use Rattle.hm_base.specs.declared.Frame.{Frame}
 use Rattle.hm_base.specs.declared.Place.{Place}
 use Rattle.hm_base.specs.declared.ops.Op.{Op}
-use Rattle.hm_history.specs.Memory.Words.{page_of, dev_frame, names, writable, place_in}
+use Rattle.hm_history.specs.Memory.Words.{page_of, dev_frame, is_frame, names, moving_frame, writable, place_in}
 use Rattle.hm_history.specs.Memory.Plain.{is_attached, mirror_proc, rights_of, is_read_write}
-use Rattle.hm_history.specs.Memory.Places.{TableEntry, entry_passes, may_read, held_from}
+use Rattle.hm_history.specs.Memory.Places.{TableEntry, entry_passes, may_read, held_from, lowest_named}
 use Rattle.hm_history.specs.Kernel.Operation.{op_mirror, op_writes, op_piece}
 use Rattle.hm_history.specs.Memory.Sequences.{Sequences, is_odd, interval_seq}
 use Rattle.hm_history.specs.Memory.After.{After}
-use Rattle.hm_history.specs.Kernel.Going.{touch_page, touch_proc}
+use Rattle.hm_history.specs.Kernel.Going.{touch_page, touch_proc, coming}
 use Rattle.hm_history.specs.Kernel.Due.{due_phase, due_noted, right_of, is_invalidating, repeats, fault, suits}
 use Rattle.hm_history.specs.Kernel.Due.{is_usable, rlock, begin_look_up, child_of}
-use Rattle.hm_history.specs.Kernel.Due.{answer_of_piece, frames_end, frame_at}
+use Rattle.hm_history.specs.Kernel.Due.{answer_of_piece, frames_end, frame_at, settle, start_entry}
 use Rattle.hm_history.specs.declared.TableRight.{TableRight}
+use Rattle.hm_history.specs.declared.KeptAt.{KeptAt}
+use Rattle.hm_history.specs.declared.KeptWhy.{KeptWhy}
 use Rattle.hm_history.specs.declared.Kind.{Kind}
 use Rattle.hm_history.specs.declared.Why.{Why}
 use Rattle.hm_history.specs.declared.phases.Body.{Body}
 use Rattle.hm_history.specs.declared.phases.Migrating.{Migrating}
+use Rattle.hm_history.specs.declared.phases.MoveStep.{MoveStep}
 use Rattle.hm_history.specs.declared.phases.Touch.{Touch}
 use Rattle.hm_history.specs.declared.phases.Touch.TheVariants.{Walk}
 use Rattle.hm_history.specs.declared.phases.Phase.{Phase}
@@ -223,6 +226,81 @@ has_any_place s (Op.Store p at bs) k =
     s.plain.there p && suits_any true (s.places.place p (page_of (op_piece (Op.Store p at bs) k).0))
 has_any_place s o k = false
 
+-- ---- the memory manager: locks of frames
+
+-- a place as it is frozen: a migration entry of its frame, with its right
+abbrev pub frozen : Place → Place
+frozen x = elim (names x) [ None ↦ x | Some f ↦ Place.Moving f (writable x) ]
+
+-- a page that was not found where the migration begins is frozen once more, if it is a migration entry
+abbrev pub frozen_once_more : ℕ → ℕ → Option Frame → Place → Kind
+frozen_once_more p v None x = Kind.Kept (KeptAt.Page v) KeptWhy.NotHere
+frozen_once_more p v (Some f) x = Kind.Place p v x
+
+-- a setup freezes a page also if another actor has its frame locked, or has frozen it
+abbrev pub selected_anyway : After → ℕ → Next → Next
+selected_anyway s p (Do (Kind.Kept (KeptAt.Page v) (KeptWhy.LockedBy b))) =
+    Do (Kind.Place p v (frozen (s.places.place p v)))
+selected_anyway s p (Do (Kind.Kept (KeptAt.Page v) KeptWhy.NotHere)) =
+    Do (frozen_once_more p v (moving_frame (s.places.place p v)) (s.places.place p v))
+selected_anyway s p n = n
+
+-- so does the guard of a frame that is to be emptied, if its page still names the frame
+abbrev pub caught_anyway : After → ℕ → Pages → Frame → Next → Next
+caught_anyway s p r f (Do (Kind.End q e n)) = elim (is_frame (names (s.places.place p r.first)) f) [
+  | true ↦ Do (Kind.Place p r.first (frozen (s.places.place p r.first)))
+  | false ↦ Do (Kind.End q e n)
+]
+caught_anyway s p r f n = n
+
+-- so it is in each guard
+abbrev pub taken_in : After → ℕ → Pages → Body → Next → Next
+taken_in s p r (Body.Select v) n = selected_anyway s p n
+taken_in s p r (Body.Catch f) n = caught_anyway s p r f n
+taken_in s p r body n = n
+
+-- an eviction begins with a frame that another actor has locked
+abbrev pub begun_locked : After → Next → Next
+begun_locked s (Do (Kind.Kept (KeptAt.Frame f) (KeptWhy.LockedBy b))) = elim (lowest_named s.places f) [
+  | Some x ↦ Do (start_entry s x.0 (one_page x.1))
+  | None ↦ Do (Kind.Drop f)
+]
+begun_locked s n = n
+
+-- ---- the memory manager: the end of a migration
+
+-- the frame of a page that was not moved, at the last step of a migration
+abbrev pub unmoved : MoveStep → Migrating → Option Frame
+unmoved MoveStep.Finish x = if x.moved then None else x.source
+unmoved step x = None
+
+-- the same, by what the migration has come to
+abbrev pub unmoved_at : Option (MoveStep × Migrating) → Option Frame
+unmoved_at None = None
+unmoved_at (Some at) = unmoved at.0 at.1
+
+-- the frame that is settled at the end: that of a page that was not moved, or the one that it was moved to
+abbrev pub settling : After → Op → List Migrating → Phase → Option Frame
+settling s o xs (Phase.Finish f None) = Some f
+settling s o xs (Phase.Settle g) = Some g
+settling s o xs (Phase.Moves step v) = unmoved_at (coming s o xs (Phase.Moves step v))
+settling s o xs top = None
+
+-- that frame is settled at once, whatever is to be put back
+abbrev pub settled_now : After → Option Frame → Next → Next
+settled_now s None n = n
+settled_now s (Some f) n = Do (settle s f)
+
+-- what is dropped is done with, as if a place named it
+abbrev pub done_with : Next → Next
+done_with (Do (Kind.Drop f)) = Do (Kind.Done f)
+done_with n = n
+
+-- so it is with that frame
+abbrev pub settled_held : Option Frame → Next → Next
+settled_held None n = n
+settled_held (Some f) n = done_with n
+
 -- ---- all of them
 
 -- what is due at a phase to a driver with a flaw: if the flaw says nothing of the phase, what is due to the right one
@@ -275,4 +353,9 @@ due_flawed Flaw.BackForWrites c s a o xs (Phase.Finish f to) =
     placed_for_writes (due_phase c s a o xs (Phase.Finish f to))
 due_flawed Flaw.BackForWrites c s a o xs (Phase.Moves step v) =
     placed_for_writes (due_phase c s a o xs (Phase.Moves step v))
+due_flawed Flaw.LockedTaken c s a o xs (Phase.Guard p r met told body) =
+    taken_in s p r body (due_phase c s a o xs (Phase.Guard p r met told body))
+due_flawed Flaw.LockedTaken c s a o xs (Phase.Frames v n) = begun_locked s (due_phase c s a o xs (Phase.Frames v n))
+due_flawed Flaw.NotPutBack c s a o xs top = settled_now s (settling s o xs top) (due_phase c s a o xs top)
+due_flawed Flaw.UnnamedHeld c s a o xs top = settled_held (settling s o xs top) (due_phase c s a o xs top)
 due_flawed l c s a o xs top = due_phase c s a o xs top

@@ -30,6 +30,10 @@ pub enum Flaw {
     ErasedAtEnd,
     /// It does neither at an invalidation for a migration of its own device.
     OwnIgnored,
+    /// It does neither then, but erases the entries of each frame that is copied.
+    OwnSequenceLeft,
+    /// It sets the sequence, but erases only the entries of each frame that is copied.
+    OwnTableLeft,
     // its table
     /// It goes on with it after the detach.
     UsedDetached,
@@ -79,4 +83,10 @@ pub enum Flaw {
     FreshForWrites,
     /// A page that comes back is for writes, whatever right it had.
     BackForWrites,
+    /// A migration takes a page, and an eviction a frame, that another actor has locked.
+    LockedTaken,
+    /// A page that was not moved stays a migration entry.
+    NotPutBack,
+    /// At the end of a migration a frame is done with, though no place names it any more.
+    UnnamedHeld,
 }
