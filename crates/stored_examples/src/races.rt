@@ -1,6 +1,7 @@
 // Searches the race of every script of the folder `races`, asks for the conditions there, and draws every report; of
-// the scripts of the folder `broken` it asks which rules a driver may leave out. Compares what is written with the
-// files beside the scripts, and the pages with the lines there, between the files of the folder page.
+// the scripts of the folder `broken` it asks which rules a driver may leave out, and of both folders for shortest races
+// of drivers that do. Compares what is written with the files beside the scripts, and the pages with the lines there,
+// between the files of the folder page.
 use crate::files::{stems, text};
 use crate::streams::{empty_sink, source_beside};
 use hm_edge::{RaceEnd, Status};
@@ -31,8 +32,10 @@ enum Made {
     Rules,
     /// The same, if answers alone are judged.
     Answers,
-    /// The shortest race of a driver that leaves a rule out.
+    /// The shortest race of a driver that leaves a rule out, in a script of the folder `races`.
     Shortest,
+    /// The same, in a script of the folder `broken`.
+    Punished,
 }
 
 impl Made {
@@ -44,14 +47,14 @@ impl Made {
             Made::Page => (".report", ".lines"),
             Made::Rules => (".rules", ".rules"),
             Made::Answers => (".answers", ".answers"),
-            Made::Shortest => (".without", ".shortest"),
+            Made::Shortest | Made::Punished => (".without", ".shortest"),
         }
     }
 
     /// The folder of such examples.
     fn folder(self) -> &'static str {
         match self {
-            Made::Rules | Made::Answers => "broken",
+            Made::Rules | Made::Answers | Made::Punished => "broken",
             _ => "races",
         }
     }
@@ -84,7 +87,7 @@ impl Made {
             Made::Outcomes | Made::Page => false,
             Made::Rulings => text.starts_with("fails "),
             Made::Rules | Made::Answers => text.split_once(" after ").is_some(),
-            Made::Shortest => text.split_once("\nbreaks ").is_some(),
+            Made::Shortest | Made::Punished => !text.starts_with("none\n"),
         }
     }
 
@@ -159,7 +162,9 @@ fn words_of(rt: &HostRuntime, stem: &str, made: Made) -> io::Result<Vec<String>>
         Made::Rulings => expected(rt, stem),
         Made::Rules => words_in(rt.alloc(), "--all"),
         Made::Answers => words_in(rt.alloc(), "--all\n--answers"),
-        Made::Shortest => words_in(rt.alloc(), text(rt, stem, ".without")?.as_str()),
+        Made::Shortest | Made::Punished => {
+            words_in(rt.alloc(), text(rt, stem, ".without")?.as_str())
+        }
     }
 }
 
@@ -223,10 +228,13 @@ fn compare_rules(rt: &HostRuntime) -> io::Result<()> {
     let rules = compare(rt, Made::Rules)?;
     let answers = compare(rt, Made::Answers)?;
     let shortest = compare(rt, Made::Shortest)?;
+    let punished = compare(rt, Made::Punished)?;
     println!(rt;
         "of {rules} scripts it is said which rules a driver may leave out, of {answers} by answers"
     )?;
-    println!(rt; "{shortest} shortest races are those beside their scripts")
+    println!(rt;
+        "{shortest} shortest races of the gallery and {punished} others are those beside their scripts"
+    )
 }
 
 /// Says how many agree, of each kind.
