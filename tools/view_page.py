@@ -50,8 +50,8 @@ def due_to(script, actors, actor):
     return None if machine.is_idle(actor) else machine.due(actor)[0]
 
 
-def standing(script, actors, actor):
-    due = due_to(script, actors, actor)
+def standing_word(due):
+    """The word for what is due to an actor: an entry, a wait, or nothing."""
     if not isinstance(due, Wait):
         return '-' if due is None else '+'
     what = due.what
@@ -62,6 +62,10 @@ def standing(script, actors, actor):
     if due.why == 'frame':
         return f'frame/{what[0]}/a{due.actors[0]}'
     return f'told/m{what[0]}/{what[1]}'
+
+
+def standing(script, actors, actor):
+    return standing_word(due_to(script, actors, actor))
 
 
 def standings(script, actors):

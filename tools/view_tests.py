@@ -13,6 +13,7 @@ something is wrong. The states are compared by tools/view_states.py.
 import glob, os, sys, tempfile
 
 import explain
+import view_broken
 import view_outcomes
 import view_page
 import view_states
@@ -262,6 +263,34 @@ def try_outcomes(browser):
             '&& entryText(one.rows[at]) !== entryText(two.rows[at]); })()'), True)
 
 
+def write_broken(rule, stem, shortest):
+    """Writes the page of a race that hmmwithout found, and gives its last line but what it breaks."""
+    with open(stem + '.hmm', 'rb') as file:
+        script = view_broken.scripts.parse(file.read())
+    with open(shortest, encoding='ascii') as file:
+        text = file.read()
+    with open('broken.html', 'w') as file:
+        file.write(view_broken.page_text(*view_broken.race_of(script, rule, text), rule))
+    return text.splitlines()[-3:-1]
+
+
+def try_broken(browser):
+    """The last row of each shortest race of the examples is marked, and it is said what it breaks."""
+    for name in sorted(glob.glob(os.path.join(view_page.TOP, 'examples', 'races', '*.without'))):
+        stem = name.removesuffix('.without')
+        with open(name, encoding='ascii') as file:
+            rule = file.readline().strip()
+        with open(stem + '.shortest', encoding='ascii') as file:
+            if file.read().startswith('none'):
+                continue
+        last, breaks = write_broken(rule, stem, stem + '.shortest')
+        browser.open('broken.html')
+        entry = ' '.join(last.split(' ')[1:])
+        expect(f'{rule}, marked', browser.run("document.querySelectorAll('.breaks').length"), 1)
+        expect(f'{rule}, row', browser.run("entryText(report.rows[+document.querySelector('.breaks').id.slice(1)])"), entry)
+        expect(f'{rule}, part', browser.run("byId('broken').textContent").split(':')[0], f"Row {last.split(' ')[0]} {breaks}")
+
+
 def processor_time(browser):
     """What the page's thread has used, in ms: the machine's other work does not count, as it does on the clock."""
     metrics = browser.ask('Performance.getMetrics')['metrics']
@@ -307,6 +336,9 @@ def draw_pictures(browser, long_page):
         picture(browser, 'view_long.png', long_page, '#12338')
     write_outcomes('store_among_stores')
     picture(browser, 'view_outcomes.png', 'outcomes.html', '', first='showOutcome(1); showOutcome(3)')
+    write_broken('look-again', os.path.join(view_page.TOP, 'examples', 'races', 'exclusive_against_store'),
+                 os.path.join(view_page.TOP, 'examples', 'races', 'exclusive_against_store.shortest'))
+    picture(browser, 'view_broken.png', 'broken.html', '')
 
 
 def examples():
@@ -325,7 +357,7 @@ def main():
         os.chdir(room)
         browser.size(1400, 900)
         wrong.extend(['a state'] * view_states.compare(browser, examples()))
-        for tries in (try_keys, try_filter, try_reading, try_screens, try_changes, try_words, try_outcomes):
+        for tries in (try_keys, try_filter, try_reading, try_screens, try_changes, try_words, try_outcomes, try_broken):
             tries(browser)
         if long_page:
             try_long(browser, long_page)
