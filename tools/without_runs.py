@@ -1,14 +1,15 @@
 #!/usr/bin/env python3
 """Whether hmmwithout finds what tools/broken_drivers.py finds: the same part after the same number of entries.
 
-    tools/without_runs.py [FILE ..] [--drawn RUNS [SEED]] [--most N] [--with COMMAND ..]
+    tools/without_runs.py [FILE ..] [--drawn RUNS [SEED]] [--rules RULE ..] [--most N] [--with COMMAND ..]
 
-Each script is searched for each rule that both programs have, once with all parts judged and once with answers alone:
-FILEs, or the scripts of examples/broken and examples/gallery if none is named; with --drawn, RUNS scripts (from seed 1)
-of two actors, drawn as tools/race_outcomes.py draws them. What is found must be the same part of legality, or `stuck`,
-or `none`, after the same number of entries; and each race that is written must end in an entry that breaks it. Where one
-of the two gave up at N states (2,000) without finding anything, nothing is compared, and it is counted. The numbers of
-states are not compared: the programs tell states apart in different ways.
+Each script is searched for each rule that both programs have, or for those RULEs that are named, once with all parts
+judged and once with answers alone: FILEs, or, if none is named, the scripts of examples/broken and those of
+examples/races that have a NAME.without; with --drawn, RUNS scripts (from seed 1) of two actors, drawn as
+tools/race_outcomes.py draws them. What is found must be the same part of legality, or `stuck`, or `none`, after the
+same number of entries; and each race that is written must end in an entry that breaks it. Where one of the two gave up
+at N states (2,000) without finding anything, nothing is compared, and it is counted. The numbers of states are not
+compared: the programs tell states apart in different ways.
 
 COMMAND is './hmmwithout.sh --ready'; any program of the same behaviour will do. Ends with status 1 at the first
 difference, whose script is then printed. It is run by hand, outside the gate: what hmmwithout writes is proved.
@@ -50,12 +51,12 @@ def compare_rule(script, rule, said, answers, most):
     return found == wanted
 
 
-def compare(command, text, most):
-    """How many searches agree, and how many gave up."""
+def compare(command, text, rules, most):
+    """How many searches for these rules agree, and how many gave up."""
     script, agree, cut = scripts.parse(text.encode()), 0, 0
     for options in ([], ['--answers']):
         table = table_of(command, text, [*options, '--most', str(most)])
-        for rule in ['none', *RULES]:
+        for rule in rules:
             if rule in table:
                 same = compare_rule(script, rule, table[rule], bool(options), most)
                 agree, cut = agree + same, cut + (not same)
@@ -66,7 +67,8 @@ def texts(asked):
     if asked.drawn:
         draw = random.Random(asked.drawn[1] if len(asked.drawn) > 1 else 1)
         return [race_outcomes.drawn(draw).decode() for _ in range(asked.drawn[0])]
-    files = asked.files or sorted(glob.glob(f'{TOP}/examples/broken/*.hmm') + glob.glob(f'{TOP}/examples/gallery/*.hmm'))
+    punished = [name.removesuffix('without') + 'hmm' for name in glob.glob(f'{TOP}/examples/races/*.without')]
+    files = asked.files or sorted(glob.glob(f'{TOP}/examples/broken/*.hmm') + punished)
     return [open(file, encoding='ascii').read() for file in files]
 
 
@@ -75,6 +77,7 @@ def main():
     words = argparse.ArgumentParser(add_help=False, usage=__doc__)
     words.add_argument('files', nargs='*')
     words.add_argument('--drawn', nargs='+', type=int)
+    words.add_argument('--rules', nargs='+', default=['none', *RULES])
     words.add_argument('--most', type=int, default=2_000)
     words.add_argument('--with', dest='command', nargs=argparse.REMAINDER)
     asked = words.parse_args()
@@ -82,7 +85,7 @@ def main():
     total, gave_up, scripts_read = 0, 0, 0
     for text in texts(asked):
         try:
-            agree, cut = compare(command, text, asked.most)
+            agree, cut = compare(command, text, asked.rules, asked.most)
         except Wrong as why:
             print(text, end='')
             print(f'without_runs.py: {why}', file=sys.stderr)
