@@ -11,7 +11,8 @@ use Rattle.hm_race_keys.specs.Arrays.{flag_in, lock_in}
 use Rattle.hm_race_keys.specs.FrameTables.{held_in, lockers_in}
 use Rattle.hm_race_keys.specs.PagePlaces.{places_in, places_of}
 use Rattle.hm_race_keys.specs.TableEntries.{table_in}
-use Rattle.hm_race_keys.specs.Trail.{mirrors_next, place_next, held_next, withdrawn_next, removed_next, table_next, lockers_next, entry_old}
+use Rattle.hm_race_keys.specs.Trail.{mirrors_next, place_next, held_next, withdrawn_next}
+use Rattle.hm_race_keys.specs.Trail.{removed_next, table_next, lockers_next, entry_old}
 use Rattle.hm_race_states.specs.Afters.{bytes_next}
 use Rattle.hm_race_states.specs.Bytes.{bytes_in}
 use Rattle.hm_race_states.specs.Mirrors.{mirrors_in}
