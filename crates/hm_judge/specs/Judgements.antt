@@ -10,8 +10,8 @@ use Rattle.hm_history.specs.declared.Progress.{Progress}
 use Rattle.hm_report.specs.Report.{entry_line, history_line}
 use Rattle.hm_report_front.specs.Heads.{IsBadHead, lines_behind}
 use Rattle.hm_report_front.specs.Parts.{Differ, entry_list}
-use Rattle.hm_entry_reading.specs.Entries.{IsRead}
-use Rattle.hm_entry_reading.specs.Fits.{FitsEntry}
+use Rattle.hm_report_reading.specs.Entries.{IsRead}
+use Rattle.hm_report_reading.specs.Fits.{FitsEntry}
 use Rattle.hm_edge.specs.Reading.{IsTextOf}
 use Rattle.hm_script.specs.Automaton.{lines, reading}
 use Rattle.hm_script.specs.Built.{every_word}

@@ -1,7 +1,7 @@
 -- What is said of the entries after a first bad line.
 use Rattle.std.specs.Prelude.{◌≡◌, ℕ, ◌+◌, List, [], length}
 use Rattle.hm_base.specs.Program.{Program}
-use Rattle.hm_entry_reading.specs.declared.reader.Unfinished.{Unfinished}
+use Rattle.hm_report_reading.specs.declared.reader.Unfinished.{Unfinished}
 use Rattle.hm_report_reading.specs.Reports.{IsFirstUnread}
 use Rattle.hm_report_reading.specs.Texts.{HasText, text_of}
 use Rattle.hm_parts.specs.Rules.{rules_from}

@@ -1,7 +1,7 @@
 // What is wrong with a bad line.
 ghost use Rattle.std.specs.Prelude.{IfOk, slice_get};
 ghost use Rattle.hm_check.specs.Parts.{BeginsNoEntry, IsNoEntry};
-ghost use Rattle.hm_entry_reading.specs.Entries.{IsRead};
+ghost use Rattle.hm_report_reading.specs.Entries.{IsRead};
 ghost use Rattle.hm_parts.specs.Parts.{AreParts};
 ghost use Rattle.hm_parts.specs.Shown.{AreShown};
 ghost use Rattle.hm_script.specs.Automaton.{lines};
@@ -10,9 +10,9 @@ ghost use Rattle.hm_judge.specs.Judgements.{IsFault, IsLineFault};
 use crate::judgement::Fault;
 use crate::lines::line_at;
 use hm_base::{MOST_ENTRIES, NoMemory};
-use hm_entry_reading::LineReader;
 use hm_history::Entry;
 use hm_parts::{Parts, ShownParts, parts_of, shown_of};
+use hm_report_reading::LineReader;
 use hm_world::World;
 use std::alloc::Global;
 

@@ -3,10 +3,10 @@ use Rattle.std.proofs.Common.{◌≡◌, ℕ, suc, ◌+◌, ◌^◌, ◌<◌, �
 use Rattle.std.specs.List.{All}
 use Rattle.hm_base.specs.Program.{Program}
 use Rattle.hm_history.specs.declared.Entry.{Entry}
-use Rattle.hm_entry_reading.specs.Entries.{BeginsNone, FitsUnfinished, unfinished_text}
-use Rattle.hm_entry_reading.specs.Fits.{FitsEntry}
-use Rattle.hm_entry_reading.specs.declared.reader.Unfinished.{Unfinished}
-use Rattle.hm_entry_reading.proofs.LineAgain.{one_entry, one_unfinished}
+use Rattle.hm_report_reading.specs.Entries.{BeginsNone, FitsUnfinished, unfinished_text}
+use Rattle.hm_report_reading.specs.Fits.{FitsEntry}
+use Rattle.hm_report_reading.specs.declared.reader.Unfinished.{Unfinished}
+use Rattle.hm_report_reading.proofs.LineAgain.{one_entry, one_unfinished}
 use Rattle.hm_report.specs.Report.{end_line, entry_line, history_line}
 use Rattle.hm_report_front.specs.Heads.{lines_behind}
 use Rattle.hm_report_front.specs.Parts.{entry_list, Differ}

@@ -7,8 +7,8 @@ use Rattle.hm_base.specs.Program.{Program, IsScript}
 use Rattle.hm_history.specs.Kernel.Going.{ops_of}
 use Rattle.hm_history.specs.Memory.Words.{numbers}
 use Rattle.hm_history.specs.declared.Entry.{Entry}
-use Rattle.hm_entry_reading.specs.Entries.{BeginsNone, ReadsAll, unfinished_text}
-use Rattle.hm_entry_reading.specs.declared.reader.Unfinished.{Unfinished}
+use Rattle.hm_report_reading.specs.Entries.{BeginsNone, ReadsAll, unfinished_text}
+use Rattle.hm_report_reading.specs.declared.reader.Unfinished.{Unfinished}
 use Rattle.hm_report.specs.Report.{end_line, entry_lines, first_unended, history_line, report, unfinished_line}
 use Rattle.hm_report_front.specs.Heads.{IsBadHead, IsHead, lines_behind}
 use Rattle.hm_report_front.specs.Parts.{entry_list, Differ}

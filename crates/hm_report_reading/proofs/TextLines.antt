@@ -4,8 +4,8 @@ use Rattle.std.specs.Prelude.{codes}
 use Rattle.std.specs.Fmt.{decimal}
 use Rattle.hm_base.specs.Program.{Program}
 use Rattle.hm_history.specs.declared.Entry.{Entry}
-use Rattle.hm_entry_reading.specs.Entries.{unfinished_text}
-use Rattle.hm_entry_reading.specs.declared.reader.Unfinished.{Unfinished}
+use Rattle.hm_report_reading.specs.Entries.{unfinished_text}
+use Rattle.hm_report_reading.specs.declared.reader.Unfinished.{Unfinished}
 use Rattle.hm_report.specs.Report.{end_line, entry_line, entry_lines, history_line}
 use Rattle.hm_report.specs.Words.{actor_text}
 use Rattle.hm_report_front.specs.Heads.{lines_behind}

@@ -2,8 +2,8 @@
 use Rattle.std.specs.Prelude.{◌≡◌, ℕ, ◌+◌, ◌<◌, ◌≤◌, List, [], ◌∷◌, ◌++◌, length, take, Result, Ok, Err, All, ⊤}
 use Rattle.hm_base.specs.Program.{Program}
 use Rattle.hm_history.specs.declared.Entry.{Entry}
-use Rattle.hm_entry_reading.specs.Entries.{FitsUnfinished, unfinished_text}
-use Rattle.hm_entry_reading.specs.declared.reader.Unfinished.{Unfinished}
+use Rattle.hm_report_reading.specs.Entries.{FitsUnfinished, unfinished_text}
+use Rattle.hm_report_reading.specs.declared.reader.Unfinished.{Unfinished}
 use Rattle.hm_report_front.specs.Heads.{lines_behind}
 use Rattle.hm_report_front.specs.declared.head.BadLine.{BadLine}
 use Rattle.hm_report_reading.specs.Texts.{HasText, text_of}

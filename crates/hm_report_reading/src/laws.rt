@@ -1,10 +1,17 @@
-// What holds of the texts of all reports: laws in the contracts of functions that do nothing.
-ghost use Rattle.std.specs.Prelude.{◌≡◌, List};
+// What holds of every line, and of the texts of all reports: laws in the contracts of functions that do nothing.
+ghost use Rattle.std.specs.Prelude.{◌≡◌, ◌<◌, ◌^◌, ℕ, List};
 ghost use Rattle.hm_base.specs.Program.{Program};
 ghost use Rattle.hm_history.specs.declared.Entry.{Entry};
-ghost use Rattle.hm_entry_reading.specs.declared.reader.Unfinished.{Unfinished};
-ghost use Rattle.hm_report.specs.Report.{report};
+ghost use Rattle.hm_report.specs.Report.{entry_line, report};
+ghost use Rattle.hm_report_reading.specs.Fits.{FitsEntry};
 ghost use Rattle.hm_report_reading.specs.Texts.{HasText, text_of, unended};
+ghost use Rattle.hm_report_reading.specs.declared.reader.Unfinished.{Unfinished};
+
+/// Two entries with one line are equal.
+pub fn one_line()
+    ensures { (at : ℕ) (e f : Entry) → at < 2 ^ 64 → FitsEntry e → FitsEntry f → entry_line at e ≡ entry_line at f
+        → e ≡ f }
+{}
 
 /// Two reports with one text are equal.
 pub fn one_report()

@@ -2,13 +2,14 @@
 ghost use Rattle.std.specs.Prelude.{◌≡◌, ◌+◌, ◌^◌, ◌≤◌, IfOk, List, length};
 ghost use Rattle.hm_base.specs.Program.{Program};
 ghost use Rattle.hm_history.specs.declared.Entry.{Entry};
-ghost use Rattle.hm_entry_reading.specs.declared.reader.Unfinished.{Unfinished};
+ghost use Rattle.hm_report_reading.specs.declared.reader.Unfinished.{Unfinished};
 ghost use Rattle.hm_report_reading.specs.Reports.{IsReadBehind, IsReadOf, IsThis};
 ghost use Rattle.hm_report_reading.specs.Texts.{HasText, text_of};
 
+use crate::entries::read_entries;
+use crate::reader::{LineReader, Unfinished};
 use crate::unfinished::read_unfinished;
 use hm_base::{NoMemory, Script};
-use hm_entry_reading::{LineReader, Unfinished, read_entries};
 use hm_history::History;
 use hm_report::{Buffer, put_end};
 use hm_report_front::{BadLine, first_difference, read_head};

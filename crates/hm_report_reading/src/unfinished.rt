@@ -2,8 +2,8 @@
 ghost use Rattle.std.specs.Prelude.{IfOk};
 ghost use Rattle.hm_report_reading.specs.Reports.{ReadsUnfinished};
 
+use crate::reader::{LineReader, Unfinished};
 use hm_base::NoMemory;
-use hm_entry_reading::{LineReader, Unfinished};
 use hm_script::cut_line;
 use std::alloc::Global;
 

@@ -1,7 +1,7 @@
 // Lines of a report, read.
 use hm_base::Actor;
-use hm_entry_reading::{LineReader, Unfinished, read_entries};
 use hm_history::{KeptWhy, Kind};
+use hm_report_reading::{LineReader, Unfinished, read_entries};
 use std::alloc::Global;
 
 /// Whether the line is that of an entry at this position.

@@ -1,9 +1,8 @@
 // Whole reports, read.
 use hm_base::{Actor, Script};
-use hm_entry_reading::Unfinished;
 use hm_history::Kind;
 use hm_report_front::BadLine;
-use hm_report_reading::{WholeReport, read_report};
+use hm_report_reading::{Unfinished, WholeReport, read_report};
 use hm_script::print;
 use std::alloc::Global;
 

@@ -1,8 +1,8 @@
 use Rattle.std.proofs.Common.{◌≡◌, ◌∙◌, ◌++◌, ◌∷◌, [], List, ℕ, arith, length, length-append, sym, ap, subst}
 use Rattle.std.specs.List.{All}
 use Rattle.std.proofs.lemmas.List.Elements.{All-push}
-use Rattle.hm_entry_reading.specs.Entries.{FitsUnfinished, unfinished_text}
-use Rattle.hm_entry_reading.specs.declared.reader.Unfinished.{Unfinished}
+use Rattle.hm_report_reading.specs.Entries.{FitsUnfinished, unfinished_text}
+use Rattle.hm_report_reading.specs.declared.reader.Unfinished.{Unfinished}
 use Rattle.hm_report_reading.specs.Reports.{unfinished_list}
 use Rattle.hm_report_reading.proofs.TextLines.{unfinished_more}
 use Rattle.hm_report_reading.proofs.unfinished.read_unfinished.Goals as goal

@@ -1,6 +1,6 @@
 use Rattle.std.proofs.Common.{◌≡◌, ◌+◌, ◌≤◌, ◌++◌, length}
 use Rattle.std.specs.List.{All}
-use Rattle.hm_entry_reading.specs.Entries.{FitsUnfinished}
+use Rattle.hm_report_reading.specs.Entries.{FitsUnfinished}
 use Rattle.hm_report_reading.specs.Reports.{unfinished_list}
 use Rattle.hm_script.specs.Automaton.{lines}
 use Rattle.hm_report_reading.proofs.unfinished.read_unfinished.Given as goal

@@ -1,4 +1,0 @@
-pub mod WordsAgain
-pub mod KindsAgain
-pub mod LineAgain
-pub mod InRange

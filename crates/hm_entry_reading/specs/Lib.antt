@@ -1,5 +1,0 @@
-pub mod Words
-pub mod KindWords
-pub mod Kinds
-pub mod Fits
-pub mod Entries
