@@ -24,28 +24,29 @@ pub fn entry(line: &str) -> Option<&str> {
     Some(entry)
 }
 
+/// The first words of the entries that end an operation, or a piece of one.
+const ANSWERS: [&str; 17] = [
+    "loaded",
+    "stored",
+    "failed",
+    "refused",
+    "mapped",
+    "unmapped",
+    "protected",
+    "forked",
+    "exited",
+    "attached",
+    "detached",
+    "migrated",
+    "seen",
+    "evicted",
+    "removed",
+    "excluded",
+    "added",
+];
+
 /// Whether an entry is an answer: it ends an operation, or a piece of one.
 pub fn is_answer(entry: &str) -> bool {
-    match entry.split(' ').next() {
-        Some(
-            "loaded"
-            | "stored"
-            | "failed"
-            | "refused"
-            | "mapped"
-            | "unmapped"
-            | "protected"
-            | "forked"
-            | "exited"
-            | "attached"
-            | "detached"
-            | "migrated"
-            | "seen"
-            | "evicted"
-            | "removed"
-            | "excluded"
-            | "added",
-        ) => true,
-        _ => false,
-    }
+    let word = entry.split(' ').next().unwrap_or("");
+    ANSWERS.iter().any(|answer| *answer == word)
 }
