@@ -24,6 +24,7 @@ use Rattle.hm_parts.specs.Shown.{AreShown}
 use Rattle.hm_parts.specs.declared.parts.Parts.{Parts}
 use Rattle.hm_parts.specs.declared.shown.ShownParts.{ShownParts}
 use Rattle.hm_judge.specs.Nearest.{IsNearest, could_stand}
+use Rattle.hm_judge.specs.declared.behind.Found.{Found}
 use Rattle.hm_judge.specs.declared.judgement.BadReport.{BadReport}
 use Rattle.hm_judge.specs.declared.judgement.Fault.{Fault}
 use Rattle.hm_judge.specs.declared.judgement.Judgement.{Judgement}
@@ -113,6 +114,11 @@ pub record IsLegalAt (c : Program) (h : List Entry) (rest : List ℕ) (l : Legal
 abbrev pub IsJudgementAt : Program → List Entry → ℕ → List ℕ → Judgement → Type 0
 IsJudgementAt c h first rest (Judgement.Legal l) = IsLegalAt c h rest l
 IsJudgementAt c h first rest (Judgement.Bad b) = IsBadAt c h first rest b
+
+-- what is found of them: what is due to each actor if they end the report, and else what is said of them
+abbrev pub IsFound : Program → List Entry → ℕ → List ℕ → Found → Type 0
+IsFound c h first rest (Found.Legal dues) = (dues.items ≡ map (due c h) (actors_of c)) × (tail_of c h ≡ rest)
+IsFound c h first rest (Found.Bad b) = IsBadAt c h first rest b
 
 -- ---- the bad line
 

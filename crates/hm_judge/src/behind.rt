@@ -2,7 +2,7 @@
 ghost use Rattle.std.specs.Prelude.{◌≡◌, ◌+◌, ◌^◌, ◌≤◌, IfOk, length};
 ghost use Rattle.hm_check.specs.Parts.{BeginsNoEntry, TakenFrom, tail_of};
 ghost use Rattle.hm_script.specs.Automaton.{lines};
-ghost use Rattle.hm_judge.specs.Judgements.{IsBadThere, IsJudgementAt, IsLegalOf, IsNear};
+ghost use Rattle.hm_judge.specs.Judgements.{IsBadThere, IsFound, IsJudgementAt, IsNear};
 ghost use Rattle.hm_judge.specs.Nearest.{could_stand};
 ghost use Rattle.hm_judge.specs.Instead.{IsInstead};
 ghost use Rattle.hm_judge.specs.Judging.{IsJudgementBehind};
@@ -35,8 +35,8 @@ fn take_all(alloc: Global, script: Script, bytes: &[u8]) -> Result<Taken<'_>, No
     ensures ends { IfOk result (λ taken.
         BeginsNoEntry taken.world.script taken.world.history (lines taken.rest.now)) }
 {
-    let mut world = World::new(alloc, script)?;
     let mut out = Buffer::new(alloc)?;
+    let mut world = World::new(alloc, script)?;
     let rest = take_entries(alloc, &mut world, &mut out, bytes)?;
     world.facts();
     Ok(Taken { world, rest })
@@ -145,16 +145,34 @@ fn bad_report(
     })
 }
 
-/// What is said of the report of the world's history.
-fn legal_report(alloc: Global, world: World) -> Result<LegalReport, NoMemory>
-    ensures { IfOk result (IsLegalOf world.script world.history) }
+/// What is found of the lines after a world's entries.
+#[derive(Drop)]
+enum Found {
+    /// They end its report; what is due to each actor.
+    Legal(Vec<Progress>),
+    /// They do not.
+    Bad(BadReport),
+}
+
+/// What is found of the lines after the world's entries. The first line after `history` has this number.
+fn find_rest(alloc: Global, world: &World, first: u64, rest: &[u8]) -> Result<Found, NoMemory>
+    requires first { first ≤ 2 ^ 63 + 2 }
+    requires ends { BeginsNoEntry world.now.script world.now.history (lines rest.now) }
+    ensures { IfOk result (IsFound world.now.script world.now.history first rest.now) }
 {
-    let standing = standings(alloc, &world)?;
-    let (script, history) = world.into_parts();
-    Ok(LegalReport {
-        report: Report { script, history },
-        standing,
-    })
+    let mut out = Buffer::new(alloc)?;
+    put_ending(&mut out, world);
+    let tail = out.as_slice();
+    match first_difference(tail, rest) {
+        Some(same) => {
+            let bad = bad_report(alloc, world, tail, first, rest, same)?;
+            Ok(Found::Bad(bad))
+        }
+        None => {
+            let standing = standings(alloc, world)?;
+            Ok(Found::Legal(standing))
+        }
+    }
 }
 
 /// The judgement on the lines after the world's entries. The first line after `history` has this number.
@@ -163,18 +181,14 @@ fn judge_rest(alloc: Global, world: World, first: u64, rest: &[u8]) -> Result<Ju
     requires ends { BeginsNoEntry world.script world.history (lines rest.now) }
     ensures { IfOk result (IsJudgementAt world.script world.history first rest.now) }
 {
-    let mut out = Buffer::new(alloc)?;
-    put_ending(&mut out, &world);
-    let tail = out.as_slice();
-    match first_difference(tail, rest) {
-        Some(same) => {
-            let bad = bad_report(alloc, &world, tail, first, rest, same)?;
-            Ok(Judgement::Bad(bad))
-        }
-        None => {
-            let legal = legal_report(alloc, world)?;
-            Ok(Judgement::Legal(legal))
-        }
+    let found = find_rest(alloc, &world, first, rest);
+    let (script, history) = world.into_parts();
+    match found? {
+        Found::Legal(standing) => Ok(Judgement::Legal(LegalReport {
+            report: Report { script, history },
+            standing,
+        })),
+        Found::Bad(bad) => Ok(Judgement::Bad(bad)),
     }
 }
 
