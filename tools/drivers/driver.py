@@ -216,6 +216,9 @@ class Driver(Actor):
                     return failure
                 yield 'runlock', process
 
+    def sole_wait(self, mirror):
+        return None if self.rule == 'exclusive-waits' else super().sole_wait(mirror)
+
     # ---- mirrors
     def detach(self, mirror):
         if self.rule == 'detach-waits' and self.s.is_attached(mirror):
@@ -230,7 +233,7 @@ class Driver(Actor):
         process, device = s.mirrors[mirror].process, s.mirrors[mirror].device
         yield from self.guard(process, span, self.select(process, device, span, to_device, records))
         for x in records:
-            if x.source and self.rule != 'freeze-others':
+            if x.source and self.rule not in ('freeze-others', 'freeze-first'):
                 yield from self.freeze_others(x.source)
         for x in records:
             yield from self.take_and_copy(x, device if to_device else None, to_device)
@@ -256,6 +259,9 @@ class Driver(Actor):
             if self.rule == 'lock-page' and (place.kind == 'moving' or is_locked):
                 records.append(Record(page, place.frame))
                 yield 'place', process, page, moving(place.frame, place.writable)
+            elif self.rule == 'freeze-first' and is_kind and not is_locked:
+                records.append(Record(page, place.frame))
+                yield 'place', process, page, place
             else:
                 yield from super().select(process, device, one_page(page), to_device, records)
 
@@ -279,6 +285,8 @@ class Driver(Actor):
     def commit(self, process, x):
         s = self.s
         if x.source:
+            if self.rule == 'freeze-first':
+                yield from self.freeze_others(x.source)
             x.moved = True
             yield 'committed', x.source, x.taken
             return

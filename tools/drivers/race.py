@@ -37,6 +37,7 @@ RULES = {
     'evict-first': 'removes the device with its frames held',
     'withdraw-first': 'evicts before it withdraws the device',
     'wait-for-locked': 'passes over locked frames, and removes the device',
+    'exclusive-waits': 'enters an exclusive page also while its interval is being invalidated',
     'look-again': 'adds to an exclusive page without a second look',
     # the memory manager's own
     'tell-first': 'an invalidation changes places first, and tells the mirrors at its end',
@@ -45,6 +46,7 @@ RULES = {
     'fault-looks-again': 'a fault replaces a page without a second look at it',
     'bring-home': "the CPU reads and writes a device's memory",
     'freeze-others': 'a migration freezes no mapping of a frame but the first',
+    'freeze-first': 'a migration freezes the mappings of a frame only after it has copied that',
     'fresh-looks-again': 'a migration places a fresh page without a second look at it',
     'fresh-right': 'a migration places each fresh page for writes',
     'back-right': 'each page that comes back is for writes',

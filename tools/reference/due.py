@@ -290,16 +290,20 @@ class Actor:
                 return fails(4)
             place = s.place(process, page)
             if place.kind == 'excl' and place.actor == self.a:
-                if not s.is_invalidating(mirror):
+                if not (wait := self.sole_wait(mirror)):
                     yield 'set', mirror, page, place.frame, 'x', s.length
                     return None
-                yield self.invalidating(mirror)
+                yield wait
             elif place.kind == 'sys' and place.writable:
                 yield from self.one_guard(lambda x: x == place, process, page, lambda x: exclusive(x.frame, self.a))
             elif cause := self.cause(process, page, True):
                 return fails(cause)
             elif failure := (yield from self.fault(process, page, True, fails(3))):
                 return failure
+
+    def sole_wait(self, mirror):
+        """The wait before a page that is this actor's alone is set, or none."""
+        return self.invalidating(mirror) if self.s.is_invalidating(mirror) else None
 
     def exclusive(self, mirror, page):
         if not (yield from self.rlock_in_window(mirror, one_page(page))):
