@@ -1,6 +1,6 @@
 -- The states of a driver with a flaw, and what is due in them.
-use Rattle.std.specs.Prelude.{ℕ, ◌%◌, Bool, true, false, ◌==◌, if◌then◌else◌, Option, Some, None, List, [], ◌∷◌, fold}
-use Rattle.std.specs.Prelude.{length, map}
+use Rattle.std.specs.Prelude.{ℕ, ◌+◌, ◌%◌, Bool, true, false, ◌==◌, if◌then◌else◌, Option, Some, None, List, [], ◌∷◌}
+use Rattle.std.specs.Prelude.{fold, length, map, find}
 use Rattle.hm_base.specs.Program.{Program}
 use Rattle.hm_base.specs.declared.Frame.{Frame}
 use Rattle.hm_base.specs.declared.ops.Op.{Op}
@@ -12,12 +12,14 @@ use Rattle.hm_history.specs.Memory.Contents.{contents_of, shown_by}
 use Rattle.hm_history.specs.Memory.After.{After, after_entry}
 use Rattle.hm_history.specs.Kernel.Going.{State, Going, op_at, state_of, going_next}
 use Rattle.hm_history.specs.Kernel.Due.{progress}
+use Rattle.hm_history.specs.Kernel.Stacks.{freezing}
 use Rattle.hm_history.specs.declared.KeptAt.{KeptAt}
 use Rattle.hm_history.specs.declared.KeptWhy.{KeptWhy}
 use Rattle.hm_history.specs.declared.Kind.{Kind}
 use Rattle.hm_history.specs.declared.Who.{Who}
 use Rattle.hm_history.specs.declared.Entry.{Entry}
 use Rattle.hm_history.specs.declared.Progress.{Progress}
+use Rattle.hm_history.specs.declared.phases.Body.{Body}
 use Rattle.hm_history.specs.declared.phases.Migrating.{Migrating}
 use Rattle.hm_history.specs.declared.phases.MoveStep.{MoveStep}
 use Rattle.hm_history.specs.declared.phases.Touch.TheVariants.{Walk}
@@ -26,7 +28,7 @@ use Rattle.hm_history.specs.declared.phases.Next.{Next}
 use Rattle.hm_history.specs.declared.phases.Next.TheVariants.{Do}
 use Rattle.hm_flaws.specs.declared.flaws.Flaw.{Flaw}
 use Rattle.hm_flaws.specs.Drivers.{Driver, driver_of, driver_next, tells_own, target_at}
-use Rattle.hm_flaws.specs.Overrides.{due_flawed, is_device_access}
+use Rattle.hm_flaws.specs.Overrides.{due_flawed, is_device_access, frozen}
 
 -- the state that the history gives, by which legality judges, with how far each actor is; and what the driver has of
 -- its own
@@ -103,13 +105,42 @@ due_by l c t a = let g = t.state.going a in
 
 -- ---- the next state
 
+-- what an actor goes on from: a page that its setup left as it was counts as frozen
+abbrev pub taken_for : Flaw → List Phase → Kind → Kind
+taken_for Flaw.FrozenLate (Phase.Guard p r met told (Body.Select u) ∷ below) (Kind.Place q v x) = Kind.Place q v (frozen x)
+taken_for l stack k = k
+
 -- the stack without a step that is left out: the last part of a copy, the drop of a lost page's frame, or the freezing
--- of a frame's other mappings
+-- of a frame's mappings before it is copied
 abbrev pub without_step : Flaw → List Phase → List Phase
 without_step Flaw.PartCopied (Phase.Copy f g k ∷ below) = if k == 7 then below else (Phase.Copy f g k ∷ below)
 without_step Flaw.LostHeld (Phase.Drop g ∷ Phase.Moves step v ∷ below) = Phase.Moves step v ∷ below
 without_step Flaw.OthersLeft (Phase.Moves MoveStep.FreezeOthers v ∷ below) = Phase.Moves MoveStep.TakeAndCopy v ∷ below
+without_step Flaw.FrozenLate (Phase.Moves MoveStep.FreezeOthers v ∷ below) = Phase.Moves MoveStep.TakeAndCopy v ∷ below
 without_step l stack = stack
+
+-- the page whose frame a migration is about to freeze, if it has begun a guard for that at its commit
+abbrev pub page_to_freeze : List Migrating → Phase → Phase → Option Migrating
+page_to_freeze xs (Phase.Guard p r met told Body.Nothing) (Phase.Moves step n) = find (λ x. x.page + 1 == n) xs
+page_to_freeze xs top second = None
+
+-- a guard with another body
+abbrev pub with_body : Body → Phase → Phase
+with_body body (Phase.Guard p r met told was) = Phase.Guard p r met told body
+with_body body top = top
+
+-- that guard freezes a mapping of the frame, and then the page comes again
+abbrev pub freezing_late : List Migrating → List Phase → List Phase
+freezing_late xs (top ∷ second ∷ below) = elim (page_to_freeze xs top second) [
+  | None ↦ top ∷ second ∷ below
+  | Some x ↦ with_body (freezing MoveStep.FreezeOthers x.source None) top ∷ Phase.Moves MoveStep.Commit x.page ∷ below
+]
+freezing_late xs stack = stack
+
+-- a migration goes on after the page that it has set, wherever the right one has come to
+abbrev pub set_on : ℕ → List Phase → List Phase
+set_on v (Phase.Moves step n ∷ below) = Phase.Moves step (v + 1) ∷ below
+set_on v stack = stack
 
 -- the stack of a look-up that reads its sequence after the walk, given the one before the entry: the lock is that of a
 -- walk, and the begin, which has this position, goes to the commit
@@ -119,10 +150,12 @@ led_on o at (Phase.Piece k ∷ before) (Kind.Rlock p) stack =
 led_on o at (Phase.Noted k since q x ∷ before) (Kind.Begin m n) stack = Phase.Noted k at n x ∷ []
 led_on o at before k stack = stack
 
--- the stack after an entry, given the operation, the entry's position, and the stack before it
-abbrev pub stack_by : Flaw → Option Op → ℕ → List Phase → Kind → List Phase → List Phase
-stack_by Flaw.BegunLast o at before k stack = led_on o at before k stack
-stack_by l o at before k stack = without_step l stack
+-- the stack after an entry, given the operation, the entry's position, the stack before it, and the pages after it
+abbrev pub stack_by : Flaw → Option Op → ℕ → List Phase → Kind → List Migrating → List Phase → List Phase
+stack_by Flaw.BegunLast o at before k xs stack = led_on o at before k stack
+stack_by Flaw.OwnAnyway o at before (Kind.Set m v f w from) xs stack = set_on v stack
+stack_by Flaw.FrozenLate o at before (Kind.Start p r q) xs stack = freezing_late xs stack
+stack_by l o at before k xs stack = without_step l stack
 
 -- the record counts as moved, if it is that of the page
 abbrev pub as_moved : ℕ → Migrating → Migrating
@@ -137,17 +170,17 @@ recorded_by l k xs = xs
 abbrev pub going_by : Flaw → Option Op → ℕ → List Phase → Kind → Going → Going
 going_by Flaw.NoFlaw o at before k g = g
 going_by l o at before k g =
-    record { index = g.index; stack = stack_by l o at before k g.stack; pages = recorded_by l k g.pages }
+    record { index = g.index; stack = stack_by l o at before k g.pages g.stack; pages = recorded_by l k g.pages }
 
 -- the state after one entry more
 abbrev pub flawed_next : Flaw → Program → Flawed → Entry → Flawed
-flawed_next l c t e = let g = t.state.going e.actor in record {
+flawed_next l c t e = let g = t.state.going e.actor in let k = taken_for l g.stack e.kind in record {
   state = record {
     after = after_entry t.state.after e;
     going =
         with_at t.state.going e.actor
-        (going_by l (op_at c e.actor g.index) t.state.after.length g.stack e.kind
-        (going_next c (found l c t) e.actor g e.kind));
+        (going_by l (op_at c e.actor g.index) t.state.after.length g.stack k
+        (going_next c (found l c t) e.actor g k));
   };
   driver =
       driver_next l t.state.after (tells_own t.state.after (op_at c e.actor g.index) g.stack e.kind) t.driver e.actor

@@ -12,10 +12,11 @@ use Rattle.hm_history.specs.Memory.Places.{TableEntry, entry_passes, may_read, h
 use Rattle.hm_history.specs.Kernel.Operation.{op_mirror, op_writes, op_piece}
 use Rattle.hm_history.specs.Memory.Sequences.{Sequences, is_odd, interval_seq}
 use Rattle.hm_history.specs.Memory.After.{After}
-use Rattle.hm_history.specs.Kernel.Going.{touch_page, touch_proc, coming}
+use Rattle.hm_history.specs.Kernel.Going.{touch_page, touch_proc, is_direct, coming}
 use Rattle.hm_history.specs.Kernel.Due.{due_phase, due_noted, right_of, is_invalidating, repeats, fault, suits}
 use Rattle.hm_history.specs.Kernel.Due.{is_usable, rlock, begin_look_up, child_of}
-use Rattle.hm_history.specs.Kernel.Due.{answer_of_piece, frames_end, frame_at, settle, start_entry}
+use Rattle.hm_history.specs.Kernel.Due.{answer_of_piece, frames_end, frame_at, settle, start_entry, others_of}
+use Rattle.hm_history.specs.Kernel.Due.{due_moves}
 use Rattle.hm_history.specs.declared.TableRight.{TableRight}
 use Rattle.hm_history.specs.declared.KeptAt.{KeptAt}
 use Rattle.hm_history.specs.declared.KeptWhy.{KeptWhy}
@@ -52,6 +53,24 @@ is_left s o = not (is_attached s.plain (op_mirror o))
 abbrev pub for_writes : Next → Next
 for_writes (Do (Kind.Set m v f w from)) = Do (Kind.Set m v f TableRight.Write from)
 for_writes n = n
+
+-- ---- the table entry of a page that a migration moved
+
+-- the state as if no interval were being invalidated: none has the sequence of its process
+abbrev pub uninvalidated : After → After
+uninvalidated s = record s { sequences = record s.sequences { seq = λ p. 1; interval = λ m. None } }
+
+-- what a migration comes to if its driver sets its own table, whether or not its interval is being invalidated
+abbrev pub coming_anyway : After → Op → List Migrating → Phase → Option (MoveStep × Migrating)
+coming_anyway s o xs top = coming (uninvalidated s) o xs top
+
+-- ---- the table entry of a page that an actor has alone
+
+-- it is set, in place of the wait until its interval is not being invalidated any more
+abbrev pub set_alone : After → ℕ → ℕ → Next → Next
+set_alone s p v (Wait (Why.Invalidating m q)) =
+    Do (Kind.Set m v (names (s.places.place p v)) TableRight.Sole s.length)
+set_alone s p v n = n
 
 -- ---- the begin of a look-up
 
@@ -226,6 +245,23 @@ has_any_place s (Op.Store p at bs) k =
     s.plain.there p && suits_any true (s.places.place p (page_of (op_piece (Op.Store p at bs) k).0))
 has_any_place s o k = false
 
+-- ---- the memory manager: pages that are frozen late
+
+-- a setup leaves a page as it is that it would freeze
+abbrev pub left_mapped : After → Body → Next → Next
+left_mapped s (Body.Select u) (Do (Kind.Place p v x)) = Do (Kind.Place p v (s.places.place p v))
+left_mapped s body n = n
+
+-- the mappings of a frame are frozen, one by one, before its copy is committed
+abbrev pub frozen_before : After → MoveStep → Migrating → Next → Next
+frozen_before s MoveStep.Commit x n = elim (is_direct s x.source) [ true ↦ Do (others_of s x.source) | false ↦ n ]
+frozen_before s step x n = n
+
+-- so it is where a migration has come to that
+abbrev pub frozen_late : After → Option (MoveStep × Migrating) → Next → Next
+frozen_late s None n = n
+frozen_late s (Some at) n = frozen_before s at.0 at.1 n
+
 -- ---- the memory manager: locks of frames
 
 -- a place as it is frozen: a migration entry of its frame, with its right
@@ -324,6 +360,8 @@ due_flawed Flaw.UsedDetached c s a o xs (Phase.Piece k) =
 due_flawed Flaw.ReadsWritten c s a o xs (Phase.Piece k) =
     answered (has_readable s o k) s o k (due_phase c s a o xs (Phase.Piece k))
 due_flawed Flaw.OwnForWrites c s a o xs (Phase.Moves step v) = for_writes (due_phase c s a o xs (Phase.Moves step v))
+due_flawed Flaw.OwnAnyway c s a o xs (Phase.Moves step v) =
+    Do (due_moves c s o xs (coming_anyway s o xs (Phase.Moves step v)))
 due_flawed Flaw.WithdrawnTaken c s a o xs (Phase.Moves step v) =
     due_phase c (all_withdrawn false s) a o xs (Phase.Moves step v)
 due_flawed Flaw.RemovedAtOnce c s a o xs (Phase.Frames v n) =
@@ -332,6 +370,8 @@ due_flawed Flaw.NotWithdrawn c s a o xs (Phase.Frames v n) =
     due_phase c (all_withdrawn true s) a o xs (Phase.Frames v n)
 due_flawed Flaw.LockedPassed c s a o xs (Phase.Frames v n) =
     passes_locked c s a o v (due_phase c s a o xs (Phase.Frames v n))
+due_flawed Flaw.SoleAnyway c s a o xs (Phase.Decide touch) =
+    set_alone s (touch_proc s o) (touch_page o touch) (due_phase c s a o xs (Phase.Decide touch))
 due_flawed Flaw.AddedAnyway c s a o xs (Phase.Fetched old) =
     added_at o old (due_phase c s a o xs (Phase.Fetched old))
 due_flawed Flaw.ToldLast c s a o xs (Phase.Guard p r met told body) =
@@ -345,6 +385,10 @@ due_flawed Flaw.ReplacedAnyway c s a o xs (Phase.Guard p r met told body) =
     replaced_anyway r body (due_phase c s a o xs (Phase.Guard p r met told body))
 due_flawed Flaw.DeviceAccessed c s a o xs (Phase.Piece k) =
     answered (has_any_place s o k) s o k (due_phase c s a o xs (Phase.Piece k))
+due_flawed Flaw.FrozenLate c s a o xs (Phase.Guard p r met told body) =
+    left_mapped s body (due_phase c s a o xs (Phase.Guard p r met told body))
+due_flawed Flaw.FrozenLate c s a o xs (Phase.Moves step v) =
+    frozen_late s (coming s o xs (Phase.Moves step v)) (due_phase c s a o xs (Phase.Moves step v))
 due_flawed Flaw.FreshAnyway c s a o xs (Phase.Guard p r met told body) =
     fresh_anyway s p r body (due_phase c s a o xs (Phase.Guard p r met told body))
 due_flawed Flaw.FreshForWrites c s a o xs (Phase.Guard p r met told body) =

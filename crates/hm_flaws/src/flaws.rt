@@ -50,6 +50,8 @@ pub enum Flaw {
     LostAsMoved,
     /// It sets each page for writes in its own table.
     OwnForWrites,
+    /// It sets each page that it moved, though its interval is being invalidated.
+    OwnAnyway,
     /// It does not drop the frame of a lost page.
     LostHeld,
     // removals
@@ -61,7 +63,9 @@ pub enum Flaw {
     NotWithdrawn,
     /// It passes over a frame that another actor has locked.
     LockedPassed,
-    // additions
+    // exclusive pages
+    /// It sets a page that its actor has alone, though its interval is being invalidated.
+    SoleAnyway,
     /// It adds to the byte, though its actor may have lost the page since it was fetched.
     AddedAnyway,
     // the memory manager's own rules, which are left out for everybody
@@ -77,6 +81,8 @@ pub enum Flaw {
     DeviceAccessed,
     /// A migration freezes no mapping of a frame but the first.
     OthersLeft,
+    /// A migration freezes the mappings of a frame, the first among them, only after it has copied the frame.
+    FrozenLate,
     /// A migration places a fresh page without a second look at it.
     FreshAnyway,
     /// A migration places a fresh page for writes, whatever right its area has.
