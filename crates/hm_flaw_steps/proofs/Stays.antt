@@ -68,6 +68,10 @@ pub own_for_writes : (c : Program) (s : After) (a : ℕ) (o : Op) (xs : List Mig
 own_for_writes c s a o xs (Phase.Moves step v) h = absurd (h step v refl)
 own_for_writes c s a o xs top h = refl
 
+pub own_anyway : (c : Program) (s : After) (a : ℕ) (o : Op) (xs : List Migrating) (top : Phase) → ((step : MoveStep) (v : ℕ) → top ≡ Phase.Moves step v → ⊥) → due_phase c s a o xs top ≡ due_flawed Flaw.OwnAnyway c s a o xs top
+own_anyway c s a o xs (Phase.Moves step v) h = absurd (h step v refl)
+own_anyway c s a o xs top h = refl
+
 pub withdrawn_taken : (c : Program) (s : After) (a : ℕ) (o : Op) (xs : List Migrating) (top : Phase) → ((step : MoveStep) (v : ℕ) → top ≡ Phase.Moves step v → ⊥) → due_phase c s a o xs top ≡ due_flawed Flaw.WithdrawnTaken c s a o xs top
 withdrawn_taken c s a o xs (Phase.Moves step v) h = absurd (h step v refl)
 withdrawn_taken c s a o xs top h = refl
@@ -83,6 +87,10 @@ not_withdrawn c s a o xs top h = refl
 pub locked_passed : (c : Program) (s : After) (a : ℕ) (o : Op) (xs : List Migrating) (top : Phase) → ((v n : ℕ) → top ≡ Phase.Frames v n → ⊥) → due_phase c s a o xs top ≡ due_flawed Flaw.LockedPassed c s a o xs top
 locked_passed c s a o xs (Phase.Frames v n) h = absurd (h v n refl)
 locked_passed c s a o xs top h = refl
+
+pub sole_anyway : (c : Program) (s : After) (a : ℕ) (o : Op) (xs : List Migrating) (top : Phase) → ((touch : Touch) → top ≡ Phase.Decide touch → ⊥) → due_phase c s a o xs top ≡ due_flawed Flaw.SoleAnyway c s a o xs top
+sole_anyway c s a o xs (Phase.Decide touch) h = absurd (h touch refl)
+sole_anyway c s a o xs top h = refl
 
 pub added_anyway : (c : Program) (s : After) (a : ℕ) (o : Op) (xs : List Migrating) (top : Phase) → ((old : ℕ) → top ≡ Phase.Fetched old → ⊥) → due_phase c s a o xs top ≡ due_flawed Flaw.AddedAnyway c s a o xs top
 added_anyway c s a o xs (Phase.Fetched old) h = absurd (h old refl)
@@ -107,6 +115,11 @@ replaced_anyway c s a o xs top h = refl
 pub device_accessed : (c : Program) (s : After) (a : ℕ) (o : Op) (xs : List Migrating) (top : Phase) → ((k : ℕ) → top ≡ Phase.Piece k → ⊥) → due_phase c s a o xs top ≡ due_flawed Flaw.DeviceAccessed c s a o xs top
 device_accessed c s a o xs (Phase.Piece k) h = absurd (h k refl)
 device_accessed c s a o xs top h = refl
+
+pub frozen_late : (c : Program) (s : After) (a : ℕ) (o : Op) (xs : List Migrating) (top : Phase) → ((p : ℕ) (r : Pages) (met : Bool) (told : Option ℕ) (body : Body) → top ≡ Phase.Guard p r met told body → ⊥) → ((step : MoveStep) (v : ℕ) → top ≡ Phase.Moves step v → ⊥) → due_phase c s a o xs top ≡ due_flawed Flaw.FrozenLate c s a o xs top
+frozen_late c s a o xs (Phase.Guard p r met told body) h i = absurd (h p r met told body refl)
+frozen_late c s a o xs (Phase.Moves step v) h i = absurd (i step v refl)
+frozen_late c s a o xs top h i = refl
 
 pub fresh_anyway : (c : Program) (s : After) (a : ℕ) (o : Op) (xs : List Migrating) (top : Phase) → ((p : ℕ) (r : Pages) (met : Bool) (told : Option ℕ) (body : Body) → top ≡ Phase.Guard p r met told body → ⊥) → due_phase c s a o xs top ≡ due_flawed Flaw.FreshAnyway c s a o xs top
 fresh_anyway c s a o xs (Phase.Guard p r met told body) h = absurd (h p r met told body refl)

@@ -11,6 +11,8 @@ use Rattle.hm_history.specs.Kernel.Due.{due_phase, due_decide}
 use Rattle.hm_history.specs.declared.Kind.{Kind}
 use Rattle.hm_history.specs.declared.KeptWhy.{KeptWhy}
 use Rattle.hm_history.specs.declared.Progress.{Progress}
+use Rattle.hm_history.specs.declared.phases.Migrating.{Migrating}
+use Rattle.hm_history.specs.declared.phases.MoveStep.{MoveStep}
 use Rattle.hm_history.specs.declared.phases.Touch.{Touch}
 use Rattle.hm_history.specs.declared.phases.Touch.TheVariants.{Walk}
 use Rattle.hm_history.specs.declared.phases.Phase.{Phase}
@@ -43,6 +45,16 @@ next_of Progress.Idle = None
 abbrev pub is_wanting : Next → Bool
 is_wanting (Do (Kind.Kept what KeptWhy.NoFrame)) = true
 is_wanting n = false
+
+-- the page that a step of a migration sets in the driver's own table
+abbrev pub page_set_at : MoveStep → Migrating → Option Migrating
+page_set_at MoveStep.SetOwnTable x = Some x
+page_set_at step x = None
+
+-- the same, by what the migration has come to
+abbrev pub page_to_set : Option (MoveStep × Migrating) → Option Migrating
+page_to_set None = None
+page_to_set (Some at) = page_set_at at.0 at.1
 
 -- a fault decides, if any device's memory is no fault to a walk
 abbrev pub any_decides : Program → After → ℕ → Op → Touch → ℕ → ℕ → Next

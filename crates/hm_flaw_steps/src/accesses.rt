@@ -1,22 +1,23 @@
-// Accesses through a mirror's table, of a driver that asks less of it.
+// Accesses through a mirror's table, of a driver that asks less of it, or sets it sooner.
 ghost use Rattle.std.specs.Prelude.{◌≡◌, true, false, IsTrue, IfOk};
 ghost use Rattle.hm_base.specs.Program.{op_in_range};
 ghost use Rattle.hm_history.specs.Memory.Words.{page_of};
 ghost use Rattle.hm_history.specs.Kernel.Operation.{op_writes, op_who, op_piece, op_mirror};
 ghost use Rattle.hm_history.specs.Kernel.Due as spec;
 ghost use Rattle.hm_history.specs.declared.Who as who;
-ghost use Rattle.hm_history.specs.declared.phases.Next.TheVariants.{Do};
-ghost use Rattle.hm_flaws.specs.Overrides.{is_device_access, answered, has_usable, has_readable, added_at};
+ghost use Rattle.hm_history.specs.declared.phases.Next.TheVariants.{Do, Wait};
+ghost use Rattle.hm_flaws.specs.Overrides.{is_device_access, answered, has_usable, has_readable, set_alone, added_at};
 ghost use Rattle.hm_flaws.specs.declared.flaws.Flaw as flaws;
 ghost use Rattle.hm_flaw_steps.specs.Found.{right_at, flawed_at};
 
 use crate::Finds;
-use hm_base::{Actor, MirrorId, NoMemory, Op};
+use hm_base::frames::names;
+use hm_base::{Actor, MirrorId, NoMemory, Op, Page, Proc};
 use hm_history::phases::{Next, Phase};
-use hm_history::{Kind, Who};
+use hm_history::{Kind, TableRight, Who, Why};
 use hm_reads::Reads;
 use hm_reads::decisions::stored;
-use hm_reads::operations::{op_piece, op_writes, piece_page};
+use hm_reads::operations::{op_piece, op_writes, piece_page, touch_page, touch_proc};
 use std::alloc::Global;
 
 // The answer of a piece: what it writes, or the plain bytes, which reading puts right.
@@ -205,6 +206,51 @@ pub fn added_anyway<W: Reads>(found: &W, actor: Actor, op: &Op, top: &Phase, rig
     let _ = actor;
     match top {
         Phase::Fetched { old } => added(op, *old, right),
+        _ => right,
+    }
+}
+
+// A page that the actor has alone is set in place of a wait.
+fn sets_alone<W: Reads>(found: &W, proc: Proc, page: Page, why: Why) -> Next
+    ensures { result ≡ set_alone (W.state found.now).after proc page (Wait why) }
+{
+    match why {
+        Why::Invalidating(mirror, _) => Next::Do(Kind::Set {
+            mirror,
+            page,
+            target: names(&found.place(proc, page)),
+            right: TableRight::Sole,
+            since: found.length(),
+        }),
+        other => Next::Wait(other),
+    }
+}
+
+// What a fault does that does not wait before it sets such a page.
+fn set_alone<W: Reads>(found: &W, proc: Proc, page: Page, right: Next) -> Next
+    ensures { result ≡ set_alone (W.state found.now).after proc page right }
+{
+    match right {
+        Next::Do(kind) => Next::Do(kind),
+        Next::Wait(why) => sets_alone(found, proc, page, why),
+    }
+}
+
+/// An actor that sets a page which it has alone, though the interval is being invalidated.
+pub fn sole_anyway<W: Reads>(found: &W, actor: Actor, op: &Op, top: &Phase, right: Next) -> Next
+    requires range { IsTrue (op_in_range op.now) }
+    requires right { right ≡ right_at (W.program found.now) (W.state found.now) actor op.now top.now }
+    ensures { result
+        ≡ flawed_at flaws.Flaw.SoleAnyway (W.program found.now) (W.state found.now) actor op.now top.now }
+{
+    let _ = actor;
+    match top {
+        Phase::Decide { touch } => set_alone(
+            found,
+            touch_proc(found, op),
+            touch_page(op, *touch),
+            right,
+        ),
         _ => right,
     }
 }

@@ -5,14 +5,15 @@ ghost use Rattle.hm_reads.specs.Ranges.{phase_in_range};
 ghost use Rattle.hm_flaw_steps.specs.Found.{right_at, flawed_at};
 
 use crate::Finds;
-use crate::accesses::{added_anyway, reads_written, used_detached};
+use crate::accesses::{added_anyway, reads_written, sole_anyway, used_detached};
 use crate::begins::{begun_anyway, begun_last, detached_at_once};
 use crate::cpu_accesses::device_accessed;
 use crate::endings::{not_put_back, unnamed_held};
+use crate::freezing::frozen_late;
 use crate::invalidations::{ended_at_once, told_last};
 use crate::locking::locked_taken;
 use crate::look_ups::{all_for_writes, any_device, compared_now, not_compared, walks_unlocked};
-use crate::migrations::{own_for_writes, withdrawn_taken};
+use crate::migrations::{own_anyway, own_for_writes, withdrawn_taken};
 use crate::placing::{
     back_for_writes, forked_whole, fresh_anyway, fresh_for_writes, replaced_anyway,
 };
@@ -50,16 +51,19 @@ pub fn flawed<W: Finds>(
         Flaw::UsedDetached => used_detached(found, alloc, actor, op, top, right),
         Flaw::ReadsWritten => reads_written(found, alloc, actor, op, top, right),
         Flaw::OwnForWrites => Ok(own_for_writes(found, actor, op, top, right)),
+        Flaw::OwnAnyway => Ok(own_anyway(found, actor, op, top, right)),
         Flaw::WithdrawnTaken => Ok(withdrawn_taken(found, actor, op, top, right)),
         Flaw::RemovedAtOnce => Ok(removed_at_once(found, actor, op, top, right)),
         Flaw::NotWithdrawn => Ok(not_withdrawn(found, actor, op, top, right)),
         Flaw::LockedPassed => Ok(locked_passed(found, actor, op, top, right)),
+        Flaw::SoleAnyway => Ok(sole_anyway(found, actor, op, top, right)),
         Flaw::AddedAnyway => Ok(added_anyway(found, actor, op, top, right)),
         Flaw::ToldLast => Ok(told_last(found, actor, op, top, right)),
         Flaw::EndedAtOnce => ended_at_once(found, actor, op, top, right),
         Flaw::ForkedWhole => Ok(forked_whole(found, actor, op, top, right)),
         Flaw::ReplacedAnyway => Ok(replaced_anyway(found, actor, op, top, right)),
         Flaw::DeviceAccessed => device_accessed(found, alloc, actor, op, top, right),
+        Flaw::FrozenLate => Ok(frozen_late(found, actor, op, top, right)),
         Flaw::FreshAnyway => Ok(fresh_anyway(found, actor, op, top, right)),
         Flaw::FreshForWrites => Ok(fresh_for_writes(found, actor, op, top, right)),
         Flaw::BackForWrites => Ok(back_for_writes(found, actor, op, top, right)),

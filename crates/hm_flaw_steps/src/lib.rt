@@ -7,9 +7,10 @@ ghost use Rattle.hm_base.specs.Program.{op_in_range};
 ghost use Rattle.hm_history.specs.Memory.Plain.{plain_bytes};
 ghost use Rattle.hm_history.specs.Kernel.Due as spec;
 ghost use Rattle.hm_history.specs.declared.Who as who;
+ghost use Rattle.hm_history.specs.declared.phases.Phase as phase;
 ghost use Rattle.hm_reads.specs.Ranges.{phase_in_range};
 ghost use Rattle.hm_flaws.specs.Drivers.{Driver};
-ghost use Rattle.hm_flaws.specs.Overrides.{is_readable};
+ghost use Rattle.hm_flaws.specs.Overrides.{is_readable, coming_anyway};
 ghost use Rattle.hm_flaws.specs.Flawed.{device_bytes, as_read};
 ghost use Rattle.hm_flaw_steps.specs.Found.{right_at, flawed_at, due_found, next_of};
 
@@ -18,6 +19,7 @@ mod begins;
 mod cpu_accesses;
 mod endings;
 mod flawed;
+mod freezing;
 mod invalidations;
 mod locking;
 mod look_ups;
@@ -28,9 +30,10 @@ mod removals;
 mod telling;
 
 use flawed::flawed;
+pub use freezing::taken_for;
 use hm_base::{Actor, Bytes, MirrorId, NoMemory, Op, Page, Proc};
 use hm_flaws::Flaw;
-use hm_history::phases::{Next, Phase};
+use hm_history::phases::{Migrating, MoveStep, Next, Phase};
 use hm_history::{Entry, Progress};
 use hm_reads::Reads;
 use hm_steps::due;
@@ -57,6 +60,19 @@ pub trait Finds: Reads {
         len: u64,
     ) -> Result<Bytes, NoMemory>
         ensures { IfOk result (λ bytes. bytes ≡ device_bytes (driver self.now) mirror addr len) };
+
+    /// The step, from this one on, and the page to which the actor's migration comes, whether or not the interval of its
+    /// mirror is being invalidated; none at its end.
+    fn coming_anyway(
+        &self,
+        actor: Actor,
+        op: &Op,
+        step: MoveStep,
+        next: u64,
+    ) -> Option<(MoveStep, Migrating)>
+        ensures { result
+            ≡ coming_anyway (Self.state self.now).after op.now ((Self.state self.now).going actor).pages
+            (phase.Phase.Moves step next) };
 
     /// The bytes of a process, in whatever memory its pages lie.
     fn process_bytes(

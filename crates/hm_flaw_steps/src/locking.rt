@@ -15,8 +15,8 @@ use hm_history::{KeptAt, KeptWhy, Kind};
 use hm_reads::Reads;
 use hm_reads::decisions::start_page;
 
-// A place as it is frozen; one that names no frame stays.
-fn frozen(place: Place) -> Place
+/// A place as it is frozen; one that names no frame stays.
+pub fn frozen(place: Place) -> Place
     ensures { result ≡ frozen place }
 {
     match names(&place) {

@@ -7,17 +7,20 @@ ghost use Rattle.hm_base.specs.declared.PoolId as pools;
 ghost use Rattle.hm_history.specs.Kernel.Going.{coming};
 ghost use Rattle.hm_history.specs.declared.phases.Next.TheVariants.{Do};
 ghost use Rattle.hm_history.specs.declared.phases.Phase as phase;
-ghost use Rattle.hm_flaws.specs.Overrides.{all_withdrawn};
+ghost use Rattle.hm_flaws.specs.Overrides.{coming_anyway, all_withdrawn};
 ghost use Rattle.hm_flaws.specs.declared.flaws.Flaw as flaws;
 ghost use Rattle.hm_flaw_steps.specs.Found.{right_at, flawed_at, is_wanting};
+ghost use Rattle.hm_flaw_steps.specs.Found.{page_set_at, page_to_set};
 
+use crate::Finds;
 use crate::look_ups::for_writes;
 use hm_base::frames::dev_frame;
 use hm_base::{Actor, Dev, Frame, Op, Page, PoolId, Script};
-use hm_history::phases::{MoveStep, Next, Phase};
+use hm_history::phases::{Migrating, MoveStep, Next, Phase};
 use hm_history::{KeptWhy, Kind};
 use hm_reads::Reads;
 use hm_reads::operations::{is_to_device, op_mirror};
+use migrate_ops::set_own;
 
 // How many frames the device has.
 fn device_size(script: &Script, dev: Dev) -> u32
@@ -111,6 +114,72 @@ pub fn own_for_writes<W: Reads>(found: &W, actor: Actor, op: &Op, top: &Phase, r
     let _ = op;
     match top {
         Phase::Moves { .. } => for_writes(right),
+        _ => right,
+    }
+}
+
+fn page_set_at(step: MoveStep, page: Migrating) -> Option<Migrating>
+    ensures { result ≡ page_set_at step page }
+{
+    match step {
+        MoveStep::SetOwnTable => Some(page),
+        _ => None,
+    }
+}
+
+// The page that a migration sets in its own table, if it has come to that.
+fn page_to_set<W: Finds>(
+    found: &W,
+    actor: Actor,
+    op: &Op,
+    step: MoveStep,
+    next: u64,
+) -> Option<Migrating>
+    ensures { result
+        ≡ page_to_set (coming_anyway (W.state found.now).after op.now ((W.state found.now).going actor).pages
+        (phase.Phase.Moves step next)) }
+{
+    match found.coming_anyway(actor, op, step, next) {
+        Some((step, page)) => page_set_at(step, page),
+        None => None,
+    }
+}
+
+// A migration that sets its own table, if it has come to that.
+fn set_anyway<W: Finds>(
+    found: &W,
+    actor: Actor,
+    op: &Op,
+    step: MoveStep,
+    next: u64,
+    right: Next,
+) -> Next
+    requires { right
+        ≡ Do (spec.due_moves (W.program found.now) (W.state found.now).after op.now
+        ((W.state found.now).going actor).pages (coming (W.state found.now).after op.now
+        ((W.state found.now).going actor).pages (phase.Phase.Moves step next))) }
+    ensures { result
+        ≡ Do (spec.due_moves (W.program found.now) (W.state found.now).after op.now
+        ((W.state found.now).going actor).pages (coming_anyway (W.state found.now).after op.now
+        ((W.state found.now).going actor).pages (phase.Phase.Moves step next))) }
+{
+    match page_to_set(found, actor, op, step, next) {
+        Some(page) => {
+            let mirror = op_mirror(op);
+            Next::Do(set_own(found, mirror, found.mirror_proc(mirror), &page))
+        }
+        None => right,
+    }
+}
+
+/// A migration that sets each moved page in its own table, though the interval is being invalidated.
+pub fn own_anyway<W: Finds>(found: &W, actor: Actor, op: &Op, top: &Phase, right: Next) -> Next
+    requires { right ≡ right_at (W.program found.now) (W.state found.now) actor op.now top.now }
+    ensures { result
+        ≡ flawed_at flaws.Flaw.OwnAnyway (W.program found.now) (W.state found.now) actor op.now top.now }
+{
+    match top {
+        Phase::Moves { step, next } => set_anyway(found, actor, op, *step, *next, right),
         _ => right,
     }
 }
