@@ -22,9 +22,9 @@ built=$program.built                # the sum of what the proved program was mad
 quick=$crate/out/quick/$name        # the unproved one, with its sum in $quick.built
 rules='compare compare-sequence entry-right mmap-lock own-device begin-waits begin-first set-sequence erase erase-all
 erase-in-time own-events own-sequence own-entries stop-at-detach write-entry detach-waits copy-all clear set-moved
-set-right drop-lost take-from-there evict-first withdraw-first wait-for-locked look-again tell-first end-last
-fork-narrows fault-looks-again bring-home freeze-others fresh-looks-again fresh-right back-right lock-page
-put-back drop-unnamed'     # hmmwithout takes one of them
+set-right set-unless-invalidated drop-lost take-from-there evict-first withdraw-first wait-for-locked exclusive-waits
+look-again tell-first end-last fork-narrows fault-looks-again bring-home freeze-others freeze-first fresh-looks-again
+fresh-right back-right lock-page put-back drop-unnamed'     # hmmwithout takes one of them
 
 say() { echo "$name.sh: $*" >&2; }
 

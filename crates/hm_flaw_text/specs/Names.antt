@@ -13,6 +13,7 @@ manager_name Flaw.ForkedWhole = codes "fork-narrows"
 manager_name Flaw.ReplacedAnyway = codes "fault-looks-again"
 manager_name Flaw.DeviceAccessed = codes "bring-home"
 manager_name Flaw.OthersLeft = codes "freeze-others"
+manager_name Flaw.FrozenLate = codes "freeze-first"
 manager_name Flaw.FreshAnyway = codes "fresh-looks-again"
 manager_name Flaw.FreshForWrites = codes "fresh-right"
 manager_name Flaw.BackForWrites = codes "back-right"
@@ -45,11 +46,13 @@ name_of Flaw.PartCopied = codes "copy-all"
 name_of Flaw.NotCleared = codes "clear"
 name_of Flaw.LostAsMoved = codes "set-moved"
 name_of Flaw.OwnForWrites = codes "set-right"
+name_of Flaw.OwnAnyway = codes "set-unless-invalidated"
 name_of Flaw.LostHeld = codes "drop-lost"
 name_of Flaw.WithdrawnTaken = codes "take-from-there"
 name_of Flaw.RemovedAtOnce = codes "evict-first"
 name_of Flaw.NotWithdrawn = codes "withdraw-first"
 name_of Flaw.LockedPassed = codes "wait-for-locked"
+name_of Flaw.SoleAnyway = codes "exclusive-waits"
 name_of Flaw.AddedAnyway = codes "look-again"
 name_of l = manager_name l
 
@@ -78,11 +81,13 @@ all_flaws =
     ∷ Flaw.NotCleared
     ∷ Flaw.LostAsMoved
     ∷ Flaw.OwnForWrites
+    ∷ Flaw.OwnAnyway
     ∷ Flaw.LostHeld
     ∷ Flaw.WithdrawnTaken
     ∷ Flaw.RemovedAtOnce
     ∷ Flaw.NotWithdrawn
     ∷ Flaw.LockedPassed
+    ∷ Flaw.SoleAnyway
     ∷ Flaw.AddedAnyway
     ∷ Flaw.ToldLast
     ∷ Flaw.EndedAtOnce
@@ -90,6 +95,7 @@ all_flaws =
     ∷ Flaw.ReplacedAnyway
     ∷ Flaw.DeviceAccessed
     ∷ Flaw.OthersLeft
+    ∷ Flaw.FrozenLate
     ∷ Flaw.FreshAnyway
     ∷ Flaw.FreshForWrites
     ∷ Flaw.BackForWrites

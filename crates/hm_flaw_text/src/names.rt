@@ -6,7 +6,7 @@ ghost use Rattle.hm_flaw_text.specs.Names.{all_flaws, flaw_named, manager_name, 
 use hm_flaws::{Flaw, Part};
 
 /// All drivers, in the order of the table of rules; the right one comes first.
-const FLAWS: [Flaw; 40] = [
+const FLAWS: [Flaw; 43] = [
     Flaw::NoFlaw,
     Flaw::NotCompared,
     Flaw::ComparedNow,
@@ -29,11 +29,13 @@ const FLAWS: [Flaw; 40] = [
     Flaw::NotCleared,
     Flaw::LostAsMoved,
     Flaw::OwnForWrites,
+    Flaw::OwnAnyway,
     Flaw::LostHeld,
     Flaw::WithdrawnTaken,
     Flaw::RemovedAtOnce,
     Flaw::NotWithdrawn,
     Flaw::LockedPassed,
+    Flaw::SoleAnyway,
     Flaw::AddedAnyway,
     Flaw::ToldLast,
     Flaw::EndedAtOnce,
@@ -41,6 +43,7 @@ const FLAWS: [Flaw; 40] = [
     Flaw::ReplacedAnyway,
     Flaw::DeviceAccessed,
     Flaw::OthersLeft,
+    Flaw::FrozenLate,
     Flaw::FreshAnyway,
     Flaw::FreshForWrites,
     Flaw::BackForWrites,
@@ -50,7 +53,7 @@ const FLAWS: [Flaw; 40] = [
 ];
 
 /// All drivers, in the order in which their lines are written: the right one, and then those with a flaw.
-pub fn all_flaws() -> [Flaw; 40]
+pub fn all_flaws() -> [Flaw; 43]
     ensures { result ≡ all_flaws }
 {
     FLAWS
@@ -72,6 +75,7 @@ fn manager_name(flaw: Flaw) -> &'static str
         Flaw::ReplacedAnyway => "fault-looks-again",
         Flaw::DeviceAccessed => "bring-home",
         Flaw::OthersLeft => "freeze-others",
+        Flaw::FrozenLate => "freeze-first",
         Flaw::FreshAnyway => "fresh-looks-again",
         Flaw::FreshForWrites => "fresh-right",
         Flaw::BackForWrites => "back-right",
@@ -109,11 +113,13 @@ pub fn rule_name(flaw: Flaw) -> &'static str
         Flaw::NotCleared => "clear",
         Flaw::LostAsMoved => "set-moved",
         Flaw::OwnForWrites => "set-right",
+        Flaw::OwnAnyway => "set-unless-invalidated",
         Flaw::LostHeld => "drop-lost",
         Flaw::WithdrawnTaken => "take-from-there",
         Flaw::RemovedAtOnce => "evict-first",
         Flaw::NotWithdrawn => "withdraw-first",
         Flaw::LockedPassed => "wait-for-locked",
+        Flaw::SoleAnyway => "exclusive-waits",
         Flaw::AddedAnyway => "look-again",
         _ => manager_name(flaw),
     }

@@ -14,9 +14,10 @@ usage =
     codes "usage: hmmwithout RULE | none | --all [--answers] [--most MOST], with RULE one of compare compare-sequence "
     ++ (codes "entry-right mmap-lock own-device begin-waits begin-first set-sequence erase erase-all erase-in-time "
     ++ (codes "own-events own-sequence own-entries stop-at-detach write-entry detach-waits copy-all clear set-moved "
-    ++ (codes "set-right drop-lost take-from-there evict-first withdraw-first wait-for-locked look-again, "
-    ++ (codes "or of the memory manager's own: tell-first end-last fork-narrows fault-looks-again bring-home "
-    ++ codes "freeze-others fresh-looks-again fresh-right back-right lock-page put-back drop-unnamed"))))
+    ++ (codes "set-right set-unless-invalidated drop-lost take-from-there evict-first withdraw-first wait-for-locked "
+    ++ (codes "exclusive-waits look-again, or of the memory manager's own: tell-first end-last fork-narrows "
+    ++ (codes "fault-looks-again bring-home freeze-others freeze-first fresh-looks-again fresh-right back-right "
+    ++ codes "lock-page put-back drop-unnamed")))))
 
 -- what the words ask for was done
 abbrev pub Runs : List (List ℕ) → Traffic → Status → Type 0
