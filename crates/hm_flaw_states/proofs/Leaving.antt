@@ -6,6 +6,7 @@ use Rattle.hm_base.specs.declared.ops.Op.{Op}
 use Rattle.hm_history.specs.Memory.Locks.{orphan}
 use Rattle.hm_history.specs.Kernel.Going.{Going}
 use Rattle.hm_history.specs.declared.Kind.{Kind}
+use Rattle.hm_history.specs.declared.phases.Migrating.{Migrating}
 use Rattle.hm_history.specs.declared.phases.Phase.{Phase}
 use Rattle.hm_flaws.specs.declared.flaws.Flaw.{Flaw}
 use Rattle.hm_flaws.specs.Flawed.{Flawed, found, found_with, going_by, led_on, recorded_by, stack_by, without_step}
@@ -13,17 +14,18 @@ use Rattle.hm_flaw_states.specs.Rooms.{leaves_out, without_top}
 
 -- ---- a step that is left out
 
-pub left_out : (l : Flaw) (st : List Phase) → (l ≡ Flaw.OthersLeft → ⊥) → (if leaves_out l st then without_top st else st) ≡ without_step l st
-left_out Flaw.OthersLeft st h = absurd (h refl)
-left_out Flaw.PartCopied [] h = refl
-left_out Flaw.PartCopied (Phase.Copy f g k ∷ below) h = refl
-left_out Flaw.PartCopied (_ ∷ below) h = refl
-left_out Flaw.LostHeld [] h = refl
-left_out Flaw.LostHeld (Phase.Drop g ∷ []) h = refl
-left_out Flaw.LostHeld (Phase.Drop g ∷ Phase.Moves step v ∷ below) h = refl
-left_out Flaw.LostHeld (Phase.Drop g ∷ _ ∷ below) h = refl
-left_out Flaw.LostHeld (_ ∷ below) h = refl
-left_out _ st h = refl
+pub left_out : (l : Flaw) (st : List Phase) → (l ≡ Flaw.OthersLeft → ⊥) → (l ≡ Flaw.FrozenLate → ⊥) → (if leaves_out l st then without_top st else st) ≡ without_step l st
+left_out Flaw.OthersLeft st h i = absurd (h refl)
+left_out Flaw.FrozenLate st h i = absurd (i refl)
+left_out Flaw.PartCopied [] h i = refl
+left_out Flaw.PartCopied (Phase.Copy f g k ∷ below) h i = refl
+left_out Flaw.PartCopied (_ ∷ below) h i = refl
+left_out Flaw.LostHeld [] h i = refl
+left_out Flaw.LostHeld (Phase.Drop g ∷ []) h i = refl
+left_out Flaw.LostHeld (Phase.Drop g ∷ Phase.Moves step v ∷ below) h i = refl
+left_out Flaw.LostHeld (Phase.Drop g ∷ _ ∷ below) h i = refl
+left_out Flaw.LostHeld (_ ∷ below) h i = refl
+left_out _ st h i = refl
 
 -- ---- a look-up that reads its sequence after the walk
 
@@ -42,12 +44,14 @@ led_top o at top (x ∷ below) k st e = ap (λ (t : Option Phase). led_on o at (
 -- ---- all of it
 
 -- a stack of which nothing else than a step is left out
-pub steps_by : (l : Flaw) (o : Option Op) (at : ℕ) (before : List Phase) (k : Kind) (st : List Phase) → (l ≡ Flaw.BegunLast → ⊥) → without_step l st ≡ stack_by l o at before k st
-steps_by Flaw.BegunLast o at before k st h = absurd (h refl)
-steps_by _ o at before k st h = refl
+pub steps_by : (l : Flaw) (o : Option Op) (at : ℕ) (before : List Phase) (k : Kind) (xs : List Migrating) (st : List Phase) → (l ≡ Flaw.BegunLast → ⊥) → (l ≡ Flaw.OwnAnyway → ⊥) → (l ≡ Flaw.FrozenLate → ⊥) → without_step l st ≡ stack_by l o at before k xs st
+steps_by Flaw.BegunLast o at before k xs st h i j = absurd (h refl)
+steps_by Flaw.OwnAnyway o at before k xs st h i j = absurd (i refl)
+steps_by Flaw.FrozenLate o at before k xs st h i j = absurd (j refl)
+steps_by _ o at before k xs st h i j = refl
 
 -- what a driver with a flaw makes of how far an actor is
-pub goes_by : (l : Flaw) (o : Option Op) (at : ℕ) (before : List Phase) (k : Kind) (g : Going) → (l ≡ Flaw.NoFlaw → ⊥) → (let x : Going = record { index = g.index; stack = stack_by l o at before k g.stack; pages = recorded_by l k g.pages } in x) ≡ going_by l o at before k g
+pub goes_by : (l : Flaw) (o : Option Op) (at : ℕ) (before : List Phase) (k : Kind) (g : Going) → (l ≡ Flaw.NoFlaw → ⊥) → (let x : Going = record { index = g.index; stack = stack_by l o at before k g.pages g.stack; pages = recorded_by l k g.pages } in x) ≡ going_by l o at before k g
 goes_by Flaw.NoFlaw o at before k g h = absurd (h refl)
 goes_by _ o at before k g h = refl
 

@@ -5,6 +5,7 @@ ghost use Rattle.hm_history.specs.Memory.Sequences.{interval_seq};
 ghost use Rattle.hm_history.specs.Memory.Contents.{shown_by};
 ghost use Rattle.hm_history.specs.Kernel.Going.{is_direct, sets_now, concerns};
 ghost use Rattle.hm_flaws.specs.Drivers.{target_at};
+ghost use Rattle.hm_flaws.specs.Overrides.{uninvalidated};
 ghost use Rattle.hm_flaws.specs.Flawed.{shown_bytes, device_bytes};
 ghost use Rattle.hm_flaw_states.specs.Owns.{driver_in};
 ghost use Rattle.hm_flaw_states.specs.Found.{found_in};
@@ -54,6 +55,29 @@ impl<'a, W: Details> Concerns for Asking<'a, W> {
                 is_to_device(self.op) && migrating.moved && self.found.sets_now(op_mirror(self.op))
             }
             MoveStep::Finish => migrating.source.is_some() || migrating.moved,
+        }
+    }
+}
+
+// The same, if no interval counts as being invalidated.
+#[derive(Drop)]
+struct AskingAnyway<'a, W> {
+    asking: &'a Asking<'a, W>,
+}
+
+impl<'a, W: Details> Concerns for AskingAnyway<'a, W> {
+    ghost concerns = { λ q step x. let a = q.asking.now in let f = a.found.now in
+        concerns (uninvalidated (found_in f.flaw (W.program f.world.now) (W.state f.world.now)
+        (driver_in f.own.now)).after) a.op.now step x };
+
+    fn concerns(&self, step: MoveStep, migrating: &Migrating) -> bool {
+        match step {
+            MoveStep::SetOwnTable => {
+                is_to_device(self.asking.op)
+                    && migrating.moved
+                    && self.asking.found.is_attached(op_mirror(self.asking.op))
+            }
+            _ => self.asking.concerns(step, migrating),
         }
     }
 }
@@ -377,6 +401,18 @@ impl<'a, W: Details> Finds for Found<'a, W> {
         len: u64,
     ) -> Result<Bytes, NoMemory> {
         self.read_from(alloc, mirror, addr, len)
+    }
+
+    fn coming_anyway(
+        &self,
+        actor: Actor,
+        op: &Op,
+        step: MoveStep,
+        next: u64,
+    ) -> Option<(MoveStep, Migrating)> {
+        let asking = Asking { found: self, op };
+        self.world
+            .coming_by(actor, &AskingAnyway { asking: &asking }, step, next)
     }
 
     fn process_bytes(

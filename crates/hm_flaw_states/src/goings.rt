@@ -177,12 +177,14 @@ fn with_flaw(
 ) -> Result<RaceTask, NoMemory>
     ensures { IfOk result (λ t. going_in t ≡ record {
       index = (going_in task).index;
-      stack = stack_by flaw (option_copied op.entry) at before.now kind.now (going_in task).stack;
+      stack =
+          stack_by flaw (option_copied op.entry) at before.now kind.now (going_in task).pages (going_in task).stack;
       pages = recorded_by flaw kind.now (going_in task).pages;
     }) }
 {
     let records = recorded_by(alloc, flaw, kind, &task.records)?;
-    let items = stack_by(flaw, op, at, before, kind, task.stack.items());
+    let moving = task.records.as_slice();
+    let items = stack_by(flaw, op, at, before, kind, moving, task.stack.items());
     let stack = SharedPhases::of(alloc, &items, &task.stack)?;
     Ok(made(task.index, stack, records)?)
 }

@@ -4,7 +4,7 @@ ghost use Rattle.std.specs.Rc.{rc_value};
 ghost use Rattle.hm_history.specs.Kernel.Going.{going_next, op_at};
 ghost use Rattle.hm_history.specs.Memory.After.{after_entry};
 ghost use Rattle.hm_actors.specs.Actors.{IsSeen};
-ghost use Rattle.hm_flaws.specs.Flawed.{found, flawed_next, going_by};
+ghost use Rattle.hm_flaws.specs.Flawed.{found, flawed_next, going_by, taken_for};
 ghost use Rattle.hm_flaw_states.specs.Owns.{driver_in};
 ghost use Rattle.hm_race_states.specs.Goings.{goings_with};
 ghost use Rattle.hm_race_states.specs.States.{goings_in};
@@ -19,6 +19,7 @@ use crate::parts::been_after;
 use crate::seen::seen;
 use crate::state::FlawState;
 use hm_base::{Actor, NoMemory, Script};
+use hm_flaw_steps::taken_for;
 use hm_flaws::Flaw;
 use hm_history::phases::Seen;
 use hm_history::{Entry, Kind};
@@ -92,6 +93,28 @@ impl FlawState {
         }
     }
 
+    // The actor after its entry, which it takes for one of this kind.
+    fn gone_by(
+        &self,
+        alloc: Global,
+        script: &Script,
+        flaw: Flaw,
+        own: &Own,
+        actor: Actor,
+        kind: &Kind,
+    ) -> Result<RaceTask, NoMemory>
+        requires { actor < length self.now.tasks.items }
+        ensures { IfOk result (λ t. let g = (state_in self.now).going actor in going_in t
+            ≡ going_by flaw (op_at script.now actor g.index) (state_in self.now).after.length g.stack kind.now
+            (going_next script.now
+            (found flaw script.now (record { state = state_in self.now; driver = driver_in own.now })) actor g
+            kind.now)) }
+    {
+        let seen = self.seen(script, flaw, own, actor, kind);
+        let task = &self.tasks[actor.number() as usize];
+        Ok(task_after(alloc, script, flaw, actor, task, kind, &seen)?)
+    }
+
     // The actor after its entry.
     fn moved(
         &self,
@@ -102,17 +125,22 @@ impl FlawState {
         entry: &Entry,
     ) -> Result<RaceTask, NoMemory>
         requires { entry.now.actor < length self.now.tasks.items }
-        ensures { IfOk result (λ t. let g = (state_in self.now).going entry.now.actor in going_in t
-            ≡ going_by flaw (op_at script.now entry.now.actor g.index) (state_in self.now).after.length g.stack
-            entry.now.kind
+        ensures { IfOk result (λ t. let g = (state_in self.now).going entry.now.actor in
+            let k = taken_for flaw g.stack entry.now.kind in going_in t
+            ≡ going_by flaw (op_at script.now entry.now.actor g.index) (state_in self.now).after.length g.stack k
             (going_next script.now
             (found flaw script.now (record { state = state_in self.now; driver = driver_in own.now }))
-            entry.now.actor g entry.now.kind)) }
+            entry.now.actor g k)) }
     {
-        let seen = self.seen(script, flaw, own, entry.actor, &entry.kind);
-        let task = &self.tasks[entry.actor.number() as usize];
-        let kind = &entry.kind;
-        Ok(task_after(alloc, script, flaw, entry.actor, task, kind, &seen)?)
+        let here = FlawHere {
+            script,
+            state: self,
+        };
+        let actor = entry.actor;
+        match taken_for(&here, flaw, actor, &entry.kind) {
+            Some(kind) => Ok(self.gone_by(alloc, script, flaw, own, actor, &kind)?),
+            None => Ok(self.gone_by(alloc, script, flaw, own, actor, &entry.kind)?),
+        }
     }
 
     // The state after an entry, with these actors.

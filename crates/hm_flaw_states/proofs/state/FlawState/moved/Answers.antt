@@ -1,24 +1,32 @@
-use Rattle.std.proofs.Common.{◌≡◌, ℕ, sym, ap, ◌∙◌, subst}
-use Rattle.hm_history.specs.Kernel.Going.{Going, going_next, op_at}
-use Rattle.hm_actors.specs.Actors.{IsSeen}
+use Rattle.std.proofs.Common.{◌≡◌, Option, sym, ap, ◌∙◌}
+use Rattle.std.specs.Prelude.{unwrap_or}
+use Rattle.hm_history.specs.Kernel.Going.{going_next, op_at}
+use Rattle.hm_history.specs.declared.Kind.{Kind}
+use Rattle.hm_flaws.specs.Flawed.{found, going_by, taken_for}
 use Rattle.hm_flaw_states.specs.Owns.{driver_in}
-use Rattle.hm_flaws.specs.Flawed.{found, going_by}
-use Rattle.hm_race_states.specs.Tasks.{going_in}
-use Rattle.hm_race_states.proofs.Lists.{task_there}
 use Rattle.hm_flaw_states.specs.States.{state_in}
 use Rattle.hm_flaw_states.proofs.state.FlawState.moved.Goals as goal
 
-pub returns : goal.returns
-returns c =
+pub returns-in_ok-gone_by-in-Some : goal.returns-in_ok-gone_by-in-Some
+returns-in_ok-gone_by-in-Some c =
     let u = state_in c.args.self.now in
     let a = c.args.entry.now.actor in
-    let k = c.args.entry.now.kind in
+    let g = u.going a in
     let p = c.args.script.now in
     let l = c.args.flaw in
-    let t = going_in c.deref.result.now in
     let s = found l p (record { state = u; driver = driver_in c.args.own.now }) in
-    let there : t ≡ u.going a = ap going_in c.deref.ensures ∙ sym (task_there c.args.self.now.tasks.items c.number.result a c.index-task.result.now c.number.ensures.same c.requires c.index-task.ensures) in
-    let seen : IsSeen p s a t k c.seen-seen.result = subst (λ (g : Going). IsSeen p s a g k c.seen-seen.result) (sym there) c.seen-seen.ensures.seen in
-    c.in_ok-task_after.ensures s seen
-    ∙ (ap (λ (n : ℕ). going_by l (op_at p a t.index) n t.stack k (going_next p s a t k)) c.seen-seen.ensures.at
-    ∙ ap (λ (g : Going). going_by l (op_at p a g.index) u.after.length g.stack k (going_next p s a g k)) there)
+    let here : c.in-Some.kind ≡ taken_for l g.stack c.args.entry.now.kind =
+    sym (ap (λ (o : Option Kind). unwrap_or o c.args.entry.now.kind) c.in-Some.is) ∙ c.taken_for.ensures in
+    c.in_ok-gone_by-in-Some.ensures ∙ ap (λ (k : Kind). going_by l (op_at p a g.index) u.after.length g.stack k (going_next p s a g k)) here
+
+pub returns-in_ok-gone_by-in-None : goal.returns-in_ok-gone_by-in-None
+returns-in_ok-gone_by-in-None c =
+    let u = state_in c.args.self.now in
+    let a = c.args.entry.now.actor in
+    let g = u.going a in
+    let p = c.args.script.now in
+    let l = c.args.flaw in
+    let s = found l p (record { state = u; driver = driver_in c.args.own.now }) in
+    let here : c.args.entry.now.kind ≡ taken_for l g.stack c.args.entry.now.kind =
+    sym (ap (λ (o : Option Kind). unwrap_or o c.args.entry.now.kind) c.in-None.is) ∙ c.taken_for.ensures in
+    c.in_ok-gone_by-in-None.ensures ∙ ap (λ (k : Kind). going_by l (op_at p a g.index) u.after.length g.stack k (going_next p s a g k)) here
