@@ -61,8 +61,8 @@ pub trait Finds: Reads {
     ) -> Result<Bytes, NoMemory>
         ensures { IfOk result (λ bytes. bytes ≡ device_bytes (driver self.now) mirror addr len) };
 
-    /// The step, from this one on, and the page to which the actor's migration comes, whether or not the interval of its
-    /// mirror is being invalidated; none at its end.
+    /// The step, from this one on, and the page to which the actor's migration comes, whether or not the interval of
+    /// its mirror is being invalidated; none at its end.
     fn coming_anyway(
         &self,
         actor: Actor,

@@ -107,7 +107,8 @@ due_by l c t a = let g = t.state.going a in
 
 -- what an actor goes on from: a page that its setup left as it was counts as frozen
 abbrev pub taken_for : Flaw → List Phase → Kind → Kind
-taken_for Flaw.FrozenLate (Phase.Guard p r met told (Body.Select u) ∷ below) (Kind.Place q v x) = Kind.Place q v (frozen x)
+taken_for Flaw.FrozenLate (Phase.Guard p r met told (Body.Select u) ∷ below) (Kind.Place q v x) =
+    Kind.Place q v (frozen x)
 taken_for l stack k = k
 
 -- the stack without a step that is left out: the last part of a copy, the drop of a lost page's frame, or the freezing
