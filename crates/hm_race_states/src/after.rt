@@ -1,7 +1,8 @@
 // The parts of a state after an entry. What the entry does not change is shared.
 ghost use Rattle.std.specs.Prelude.{◌≡◌, ◌≤◌, is_some, length, IfOk};
 ghost use Rattle.hm_history.specs.Memory.Locks.{locks_start, map_next, orphan};
-ghost use Rattle.hm_history.specs.Memory.Plain.{owner, plain_next, written_for};
+ghost use Rattle.hm_history.specs.Memory.Plain.{owner, plain_next, with_zeros, written_for};
+ghost use Rattle.hm_history.specs.Memory.Words.{with_at};
 ghost use Rattle.hm_race_laws.specs.Outcomes.{answer_of, answers_next};
 ghost use Rattle.hm_race_keys.specs.Arrays.{flag_in, lock_in};
 ghost use Rattle.hm_race_keys.specs.FrameTables.{held_in, lockers_in};
@@ -23,7 +24,7 @@ use crate::small::SmallSeqs;
 use crate::spaces::RaceSpaces;
 use crate::state::RaceState;
 use crate::tasks::RaceTask;
-use hm_base::{Actor, NoMemory, Place, Proc};
+use hm_base::{Actor, NoMemory, Place, Proc, Span};
 use hm_history::{Entry, Kind, Who};
 use hm_race_keys::device_marks::DeviceMarks;
 use hm_race_keys::frame_locks::FrameLocks;
@@ -84,6 +85,36 @@ fn with_written(
     }
 }
 
+// The bytes after a span of a process was mapped.
+fn with_cleared(
+    alloc: Global,
+    bytes: &Rc<RaceBytes>,
+    proc: Proc,
+    span: Span,
+) -> Result<Rc<RaceBytes>, NoMemory>
+    ensures { IfOk result (λ x. bytes_in x.value
+        ≡ with_at (bytes_in bytes.now.value) proc (with_zeros (bytes_in bytes.now.value proc) span)) }
+{
+    let mut new = bytes.copy(alloc)?;
+    new.clear(proc, span);
+    Ok(Rc::new(alloc, new)?)
+}
+
+// The bytes after a fork.
+fn with_forked(
+    alloc: Global,
+    bytes: &Rc<RaceBytes>,
+    parent: Proc,
+    child: Proc,
+) -> Result<Rc<RaceBytes>, NoMemory>
+    ensures { IfOk result (λ x. bytes_in x.value
+        ≡ with_at (bytes_in bytes.now.value) child (bytes_in bytes.now.value parent)) }
+{
+    let mut new = bytes.copy(alloc)?;
+    new.fork(alloc, parent, child)?;
+    Ok(Rc::new(alloc, new)?)
+}
+
 fn bytes_after(
     alloc: Global,
     bytes: &Rc<RaceBytes>,
@@ -98,11 +129,7 @@ fn bytes_after(
             proc,
             span,
             rights: _,
-        } => {
-            let mut new = bytes.copy(alloc)?;
-            new.clear(*proc, *span);
-            Ok(Rc::new(alloc, new)?)
-        }
+        } => Ok(with_cleared(alloc, bytes, *proc, *span)?),
         Kind::Stored {
             who,
             addr,
@@ -126,11 +153,7 @@ fn bytes_after(
             *addr,
             &[*written],
         )?),
-        Kind::Forked { parent, child } => {
-            let mut new = bytes.copy(alloc)?;
-            new.fork(alloc, *parent, *child)?;
-            Ok(Rc::new(alloc, new)?)
-        }
+        Kind::Forked { parent, child } => Ok(with_forked(alloc, bytes, *parent, *child)?),
         _ => Ok(bytes.clone()?),
     }
 }
