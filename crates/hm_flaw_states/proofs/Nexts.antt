@@ -27,6 +27,7 @@ use Rattle.hm_race_states.specs.Small.{between_seqs, unguarded}
 use Rattle.hm_race_states.specs.Spaces.{bare, spaces_in}
 use Rattle.hm_race_states.specs.States.{goings_in}
 use Rattle.hm_race_states.specs.declared.mirrors.RaceMirror.{RaceMirror}
+use Rattle.hm_race_states.specs.declared.small.Between.{Between}
 use Rattle.hm_flaw_states.specs.FrameBytes.{contents_in}
 use Rattle.hm_flaw_states.specs.OwnTables.{table_in}
 use Rattle.hm_flaw_states.specs.Commits.{commits_in, commits_next}
@@ -83,6 +84,10 @@ windows_on x a k ms xs e h m =
     ∙ (windows_go (plain_in x) (between_seqs x.seqs.value.kept) a k x.windows m ∙ sym (ap (λ (f : ℕ → Option Interval). window_in (f m)) h))
 
 -- ---- before the first entry
+
+-- before the first entry neither mirrors nor intervals have windows
+pub windows_first : (ms : List (Item RaceMirror)) (x : Between) → ms ≡ [] → between_seqs x ≡ sequences_start → SameWindows ms x.intervals
+windows_first ms x none start m = ap (λ (xs : List (Item RaceMirror)). window_of (mirrors_in xs m)) none ∙ sym (ap (λ (s : Sequences). window_in (s.interval m)) start)
 
 -- what is kept before the first entry, part by part
 pub record PartsStart (c : Program) (y : FlawState) : Type 0 where

@@ -10,6 +10,7 @@ pub mod Seqs
 pub mod Rooms
 pub mod Windows
 pub mod States
+pub mod Joined
 pub mod Alike
 pub mod Buckets
 pub mod Keyed

@@ -1,6 +1,6 @@
 // The parts of a state in groups of three or four. What makes a whole state makes the groups one after the other: few
 // are alive at each of its ways out.
-ghost use Rattle.std.specs.Prelude.{◌≡◌, ℕ, false, None, [], IfOk};
+ghost use Rattle.std.specs.Prelude.{◌≡◌, ◌≤◌, ℕ, false, None, [], length, IfOk};
 ghost use Rattle.hm_history.specs.Memory.Contents.{contents_next};
 ghost use Rattle.hm_history.specs.Memory.Locks.{frame_next, map_next};
 ghost use Rattle.hm_history.specs.Memory.Places.{places_next};
@@ -19,6 +19,7 @@ ghost use Rattle.hm_flaw_states.specs.OwnTables.{table_in};
 ghost use Rattle.hm_flaw_states.specs.Placed.{pages_in, placed_next};
 ghost use Rattle.hm_flaw_states.specs.Seqs.{guards_in, seqs_in};
 ghost use Rattle.hm_flaw_states.specs.States.{state_in};
+ghost use Rattle.hm_flaw_states.specs.Windows.{SameWindows};
 
 use crate::commits::{FrameCommits, commits_after};
 use crate::exact_seqs::{ExactSeqs, seqs_after};
@@ -38,6 +39,7 @@ use hm_race_keys::page_places::Places;
 use hm_race_states::memory::RaceBytes;
 use hm_race_states::mirrors::RaceMirrors;
 use hm_race_states::spaces::RaceSpaces;
+use hm_race_states::tasks::RaceTask;
 use std::alloc::Global;
 use std::rc::Rc;
 
@@ -73,6 +75,25 @@ pub(crate) struct LockParts {
     pub maps: Rc<MapLocks>,
     pub seqs: Rc<ExactSeqs>,
     pub guards: Rc<ActorGuards>,
+}
+
+/// Of a state all but its actors.
+#[derive(Drop)]
+pub(crate) struct MemoryParts {
+    pub entries: u64,
+    pub been: [bool; 32],
+    pub processes: ProcessParts,
+    pub pages: PageParts,
+    pub devices: DeviceParts,
+    pub locking: LockParts,
+    ghost windows: { SameWindows processes.mirrors.value locking.seqs.value.kept.intervals },
+}
+
+/// Of a state its actors.
+#[derive(Drop)]
+pub(crate) struct ActorParts {
+    pub tasks: Vec<Rc<RaceTask>>,
+    ghost few: { length tasks.items ≤ 16 },
 }
 
 // ---- before the first entry

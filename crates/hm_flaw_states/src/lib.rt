@@ -2,7 +2,8 @@
 // exactly as the definitions have them. The files, in four parts, each over those before it:
 // - what a driver has of its own, kept entry by entry: details, frame_bytes, late_spans, own_tables, owns, kept_owns;
 // - the state as its actors find it, and what is due to them: found, held_locks, due;
-// - the state that the history gives, before the first entry and after each: state and its parts, start, next;
+// - the state that the history gives, before the first entry and after each: state and its parts, joined, start,
+//   next;
 // - the key that a search keeps of these, with marks and entries by which the parts of legality are judged: key,
 //   set_ups, turns, same_keys, trail.
 #![tactic(auto)]
@@ -20,6 +21,7 @@ mod groups;
 pub mod guards;
 mod held_locks;
 pub mod here;
+mod joined;
 pub mod kept_owns;
 pub mod key;
 pub mod late_spans;

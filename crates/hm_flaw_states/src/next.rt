@@ -9,11 +9,15 @@ ghost use Rattle.hm_flaw_states.specs.Owns.{driver_in};
 ghost use Rattle.hm_race_states.specs.Goings.{goings_with};
 ghost use Rattle.hm_race_states.specs.States.{goings_in};
 ghost use Rattle.hm_race_states.specs.Tasks.{going_in};
+ghost use Rattle.hm_flaw_states.specs.Joined.{joined};
 ghost use Rattle.hm_flaw_states.specs.States.{state_in};
+ghost use Rattle.hm_flaw_states.specs.declared.groups.ActorParts.{ActorParts as AnyActors};
 
 use crate::found::Found;
 use crate::goings::task_after;
+use crate::groups::{ActorParts, MemoryParts};
 use crate::here::FlawHere;
+use crate::joined::joined;
 use crate::owns::Own;
 use crate::parts::been_after;
 use crate::seen::seen;
@@ -54,17 +58,16 @@ fn tasks_with(
     tasks: &[Rc<RaceTask>],
     actor: Actor,
     moved: RaceTask,
-) -> Result<Vec<Rc<RaceTask>>, NoMemory>
+) -> Result<ActorParts, NoMemory>
     requires few { length tasks.now ≤ 16 }
     requires there { actor < length tasks.now }
-    ensures few { IfOk result (λ ts. length ts.items ≤ 16) }
-    ensures goings { IfOk result (λ ts. goings_in (map rc_value ts.items)
+    ensures { IfOk result (λ x. goings_in (map rc_value x.tasks.items)
         ≡ goings_with (map rc_value tasks.now) actor (going_in moved)) }
 {
     let mut all = shared(alloc, tasks)?;
     let task = Rc::new(alloc, moved)?;
     all[actor.number() as usize] = task;
-    Ok(all)
+    Ok(ActorParts { tasks: all })
 }
 
 impl FlawState {
@@ -143,18 +146,35 @@ impl FlawState {
         }
     }
 
-    // The state after an entry, with these actors.
-    fn with_tasks(
+    // All actors after the actor of an entry has gone on.
+    fn actors_after(
+        &self,
+        alloc: Global,
+        script: &Script,
+        flaw: Flaw,
+        own: &Own,
+        entry: &Entry,
+    ) -> Result<ActorParts, NoMemory>
+        ensures { IfOk result (λ x. goings_in (map rc_value x.tasks.items)
+            ≡ (flawed_next flaw script.now (record { state = state_in self.now; driver = driver_in own.now })
+            entry.now).state.going) }
+    {
+        if entry.actor.number() as usize >= self.tasks.len() {
+            return Err(NoMemory);
+        }
+        let moved = self.moved(alloc, script, flaw, own, entry)?;
+        Ok(tasks_with(alloc, &self.tasks, entry.actor, moved)?)
+    }
+
+    // All but the actors after an entry.
+    fn memory_after(
         &self,
         alloc: Global,
         script: &Script,
         entry: &Entry,
-        tasks: Vec<Rc<RaceTask>>,
-    ) -> Result<FlawState, NoMemory>
-        requires { length tasks.items ≤ 16 }
-        ensures memory { IfOk result
-            (λ x. (state_in x).after ≡ after_entry (state_in self.now).after entry.now) }
-        ensures actors { IfOk result (λ x. (state_in x).going ≡ goings_in (map rc_value tasks.items)) }
+    ) -> Result<MemoryParts, NoMemory>
+        ensures { IfOk result (λ m. (x : AnyActors)
+            → (state_in (joined m x)).after ≡ after_entry (state_in self.now).after entry.now) }
     {
         let kind = &entry.kind;
         let here = FlawHere {
@@ -166,24 +186,13 @@ impl FlawState {
         let pages = self.pages_after(alloc, kind)?;
         let devices = here.devices_after(alloc, kind)?;
         let locking = self.locking_after(alloc, entry.actor, kind)?;
-        Ok(FlawState {
+        Ok(MemoryParts {
             entries,
             been: been_after(&self.been, kind),
-            spaces: processes.spaces,
-            bytes: processes.bytes,
-            mirrors: processes.mirrors,
-            places: pages.places,
-            placed: pages.placed,
-            held: pages.held,
-            commits: pages.commits,
-            marks: devices.marks,
-            tables: devices.tables,
-            locks: locking.locks,
-            maps: locking.maps,
-            seqs: locking.seqs,
-            guards: locking.guards,
-            contents: devices.contents,
-            tasks,
+            processes,
+            pages,
+            devices,
+            locking,
         })
     }
 
@@ -202,11 +211,8 @@ impl FlawState {
             ≡ (flawed_next flaw script.now (record { state = state_in self.now; driver = driver_in own.now })
             entry.now).state) }
     {
-        if entry.actor.number() as usize >= self.tasks.len() {
-            return Err(NoMemory);
-        }
-        let moved = self.moved(alloc, script, flaw, own, entry)?;
-        let tasks = tasks_with(alloc, &self.tasks, entry.actor, moved)?;
-        Ok(self.with_tasks(alloc, script, entry, tasks)?)
+        let actors = self.actors_after(alloc, script, flaw, own, entry)?;
+        let memory = self.memory_after(alloc, script, entry)?;
+        Ok(joined(memory, actors))
     }
 }

@@ -1,5 +1,5 @@
 // The key after a set-up, which the right driver made.
-ghost use Rattle.std.specs.Prelude.{◌≡◌, ◌≤◌, ℕ, None, [], ◌∷◌, ◌++◌, List, IfOk};
+ghost use Rattle.std.specs.Prelude.{◌≡◌, ◌≤◌, ℕ, None, [], ◌∷◌, ◌++◌, List, IfOk, OnOk};
 ghost use Rattle.hm_history.specs.Memory.Sequences.{interval_seq};
 ghost use Rattle.hm_history.specs.Kernel.Due as spec;
 ghost use Rattle.hm_history.specs.Laws.{DueFrom};
@@ -20,6 +20,7 @@ use crate::key::FlawKey;
 use crate::late_spans::LateSpans;
 use crate::owns::Own;
 use crate::state::FlawState;
+use crate::trail::push_entry;
 use hm_base::{Actor, MirrorId, NoMemory, Script};
 use hm_flaw_parts::Marks;
 use hm_flaws::Flaw;
@@ -49,55 +50,63 @@ fn nothing(alloc: Global, script: &Script) -> Result<SoFar, NoMemory>
     })
 }
 
-// With an entry more. What the driver has of its own does not count, since it is the right one.
-fn with_entry(
+// The entry that is due to the actor.
+fn due_entry<R: SkipRule>(
+    alloc: Global,
+    script: &Script,
+    rule: &R,
+    state: &FlawState,
+    actor: Actor,
+) -> Result<Entry, NoMemory>
+    ensures { IfOk result (λ e. spec.due_in script.now (state_in state.now) actor ≡ AnyProgress.Did e) }
+{
+    let here = FlawHere { script, state };
+    match hm_steps::due(&here, rule, alloc, actor)? {
+        Progress::Did(entry) => Ok(entry),
+        Progress::Waiting(_) => Err(NoMemory),
+        Progress::Idle => Err(NoMemory),
+    }
+}
+
+// Adds an entry. What the driver has of its own does not count, since it is the right one.
+fn add_entry(
     alloc: Global,
     script: &Script,
     own: &Own,
-    so_far: SoFar,
+    so_far: &mut SoFar,
     entry: Entry,
-) -> Result<SoFar, NoMemory>
-    ensures { IfOk result (λ x. (h : List AnyEntry) → IsAfter script.now h so_far
-        → IsAfter script.now (h ++ entry ∷ []) x) }
+) -> Result<(), NoMemory>
+    ensures { OnOk result ((h : List AnyEntry) → IsAfter script.now h so_far.old
+        → IsAfter script.now (h ++ entry ∷ []) so_far.new) }
 {
     let here = FlawHere {
         script,
         state: &so_far.state,
     };
+    let marks = so_far.marks.after(alloc, &here, &entry)?;
     let state = so_far
         .state
         .after(alloc, script, Flaw::NoFlaw, own, &entry)?;
-    let marks = so_far.marks.after(alloc, &here, &entry)?;
-    let mut trail = so_far.trail;
-    trail.push(Rc::new(alloc, entry)?)?;
-    Ok(SoFar {
-        state,
-        marks,
-        trail,
-    })
+    push_entry(alloc, &mut so_far.trail, entry)?;
+    so_far.marks = marks;
+    so_far.state = state;
+    Ok(())
 }
 
-// After the entry that is due to the actor.
-fn next<R: SkipRule>(
+// Adds the entry that is due to the actor.
+fn add_next<R: SkipRule>(
     alloc: Global,
     script: &Script,
     rule: &R,
     own: &Own,
-    so_far: SoFar,
+    so_far: &mut SoFar,
     actor: Actor,
-) -> Result<SoFar, NoMemory>
-    ensures { IfOk result (λ x. (h : List AnyEntry) (e : AnyEntry) → IsAfter script.now h so_far
-        → spec.due script.now h actor ≡ AnyProgress.Did e → IsAfter script.now (h ++ e ∷ []) x) }
+) -> Result<(), NoMemory>
+    ensures { OnOk result ((h : List AnyEntry) (e : AnyEntry) → IsAfter script.now h so_far.old
+        → spec.due script.now h actor ≡ AnyProgress.Did e → IsAfter script.now (h ++ e ∷ []) so_far.new) }
 {
-    let here = FlawHere {
-        script,
-        state: &so_far.state,
-    };
-    match hm_steps::due(&here, rule, alloc, actor)? {
-        Progress::Did(entry) => Ok(with_entry(alloc, script, own, so_far, entry)?),
-        Progress::Waiting(_) => Err(NoMemory),
-        Progress::Idle => Err(NoMemory),
-    }
+    let entry = due_entry(alloc, script, rule, &so_far.state, actor)?;
+    Ok(add_entry(alloc, script, own, so_far, entry)?)
 }
 
 // After all entries of the set-up.
@@ -113,7 +122,7 @@ fn after_set_up<R: SkipRule>(
     let own = Own::new(alloc)?;
     let mut so_far = nothing(alloc, script)?;
     for entry in set_up {
-        so_far = next(alloc, script, rule, &own, so_far, entry.actor)?;
+        add_next(alloc, script, rule, &own, &mut so_far, entry.actor)?;
     }
     Ok(so_far)
 }

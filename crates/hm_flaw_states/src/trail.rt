@@ -1,5 +1,5 @@
 // The entries that led to a state, which states share.
-ghost use Rattle.std.specs.Prelude.{◌≡◌, [], ◌∷◌, ◌++◌, map, IfOk};
+ghost use Rattle.std.specs.Prelude.{◌≡◌, [], ◌∷◌, ◌++◌, map, IfOk, OnOk};
 ghost use Rattle.std.specs.Rc.{rc_value};
 
 use hm_base::NoMemory;
@@ -18,6 +18,18 @@ pub(crate) fn shared(alloc: Global, trail: &[Rc<Entry>]) -> Result<Vec<Rc<Entry>
     Ok(all)
 }
 
+/// Adds an entry.
+pub(crate) fn push_entry(
+    alloc: Global,
+    trail: &mut Vec<Rc<Entry>>,
+    entry: Entry,
+) -> Result<(), NoMemory>
+    ensures { OnOk result (map rc_value trail.new.items ≡ map rc_value trail.old.items ++ entry ∷ []) }
+{
+    let entry = Rc::new(alloc, entry)?;
+    Ok(trail.push(entry)?)
+}
+
 /// The same entries, shared, and then this one.
 pub(crate) fn longer(
     alloc: Global,
@@ -27,6 +39,6 @@ pub(crate) fn longer(
     ensures { IfOk result (λ x. map rc_value x.items ≡ map rc_value trail.now ++ entry ∷ []) }
 {
     let mut all = shared(alloc, trail)?;
-    all.push(Rc::new(alloc, entry)?)?;
+    push_entry(alloc, &mut all, entry)?;
     Ok(all)
 }

@@ -9,8 +9,10 @@ ghost use Rattle.hm_flaws.specs.declared.flaws.Flaw.{Flaw as AnyFlaw};
 ghost use Rattle.hm_flaw_states.specs.Owns.{driver_in};
 ghost use Rattle.hm_race_states.specs.States.{goings_in};
 ghost use Rattle.hm_flaw_parts.specs.Judged.{judged_parts};
+ghost use Rattle.hm_flaw_parts.specs.Marks.{marked_next, marks_in};
 ghost use Rattle.hm_flaw_races.specs.Races.{broken_at, point_entry};
 ghost use Rattle.hm_flaw_states.specs.Keyed.{broken_in, entries_in, form_in};
+ghost use Rattle.hm_flaw_states.specs.States.{state_in};
 ghost use Rattle.hm_flaw_states.specs.Turns.{IsNextKey, IsTurned, own_next};
 
 use crate::details::Details;
@@ -19,9 +21,10 @@ use crate::here::FlawHere;
 use crate::kept_owns::copy_own;
 use crate::key::{BrokenBy, FlawKey};
 use crate::owns::Own;
+use crate::state::FlawState;
 use crate::trail::{longer, shared};
 use hm_base::{Actor, NoMemory, Script};
-use hm_flaw_parts::{Judging, first_broken};
+use hm_flaw_parts::{Judging, Marks, first_broken};
 use hm_flaw_steps::tells_own;
 use hm_flaws::{Flaw, Part};
 use hm_history::phases::Migrating;
@@ -102,6 +105,43 @@ fn own_after<W: Details>(
     Ok(Rc::new(alloc, copy)?)
 }
 
+// What a key keeps of a state after an entry, but for the entries.
+#[derive(Drop)]
+struct KeyParts {
+    state: Rc<FlawState>,
+    own: Rc<Own>,
+    marks: Rc<Marks>,
+}
+
+// The parts of a key after an entry. The state is made last, so that none is given back at a way out.
+fn parts_after(
+    alloc: Global,
+    script: &Script,
+    flaw: Flaw,
+    key: &FlawKey,
+    entry: &Entry,
+) -> Result<KeyParts, NoMemory>
+    ensures state { IfOk result (λ x. state_in x.state.value
+        ≡ (spec.flawed_next flaw script.now (form_in key.now).flawed entry.now).state) }
+    ensures own { IfOk result (λ x. driver_in x.own.value
+        ≡ (spec.flawed_next flaw script.now (form_in key.now).flawed entry.now).driver) }
+    ensures marks { IfOk result (λ x. marks_in x.marks.value
+        ≡ marked_next script.now (state_in key.now.state.value).after (marks_in key.now.marks.value) entry.now) }
+{
+    let here = FlawHere {
+        script,
+        state: &key.state,
+    };
+    let own = own_after(alloc, &here, flaw, &key.own, entry)?;
+    let marks = Rc::new(alloc, key.marks.after(alloc, &here, entry)?)?;
+    let state = key.state.after(alloc, script, flaw, &key.own, entry)?;
+    Ok(KeyParts {
+        state: Rc::new(alloc, state)?,
+        own,
+        marks,
+    })
+}
+
 // The key after an entry that breaks no part.
 fn gone_on(
     alloc: Global,
@@ -115,18 +155,13 @@ fn gone_on(
     ensures trail { IfOk result (λ k. entries_in k ≡ entries_in key.now ++ entry ∷ []) }
     ensures broken { IfOk result (λ k. broken_in k ≡ None) }
 {
-    let here = FlawHere {
-        script,
-        state: &key.state,
-    };
-    let state = key.state.after(alloc, script, flaw, &key.own, &entry)?;
-    let own = own_after(alloc, &here, flaw, &key.own, &entry)?;
-    let marks = key.marks.after(alloc, &here, &entry)?;
+    let parts = parts_after(alloc, script, flaw, key, &entry)?;
+    let trail = longer(alloc, &key.trail, entry)?;
     Ok(FlawKey {
-        state: Rc::new(alloc, state)?,
-        own,
-        marks: Rc::new(alloc, marks)?,
-        trail: longer(alloc, &key.trail, entry)?,
+        state: parts.state,
+        own: parts.own,
+        marks: parts.marks,
+        trail,
         broken: None,
         frames: key.frames,
     })

@@ -8,8 +8,8 @@ use Rattle.hm_race_states.specs.declared.tasks.RaceTask.{RaceTask}
 use Rattle.hm_flaw_states.proofs.Tasks.{gone_on}
 use Rattle.hm_flaw_states.proofs.next.tasks_with.Goals as goal
 
-pub returns-clause-goings : goal.returns-clause-goings
-returns-clause-goings c =
+pub returns : goal.returns
+returns c =
     let xs = c.in_ok-all.all.items in
     let n = c.number.result in
     let a = c.args.actor in

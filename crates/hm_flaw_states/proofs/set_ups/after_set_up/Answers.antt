@@ -6,4 +6,4 @@ pub loop-entry-preserved : goal.loop-entry-preserved
 loop-entry-preserved g c =
     let i = c.loop-entry.entry-index in
     set_up_on c.args.script.now c.args.set_up.now i c.entry-item.result _ c.requires c.loop-entry-test.true c.entry-item.is
-    (λ e was. c.in_ok-so_far-2.ensures (take i c.args.set_up.now) e c.loop-entry.invariant was)
+    (λ e was. c.in_ok-add_next.ensures (take i c.args.set_up.now) e c.loop-entry.invariant was)

@@ -1,5 +1,6 @@
-use Rattle.hm_flaw_states.proofs.Trails.{longer_by}
+use Rattle.std.proofs.Common.{List, [], ◌∷◌, ◌++◌, ap, ◌∙◌}
+use Rattle.hm_history.specs.declared.Entry.{Entry}
 use Rattle.hm_flaw_states.proofs.trail.longer.Goals as goal
 
 pub returns : goal.returns
-returns c = longer_by _ _ c.in_ok-new.field-0 _ _ c.in_ok-push.ensures.items c.in_ok-all.ensures c.in_ok-new.ensures.ok
+returns c = c.in_ok-push_entry.ensures ∙ ap (λ (es : List Entry). es ++ c.args.entry ∷ []) c.in_ok-all.ensures

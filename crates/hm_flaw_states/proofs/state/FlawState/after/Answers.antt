@@ -1,19 +1,11 @@
-use Rattle.std.proofs.Common.{List, Global, map, ap, ◌∙◌}
-use Rattle.std.specs.Rc.{rc_value}
-use Rattle.std.specs.declared.rc.Rc.{Rc}
-use Rattle.hm_history.specs.Memory.Words.{with_at}
-use Rattle.hm_history.specs.Kernel.Going.{Going}
-use Rattle.hm_race_states.specs.Goings.{goings_with}
-use Rattle.hm_race_states.specs.Tasks.{going_in}
-use Rattle.hm_race_states.specs.declared.tasks.RaceTask.{RaceTask}
-use Rattle.hm_flaw_states.specs.States.{state_in}
+use Rattle.std.proofs.Common.{ap, ◌∙◌}
+use Rattle.hm_history.specs.Kernel.Going.{State}
 use Rattle.hm_flaw_states.proofs.Nexts.{same_whole}
 use Rattle.hm_flaw_states.proofs.state.FlawState.after.Goals as goal
 
 pub returns : goal.returns
 returns c =
-    let a = c.args.entry.now.actor in
-    same_whole _ _ c.in_ok-with_tasks.ensures.memory
-    (c.in_ok-with_tasks.ensures.actors ∙ (c.in_ok-tasks.ensures.goings
-    ∙ (ap (λ (ts : List (Rc RaceTask Global)). goings_with (map rc_value ts) a (going_in c.in_ok-moved.moved)) c.deref.ensures.value
-    ∙ ap (λ (g : Going). with_at (state_in c.args.self.now).going a g) c.in_ok-moved.ensures)))
+    let x = c.in_ok-actors.actors in
+    same_whole _ _
+    (ap (λ (u : State). u.after) c.joined.ensures ∙ c.in_ok-memory.ensures x)
+    (ap (λ (u : State). u.going) c.joined.ensures ∙ c.in_ok-actors.ensures)

@@ -1,0 +1,12 @@
+use Rattle.std.proofs.Common.{[], ◌∷◌, ◌++◌, subst}
+use Rattle.hm_history.specs.declared.Entry.{Entry}
+use Rattle.hm_flaw_states.specs.States.{state_in}
+use Rattle.hm_flaw_states.proofs.SetUps.{due_here}
+use Rattle.hm_flaw_states.specs.SetUps.{IsAfter}
+use Rattle.hm_flaw_states.proofs.set_ups.add_next.Goals as goal
+
+pub returns : goal.returns
+returns g c = λ h e r was.
+    subst (λ (x : Entry). IsAfter c.args.script.now (h ++ x ∷ []) c.add_entry.new.so_far)
+    (due_here c.args.script.now h (state_in c.args.so_far.now.state) c.args.actor c.in_ok-entry.entry e r.state c.in_ok-entry.ensures was)
+    (c.in_ok-add_entry.ensures h r)
