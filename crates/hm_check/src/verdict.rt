@@ -48,11 +48,12 @@ fn take_history(alloc: Global, script: Script, bytes: &[u8]) -> Result<Taken<'_>
     ensures { IfOk result (λ taken.
         TakenFrom script bytes.now taken.script taken.history.entries taken.rest.now) }
 {
-    let mut world = World::new(alloc, script)?;
     let mut out = Buffer::new(alloc)?;
-    let rest = take_entries(alloc, &mut world, &mut out, bytes)?;
+    let mut world = World::new(alloc, script)?;
+    let taken = take_entries(alloc, &mut world, &mut out, bytes);
     world.facts();
     let (script, history) = world.into_parts();
+    let rest = taken?;
     Ok(Taken {
         script,
         history,

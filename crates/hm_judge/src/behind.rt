@@ -37,9 +37,16 @@ fn take_all(alloc: Global, script: Script, bytes: &[u8]) -> Result<Taken<'_>, No
 {
     let mut out = Buffer::new(alloc)?;
     let mut world = World::new(alloc, script)?;
-    let rest = take_entries(alloc, &mut world, &mut out, bytes)?;
+    let taken = take_entries(alloc, &mut world, &mut out, bytes);
     world.facts();
-    Ok(Taken { world, rest })
+    match taken {
+        Ok(rest) => Ok(Taken { world, rest }),
+        Err(NoMemory) => {
+            // Taken apart, since a drop here would be proved once more, part by part.
+            let _ = world.into_parts();
+            Err(NoMemory)
+        }
+    }
 }
 
 /// Writes the lines that end the report of the world's history over the buffer.

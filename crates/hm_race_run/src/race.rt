@@ -76,16 +76,15 @@ pub fn set_up_of<R: SkipRule>(
 {
     match machine_of(alloc, script, rule) {
         Err(_) => Err(StepError::NoMemory),
-        Ok(mut machine) => match machine.run() {
-            Ok(()) => {
-                machine.world().facts();
-                Ok(machine.into_parts().1)
+        Ok(mut machine) => {
+            let ran = machine.run();
+            machine.world().facts();
+            let (_, history) = machine.into_parts();
+            match ran {
+                Ok(()) => Ok(history),
+                Err(error) => Err(error),
             }
-            Err(error) => {
-                machine.world().facts();
-                Err(error)
-            }
-        },
+        }
     }
 }
 

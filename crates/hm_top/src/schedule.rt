@@ -51,9 +51,10 @@ pub fn run_script(alloc: Global, script: Script, skip: &Kept) -> Result<Ran, NoM
     hm_laws::never_stuck();
     hm_history::laws::runs_are_due();
     let mut machine = Machine::new(alloc, script, skip)?;
-    let full = run_schedule(&mut machine)?;
+    let ran = run_schedule(&mut machine);
     machine.world().facts();
     let (script, history) = machine.into_parts();
+    let full = ran?;
     Ok(Ran {
         script,
         history,

@@ -103,6 +103,30 @@ fn add_head(text: &mut Text) -> Result<(), NoMemory>
     text.extend(head())
 }
 
+/// Adds the rows and what follows them.
+#[tactic(auto, using(std::proofs::Common::append_assoc))]
+fn add_rest(
+    alloc: Global,
+    text: &mut Text,
+    out: &mut Buffer,
+    world: &mut World,
+    history: &History,
+    from: u64,
+    to: u64,
+) -> Result<(), NoMemory>
+    requires start { world.old ≡ opening world.old.script }
+    requires dues { DueFrom world.old.script [] history.now.entries }
+    requires few { length history.now.entries ≤ MOST_ENTRIES }
+    requires within { to ≤ length history.now.entries }
+    ensures { OnOk result (text.new
+        ≡ text.old
+        ++ (middle world.old.script history.now.entries from to
+        ++ ending world.old.script history.now.entries)) }
+{
+    add_middle(alloc, text, out, world, history.as_slice(), from, to)?;
+    add_back(text, out, world.script(), history)
+}
+
 /// Adds what follows the head.
 #[tactic(auto, using(std::proofs::Common::append_assoc), unfolding(crate::specs::Page::behind_head))]
 fn add_lines(
@@ -121,8 +145,10 @@ fn add_lines(
     let Report { script, history } = report;
     add_front(alloc, text, out, &script, history.as_slice())?;
     let mut world = World::new(alloc, script)?;
-    add_middle(alloc, text, out, &mut world, history.as_slice(), from, to)?;
-    add_back(text, out, world.script(), &history)
+    let added = add_rest(alloc, text, out, &mut world, &history, from, to);
+    // Taken apart, since a drop here would be proved once more, part by part.
+    let _ = world.into_parts();
+    added
 }
 
 /// The page of a legal report: its script, its findings, and a row for each entry before `to`, of which those from
