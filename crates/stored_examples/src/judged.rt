@@ -1,41 +1,33 @@
-// Judges every report of the folder `judged`, and writes after its name what is said of it: with its later entries if
-// its name begins with `all_`.
-use crate::files::{bytes, name, stems};
-use hm_judge::{Asked, answer_on, answer_text};
-use std::{io, str};
+// Judges every report of the folder `judged`, and writes after its name what is said of it: how each actor stands, or,
+// if its name begins with `all_`, which rules its later entries break.
+use crate::files::{name, stems};
+use crate::streams::{empty_sink, source_beside, text_of, words_in};
+use hm_judge::judge;
+use std::io;
 
-/// What is asked of a report of this name.
-fn asked_of(name: &str) -> Asked {
+/// The word that asks for what is said of a report of this name.
+fn word_of(name: &str) -> &'static str {
     if name.starts_with("all_") {
-        Asked::All
+        "--all"
     } else {
-        Asked::Standing
+        "--standing"
     }
 }
 
-/// Writes what is said of these bytes.
-fn tell_answer(rt: &HostRuntime, asked: Asked, bytes: &[u8]) -> io::Result<()> {
-    let Ok(answer) = answer_on(rt.alloc(), asked, bytes) else {
-        return println!(rt; "out of memory");
-    };
-    match answer_text(rt.alloc(), asked, &answer) {
-        Ok(text) => tell_text(rt, text.as_slice()),
-        Err(_) => println!(rt; "out of memory"),
-    }
-}
-
-fn tell_text(rt: &HostRuntime, text: &[u8]) -> io::Result<()> {
-    match str::from_utf8(text) {
-        Ok(said) => println!(rt; "{said}"),
-        Err(_) => println!(rt; "no text"),
-    }
+/// What is said of a report, if it is asked for with these words.
+fn said(rt: &HostRuntime, stem: &str, words: &[String]) -> io::Result<String> {
+    let mut source = source_beside(rt, stem, ".report")?;
+    let mut sink = empty_sink(rt.alloc())?;
+    judge(rt.alloc(), words, &mut source, &mut sink);
+    text_of(rt.alloc(), sink.held())
 }
 
 /// Writes what is said of one report.
 fn tell(rt: &HostRuntime, stem: &str) -> io::Result<()> {
     let name = name(stem);
-    println!(rt; "{name}")?;
-    tell_answer(rt, asked_of(name), bytes(rt, stem, ".report")?.as_slice())
+    let words = words_in(rt.alloc(), word_of(name))?;
+    let said = said(rt, stem, words.as_slice())?;
+    println!(rt; "{name}\n{said}")
 }
 
 pub fn tell_all(rt: &HostRuntime) -> io::Result<()> {

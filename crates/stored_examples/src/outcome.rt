@@ -1,6 +1,6 @@
 // What a script comes to, by a replay and by the files beside it.
 use crate::files::{no_memory, text};
-use crate::streams::{empty_sink, source_of, text_of};
+use crate::streams::{empty_sink, source_of, text_of, words_in};
 use hm_edge::{Status, message};
 use hm_io::{MemorySink, MemorySource};
 use hm_top::{USAGE, run_alone};
@@ -39,7 +39,7 @@ impl Outcome {
 
 /// Makes the top call for a replay.
 fn replay(alloc: Global, source: &mut MemorySource, sink: &mut MemorySink) -> io::Result<Status> {
-    let words = vec![in alloc; String::from_str(alloc, "replay")?]?;
+    let words = words_in(alloc, "replay")?;
     let skips: BoxedRule = Box::new(
         alloc,
         |every: u64, page: u64| every != 0 && page % every == 0,

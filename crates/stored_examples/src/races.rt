@@ -3,7 +3,7 @@
 // of drivers that do. Compares what is written with the files beside the scripts, and the pages with the lines there,
 // between the files of the folder page.
 use crate::files::{stems, text};
-use crate::streams::{empty_sink, source_beside};
+use crate::streams::{empty_sink, source_beside, words_in};
 use hm_edge::{RaceEnd, Status};
 use hm_flaw_top::without;
 use hm_io::{MemorySink, MemorySource};
@@ -137,15 +137,6 @@ fn page_with(rt: &HostRuntime, lines: &str) -> io::Result<String> {
         None => Ok(page),
         Some((head, tail)) => Ok(format!(in rt.alloc(); "{head}{MARK}{lines}{tail}")?),
     }
-}
-
-/// The words in these lines.
-fn words_in(alloc: Global, lines: &str) -> io::Result<Vec<String>> {
-    let mut words = Vec::new(alloc);
-    for line in lines.lines() {
-        words.push(String::from_str(alloc, line)?)?;
-    }
-    Ok(words)
 }
 
 /// The words that ask for the conditions in the file.

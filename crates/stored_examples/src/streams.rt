@@ -1,4 +1,4 @@
-// Streams in memory, on which the programs' calls are made.
+// Streams in memory, on which the programs' calls are made, and the words of a call.
 use crate::files::{bytes, no_memory};
 use hm_io::{MemorySink, MemorySource};
 use std::alloc::Global;
@@ -9,6 +9,15 @@ const PIECE: usize = 16;
 
 /// Nothing that is written of an example takes more bytes.
 const ROOM: usize = 1_048_576;
+
+/// The words in these lines, one in each.
+pub fn words_in(alloc: Global, lines: &str) -> io::Result<Vec<String>> {
+    let mut words = Vec::new(alloc);
+    for line in lines.lines() {
+        words.push(String::from_str(alloc, line)?)?;
+    }
+    Ok(words)
+}
 
 /// A source that has these bytes.
 pub fn source_of(alloc: Global, bytes: &[u8]) -> io::Result<MemorySource> {
