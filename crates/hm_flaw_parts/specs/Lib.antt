@@ -1,3 +1,4 @@
+pub mod Races
 pub mod Told
 pub mod Marks
 pub mod Judged

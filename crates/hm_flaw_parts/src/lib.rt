@@ -6,6 +6,7 @@ ghost use Rattle.hm_flaw_parts.specs.Marks.{MarksRecall};
 
 mod judged;
 mod marks;
+pub mod races;
 mod told_spans;
 mod values;
 

@@ -8,7 +8,7 @@ use Rattle.hm_history.specs.Memory.Words.{numbers}
 use Rattle.hm_history.specs.Memory.Sequences.{Interval, Sequences, with_seq, interval_passes, in_tree_state, overlaps, is_above, next_told, seq_started, is_odd}
 use Rattle.hm_flaws.specs.declared.flaws.Flaw.{Flaw}
 use Rattle.hm_flaws.specs.Flawed.{Flawed, with_seqs, due_by}
-use Rattle.hm_flaw_steps.specs.Found.{due_found}
+use Rattle.hm_flaw_states.specs.Steps.Found.{due_found}
 use Rattle.hm_flaw_states.specs.Found.{found_in}
 
 overlaps_same : (x : ℕ → ℕ) (s : Sequences) (p : ℕ) (r : Pages) → overlaps s p r ≡ overlaps (record s { interval = with_seqs x s.interval }) p r

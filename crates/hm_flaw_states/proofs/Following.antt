@@ -8,8 +8,8 @@ use Rattle.hm_flaws.specs.Parts.{broken_part}
 use Rattle.hm_flaws.specs.Recalled.{broken_part_in}
 use Rattle.hm_flaws.specs.declared.parts.Part.{Part}
 use Rattle.hm_flaw_parts.specs.Marks.{Marked, marked_next, recalled_by}
-use Rattle.hm_flaw_races.proofs.Marking.{broken_same, marked_more}
-use Rattle.hm_flaw_races.specs.Races.{FlawPoint, broken_at, marked_of}
+use Rattle.hm_flaw_parts.proofs.MarkedTurns.{broken_same, marked_more}
+use Rattle.hm_flaw_parts.specs.Races.Races.{FlawPoint, broken_at, marked_of}
 
 -- the memory
 pub after_more : (s : After) (h : List Entry) (e : Entry) → s ≡ after h → after_entry s e ≡ after (h ++ e ∷ [])

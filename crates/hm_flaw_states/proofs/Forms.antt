@@ -11,7 +11,7 @@ use Rattle.hm_flaws.specs.Drivers.{Driver, driver_of}
 use Rattle.hm_flaws.specs.Flawed.{Flawed}
 use Rattle.hm_flaws.specs.declared.parts.Part.{Part}
 use Rattle.hm_flaw_parts.specs.Marks.{Marked}
-use Rattle.hm_flaw_races.specs.Races.{FlawPoint}
+use Rattle.hm_flaw_parts.specs.Races.Races.{FlawPoint}
 
 -- what the right driver has of its own is in the state
 pub right_own : (s : After) (t : ℕ → ℕ → Option TableEntry) (q : ℕ → ℕ) (l : ℕ → List (ℕ × Pages)) (b : Frame → ℕ → ℕ)

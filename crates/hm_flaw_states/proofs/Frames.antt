@@ -11,7 +11,7 @@ use Rattle.hm_history.specs.Memory.Words.{least}
 use Rattle.hm_history.specs.declared.Entry.{Entry}
 use Rattle.hm_flaws.specs.Recalled.{is_full}
 use Rattle.hm_flaw_parts.specs.Marks.{Marked, marked_next, marked_start}
-use Rattle.hm_flaw_races.specs.Races.{marked_along, marked_of}
+use Rattle.hm_flaw_parts.specs.Races.Races.{marked_along, marked_of}
 
 -- the lowest of the first n frames of the system that is free
 abbrev lowest_by : Places → ℕ → Option Frame

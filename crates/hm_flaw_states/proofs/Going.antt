@@ -11,7 +11,7 @@ use Rattle.hm_flaw_states.specs.Owns.{driver_in}
 use Rattle.hm_flaw_states.specs.declared.owns.Own.{Own}
 use Rattle.hm_flaw_parts.specs.Marks.{Marked, marked_next, marks_in}
 use Rattle.hm_flaw_parts.specs.declared.marks.Marks.{Marks}
-use Rattle.hm_flaw_races.specs.Races.{FlawPoint, point_entry}
+use Rattle.hm_flaw_parts.specs.Races.Races.{FlawPoint, point_entry}
 use Rattle.hm_flaw_states.specs.States.{state_in}
 use Rattle.hm_flaw_states.specs.declared.state.FlawState.{FlawState}
 use Rattle.hm_flaw_states.specs.Turns.{own_next}

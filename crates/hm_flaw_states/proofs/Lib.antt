@@ -7,7 +7,7 @@ mod Committed
 mod Rooms
 mod Wholes
 mod Windows
-mod Steps
+mod NextParts
 mod Tasks
 mod Leaving
 mod Mixing
@@ -21,3 +21,6 @@ mod Forms
 mod SetUps
 mod Waits
 mod Going
+mod Setting
+mod Stays
+mod Taking

@@ -38,7 +38,7 @@ use Rattle.hm_flaw_states.specs.Windows.{SameWindows, window_of, window_in}
 use Rattle.hm_flaw_states.specs.declared.state.FlawState.{FlawState}
 use Rattle.hm_flaw_states.proofs.Wholes.{same_places, same_locks, same_after}
 use Rattle.hm_flaw_states.proofs.Erasing.{no_bytes}
-use Rattle.hm_flaw_states.proofs.Steps.{placed_goes, commits_go, seqs_go}
+use Rattle.hm_flaw_states.proofs.NextParts.{placed_goes, commits_go, seqs_go}
 use Rattle.hm_flaw_states.proofs.Windows.{devices_go, windows_go}
 
 -- ---- after an entry

@@ -10,7 +10,7 @@ use Rattle.hm_flaw_states.specs.declared.owns.Own.{Own}
 use Rattle.hm_flaws.specs.Flawed.{due_by}
 use Rattle.hm_flaws.specs.declared.flaws.Flaw.{Flaw}
 use Rattle.hm_flaws.specs.declared.parts.Part.{Part}
-use Rattle.hm_flaw_races.specs.Races.{is_due_at}
+use Rattle.hm_flaw_parts.specs.Races.Races.{is_due_at}
 use Rattle.hm_flaw_states.specs.States.{state_in}
 use Rattle.hm_flaw_states.specs.declared.state.FlawState.{FlawState}
 use Rattle.hm_flaw_states.specs.Keyed.{form_in}

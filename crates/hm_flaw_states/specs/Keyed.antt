@@ -7,7 +7,7 @@ use Rattle.hm_flaw_states.specs.Owns.{driver_in}
 use Rattle.hm_race_keys.specs.Sparse.{mixed}
 use Rattle.hm_flaw_parts.specs.Buckets.{marks_number}
 use Rattle.hm_flaw_parts.specs.Marks.{marks_in}
-use Rattle.hm_flaw_races.specs.Races.{FlawPoint}
+use Rattle.hm_flaw_parts.specs.Races.Races.{FlawPoint}
 use Rattle.hm_flaw_states.specs.Buckets.{state_number, driver_number}
 use Rattle.hm_flaw_states.specs.States.{state_in}
 use Rattle.hm_flaw_states.specs.declared.key.BrokenBy.{BrokenBy}

@@ -1,3 +1,4 @@
+pub mod Steps
 pub mod FrameBytes
 pub mod LateSpans
 pub mod OwnTables

@@ -5,7 +5,7 @@ use Rattle.hm_base.specs.Program.{Program}
 use Rattle.hm_history.specs.Kernel.Going.{state_of}
 use Rattle.hm_history.specs.declared.Entry.{Entry}
 use Rattle.hm_flaw_parts.specs.Marks.{marks_in}
-use Rattle.hm_flaw_races.specs.Races.{marked_of}
+use Rattle.hm_flaw_parts.specs.Races.Races.{marked_of}
 use Rattle.hm_flaw_states.specs.States.{state_in}
 use Rattle.hm_flaw_states.specs.declared.set_ups.SoFar.{SoFar}
 

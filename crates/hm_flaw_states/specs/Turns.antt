@@ -8,7 +8,7 @@ use Rattle.hm_flaws.specs.Drivers.{Driver}
 use Rattle.hm_flaws.specs.Flawed.{due_by, flawed_next}
 use Rattle.hm_flaws.specs.declared.flaws.Flaw.{Flaw}
 use Rattle.hm_flaws.specs.declared.parts.Part.{Part}
-use Rattle.hm_flaw_races.specs.Races.{broken_at, is_due_at, point_entry}
+use Rattle.hm_flaw_parts.specs.Races.Races.{broken_at, is_due_at, point_entry}
 use Rattle.hm_flaw_states.specs.Keyed.{form_in, entries_in, broken_in}
 use Rattle.hm_flaw_states.specs.declared.key.FlawKey.{FlawKey}
 

@@ -8,7 +8,7 @@ use crate::details::Details;
 use crate::found::Found;
 use crate::owns::Own;
 use hm_base::{Actor, NoMemory};
-use hm_flaw_steps::due_found;
+use crate::steps::due_found;
 use hm_flaws::Flaw;
 use hm_history::Progress;
 use hm_steps::due;

@@ -18,7 +18,7 @@ use hm_base::{
     Actor, Bytes, Cause, Dev, Frame, MirrorId, NoMemory, Op, Page, Place, PoolId, Proc, Rights,
     Script, Span,
 };
-use hm_flaw_steps::Finds;
+use crate::steps::Finds;
 use hm_flaws::Flaw;
 use hm_history::TableRight;
 use hm_history::phases::{Migrating, MoveStep, Phase};

@@ -4,7 +4,7 @@ ghost use Rattle.std.specs.Rc.{rc_value};
 ghost use Rattle.hm_base.specs.Program.{Program};
 ghost use Rattle.hm_history.specs.Memory.After.{after};
 ghost use Rattle.hm_flaw_parts.specs.Marks.{marks_in};
-ghost use Rattle.hm_flaw_races.specs.Races.{marked_of};
+ghost use Rattle.hm_flaw_parts.specs.Races.Races.{marked_of};
 ghost use Rattle.hm_flaw_states.specs.States.{state_in};
 
 use crate::owns::Own;

@@ -38,6 +38,7 @@ mod set_ups;
 mod stacks;
 pub mod start;
 pub mod state;
+mod steps;
 mod trail;
 mod turns;
 

@@ -23,7 +23,7 @@ use crate::parts::been_after;
 use crate::seen::seen;
 use crate::state::FlawState;
 use hm_base::{Actor, NoMemory, Script};
-use hm_flaw_steps::taken_for;
+use crate::steps::taken_for;
 use hm_flaws::Flaw;
 use hm_history::phases::Seen;
 use hm_history::{Entry, Kind};

@@ -1,7 +1,7 @@
 // Keys, as a search compares them.
 ghost use Rattle.std.specs.Prelude.{◌≡◌, ⊤, true};
 ghost use Rattle.hm_flaws.specs.declared.parts.Part.{Part as AnyPart};
-ghost use Rattle.hm_flaw_races.specs.Races.{FlawPoint};
+ghost use Rattle.hm_flaw_parts.specs.Races.Races.{FlawPoint};
 ghost use Rattle.hm_flaw_states.specs.Keyed.{form_in, key_number};
 ghost use Rattle.hm_flaw_states.specs.Numbered.{same_number};
 

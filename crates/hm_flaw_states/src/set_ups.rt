@@ -9,7 +9,7 @@ ghost use Rattle.hm_flaws.specs.Drivers.{driver_of};
 ghost use Rattle.hm_folds.specs.Kept.{interval_at};
 ghost use Rattle.hm_flaw_states.specs.Owns.{driver_in, seq_in};
 ghost use Rattle.hm_race_states.specs.Small.{between_seqs};
-ghost use Rattle.hm_flaw_races.specs.Races.{point_from};
+ghost use Rattle.hm_flaw_parts.specs.Races.Races.{point_from};
 ghost use Rattle.hm_flaw_states.specs.States.{state_in};
 ghost use Rattle.hm_flaw_states.specs.Keyed.{entries_in, form_in};
 ghost use Rattle.hm_flaw_states.specs.SetUps.{IsAfter};

@@ -2,11 +2,11 @@
 use Rattle.std.proofs.Common.{ℕ, List, subst}
 use Rattle.hm_base.specs.Program.{Program}
 use Rattle.hm_flaws.specs.declared.parts.Part.{Part}
-use Rattle.hm_flaw_text.specs.declared.task.Which.{Which}
+use Rattle.hm_flaw_top.specs.declared.text.task.Which.{Which}
 use Rattle.hm_history.specs.declared.Entry.{Entry}
 use Rattle.hm_history.specs.declared.StepError.{StepError}
 use Rattle.hm_search.specs.Known.{MayFail}
-use Rattle.hm_flaw_races.specs.Races.{flaw_system}
+use Rattle.hm_flaw_parts.specs.Races.Races.{flaw_system}
 use Rattle.hm_flaw_top.specs.Told.{FlawsMayFail}
 
 -- it has as many entries as a history has

@@ -1,2 +1,9 @@
 mod Rows
 mod Full
+mod Named
+mod Asked
+mod Turning
+mod Waiting
+mod Playing
+mod Firsts
+mod Answering

@@ -3,9 +3,9 @@ use Rattle.std.specs.Prelude.{ℕ, ◌==◌, Bool, true, false, List}
 use Rattle.std.specs.List.{list_any}
 use Rattle.hm_edge.specs.declared.status.RaceEnd.{RaceEnd}
 use Rattle.hm_edge.specs.declared.status.Status.{Status}
-use Rattle.hm_flaw_text.specs.Answers.{answer_code}
-use Rattle.hm_flaw_text.specs.declared.answer.Answer.{Answer}
-use Rattle.hm_flaw_text.specs.declared.table.RuleAnswer.{RuleAnswer}
+use Rattle.hm_flaw_top.specs.Text.Answers.{answer_code}
+use Rattle.hm_flaw_top.specs.declared.text.answer.Answer.{Answer}
+use Rattle.hm_flaw_top.specs.declared.text.table.RuleAnswer.{RuleAnswer}
 
 -- a driver was found that does what it must not do; or of one that is not known; or neither
 abbrev pub ending_by : Bool → Bool → Status

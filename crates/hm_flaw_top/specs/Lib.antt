@@ -1,3 +1,5 @@
+pub mod Text
+pub mod Search
 pub mod Endings
 pub mod Told
 pub mod Withouts

@@ -2,9 +2,9 @@
 use Rattle.std.specs.Prelude.{◌≡◌, ◌⊎◌, true, false, List, ℕ, Result, Ok, Err, IfSome}
 use Rattle.hm_base.specs.Program.{Program}
 use Rattle.hm_flaw_parts.specs.Judged.{judged_parts}
-use Rattle.hm_flaw_text.specs.Tasks.{task_in}
-use Rattle.hm_flaw_text.specs.declared.task.BadWord.{BadWord}
-use Rattle.hm_flaw_text.specs.declared.task.Task.{Task}
+use Rattle.hm_flaw_top.specs.Text.Tasks.{task_in}
+use Rattle.hm_flaw_top.specs.declared.text.task.BadWord.{BadWord}
+use Rattle.hm_flaw_top.specs.declared.text.task.Task.{Task}
 use Rattle.hm_history.specs.Kernel.Run.{run}
 use Rattle.hm_history.specs.declared.StepError.{StepError}
 use Rattle.hm_io.specs.Streams.{SinkState}
@@ -13,7 +13,7 @@ use Rattle.hm_edge.specs.Traffic.{NoFault, Traffic}
 use Rattle.hm_edge.specs.Writing.{WriteFaulted}
 use Rattle.hm_edge.specs.declared.status.RaceEnd.{RaceEnd}
 use Rattle.hm_edge.specs.declared.status.Status.{Status}
-use Rattle.hm_race_run.specs.Known.{MayFail}
+use Rattle.hm_race_top.specs.Run.Known.{MayFail}
 use Rattle.hm_race_top.specs.Races.{HasRefused, HasStopped, IsSure}
 use Rattle.hm_race_top.specs.Telling.{HasTold, IsSentOn}
 use Rattle.hm_race_top.specs.declared.telling.Telling.{Telling}

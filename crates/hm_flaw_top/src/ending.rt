@@ -1,12 +1,12 @@
 // How a call ends that has searched the races of drivers, if its text goes out whole.
 ghost use Rattle.std.specs.Prelude.{◌≡◌};
 ghost use Rattle.hm_edge.specs.Messages.{code_of};
-ghost use Rattle.hm_flaw_text.specs.Answers.{answer_code};
+ghost use Rattle.hm_flaw_top.specs.Text.Answers.{answer_code};
 ghost use Rattle.hm_race_top.specs.Telling.{IsEnding};
 ghost use Rattle.hm_flaw_top.specs.Endings.{ending_by, ending_of, ending_of_all, has_code};
 
 use hm_edge::{RaceEnd, Status};
-use hm_flaw_text::{Answer, RuleAnswer};
+use crate::text::{Answer, RuleAnswer};
 
 /// How a call ends that found a driver which does what it must not do, or one of which that is not known.
 fn ending_by(broken: bool, cut: bool) -> Status

@@ -5,6 +5,8 @@
 mod call;
 mod ending;
 mod process;
+mod search;
+mod text;
 mod told;
 
 pub use call::without;

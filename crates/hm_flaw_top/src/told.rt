@@ -1,8 +1,8 @@
 // What is to be written of drivers that leave a rule out, and how the call ends then.
 ghost use Rattle.std.specs.Prelude.{◌≡◌, ◌≤◌, [], length, IfErr, IfOk};
 ghost use Rattle.hm_flaw_parts.specs.Judged.{judged_parts};
-ghost use Rattle.hm_flaw_text.specs.Names.{all_flaws};
-ghost use Rattle.hm_flaw_races.specs.Races.{flaw_system};
+ghost use Rattle.hm_flaw_top.specs.Text.Names.{all_flaws};
+ghost use Rattle.hm_flaw_parts.specs.Races.Races.{flaw_system};
 ghost use Rattle.hm_history.specs.Laws.{DueFrom};
 ghost use Rattle.hm_race_top.specs.Telling.{IsEnding};
 ghost use Rattle.hm_search.specs.Known.{MayFail};
@@ -10,8 +10,8 @@ ghost use Rattle.hm_flaw_top.specs.Told.{rules_in, AreAnswers, FailsAtSome, Flaw
 
 use crate::ending::{ending_of, ending_of_all};
 use hm_base::{ListOf, NoMemory, Script};
-use hm_flaw_search::find_race;
-use hm_flaw_text::{RuleAnswer, Task, Which, all_flaws, answer_text, rules_text};
+use crate::search::find_race;
+use crate::text::{RuleAnswer, Task, Which, all_flaws, answer_text, rules_text};
 use hm_flaws::Flaw;
 use hm_history::{Entry, StepError};
 use hm_race_top::telling::Telling;

@@ -5,10 +5,10 @@ use Rattle.hm_history.specs.Laws.{RunsAreDue}
 use Rattle.hm_history.specs.Kernel.Run.{run}
 use Rattle.hm_laws.specs.Laws.{HistoryIsLegal}
 use Rattle.hm_race_laws.specs.Outcomes.{Point, point_at, outcome, ended_in, raced}
-use Rattle.hm_race_run.specs.Known.{KnownValue, IsKnown}
-use Rattle.hm_race_text.specs.Laws.{TurnsLead, TurnsStand, SameLegal, LeadsTo, PointsAreLed, BlocksAreFound}
-use Rattle.hm_race_text.specs.Schedule.{with_turns}
-use Rattle.hm_race_text.specs.Text.{Way}
+use Rattle.hm_race_top.specs.Run.Known.{KnownValue, IsKnown}
+use Rattle.hm_race_top.specs.Text.Laws.{TurnsLead, TurnsStand, SameLegal, LeadsTo, PointsAreLed, BlocksAreFound}
+use Rattle.hm_race_top.specs.Text.Schedule.{with_turns}
+use Rattle.hm_race_top.specs.Text.Text.{Way}
 use Rattle.hm_script.specs.Built.{has_drain}
 use Rattle.hm_race_top.specs.Laws.{KnownIsTrue}
 use Rattle.hm_race_top.specs.Ways.{way_by, ways_of, EndsSo}

@@ -1,17 +1,17 @@
 -- What holds of the states that a search knows.
 use Rattle.std.proofs.Common.{◌≡◌, ℕ, ◌≤◌, Bool, true, false, List, length, refl}
 use Rattle.hm_base.specs.Program.{Program, IsScript}
-use Rattle.hm_race_text.specs.Conditions.Rulings.{RulingsAreRight}
-use Rattle.hm_race_text.specs.Conditions.Texts.{is_whole}
-use Rattle.hm_race_text.specs.declared.conditions.question.Question.{Question}
+use Rattle.hm_race_top.specs.Text.Conditions.Rulings.{RulingsAreRight}
+use Rattle.hm_race_top.specs.Text.Conditions.Texts.{is_whole}
+use Rattle.hm_race_top.specs.declared.text.conditions.question.Question.{Question}
 use Rattle.hm_history.specs.Kernel.Run.{run}
 use Rattle.hm_search.specs.Goals.{AreMissed, Reaches}
-use Rattle.hm_race_run.specs.Known.{KnownValue, AreFewest, AreKnown, HaveForms, IsComplete, IsCut, IsNear}
+use Rattle.hm_race_top.specs.Run.Known.{KnownValue, AreFewest, AreKnown, HaveForms, IsComplete, IsCut, IsNear}
 use Rattle.hm_search.specs.Known.{forms, AreRising}
 use Rattle.hm_search.specs.declared.search.End.{End}
 use Rattle.hm_race_laws.specs.Closed.{AreDistinct}
 use Rattle.hm_race_laws.specs.Outcomes.{Point}
-use Rattle.hm_race_text.specs.Laws.{lines_of, NoneTwice}
+use Rattle.hm_race_top.specs.Text.Laws.{lines_of, NoneTwice}
 use Rattle.hm_script.specs.Built.{has_drain}
 use Rattle.hm_race_top.specs.Goals.{settled}
 use Rattle.hm_race_top.specs.Laws.{AllIsListed, CompleteIsAll, KnownIsTrue, TrueIsReal}

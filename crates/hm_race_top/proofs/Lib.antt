@@ -5,3 +5,27 @@ pub mod Ends
 pub mod Reporting
 pub mod Listed
 pub mod Holding
+mod Schedules
+mod Led
+mod Blocks
+mod Texts
+mod Last
+mod Firsts
+mod Positions
+mod Ended
+mod Witness
+mod Right
+mod Cuts
+mod Connectives
+mod Growing
+mod Plain
+mod ReadTo
+pub mod Asking
+pub mod Ruled
+pub mod Ending
+pub mod SetUps
+pub mod Lows
+pub mod Turning
+mod Systems
+mod Outcomes
+mod Turns

@@ -1,18 +1,18 @@
 -- What a call has found, by how it ends.
 use Rattle.std.proofs.Common.{◌≡◌, ℕ, inr, Bool, false, Option, Some, None, List, length, refl, sym, ap, ◌∙◌, subst}
 use Rattle.hm_base.specs.Program.{Program}
-use Rattle.hm_race_text.specs.declared.conditions.rulings.Ruling.{Ruling}
-use Rattle.hm_race_text.specs.Conditions.Rulings.{summary}
-use Rattle.hm_race_text.specs.Conditions.Texts.{is_whole}
+use Rattle.hm_race_top.specs.declared.text.conditions.rulings.Ruling.{Ruling}
+use Rattle.hm_race_top.specs.Text.Conditions.Rulings.{summary}
+use Rattle.hm_race_top.specs.Text.Conditions.Texts.{is_whole}
 use Rattle.hm_edge.specs.declared.status.RaceEnd.{RaceEnd}
 use Rattle.hm_edge.specs.declared.status.Status.{Status}
 use Rattle.hm_edge.specs.Writing.{WriteFaulted}
 use Rattle.hm_io.specs.Streams.{Adds, SinkState}
-use Rattle.hm_race_run.specs.Known.{KnownValue}
+use Rattle.hm_race_top.specs.Run.Known.{KnownValue}
 use Rattle.hm_search.specs.declared.search.End.{End}
-use Rattle.hm_race_text.specs.Laws.{lines_of}
-use Rattle.hm_race_text.specs.Text.{blocks_of}
-use Rattle.hm_race_text.specs.declared.block.OutcomeBlock.{OutcomeBlock}
+use Rattle.hm_race_top.specs.Text.Laws.{lines_of}
+use Rattle.hm_race_top.specs.Text.Text.{blocks_of}
+use Rattle.hm_race_top.specs.declared.text.block.OutcomeBlock.{OutcomeBlock}
 use Rattle.hm_script.specs.Built.{has_drain}
 use Rattle.hm_race_top.specs.Asked.{questions_in}
 use Rattle.hm_race_top.specs.Races.{Found, HasFound, Holds}

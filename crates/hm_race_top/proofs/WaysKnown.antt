@@ -6,11 +6,11 @@ use Rattle.std.proofs.lemmas.List.Sums.{fold-append}
 use Rattle.hm_history.specs.declared.Kind.{Kind}
 use Rattle.hm_race_laws.specs.Closed.{IsListed}
 use Rattle.hm_race_laws.specs.Outcomes.{outcome, answers_of}
-use Rattle.hm_race_run.specs.Known.{KnownValue, outcomes_of}
-use Rattle.hm_race_text.specs.Answers.{answer_lines}
-use Rattle.hm_race_text.specs.Laws.{lines_of, WaysAreShown}
-use Rattle.hm_race_text.specs.Text.{Way, block_of, with_block, blocks_of}
-use Rattle.hm_race_text.specs.declared.block.OutcomeBlock.{OutcomeBlock}
+use Rattle.hm_race_top.specs.Run.Known.{KnownValue, outcomes_of}
+use Rattle.hm_race_top.specs.Text.Answers.{answer_lines}
+use Rattle.hm_race_top.specs.Text.Laws.{lines_of, WaysAreShown}
+use Rattle.hm_race_top.specs.Text.Text.{Way, block_of, with_block, blocks_of}
+use Rattle.hm_race_top.specs.declared.text.block.OutcomeBlock.{OutcomeBlock}
 use Rattle.hm_race_top.specs.Laws.{WaysAreOutcomes, CompleteIsAll}
 use Rattle.hm_race_top.specs.Ways.{way_by, ways_by, ways_of, blocks_known}
 

@@ -2,8 +2,8 @@
 use Rattle.std.specs.Prelude.{◌≡◌, ℕ, Bool, true, false, ◌&&◌, ◌||◌, if◌then◌else◌, List, [], ◌∷◌, Option, Some, None}
 use Rattle.std.specs.Prelude.{Result, Ok, Err, map, codes, drop, ⊤}
 use Rattle.std.specs.Str.{bytes_eq}
-use Rattle.hm_race_text.specs.Conditions.Questions.{AreQuestions, bad_question}
-use Rattle.hm_race_text.specs.declared.conditions.question.Question.{Question}
+use Rattle.hm_race_top.specs.Text.Conditions.Questions.{AreQuestions, bad_question}
+use Rattle.hm_race_top.specs.declared.text.conditions.question.Question.{Question}
 use Rattle.hm_edge.specs.declared.status.RaceEnd.{RaceEnd}
 use Rattle.hm_edge.specs.declared.status.Status.{Status}
 use Rattle.hm_script.specs.Numerals.{number}

@@ -3,11 +3,11 @@ use Rattle.std.specs.Prelude.{◌≡◌, ℕ, true, false, List, map}
 use Rattle.hm_base.specs.Program.{Program, IsScript}
 use Rattle.hm_history.specs.Kernel.Run.{run}
 use Rattle.hm_race_laws.specs.Outcomes.{raced}
-use Rattle.hm_race_run.specs.Known.{KnownValue, IsComplete, AreKnown, outcomes_of}
-use Rattle.hm_race_text.specs.Conditions.Laws.{AllListed, AllReal}
-use Rattle.hm_race_text.specs.Laws.{lines_of}
-use Rattle.hm_race_text.specs.Text.{Way}
-use Rattle.hm_race_text.specs.declared.block.OutcomeBlock.{OutcomeBlock}
+use Rattle.hm_race_top.specs.Run.Known.{KnownValue, IsComplete, AreKnown, outcomes_of}
+use Rattle.hm_race_top.specs.Text.Conditions.Laws.{AllListed, AllReal}
+use Rattle.hm_race_top.specs.Text.Laws.{lines_of}
+use Rattle.hm_race_top.specs.Text.Text.{Way}
+use Rattle.hm_race_top.specs.declared.text.block.OutcomeBlock.{OutcomeBlock}
 use Rattle.hm_race_top.specs.Ways.{ways_of, blocks_known, AreTrue, HaveAll}
 use Rattle.hm_script.specs.Built.{has_drain}
 

@@ -1,3 +1,5 @@
+pub mod Text
+pub mod Run
 pub mod Asked
 pub mod Ways
 pub mod Goals

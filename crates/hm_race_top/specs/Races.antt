@@ -1,18 +1,18 @@
 -- What a call comes to: what was read, and what was written of its race.
 use Rattle.std.specs.Prelude.{◌≡◌, ◌⊎◌, ◌≤◌, ℕ, true, false, List, length, Option, Some, None, IfSome, ⊤}
 use Rattle.hm_base.specs.Program.{Program}
-use Rattle.hm_race_text.specs.Conditions.Rulings.{ruling_of, settles, IsRuled}
-use Rattle.hm_race_text.specs.Conditions.Texts.{is_whole}
-use Rattle.hm_race_text.specs.declared.conditions.question.Question.{Question}
+use Rattle.hm_race_top.specs.Text.Conditions.Rulings.{ruling_of, settles, IsRuled}
+use Rattle.hm_race_top.specs.Text.Conditions.Texts.{is_whole}
+use Rattle.hm_race_top.specs.declared.text.conditions.question.Question.{Question}
 use Rattle.hm_history.specs.Kernel.Run.{run}
 use Rattle.hm_history.specs.declared.StepError.{StepError}
 use Rattle.hm_search.specs.Goals.{AreMissed, Reaches}
-use Rattle.hm_race_run.specs.Known.{KnownValue, AreFewest, AreKnown, HaveForms}
+use Rattle.hm_race_top.specs.Run.Known.{KnownValue, AreFewest, AreKnown, HaveForms}
 use Rattle.hm_search.specs.Known.{forms, AreRising}
-use Rattle.hm_race_run.specs.Known.{IsCut, IsNear, MayFail}
+use Rattle.hm_race_top.specs.Run.Known.{IsCut, IsNear, MayFail}
 use Rattle.hm_search.specs.declared.search.End.{End}
 use Rattle.hm_race_laws.specs.Closed.{AreDistinct, IsListed}
-use Rattle.hm_race_text.specs.Laws.{lines_of}
+use Rattle.hm_race_top.specs.Text.Laws.{lines_of}
 use Rattle.hm_io.specs.Streams.{SinkState}
 use Rattle.hm_edge.specs.Reading.{IsGiven, HasNotRead, IsTextOf, ReadAs, ReadFaulted}
 use Rattle.hm_edge.specs.Traffic.{IsUntouched, NoFault, Traffic}

@@ -2,21 +2,21 @@
 use Rattle.std.specs.Prelude.{◌≡◌, ◌⊎◌, ℕ, ◌-◌, ◌==◌, Bool, true, false, if◌then◌else◌, Option, Some, None, List, []}
 use Rattle.std.specs.Prelude.{length, slice_get, ⊤}
 use Rattle.hm_base.specs.Program.{Program}
-use Rattle.hm_race_text.specs.Conditions.Rulings.{summary}
-use Rattle.hm_race_text.specs.Conditions.Texts.{rulings_text, is_whole}
-use Rattle.hm_race_text.specs.declared.conditions.rulings.Ruling.{Ruling}
-use Rattle.hm_race_text.specs.declared.conditions.question.Question.{Question}
+use Rattle.hm_race_top.specs.Text.Conditions.Rulings.{summary}
+use Rattle.hm_race_top.specs.Text.Conditions.Texts.{rulings_text, is_whole}
+use Rattle.hm_race_top.specs.declared.text.conditions.rulings.Ruling.{Ruling}
+use Rattle.hm_race_top.specs.declared.text.conditions.question.Question.{Question}
 use Rattle.hm_edge.specs.Writing.{HasWritten}
 use Rattle.hm_edge.specs.declared.status.RaceEnd.{RaceEnd}
 use Rattle.hm_edge.specs.declared.status.Status.{Status}
 use Rattle.hm_io.specs.Streams.{Adds, SinkState}
-use Rattle.hm_race_run.specs.Known.{KnownValue}
+use Rattle.hm_race_top.specs.Run.Known.{KnownValue}
 use Rattle.hm_search.specs.declared.search.End.{End}
-use Rattle.hm_race_text.specs.Table.Text.{table_text}
-use Rattle.hm_race_text.specs.Laws.{lines_of}
-use Rattle.hm_race_text.specs.Schedule.{with_turns}
-use Rattle.hm_race_text.specs.Text.{outcomes_text}
-use Rattle.hm_race_text.specs.declared.block.OutcomeBlock.{OutcomeBlock}
+use Rattle.hm_race_top.specs.Text.Table.Text.{table_text}
+use Rattle.hm_race_top.specs.Text.Laws.{lines_of}
+use Rattle.hm_race_top.specs.Text.Schedule.{with_turns}
+use Rattle.hm_race_top.specs.Text.Text.{outcomes_text}
+use Rattle.hm_race_top.specs.declared.text.block.OutcomeBlock.{OutcomeBlock}
 use Rattle.hm_script.specs.Spelling.{text}
 use Rattle.hm_race_top.specs.declared.asked.Task.{Task}
 use Rattle.hm_race_top.specs.declared.telling.Telling.{Telling}

@@ -8,13 +8,13 @@ use Rattle.hm_history.specs.Memory.Words.{numbers}
 use Rattle.hm_history.specs.declared.Entry.{Entry}
 use Rattle.hm_race_laws.specs.Closed.{IsListed}
 use Rattle.hm_race_laws.specs.Outcomes.{Point, outcome, answers_of, ended}
-use Rattle.hm_race_run.specs.Known.{KnownValue}
+use Rattle.hm_race_top.specs.Run.Known.{KnownValue}
 use Rattle.hm_search.specs.Known.{turns_at}
-use Rattle.hm_race_text.specs.Answers.{answer_lines}
-use Rattle.hm_race_text.specs.Laws.{lines_of}
-use Rattle.hm_race_text.specs.Schedule.{with_turns}
-use Rattle.hm_race_text.specs.Text.{Way, block_of, blocks_of}
-use Rattle.hm_race_text.specs.declared.block.OutcomeBlock.{OutcomeBlock}
+use Rattle.hm_race_top.specs.Text.Answers.{answer_lines}
+use Rattle.hm_race_top.specs.Text.Laws.{lines_of}
+use Rattle.hm_race_top.specs.Text.Schedule.{with_turns}
+use Rattle.hm_race_top.specs.Text.Text.{Way, block_of, blocks_of}
+use Rattle.hm_race_top.specs.declared.text.block.OutcomeBlock.{OutcomeBlock}
 
 -- the way to the state with this number, whose form this is, with the answers of `actors` actors
 abbrev pub way_to : ℕ → List KnownValue → ℕ → Point → Way

@@ -5,7 +5,7 @@ ghost use Rattle.hm_race_top.specs.Asked.{after_most, front, questions_in, HasNo
 
 use hm_base::ListOf;
 use hm_edge::{RaceEnd, Status};
-use hm_race_text::{BadQuestion, Question, questions_of};
+use crate::text::{BadQuestion, Question, questions_of};
 use hm_script::number;
 use std::alloc::Global;
 

@@ -17,7 +17,7 @@ use hm_base::{NoMemory, Script};
 use hm_edge::{RaceEnd, Status, read_script};
 use hm_history::StepError;
 use hm_io::{Sink, Source};
-use hm_race_run::{copy_script, search};
+use crate::run::{copy_script, search};
 use hm_race_states::key::StateKey;
 use hm_search::Explored;
 use skip_rules::SkipRule;
@@ -67,8 +67,8 @@ fn search_race<R: SkipRule, K: Sink>(
     complete_is_all();
     true_is_real();
     all_is_listed();
-    hm_race_text::none_twice();
-    hm_race_text::rulings_are_right();
+    crate::text::none_twice();
+    crate::text::rulings_are_right();
     let Ok(copy) = copy_script(alloc, script) else {
         return Status::NoMemory;
     };

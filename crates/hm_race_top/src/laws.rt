@@ -20,25 +20,25 @@ pub fn known_is_true()
 {
     hm_history::laws::runs_are_due();
     hm_laws::every_history_is_legal();
-    hm_race_text::turns_lead();
-    hm_race_text::turns_stand();
-    hm_race_text::same_legal();
-    hm_race_text::points_are_led();
-    hm_race_text::blocks_are_found();
+    crate::text::turns_lead();
+    crate::text::turns_stand();
+    crate::text::same_legal();
+    crate::text::points_are_led();
+    crate::text::blocks_are_found();
 }
 
 /// If the states that are known have every outcome, what is written has it.
 pub fn complete_is_all()
     ensures { CompleteIsAll }
 {
-    hm_race_text::ways_are_shown();
+    crate::text::ways_are_shown();
 }
 
 /// Blocks that are true are outcomes of the race.
 pub fn true_is_real()
     ensures { TrueIsReal }
 {
-    hm_race_text::same_end();
+    crate::text::same_end();
 }
 
 /// If they are all, every outcome is listed.

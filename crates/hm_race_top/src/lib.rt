@@ -5,8 +5,10 @@ mod asked;
 mod call;
 mod laws;
 mod process;
+pub mod run;
 mod settling;
 pub mod telling;
+pub mod text;
 mod ways;
 
 pub use asked::MOST_STATES;

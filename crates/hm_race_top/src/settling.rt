@@ -6,7 +6,7 @@ ghost use Rattle.hm_race_top.specs.Goals.{IsGoal, settled};
 
 use hm_base::NoMemory;
 use hm_race_states::key::StateKey;
-use hm_race_text::{Question, answer_lines, settles};
+use crate::text::{Question, answer_lines, settles};
 use hm_search::Goal;
 use std::alloc::Global;
 use std::marker::Model;

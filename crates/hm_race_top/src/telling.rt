@@ -1,7 +1,7 @@
 // What is written of a race, and how the call ends then.
 ghost use Rattle.std.specs.Prelude.{◌≡◌, IfOk, MatchOption, None, Some};
-ghost use Rattle.hm_race_text.specs.Conditions.Texts.{is_whole};
-ghost use Rattle.hm_race_text.specs.Laws.{lines_of};
+ghost use Rattle.hm_race_top.specs.Text.Conditions.Texts.{is_whole};
+ghost use Rattle.hm_race_top.specs.Text.Laws.{lines_of};
 ghost use Rattle.hm_race_top.specs.Telling.{HasTold, IsEnding, IsSentOn, ending_of, rulings_told, numbered};
 ghost use Rattle.hm_race_top.specs.Telling.{script_told, telling};
 ghost use Rattle.hm_edge.specs.Writing.{WriteFaulted};
@@ -10,7 +10,7 @@ use crate::asked::Task;
 use hm_base::{NoMemory, Script, Text};
 use hm_edge::{RaceEnd, Status};
 use hm_io::Sink;
-use hm_race_text::{
+use crate::text::{
     OutcomeBlock, Question, Ruling, is_whole, outcomes_text, rulings_text, summary, table_text,
     text_with_turns,
 };

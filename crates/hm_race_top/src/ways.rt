@@ -4,12 +4,12 @@ ghost use Rattle.hm_script.specs.Built.{has_drain};
 ghost use Rattle.hm_search.specs.Known.{turns_at};
 ghost use Rattle.hm_search.specs.Values.{all_known};
 ghost use Rattle.hm_race_states.specs.Keyed.{form_in};
-ghost use Rattle.hm_race_text.specs.Text.{block_of, blocks_of};
+ghost use Rattle.hm_race_top.specs.Text.Text.{block_of, blocks_of};
 ghost use Rattle.hm_race_top.specs.Ways.{way_to, ways_by};
 
 use hm_base::{Actor, ListOf, NoMemory, ScheduleLine};
 use hm_race_states::key::StateKey;
-use hm_race_text::{OutcomeBlock, add_block, answer_lines};
+use crate::text::{OutcomeBlock, add_block, answer_lines};
 use hm_search::{Known, turns_to};
 use std::alloc::Global;
 

@@ -2,7 +2,7 @@ use Rattle.std.proofs.Common.{refl, sym, ap, ◌∙◌}
 use Rattle.hm_base.specs.Program.{Program}
 use Rattle.hm_flaw_states.specs.Owns.{driver_in}
 use Rattle.hm_flaw_parts.specs.Marks.{marks_in}
-use Rattle.hm_flaw_races.specs.Races.{marked_of}
+use Rattle.hm_flaw_parts.specs.Races.Races.{marked_of}
 use Rattle.hm_flaw_states.specs.States.{state_in}
 use Rattle.hm_flaws.specs.Drivers.{driver_of}
 use Rattle.hm_history.specs.Kernel.Going.{State}

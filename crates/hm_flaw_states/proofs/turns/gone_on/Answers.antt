@@ -2,7 +2,7 @@ use Rattle.std.proofs.Common.{◌≡◌, List, [], ◌∷◌, ◌++◌, Global, 
 use Rattle.std.specs.Rc.{rc_value}
 use Rattle.std.specs.declared.rc.Rc.{Rc}
 use Rattle.hm_flaw_parts.specs.Marks.{marks_in}
-use Rattle.hm_flaw_races.specs.Races.{marked_of}
+use Rattle.hm_flaw_parts.specs.Races.Races.{marked_of}
 use Rattle.hm_flaw_states.specs.States.{state_in}
 use Rattle.hm_history.specs.Kernel.Going.{State}
 use Rattle.hm_history.specs.Memory.After.{after}

@@ -1,7 +1,7 @@
 use Rattle.std.proofs.Common.{◌+◌, ◌<◌, List, length, get_or, refl, sym, ap, subst, arith}
 use Rattle.hm_flaws.specs.declared.flaws.Flaw.{Flaw}
 use Rattle.hm_flaw_parts.specs.Judged.{judged_parts}
-use Rattle.hm_flaw_text.specs.declared.table.RuleAnswer.{RuleAnswer}
+use Rattle.hm_flaw_top.specs.declared.text.table.RuleAnswer.{RuleAnswer}
 use Rattle.hm_flaw_top.proofs.Rows.{one_more, rules_more}
 use Rattle.hm_flaw_top.proofs.told.answers_of.Invariants.{SoFar}
 use Rattle.hm_flaw_top.proofs.told.answers_of.Goals as goal

@@ -3,7 +3,7 @@ use Rattle.hm_base.specs.Program.{Program}
 use Rattle.hm_flaws.specs.declared.flaws.Flaw.{Flaw}
 use Rattle.hm_flaws.specs.declared.parts.Part.{Part}
 use Rattle.hm_flaw_parts.specs.Judged.{judged_parts}
-use Rattle.hm_flaw_text.specs.declared.table.RuleAnswer.{RuleAnswer}
+use Rattle.hm_flaw_top.specs.declared.text.table.RuleAnswer.{RuleAnswer}
 use Rattle.hm_history.specs.declared.Entry.{Entry}
 use Rattle.hm_flaw_top.specs.Told.{rules_in, AreAnswers}
 use Rattle.hm_flaw_top.proofs.told.answers_of.Given as goal

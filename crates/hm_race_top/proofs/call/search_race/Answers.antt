@@ -1,7 +1,7 @@
 use Rattle.std.proofs.Common.{◌≡◌, ℕ, ◌≤◌, List, length, ◌∙◌, sym, ap, subst}
 use Rattle.hm_base.specs.Program.{Program}
-use Rattle.hm_race_text.specs.declared.conditions.question.Question.{Question}
-use Rattle.hm_race_run.specs.Known.{IsCut, IsNear}
+use Rattle.hm_race_top.specs.declared.text.conditions.question.Question.{Question}
+use Rattle.hm_race_top.specs.Run.Known.{IsCut, IsNear}
 use Rattle.hm_search.specs.Values.{all_known}
 use Rattle.hm_search.proofs.Exploring.{known_length}
 use Rattle.hm_race_states.specs.Keyed.{form_in}

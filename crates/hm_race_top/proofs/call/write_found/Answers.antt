@@ -3,7 +3,7 @@ use Rattle.hm_base.specs.Program.{Program}
 use Rattle.hm_search.specs.Values.{all_known}
 use Rattle.hm_search.proofs.Exploring.{known_length}
 use Rattle.hm_race_states.specs.Keyed.{form_in}
-use Rattle.hm_race_text.specs.declared.block.OutcomeBlock.{OutcomeBlock}
+use Rattle.hm_race_top.specs.declared.text.block.OutcomeBlock.{OutcomeBlock}
 use Rattle.hm_race_top.specs.Telling.{HasTold, telling, told}
 use Rattle.hm_race_top.proofs.Reporting.{told_same}
 use Rattle.hm_race_top.proofs.call.write_found.Goals as goal

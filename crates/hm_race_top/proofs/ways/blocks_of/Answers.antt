@@ -1,11 +1,11 @@
 use Rattle.std.proofs.Common.{◌≡◌, ◌<◌, ◌∙◌, ap, length, get_or, arith}
-use Rattle.hm_race_run.specs.Known.{KnownValue}
+use Rattle.hm_race_top.specs.Run.Known.{KnownValue}
 use Rattle.hm_search.specs.Known.{turns_at}
 use Rattle.hm_search.specs.Values.{all_known}
 use Rattle.hm_search.proofs.Exploring.{known_length}
 use Rattle.hm_search.proofs.Unrolled.{value_at}
 use Rattle.hm_race_states.specs.Keyed.{form_in}
-use Rattle.hm_race_text.specs.Text.{with_block, blocks_of}
+use Rattle.hm_race_top.specs.Text.Text.{with_block, blocks_of}
 use Rattle.hm_race_top.specs.Ways.{ways_by}
 use Rattle.hm_race_top.proofs.WaysKnown.{one_ended, one_open, took_all}
 use Rattle.hm_race_top.proofs.ways.blocks_of.Goals.{then-state+in_ok-block+in_ok-add_block, else-state}

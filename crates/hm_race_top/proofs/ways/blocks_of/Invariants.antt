@@ -1,7 +1,7 @@
 use Rattle.std.proofs.Common.{◌≡◌, take}
 use Rattle.hm_race_states.specs.Keyed.{form_in}
 use Rattle.hm_search.specs.Values.{all_known}
-use Rattle.hm_race_text.specs.Text.{blocks_of}
+use Rattle.hm_race_top.specs.Text.Text.{blocks_of}
 use Rattle.hm_race_top.specs.Ways.{ways_by}
 use Rattle.hm_race_top.proofs.ways.blocks_of.Given as goal
 

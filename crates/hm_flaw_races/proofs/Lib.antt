@@ -1,7 +1,0 @@
-pub mod Systems
-pub mod Marking
-pub mod Turns
-mod Unbroken
-pub mod Breaking
-mod Searched
-mod Rightly

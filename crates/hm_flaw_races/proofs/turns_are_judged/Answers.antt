@@ -1,5 +1,0 @@
-use Rattle.hm_flaw_races.proofs.Turns.{turns_are_judged}
-use Rattle.hm_flaw_races.proofs.turns_are_judged.Goals as goal
-
-pub returns : goal.returns
-returns c = turns_are_judged

@@ -1,5 +1,0 @@
-use Rattle.hm_flaw_races.proofs.Searched.{whole_breaks_none}
-use Rattle.hm_flaw_races.proofs.whole_breaks_none.Goals as goal
-
-pub returns : goal.returns
-returns c = whole_breaks_none

@@ -1,5 +1,0 @@
-use Rattle.hm_flaw_races.proofs.Searched.{whole_never_sticks}
-use Rattle.hm_flaw_races.proofs.whole_never_sticks.Goals as goal
-
-pub returns : goal.returns
-returns c = whole_never_sticks

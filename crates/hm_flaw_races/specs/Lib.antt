@@ -1,4 +1,0 @@
-pub mod Races
-pub mod Judging
-pub mod Shortest
-pub mod Laws

@@ -1,5 +1,0 @@
-mod Turning
-mod Waiting
-mod Playing
-mod Firsts
-mod Answering

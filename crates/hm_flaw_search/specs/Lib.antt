@@ -1,4 +1,0 @@
-pub mod Answers
-pub mod Finding
-pub mod Played
-pub mod Races

@@ -1,3 +1,0 @@
-mod Setting
-mod Stays
-mod Taking

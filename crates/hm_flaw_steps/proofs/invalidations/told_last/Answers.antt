@@ -1,6 +1,0 @@
-use Rattle.std.proofs.Common.{◌∙◌}
-use Rattle.hm_flaw_steps.proofs.Stays as stays
-use Rattle.hm_flaw_steps.proofs.invalidations.told_last.Goals as goal
-
-pub returns-in_default : goal.returns-in_default
-returns-in_default g c = c.requires.right ∙ stays.told_last (g.W.Reads.program c.args.found.now) (g.W.Reads.state c.args.found.now).after c.args.actor c.args.op.now ((g.W.Reads.state c.args.found.now).going c.args.actor).pages c.args.top.now c.in_default.not-Guard

@@ -1,5 +1,0 @@
-use Rattle.hm_flaw_text.proofs.Asked.{words_are_tasks}
-use Rattle.hm_flaw_text.proofs.task.words_are_tasks.Goals as goal
-
-pub returns : goal.returns
-returns c = words_are_tasks

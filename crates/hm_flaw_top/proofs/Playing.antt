@@ -1,0 +1,146 @@
+-- A key after turns, one after the other, and the entries that led to it.
+use Rattle.std.proofs.Common.{◌≡◌, ℕ, ◌+◌, ◌<◌, ◌≤◌, false, ◌&&◌, Option, Some, None, List, [], ◌∷◌, ◌++◌, length, map, drop, take, refl, sym, ap, ◌∙◌, subst, append_assoc, append-nil, get_or, arith}
+use Rattle.std.specs.Option.{option_map}
+use Rattle.std.specs.Prelude.{is_none}
+use Rattle.std.specs.Rc.{rc_value}
+use Rattle.std.proofs.lemmas.Bool.{false≢true}
+use Rattle.std.proofs.lemmas.List.{length-append, length-map, take_more}
+use Rattle.std.proofs.lemmas.List.Sums.{fold-append}
+use Rattle.std.proofs.lemmas.Option.{none-some}
+use Rattle.std.proofs.Math.Seq.{drop-append_seam}
+use Rattle.std.specs.List.{drop-map}
+use Rattle.hm_base.specs.Program.{Program}
+use Rattle.hm_history.specs.Kernel.Run.{is_entry}
+use Rattle.hm_history.specs.declared.Entry.{Entry}
+use Rattle.hm_history.specs.declared.Progress.{Progress}
+use Rattle.hm_flaws.specs.declared.flaws.Flaw.{Flaw}
+use Rattle.hm_flaws.specs.declared.parts.Part.{Part}
+use Rattle.hm_flaws.specs.Flawed.{due_by}
+use Rattle.hm_flaws.specs.Judged.{Judged, judged, judged_after, judged_entry, judged_from, judged_on, judged_turn}
+use Rattle.hm_flaws.specs.Parts.{broken_part}
+use Rattle.hm_flaws.specs.Races.{part_in}
+use Rattle.hm_flaw_states.specs.Keyed.{break_of, entries_in, form_in, part_of}
+use Rattle.hm_flaw_states.specs.Turns.{IsNextKey, IsTurned}
+use Rattle.hm_flaw_states.specs.declared.key.BrokenBy.{BrokenBy}
+use Rattle.hm_flaw_states.specs.declared.key.FlawKey.{FlawKey}
+use Rattle.hm_flaw_parts.specs.Races.Races.{FlawPoint, broken_at, is_due_at, point_from, point_turn}
+use Rattle.hm_flaw_parts.specs.Races.Judging.{point_after, point_of}
+use Rattle.hm_flaw_parts.proofs.BrokenTurns.{no_entry}
+use Rattle.hm_flaw_parts.proofs.MarkedTurns.{broken_same}
+use Rattle.hm_flaw_parts.proofs.Systems.{turn_stays}
+use Rattle.hm_flaw_parts.proofs.Turns.{in_step, turns_are_judged, turns_go}
+use Rattle.hm_flaw_top.specs.declared.text.answer.Found.{Found}
+use Rattle.hm_flaw_top.specs.Search.Played.{IsPlayed, found_by, found_with}
+use Rattle.hm_flaw_top.proofs.Turning.{turned_point}
+
+-- ---- no turn
+
+-- ---- one turn more
+
+-- the point after it
+point_more : (parts : List Part) (l : Flaw) (c : Program) (h : List Entry) (turns : List ℕ) (a : ℕ) → point_after parts l c h (turns ++ a ∷ []) ≡ point_turn parts l c (point_after parts l c h turns) a
+point_more parts l c h turns a = fold-append (point_turn parts l c) (point_from c h) turns (a ∷ [])
+
+-- what the turns are judged to come to with it
+judged_more : (parts : List Part) (l : Flaw) (c : Program) (h : List Entry) (turns : List ℕ) (a : ℕ) (x : Judged) → judged_after parts l c h (turns ++ a ∷ []) x ≡ judged_on parts l c h (judged_after parts l c h turns x).broken (judged_after parts l c h turns x) a
+judged_more parts l c h [] a x = refl
+judged_more parts l c h (b ∷ turns) a x = judged_more parts l c h turns a (judged_on parts l c h x.broken x b)
+
+module _ (parts : List Part) (l : Flaw) (c : Program) (h : List Entry) (turns : List ℕ) (a : ℕ) (k : FlawKey) (p : IsPlayed parts l c h turns k) where
+  abbrev so_far : Judged
+  so_far = judged parts l c h turns
+
+  same : form_in k ≡ point_of c h so_far
+  same = p.form ∙ turns_are_judged parts l c h turns
+
+  -- nothing is due
+  judged_stays : (o : Option (Entry × Part)) (q : Progress) → due_by l c so_far.flawed a ≡ q → (is_none (part_in o) && is_entry q) ≡ false → judged_on parts l c h o so_far a ≡ so_far
+  judged_stays (Some y) q d is = refl
+  judged_stays None (Progress.Did e) d is = absurd (false≢true (sym is))
+  judged_stays None (Progress.Waiting why) d is = ap (judged_turn parts l c h so_far) d
+  judged_stays None Progress.Idle d is = ap (judged_turn parts l c h so_far) d
+
+  all_stays : is_due_at l c (form_in k) a ≡ false → judged parts l c h (turns ++ a ∷ []) ≡ so_far
+  all_stays is = judged_more parts l c h turns a (judged_from c h) ∙ judged_stays so_far.broken (due_by l c so_far.flawed a) refl (subst (λ (x : FlawPoint). is_due_at l c x a ≡ false) same is)
+
+  pub played_stays : is_due_at l c (form_in k) a ≡ false → IsPlayed parts l c h (turns ++ a ∷ []) k
+  played_stays is = record {
+    form = sym (turn_stays parts l c (form_in k) a (form_in k).broken (due_by l c (form_in k).flawed a) refl is) ∙ (ap (λ (x : FlawPoint). point_turn parts l c x a) p.form ∙ sym (point_more parts l c h turns a));
+    entries = p.entries ∙ ap (λ (x : Judged). h ++ x.entries) (sym (all_stays is));
+    broken = p.broken ∙ ap (λ (x : Judged). x.broken) (sym (all_stays is));
+  }
+
+  module _ (n : FlawKey) (z : IsTurned parts l c k a n) where
+    abbrev breaks : Option Part
+    breaks = broken_at parts c (form_in k) z.entry
+
+    none_before : so_far.broken ≡ None
+    none_before = no_entry so_far.broken (sym (ap (λ (x : FlawPoint). x.broken) same) ∙ z.none)
+
+    is_due : due_by l c so_far.flawed a ≡ Progress.Did z.entry
+    is_due = subst (λ (x : FlawPoint). due_by l c x.flawed a ≡ Progress.Did z.entry) same z.due
+
+    breaks_so : breaks ≡ broken_part parts c (h ++ so_far.entries) so_far.flawed.state.going z.entry
+    breaks_so = ap (λ (x : FlawPoint). broken_at parts c x z.entry) same ∙ broken_same parts c (h ++ so_far.entries) so_far.flawed z.entry (in_step parts l c h so_far (turns_go parts l c h turns))
+
+    judged_on_so : judged parts l c h (turns ++ a ∷ []) ≡ judged_entry parts l c h so_far z.entry breaks
+    judged_on_so =
+        judged_more parts l c h turns a (judged_from c h)
+        ∙ (ap (λ (o : Option (Entry × Part)). judged_on parts l c h o so_far a) none_before
+        ∙ (ap (judged_turn parts l c h so_far) is_due
+        ∙ ap (judged_entry parts l c h so_far z.entry) (sym breaks_so)))
+
+    form_so : form_in n ≡ point_after parts l c h (turns ++ a ∷ [])
+    form_so = z.form ∙ (sym (turned_point parts l c (form_in k) a z.entry z.none z.due) ∙ (ap (λ (x : FlawPoint). point_turn parts l c x a) p.form ∙ sym (point_more parts l c h turns a)))
+
+    by_part : (o : Option Part) → breaks ≡ o → IsPlayed parts l c h (turns ++ a ∷ []) n
+    by_part None b =
+        let now : judged parts l c h (turns ++ a ∷ []) ≡ judged_entry parts l c h so_far z.entry None = judged_on_so ∙ ap (judged_entry parts l c h so_far z.entry) b in
+        record {
+          form = form_so;
+          entries = (z.on b).0 ∙ (ap (λ (es : List Entry). es ++ z.entry ∷ []) p.entries ∙ (append_assoc h so_far.entries (z.entry ∷ []) ∙ ap (λ (x : Judged). h ++ x.entries) (sym now)));
+          broken = (z.on b).1 ∙ ap (λ (x : Judged). x.broken) (sym now);
+        }
+    by_part (Some part) b =
+        let now : judged parts l c h (turns ++ a ∷ []) ≡ judged_entry parts l c h so_far z.entry (Some part) = judged_on_so ∙ ap (judged_entry parts l c h so_far z.entry) b in
+        record {
+          form = form_so;
+          entries = (z.ended part b).0 ∙ (p.entries ∙ ap (λ (x : Judged). h ++ x.entries) (sym now));
+          broken = (z.ended part b).1 ∙ ap (λ (x : Judged). x.broken) (sym now);
+        }
+
+    pub played_on : IsPlayed parts l c h (turns ++ a ∷ []) n
+    played_on = by_part breaks refl
+
+module _ (parts : List Part) (l : Flaw) (c : Program) (h : List Entry) (turns : List ℕ) (i a : ℕ) (k m : FlawKey) (o : Option FlawKey) (p : IsPlayed parts l c h (take i turns) k) (below : i < length turns) (is : a ≡ get_or turns i a) (next : IsNextKey parts l c k a o) where
+  more : take i turns ++ a ∷ [] ≡ take (i + 1) turns
+  more = ap (λ (j : ℕ). take i turns ++ j ∷ []) is ∙ sym (take_more turns i a below)
+
+  pub goes_on : (n : FlawKey) → o ≡ Some n → m ≡ n → IsPlayed parts l c h (take (i + 1) turns) m
+  goes_on n some same = subst (IsPlayed parts l c h (take (i + 1) turns)) (sym same) (subst (λ (ts : List ℕ). IsPlayed parts l c h ts n) more (played_on parts l c h (take i turns) a k p n (subst (IsNextKey parts l c k a) some next)))
+
+  pub goes_not : o ≡ None → m ≡ k → IsPlayed parts l c h (take (i + 1) turns) m
+  goes_not none same = subst (IsPlayed parts l c h (take (i + 1) turns)) (sym same) (subst (λ (ts : List ℕ). IsPlayed parts l c h ts k) more (played_stays parts l c h (take i turns) a k p (subst (IsNextKey parts l c k a) none next)))
+
+-- ---- the entries after the set-up
+
+-- the entries of a key, without as many as the set-up has
+pub trail_after : (parts : List Part) (l : Flaw) (c : Program) (h : List Entry) (turns : List ℕ) (k : FlawKey) (n : ℕ) → IsPlayed parts l c h turns k → n ≡ length h → map rc_value (drop n k.trail.items) ≡ (judged parts l c h turns).entries
+trail_after parts l c h turns k n p long =
+    sym (drop-map rc_value n k.trail.items)
+    ∙ (ap (drop n) p.entries
+    ∙ (ap (λ (i : ℕ). drop i (h ++ (judged parts l c h turns).entries)) long
+    ∙ drop-append_seam h (judged parts l c h turns).entries))
+
+pub found_broken : (parts : List Part) (l : Flaw) (c : Program) (h : List Entry) (turns : List ℕ) (k : FlawKey) (by : BrokenBy) (es : List Entry) (e : Entry)
+    → IsPlayed parts l c h turns k → k.broken ≡ Some by → es ≡ (judged parts l c h turns).entries → e ≡ by.entry.value → Found.Broken es e by.part ≡ found_by (judged parts l c h turns)
+found_broken parts l c h turns k by es e p is entries entry =
+    ap (λ (x : Entry). Found.Broken es x by.part) entry
+    ∙ (ap (λ (xs : List Entry). found_with xs (Some (by.entry.value, by.part))) entries
+    ∙ ap (found_with (judged parts l c h turns).entries) (sym (ap (option_map break_of) is) ∙ p.broken))
+
+pub found_unbroken : (parts : List Part) (l : Flaw) (c : Program) (h : List Entry) (turns : List ℕ) (k : FlawKey) (es : List Entry)
+    → IsPlayed parts l c h turns k → k.broken ≡ None → es ≡ (judged parts l c h turns).entries → Found.Stuck es ≡ found_by (judged parts l c h turns)
+found_unbroken parts l c h turns k es p is entries =
+    ap (λ (xs : List Entry). found_with xs None) entries
+    ∙ ap (found_with (judged parts l c h turns).entries) (sym (ap (option_map break_of) is) ∙ p.broken)

@@ -1,0 +1,45 @@
+use Rattle.std.proofs.Common.{◌≡◌, ◌≤◌, ℕ, Bool, List, length, map, ap, sym, ◌∙◌, subst}
+use Rattle.hm_flaw_parts.specs.Judged.{judged_parts}
+use Rattle.hm_search.specs.Known.{IsCut}
+use Rattle.hm_search.specs.Values.{all_known, at_goal}
+use Rattle.hm_search.specs.declared.known.Known.{Known}
+use Rattle.hm_search.proofs.Exploring.{known_length}
+use Rattle.hm_flaw_states.specs.Keyed.{form_in}
+use Rattle.hm_flaw_states.specs.declared.key.FlawKey.{FlawKey}
+use Rattle.hm_flaw_top.specs.Search.Finding.{IsFoundFirst, goal_of}
+use Rattle.hm_flaw_top.proofs.Answering.{Laws, Searched, answered}
+use Rattle.hm_flaw_top.proofs.Firsts.{same_answers}
+use Rattle.hm_flaw_top.proofs.search.find_race.Goals as goal
+
+pub returns-in-Ok-clause-answer : goal.returns-in-Ok-clause-answer
+returns-in-Ok-clause-answer g c =
+    let parts = judged_parts c.args.judging in
+    let l = c.args.flaw in
+    let s = c.args.script.now in
+    let h = c.args.set_up.now in
+    let ns = c.in_ok-explored.explored.known.items in
+    let known = all_known form_in ns in
+    let end = c.in_ok-explored.explored.end in
+    let found = c.in_ok-explored.ensures in
+    let many : length ns ≡ length known = sym (known_length form_in ns) in
+    let law : Laws = record {
+      first_breaks = c.first_breaks_soonest.ensures;
+      first_sticks = c.first_sticks_soonest.ensures;
+      whole_breaks = c.whole_breaks_none.ensures;
+      whole_sticks = c.whole_never_sticks.ensures;
+      right = c.right_turns_find_none.ensures;
+    } in
+    let searched : Searched parts l s h c.args.most known end = record {
+      each = found.known;
+      once = found.distinct;
+      rising = found.rising;
+      fewer = found.below;
+      all = found.all;
+      few = λ e. subst (λ (n : ℕ). n ≤ c.args.most) many (found.few e);
+      cut = λ e. subst (IsCut (length s.actors) c.args.most) many (found.cut e);
+      reached = found.reached;
+      missed = found.missed;
+    } in
+    answered law parts l s c.facts.ensures h c.requires.due c.requires.few c.args.most known c.len.result (c.len.ensures ∙ (sym c.deref.ensures.len ∙ (ap (λ (xs : List (Known FlawKey)). length xs) c.deref.ensures.value ∙ many))) end c.in-Ok.found searched
+    (subst (λ (bs : List Bool). IsFoundFirst parts l s h known bs c.in-Ok.found) (same_answers form_in (goal_of l s end) ns)
+    (subst (λ (xs : List (Known FlawKey)). IsFoundFirst parts l s h (all_known form_in xs) (map (at_goal form_in (goal_of l s end)) xs) c.in-Ok.found) c.deref.ensures.value c.in-Ok.ensures))

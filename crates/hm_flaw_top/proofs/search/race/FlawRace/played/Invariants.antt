@@ -1,0 +1,8 @@
+use Rattle.std.proofs.Common.{take}
+use Rattle.hm_flaw_parts.specs.Judged.{judged_parts}
+use Rattle.hm_flaw_top.specs.Search.Played.{IsPlayed}
+use Rattle.hm_flaw_top.proofs.search.race.FlawRace.played.Given as goal
+
+-- the key is that after the turns so far
+abbrev pub invariant-loop-actor : goal.invariant-loop-actor
+invariant-loop-actor g l = IsPlayed (judged_parts l.self.judging) l.self.flaw l.self.script l.self.set_up (take l.actor-index l.turns) l.key

@@ -1,0 +1,5 @@
+-- The shortest races of a driver with a flaw.
+pub mod Answers
+pub mod Finding
+pub mod Played
+pub mod Races

@@ -1,0 +1,71 @@
+// The shortest races of a driver with a flaw: the set-up is by a right driver, from there every actor may take its turn
+// at any time.
+
+ghost use Rattle.std.specs.Prelude.{◌≤◌, [], length, IfOk, IfErr};
+ghost use Rattle.hm_history.specs.Laws.{DueFrom};
+ghost use Rattle.hm_search.specs.Known.{MayFail};
+ghost use Rattle.hm_flaw_parts.specs.Judged.{judged_parts};
+ghost use Rattle.hm_flaw_parts.specs.Races.Races.{flaw_system};
+ghost use Rattle.hm_flaw_top.specs.Search.Answers.{IsAnswer};
+
+mod finding;
+mod goals;
+mod played;
+mod race;
+mod stuck;
+
+use finding::found_of;
+use goals::Broken;
+use hm_base::{NoMemory, Script};
+use hm_flaw_parts::Judging;
+use crate::text::Answer;
+use hm_flaws::Flaw;
+use hm_history::{Entry, StepError};
+use hm_search::explore;
+use race::FlawRace;
+use skip_rules::SkipRule;
+use std::alloc::Global;
+
+/// Searches the race of a driver with this flaw after a set-up, each state once and the nearest first, for an entry
+/// that breaks a part of legality, and stops after the step in which one is due. If there is none, it looks at the
+/// states that it knows for one at which nothing is due to anybody and some operation has not ended. It stops if it
+/// knows more than `most` states. It fails if memory runs out, and if a history has all its entries and one more is
+/// due; and, as if memory had run out, if a state cannot be kept.
+pub fn find_race<R: SkipRule>(
+    alloc: Global,
+    script: &Script,
+    set_up: &[Entry],
+    rule: &R,
+    flaw: Flaw,
+    judging: Judging,
+    most: u64,
+) -> Result<Answer, StepError>
+    requires due { DueFrom script.now [] set_up.now }
+    requires few { length set_up.now ≤ 2000000 }
+    ensures answer { IfOk result (IsAnswer (judged_parts judging) flaw script.now set_up.now most) }
+    ensures fails { IfErr result (λ e. MayFail (flaw_system (judged_parts judging) flaw script.now set_up.now) e) }
+{
+    script.facts();
+    hm_flaw_parts::races::first_breaks_soonest();
+    hm_flaw_parts::races::first_sticks_soonest();
+    hm_flaw_parts::races::whole_breaks_none();
+    hm_flaw_parts::races::whole_never_sticks();
+    hm_flaw_parts::races::right_turns_find_none();
+    let race = FlawRace {
+        alloc,
+        script,
+        set_up,
+        rule,
+        flaw,
+        judging,
+    };
+    let explored = explore(&race, alloc, &Broken, most)?;
+    match found_of(&race, &explored.known, explored.end) {
+        Ok(found) => Ok(Answer {
+            found,
+            states: explored.known.len() as u64,
+            end: explored.end,
+        }),
+        Err(NoMemory) => Err(StepError::NoMemory),
+    }
+}

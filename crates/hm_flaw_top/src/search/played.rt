@@ -1,0 +1,62 @@
+// The race to which turns lead.
+ghost use Rattle.std.specs.Prelude.{◌≡◌, map, IfOk};
+ghost use Rattle.std.specs.Rc.{rc_value};
+ghost use Rattle.hm_flaws.specs.Judged.{judged};
+ghost use Rattle.hm_flaw_parts.specs.Judged.{judged_parts};
+ghost use Rattle.hm_flaw_top.specs.Search.Played.{IsPlayed, found_by};
+
+use crate::search::race::FlawRace;
+use hm_base::{Actor, ListOf, NoMemory};
+use hm_flaw_states::key::FlawKey;
+use crate::text::Found;
+use hm_history::Entry;
+use hm_machine::copy_entry;
+use skip_rules::SkipRule;
+use std::alloc::Global;
+use std::rc::Rc;
+
+// The same entries, as a list.
+fn listed(alloc: Global, entries: &[Rc<Entry>]) -> Result<ListOf<Entry>, NoMemory>
+    ensures { IfOk result (λ es. es ≡ map rc_value entries.now) }
+{
+    let mut list = ListOf::new(alloc);
+    for entry in entries {
+        list.push(copy_entry(alloc, entry)?)?;
+    }
+    Ok(list)
+}
+
+impl<'a, R: SkipRule> FlawRace<'a, R> {
+    // The key after turns of these actors. One to whom nothing is due changes nothing.
+    fn played(&self, turns: &[Actor]) -> Result<FlawKey, NoMemory>
+        ensures { IfOk result (IsPlayed (judged_parts self.now.judging) self.now.flaw self.now.script
+            self.now.set_up turns.now) }
+    {
+        let mut key = self.first_key()?;
+        for actor in turns {
+            match self.next_key(&key, *actor)? {
+                Some(next) => key = next,
+                None => (),
+            }
+        }
+        Ok(key)
+    }
+
+    /// What turns of these actors come to: a part is broken, or else the entries are told as those of a race that is
+    /// stuck. It fails as `next_key` of hm_flaw_states.
+    pub fn race_of(&self, turns: &[Actor]) -> Result<Found, NoMemory>
+        ensures { IfOk result (λ f. f ≡ found_by (judged (judged_parts self.now.judging) self.now.flaw
+            self.now.script self.now.set_up turns.now)) }
+    {
+        let key = self.played(turns)?;
+        let entries = listed(self.alloc, &key.trail[self.set_up.len()..])?;
+        match &key.broken {
+            Some(by) => Ok(Found::Broken {
+                entries,
+                last: copy_entry(self.alloc, &by.entry)?,
+                part: by.part,
+            }),
+            None => Ok(Found::Stuck { entries }),
+        }
+    }
+}

@@ -1,0 +1,131 @@
+// The race of a driver with a flaw, for the search.
+ghost use Rattle.std.specs.Prelude.{◌≡◌, ◌≤◌, length, IfOk};
+ghost use Rattle.hm_flaw_parts.specs.Judged.{judged_parts};
+ghost use Rattle.hm_flaw_states.specs.Keyed.{entries_in, form_in};
+ghost use Rattle.hm_flaw_states.specs.Turns.{IsNextKey};
+ghost use Rattle.hm_flaw_parts.specs.Races.Races.{FlawPoint, flaw_system, point_from};
+
+use hm_base::{Actor, NoMemory, Script};
+use hm_flaw_parts::Judging;
+use hm_flaw_states::key::FlawKey;
+use hm_flaw_states::{first_key, next_key};
+use hm_flaws::Flaw;
+use hm_history::{Entry, StepError};
+use hm_search::System;
+use skip_rules::SkipRule;
+use std::alloc::Global;
+use std::marker::Model;
+
+/// The race of a script after a set-up by a right driver, if the driver has this flaw, and is judged by these parts.
+#[derive(Drop)]
+pub struct FlawRace<'a, R> {
+    pub alloc: Global,
+    pub script: &'a Script,
+    pub set_up: &'a [Entry],
+    pub rule: &'a R,
+    pub flaw: Flaw,
+    pub judging: Judging,
+}
+
+impl<'a, R> Model for FlawRace<'a, R> {
+    ghost use Rattle.hm_flaw_top.specs.Search.Races.{FlawRaceValue, IsFlawRace};
+
+    ghost Value = { FlawRaceValue };
+
+    ghost view = { λ r. record { script = r.script.now; set_up = r.set_up.now; flaw = r.flaw; judging = r.judging } };
+
+    ghost invariant = { λ r. IsFlawRace
+        (record { script = r.script.now; set_up = r.set_up.now; flaw = r.flaw; judging = r.judging }) };
+}
+
+impl<'a, R: SkipRule> FlawRace<'a, R> {
+    ghost use Rattle.hm_flaw_top.specs.Search.Races.{IsFlawRace};
+
+    /// Costs nothing: it hands the prover what holds of every race.
+    pub fn stands(&self)
+        ensures { IsFlawRace self.now }
+    {
+        let _ = &self.script;
+    }
+
+    /// How many actors the script has.
+    pub fn count(&self) -> u32
+        ensures same { result ≡ length self.now.script.actors }
+        ensures few { result ≤ 16 }
+    {
+        let script = self.script;
+        script.facts();
+        script.actors.len() as u32
+    }
+
+    /// The key after the set-up. It fails as `first_key` of hm_flaw_states.
+    pub fn first_key(&self) -> Result<FlawKey, NoMemory>
+        ensures form { IfOk result (λ k. form_in k ≡ point_from self.now.script self.now.set_up) }
+        ensures trail { IfOk result (λ k. entries_in k ≡ self.now.set_up) }
+    {
+        self.stands();
+        first_key(self.alloc, self.script, self.rule, self.set_up)
+    }
+
+    /// The key after a turn of the actor, or `None` if nothing is due to it. It fails as `next_key` of hm_flaw_states.
+    pub fn next_key(&self, key: &FlawKey, actor: Actor) -> Result<Option<FlawKey>, NoMemory>
+        ensures { IfOk result
+            (IsNextKey (judged_parts self.now.judging) self.now.flaw self.now.script key.now actor) }
+    {
+        let (flaw, judging) = (self.flaw, self.judging);
+        next_key(
+            self.alloc,
+            self.script,
+            self.rule,
+            flaw,
+            judging,
+            key,
+            actor,
+        )
+    }
+}
+
+impl<'a, R: SkipRule> System for FlawRace<'a, R> {
+    type Key = FlawKey;
+
+    ghost Points = { FlawPoint };
+
+    ghost Forms = { FlawPoint };
+
+    ghost form = { form_in };
+
+    ghost value = { λ r. flaw_system (judged_parts r.judging) r.flaw r.script r.set_up };
+
+    fn facts(&self) {
+        hm_flaw_parts::races::flaw_races_are_systems();
+        let script = self.script;
+        script.facts();
+        self.stands();
+    }
+
+    fn actors(&self) -> u32 {
+        self.count()
+    }
+
+    fn entries(&self) -> u64 {
+        self.set_up.len() as u64
+    }
+
+    fn first(&self) -> Result<FlawKey, StepError> {
+        match self.first_key() {
+            Ok(key) => Ok(key),
+            Err(NoMemory) => Err(StepError::NoMemory),
+        }
+    }
+
+    fn next(&self, key: &FlawKey, actor: Actor) -> Result<Option<FlawKey>, StepError> {
+        match self.next_key(key, actor) {
+            Ok(next) => Ok(next),
+            Err(NoMemory) => Err(StepError::NoMemory),
+        }
+    }
+
+    fn ended(&self, _key: &FlawKey) -> bool {
+        true
+    }
+}

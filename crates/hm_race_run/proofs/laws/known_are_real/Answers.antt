@@ -1,5 +1,0 @@
-use Rattle.hm_race_run.proofs.Outcomes.{known_are_real}
-use Rattle.hm_race_run.proofs.laws.known_are_real.Goals as goal
-
-pub returns : goal.returns
-returns c = known_are_real

@@ -1,5 +1,0 @@
-use Rattle.hm_race_run.proofs.Systems.{races_are_systems}
-use Rattle.hm_race_run.proofs.laws.races_are_systems.Goals as goal
-
-pub returns : goal.returns
-returns c = races_are_systems c.forms_go_alike.ensures

@@ -1,7 +1,0 @@
-use Rattle.std.proofs.Common.{length, sym, ap, ◌∙◌}
-use Rattle.hm_race_run.proofs.Turns.{entries_from}
-use Rattle.hm_race_run.specs.Races.{RaceValue}
-use Rattle.hm_race_run.proofs.race.ScriptRaceSystem.entries.Goals as goal
-
-pub returns : goal.returns
-returns g c = c.len.ensures ∙ (ap (λ (v : RaceValue). length v.set_up) c.self.view_is ∙ sym (entries_from c.args.self.now.script c.args.self.now.set_up))

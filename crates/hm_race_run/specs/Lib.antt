@@ -1,6 +1,0 @@
-pub mod Copies
-pub mod Races
-pub mod Turns
-pub mod Systems
-pub mod Known
-pub mod Laws

@@ -1,7 +1,0 @@
-use Rattle.std.proofs.Common.{◌≡◌, false, take}
-use Rattle.hm_race_text.specs.Conditions.Meets.{meets}
-use Rattle.hm_race_text.proofs.conditions.judging.meets.Given as goal
-
--- none of the alternatives so far holds
-abbrev pub invariant-loop-literals : goal.invariant-loop-literals
-invariant-loop-literals l = meets (take l.literals-index l.condition.body) l.lines ≡ false

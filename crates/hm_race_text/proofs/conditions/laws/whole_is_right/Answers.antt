@@ -1,5 +1,0 @@
-use Rattle.hm_race_text.proofs.Right.{whole_is_right}
-use Rattle.hm_race_text.proofs.conditions.laws.whole_is_right.Goals as goal
-
-pub returns : goal.returns
-returns c = whole_is_right

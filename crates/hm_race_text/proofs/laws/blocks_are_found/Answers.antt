@@ -1,5 +1,0 @@
-use Rattle.hm_race_text.proofs.Blocks.{blocks_are_found}
-use Rattle.hm_race_text.proofs.laws.blocks_are_found.Goals as goal
-
-pub returns : goal.returns
-returns c = blocks_are_found

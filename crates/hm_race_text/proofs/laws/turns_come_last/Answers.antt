@@ -1,5 +1,0 @@
-use Rattle.hm_race_text.proofs.Last.{turns_come_last}
-use Rattle.hm_race_text.proofs.laws.turns_come_last.Goals as goal
-
-pub returns : goal.returns
-returns c = turns_come_last

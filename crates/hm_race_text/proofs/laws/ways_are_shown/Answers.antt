@@ -1,5 +1,0 @@
-use Rattle.hm_race_text.proofs.Blocks.{ways_are_shown}
-use Rattle.hm_race_text.proofs.laws.ways_are_shown.Goals as goal
-
-pub returns : goal.returns
-returns c = ways_are_shown

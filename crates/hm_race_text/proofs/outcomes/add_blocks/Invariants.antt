@@ -1,7 +1,0 @@
-use Rattle.std.proofs.Common.{◌≡◌, ◌++◌, take}
-use Rattle.hm_race_text.specs.Text.{blocks_text}
-use Rattle.hm_race_text.proofs.outcomes.add_blocks.Given as goal
-
--- the blocks so far were added
-abbrev pub invariant-loop-at : goal.invariant-loop-at
-invariant-loop-at l = l.text ≡ l.fn.text ++ blocks_text 1 (take l.at l.blocks)

@@ -1,6 +1,0 @@
-pub mod Answers
-pub mod Schedule
-pub mod Text
-pub mod Laws
-pub mod Table
-pub mod Conditions

@@ -1,0 +1,171 @@
+-- A turn at a state that a race has come to.
+use Rattle.std.proofs.Common.{◌≡◌, ℕ, ◌+◌, ◌<◌, false, Some, None, List, [], ◌∷◌, ◌++◌, length, get_or, take, refl, sym, ap, ◌∙◌, subst}
+use Rattle.std.proofs.lemmas.List.{take_more}
+use Rattle.hm_base.specs.Program.{Program, IsScript}
+use Rattle.hm_history.proofs.RunLemmas.{DueFrom-append, DueFrom-join, due_at}
+use Rattle.hm_history.specs.Kernel.Due.{due, due_in}
+use Rattle.hm_history.specs.Memory.After.{after}
+use Rattle.hm_history.specs.Kernel.Going.{State, state_next, state_of, state_of-snoc}
+use Rattle.hm_history.specs.Laws.{DueFrom}
+use Rattle.hm_history.specs.Kernel.Run.{is_entry}
+use Rattle.hm_history.specs.declared.Kind.{Kind}
+use Rattle.hm_history.specs.declared.Entry.{Entry}
+use Rattle.hm_history.specs.declared.Progress.{Progress}
+use Rattle.hm_laws.specs.Stands as laws
+use Rattle.hm_laws.proofs.Histories.Stands.{history_stands}
+use Rattle.hm_race_laws.specs.Outcomes.{Point, Reached, point_after, answer_of, with_answer, answers_next}
+use Rattle.hm_history.specs.Memory.Words.{with_at}
+use Rattle.hm_race_laws.specs.Positions.{forget_kind}
+use Rattle.hm_race_laws.specs.Numbers.{small_kind}
+use Rattle.hm_race_keys.specs.Trail.{answers_in}
+use Rattle.hm_race_top.specs.Run.Known.{IsNext}
+use Rattle.hm_race_states.specs.Keyed.{form_in}
+use Rattle.hm_race_states.specs.declared.key.StateKey.{StateKey}
+use Rattle.hm_race_laws.specs.Forms.{ListsPlaces, Adds, AddsAlike, TurnsAlike, opened_form}
+use Rattle.hm_race_laws.specs.Blur.{blurred_entry, tidied, unlisted, form_of}
+use Rattle.hm_race_laws.specs.Laws.{FormsGoOn}
+use Rattle.hm_race_states.specs.Afters.{StaysLow}
+use Rattle.hm_race_states.specs.States.{state_in}
+use Rattle.hm_race_states.specs.declared.state.RaceState.{RaceState}
+use Rattle.hm_race_top.specs.Run.Turns.{Shows, IsTurned}
+use Rattle.hm_race_top.specs.declared.run.turn.Turned.{Turned}
+use Rattle.hm_race_top.proofs.Lows.{known_short, tidied_short, stays_low}
+use Rattle.hm_history.proofs.Going.{own_actor}
+use Rattle.hm_race_laws.proofs.Points.{state_after, point_made}
+
+-- the point after a history, which is all of the race
+here : (c : Program) (h : List Entry) → DueFrom c [] h → Reached c [] (point_after c [] h)
+here c h d = record { entries = h; due = d; same = refl }
+
+module _ (law : FormsGoOn) (c : Program) (sc : IsScript c) (h : List Entry) (x : RaceState) (shows : Shows c h x) (lists : ListsPlaces (state_in x).after.places.place (state_in x).after.places.placed) (a : ℕ) where
+  abbrev u : State
+  u = state_in x
+
+  abbrev at : Point
+  at = point_after c [] h
+
+  abbrev form : Point
+  form = record { state = unlisted u; answers = at.answers }
+
+  pub there : at.state ≡ state_of c h
+  there = state_after c [] h
+
+  pub formed : form_of c at ≡ form
+  formed = ap {B = Point} (λ (v : State). record { state = tidied c v; answers = at.answers }) there ∙ ap {B = Point} (λ (v : State). record { state = v; answers = at.answers }) (sym shows.same)
+
+  pub turns : TurnsAlike c at (opened_form form u.after.places.placed) a
+  turns = law c sc [] tt at (here c h shows.due) form formed u.after.places.placed lists a
+
+  -- nothing is due
+  idle : is_entry (due_in c u a) ≡ false → is_entry (due c h a) ≡ false
+  idle e = ap (λ (v : State). is_entry (due_in c v a)) (sym there) ∙ (sym turns.is_due ∙ e)
+
+  module _ (d : Entry) (did : due_in c u a ≡ Progress.Did d) where
+    pub adds : Adds c at a (λ e. AddsAlike c at (opened_form form u.after.places.placed) a e d)
+    adds = turns.did d did
+
+    abbrev e : Entry
+    e = adds.entry
+
+    is_due : due c h a ≡ Progress.Did e
+    is_due = ap (λ (v : State). due_in c v a) (sym there) ∙ adds.due
+
+    own : e.actor ≡ a
+    own = own_actor c at.state a e adds.due
+
+    own_due : due c h e.actor ≡ Progress.Did e
+    own_due = ap (due c h) own ∙ is_due
+
+    abbrev more : List Entry
+    more = h ++ e ∷ []
+
+    dues : DueFrom c [] more
+    dues = DueFrom-append c [] h e shows.due own_due
+
+    stands : laws.Stands c more
+    stands = history_stands c sc more dues
+
+    come : state_next c at.state e ≡ state_of c more
+    come = ap (λ (v : State). state_next c v e) there ∙ sym (state_of-snoc c h e)
+
+    nexts : tidied c (state_next c at.state e) ≡ tidied c (state_next c u (blurred_entry d))
+    nexts = ap (λ (y : Point). y.state) adds.holds.next
+
+    -- the stack stays low
+    pub low : StaysLow c u (blurred_entry d)
+    low = stays_low c u (blurred_entry d) (tidied_short c (state_of c more) (state_next c u (blurred_entry d)) d.actor (ap (tidied c) (sym come) ∙ nexts) (known_short c (after more) stands.past d.actor ((state_of c more).going d.actor) (stands.known d.actor)))
+
+    -- the state after it is shown
+    pub goes_on : (y : RaceState) → unlisted (state_in y) ≡ tidied c (state_next c u (blurred_entry d)) → Shows c (h ++ e ∷ []) y
+    goes_on y is = record {
+      due = dues;
+      same = is ∙ (sym nexts ∙ ap (tidied c) come);
+    }
+
+    pub turned : (t : Turned) → t.entry ≡ blurred_entry d → unlisted (state_in t.state) ≡ tidied c (state_next c u (blurred_entry d)) → IsTurned c h a (Some t)
+    turned t te is = (e, is_due, te ∙ sym adds.holds.entry, goes_on t.state is)
+
+  pub not_turned : (p : Progress) → due_in c u a ≡ p → is_entry p ≡ false → IsTurned c h a None
+  not_turned p is e = idle (ap is_entry is ∙ e)
+
+-- what is due is one entry
+did_of : Entry → Progress → Entry
+did_of e (Progress.Did d) = d
+did_of e p = e
+
+same_did : (e d : Entry) → Progress.Did e ≡ Progress.Did d → e ≡ d
+unfolding did_of
+same_did e d k = ap (did_of e) k
+
+-- a set-up made again, entry by entry
+pub set_up_on : (c : Program) (h : List Entry) (i : ℕ) (d : Entry) (t : Turned) → DueFrom c [] h → i < length h → d ≡ get_or h i d → IsTurned c (take i h) d.actor (Some t) → Shows c (take (i + 1) h) t.state
+set_up_on c h i d t dues below is turned = subst (λ es. Shows c es t.state) more turned.3
+  where
+    was : due c (take i h) d.actor ≡ Progress.Did d
+    was = subst (λ (y : Entry). due c (take i h) y.actor ≡ Progress.Did y) (sym is) (due_at c [] h i d below dues)
+
+    this : turned.0 ≡ get_or h i d
+    this = same_did turned.0 d (sym turned.1 ∙ was) ∙ is
+
+    more : take i h ++ turned.0 ∷ [] ≡ take (i + 1) h
+    more = ap (λ e. take i h ++ e ∷ []) this ∙ sym (take_more h i d below)
+
+-- answers have neither positions nor sequences
+answer_blurred : (k : Kind) → answer_of (forget_kind (small_kind k)) ≡ answer_of k
+answer_blurred (Kind.Set m v f w from) = refl
+answer_blurred (Kind.Attached m d p r q) = refl
+answer_blurred (Kind.Detaching m q) = refl
+answer_blurred (Kind.Start p r q) = refl
+answer_blurred (Kind.Told m r q) = refl
+answer_blurred (Kind.End p r q) = refl
+answer_blurred (Kind.Begin m q) = refl
+answer_blurred _ = refl
+
+answers_blurred : (f : ℕ → List Kind) (e : Entry) → answers_next f (blurred_entry e) ≡ answers_next f e
+answers_blurred f e = ap (λ o. with_at f e.actor (with_answer o (f e.actor))) (answer_blurred e.kind)
+
+-- a key of a point to which a race has come
+module _ (c : Program) (h : List Entry) (dues : DueFrom c [] h) (x : Point) (r : Reached c h x) (k : StateKey) (has : form_of c x ≡ form_in k) where
+  pub far : x.state ≡ state_of c (h ++ r.entries)
+  far = ap (λ (y : Point). y.state) (sym r.same) ∙ state_after c h r.entries
+
+  pub shown : Shows c (h ++ r.entries) k.state
+  shown = record {
+    due = DueFrom-join c [] h r.entries dues r.due;
+    same = sym (ap (λ (y : Point). y.state) has) ∙ ap (tidied c) far;
+  }
+
+  pub next_none : (a : ℕ) → IsTurned c (h ++ r.entries) a None → is_entry (due_in c x.state a) ≡ false
+  next_none a e = ap (λ (v : State). is_entry (due_in c v a)) far ∙ e
+
+  pub next_some : (a : ℕ) (t : Turned) (l : StateKey) → IsTurned c (h ++ r.entries) a (Some t) → l.state ≡ t.state → answers_in l.answers.value.lists.items ≡ answers_next (answers_in k.answers.value.lists.items) t.entry → IsNext form_in c x a (Some l)
+  next_some a t l turned same an = (e, ap (λ (v : State). due_in c v a) far ∙ turned.1, point_made _ _ _ _ states answers)
+    where
+      e : Entry
+      e = turned.0
+
+      states : unlisted (state_in l.state) ≡ tidied c (state_next c x.state turned.0)
+      states = ap (λ y. unlisted (state_in y)) same ∙ (turned.3.same ∙ ap (tidied c) (state_of-snoc c (h ++ r.entries) turned.0 ∙ ap (λ (v : State). state_next c v turned.0) (sym far)))
+
+      answers : answers_in l.answers.value.lists.items ≡ answers_next x.answers turned.0
+      answers = an ∙ (ap (λ (f : ℕ → List Kind). answers_next f t.entry) (sym (ap (λ (y : Point). y.answers) has)) ∙ (ap (answers_next x.answers) turned.2 ∙ answers_blurred x.answers turned.0))

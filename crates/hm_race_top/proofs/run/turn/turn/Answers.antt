@@ -1,0 +1,23 @@
+use Rattle.std.proofs.Common.{sym, ap, ◌∙◌, subst, refl}
+use Rattle.hm_history.specs.Kernel.Going.{state_next}
+use Rattle.hm_history.specs.declared.Progress.{Progress}
+use Rattle.hm_race_laws.specs.Blur.{tidied}
+use Rattle.hm_race_states.specs.Afters.{StaysLow}
+use Rattle.hm_race_states.specs.States.{state_in}
+use Rattle.hm_race_top.proofs.Turning.{low, turned, not_turned}
+use Rattle.hm_race_top.proofs.run.turn.turn.Goals as goal
+
+pub after-requires : goal.after-requires
+after-requires g c = subst (StaysLow c.args.script.now (state_in c.args.state.now)) (sym c.blurred_entry-entry.ensures) (low c.forms_go_on.ensures c.args.script.now c.facts.ensures c.requires.history c.args.state.now c.requires.shows c.facts-2.ensures c.args.actor c.in-Did.entry (sym c.in_ok-entry.ensures ∙ c.in-Did.is))
+
+pub returns-in_ok-state-in-Did : goal.returns-in_ok-state-in-Did
+returns-in_ok-state-in-Did g c = λ h shows.
+    turned c.forms_go_on.ensures c.args.script.now c.facts.ensures h c.args.state.now shows c.facts-2.ensures c.args.actor c.in-Did.entry (sym c.in_ok-entry.ensures ∙ c.in-Did.is)
+    (record { entry = c.blurred_entry-entry.result; state = c.in_ok-state-in-Did.state }) c.blurred_entry-entry.ensures
+    (c.in_ok-state-in-Did.ensures ∙ ap (λ e. tidied c.args.script.now (state_next c.args.script.now (state_in c.args.state.now) e)) c.blurred_entry-entry.ensures)
+
+pub returns-in-Waiting : goal.returns-in-Waiting
+returns-in-Waiting g c = λ h shows. not_turned c.forms_go_on.ensures c.args.script.now c.facts.ensures h c.args.state.now shows c.facts-2.ensures c.args.actor _ (sym c.in_ok-entry.ensures ∙ c.in-Waiting.is) refl
+
+pub returns-in-Idle : goal.returns-in-Idle
+returns-in-Idle g c = λ h shows. not_turned c.forms_go_on.ensures c.args.script.now c.facts.ensures h c.args.state.now shows c.facts-2.ensures c.args.actor Progress.Idle (sym c.in_ok-entry.ensures ∙ c.in-Idle.is) refl

@@ -1,0 +1,25 @@
+use Rattle.std.proofs.Common.{refl, ℕ, List, [], ◌∷◌, ◌++◌, sym, ap, ◌∙◌}
+use Rattle.hm_race_top.specs.Text.Conditions.Reading.{literal_of, open_text, ended_text, held_text}
+use Rattle.hm_race_top.specs.declared.text.conditions.condition.Literal.{Literal}
+use Rattle.hm_race_top.specs.declared.text.conditions.words.Place.{Place}
+use Rattle.hm_race_top.proofs.Connectives.{word_or}
+use Rattle.hm_race_top.proofs.Plain.{more_plain, body_plain, or_plain}
+use Rattle.hm_race_top.proofs.Growing.{or_more}
+use Rattle.hm_race_top.proofs.text.conditions.reading.Reading.or.Goals as goal
+
+pub returns-clause-text : goal.returns-clause-text
+returns-clause-text c =
+    let r = c.args.self in
+    let w = c.args.word.now in
+    let e = ended_text r.body in
+    let all = c.push.new.self in
+    ap (λ (ks : List Literal). ended_text all ++ (held_text ks ++ [])) c.new.ensures
+    ∙ or_more r.body all w r.literals c.in_ok-literals.literals (literal_of r) c.in_ok-literals.ensures c.in_ok-push.ensures.ok (word_or w c.requires.word)
+    ∙ ap (λ (o : List ℕ). (e ++ (held_text r.literals ++ o)) ++ 32 ∷ w) (sym (ap (λ (p : Place). open_text p (literal_of r)) c.requires.inside))
+
+pub returns-clause-plain : goal.returns-clause-plain
+returns-clause-plain c =
+    let r = c.args.self in
+    let new = c.in_ok-literals.literals in
+    or_plain c.push.new.self c.new.result c.new.ensures
+    (body_plain r c.push.new.self new c.requires.plain (more_plain r new (literal_of r) c.requires.plain c.requires.inside refl c.in_ok-literals.ensures) c.in_ok-push.ensures.ok)

@@ -1,0 +1,7 @@
+-- All outcomes of a script's race, as a search knows them.
+pub mod Copies
+pub mod Races
+pub mod Turns
+pub mod Systems
+pub mod Known
+pub mod Laws

@@ -1,0 +1,7 @@
+-- The outcomes of a race as text, and conditions on them.
+pub mod Answers
+pub mod Schedule
+pub mod Text
+pub mod Laws
+pub mod Table
+pub mod Conditions

@@ -1,0 +1,187 @@
+// The race of a script, for the search.
+ghost use Rattle.std.specs.Prelude.{◌≡◌, ◌≤◌, length, IfOk, IfErr};
+ghost use Rattle.hm_base.specs.declared.limits.TheConstants.{MOST_ACTORS, MOST_ENTRIES};
+ghost use Rattle.hm_history.specs.Kernel.Run.{run};
+ghost use Rattle.hm_race_laws.specs.Blur.{form_of};
+ghost use Rattle.hm_race_laws.specs.Closed.{Stands};
+ghost use Rattle.hm_race_laws.specs.Outcomes.{Point, Reached, point_from};
+ghost use Rattle.hm_race_top.specs.Run.Known.{IsNext, MayFail};
+ghost use Rattle.hm_race_top.specs.Run.Systems.{race_of};
+ghost use Rattle.hm_race_states.specs.Keyed.{form_in};
+ghost use Rattle.hm_world.specs.WorldValue.{opening};
+
+use crate::run::copies::copy_script;
+use crate::run::keys::{first_key, has_ended, next_key};
+use crate::run::laws::races_are_systems;
+use hm_base::{Actor, NoMemory, Script};
+use hm_history::{History, StepError};
+use hm_machine::Machine;
+use hm_race_states::key::StateKey;
+use hm_search::System;
+use skip_rules::SkipRule;
+use std::alloc::Global;
+use std::marker::Model;
+
+// A rule that another value keeps.
+#[derive(Drop)]
+struct Lent<'a, R> {
+    rule: &'a R,
+}
+
+impl<'a, R: SkipRule> SkipRule for Lent<'a, R> {
+    fn skips(&self, every: u64, page: u64) -> bool {
+        self.rule.skips(every, page)
+    }
+}
+
+/// The race of a script: the entries of its schedule are the set-up.
+#[derive(Drop)]
+pub struct ScriptRace<R> {
+    alloc: Global,
+    rule: R,
+    script: Script,
+    set_up: History,
+}
+
+impl<R> Model for ScriptRace<R> {
+    ghost use Rattle.hm_race_top.specs.Run.Races.{RaceValue, IsRace};
+
+    ghost Value = { RaceValue };
+
+    ghost view = { λ r. record { script = r.script; set_up = r.set_up.entries } };
+
+    ghost invariant = { λ r. IsRace (record { script = r.script; set_up = r.set_up.entries }) };
+}
+
+fn machine_of<'a, R: SkipRule>(
+    alloc: Global,
+    script: &Script,
+    rule: &'a R,
+) -> Result<Machine<Lent<'a, R>>, NoMemory>
+    ensures { IfOk result (λ m. m ≡ opening script.now) }
+{
+    Machine::new(alloc, copy_script(alloc, script)?, Lent { rule })
+}
+
+/// The entries of the script's schedule. It fails if memory runs out, and if the history has all its entries and one
+/// more is due.
+pub fn set_up_of<R: SkipRule>(
+    alloc: Global,
+    script: &Script,
+    rule: &R,
+) -> Result<History, StepError>
+    ensures run { IfOk result (λ h. h.entries ≡ run script.now) }
+    ensures few { IfOk result (λ h. length h.entries ≤ MOST_ENTRIES) }
+    ensures fails { IfErr result (λ e. MayFail script.now (run script.now) e) }
+{
+    match machine_of(alloc, script, rule) {
+        Err(_) => Err(StepError::NoMemory),
+        Ok(mut machine) => {
+            let ran = machine.run();
+            machine.world().facts();
+            let (_, history) = machine.into_parts();
+            match ran {
+                Ok(()) => Ok(history),
+                Err(error) => Err(error),
+            }
+        }
+    }
+}
+
+impl<R: SkipRule> ScriptRace<R> {
+    ghost use Rattle.hm_race_top.specs.Run.Races.{IsRace};
+
+    /// The race of a script.
+    pub fn new(alloc: Global, script: Script, rule: R) -> Result<ScriptRace<R>, StepError>
+        ensures script { IfOk result (λ r. r.script ≡ script) }
+        ensures set_up { IfOk result (λ r. r.set_up ≡ run script) }
+        ensures fails { IfErr result (λ e. MayFail script (run script) e) }
+    {
+        hm_history::laws::runs_are_due();
+        script.facts();
+        let set_up = set_up_of(alloc, &script, &rule)?;
+        Ok(ScriptRace {
+            alloc,
+            rule,
+            script,
+            set_up,
+        })
+    }
+
+    fn count(&self) -> u32
+        ensures same { result ≡ length self.now.script.actors }
+        ensures few { result ≤ MOST_ACTORS }
+    {
+        self.stands();
+        self.script.actors.len() as u32
+    }
+
+    // Costs nothing: it hands the prover what holds of every race.
+    fn stands(&self)
+        ensures { IsRace self.now }
+    {
+        let _ = &self.script;
+    }
+
+    // The key after the set-up.
+    fn first_key(&self) -> Result<StateKey, NoMemory>
+        ensures { IfOk result (λ k. form_in k ≡ form_of self.now.script (point_from self.now.script self.now.set_up)) }
+    {
+        self.stands();
+        first_key(self.alloc, &self.script, &self.rule, self.set_up.as_slice())
+    }
+
+    // The key after a turn of the actor.
+    fn next_key(&self, key: &StateKey, actor: Actor) -> Result<Option<StateKey>, NoMemory>
+        requires { Stands self.now.script self.now.set_up (form_of self.now.script) (form_in key.now) }
+        ensures { IfOk result (λ o. (x : Point) → Reached self.now.script self.now.set_up x
+            → form_of self.now.script x ≡ form_in key.now → IsNext form_in self.now.script x actor o) }
+    {
+        self.stands();
+        Ok(next_key(self.alloc, &self.script, &self.rule, key, actor)?)
+    }
+}
+
+impl<R: SkipRule> System for ScriptRace<R> {
+    type Key = StateKey;
+
+    ghost Points = { Point };
+
+    ghost Forms = { Point };
+
+    ghost form = { form_in };
+
+    ghost value = { λ r. race_of r.script r.set_up };
+
+    fn facts(&self) {
+        races_are_systems();
+        self.stands();
+    }
+
+    fn actors(&self) -> u32 {
+        self.count()
+    }
+
+    fn entries(&self) -> u64 {
+        self.stands();
+        self.set_up.len()
+    }
+
+    fn first(&self) -> Result<StateKey, StepError> {
+        match self.first_key() {
+            Ok(key) => Ok(key),
+            Err(NoMemory) => Err(StepError::NoMemory),
+        }
+    }
+
+    fn next(&self, key: &StateKey, actor: Actor) -> Result<Option<StateKey>, StepError> {
+        match self.next_key(key, actor) {
+            Ok(next) => Ok(next),
+            Err(NoMemory) => Err(StepError::NoMemory),
+        }
+    }
+
+    fn ended(&self, key: &StateKey) -> bool {
+        has_ended(&self.script, &key.state)
+    }
+}
