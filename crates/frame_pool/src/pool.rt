@@ -16,7 +16,7 @@ use std::marker::Model;
 const PART_BYTES: usize = 512;
 
 /// How much of a frame is copied: all of it, or the part of this number below 8, 512 bytes long.
-#[derive(Clone, Copy, PartialEq, Eq, Debug)]
+#[derive(Clone, Copy)]
 pub enum Piece {
     All,
     Part(u8),

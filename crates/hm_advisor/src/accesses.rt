@@ -12,7 +12,7 @@ use hm_history::{Kind, Who};
 use std::alloc::Global;
 
 /// An access: whose it is, and of which page.
-#[derive(Clone, Copy, PartialEq, Eq, Debug)]
+#[derive(Clone, Copy)]
 pub struct Access {
     pub who: Who,
     pub page: u64,

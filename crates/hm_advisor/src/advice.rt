@@ -9,7 +9,7 @@ use skip_rules::LeanRule;
 use std::alloc::Global;
 
 /// A page of a mirror's window that should move.
-#[derive(Clone, Copy, PartialEq, Eq, Debug)]
+#[derive(Clone, Copy)]
 pub struct Move {
     pub mirror: MirrorId,
     pub page: Page,

@@ -11,7 +11,7 @@ use hm_history::{Entry, History, Who};
 use std::alloc::Global;
 
 /// How often a page of a mirror's window was accessed.
-#[derive(Clone, Copy, PartialEq, Eq, Debug)]
+#[derive(Clone, Copy)]
 pub struct Count {
     /// The mirror in whose window the page lies.
     pub mirror: MirrorId,

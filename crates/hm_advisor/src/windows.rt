@@ -9,7 +9,7 @@ use hm_history::Kind;
 pub const MIRRORS: usize = 32;
 
 /// An attached mirror: its process, and the pages that it follows.
-#[derive(Clone, Copy, PartialEq, Eq, Debug)]
+#[derive(Clone, Copy)]
 pub struct Window {
     pub proc: Proc,
     pub span: Span,

@@ -2,7 +2,7 @@
 
 /// Why an operation is refused, or a piece of an access fails. Only the first four are causes of an access. A report
 /// has their numbers, from 1 on, in this order.
-#[derive(Clone, Copy, PartialEq, Eq, Debug)]
+#[derive(Clone, Copy, PartialEq, Eq)]
 pub enum Cause {
     /// The page has no area (`SEGV_MAPERR`), or the process is not there; to `protect`, some page has none.
     Unmapped,

@@ -27,7 +27,7 @@ pub use ops::{Op, Rights, ScheduleLine, Script, Version};
 pub use snap::snap_code;
 
 /// The allocator gave no memory, and the value that was asked is as it was.
-#[derive(Clone, Copy, PartialEq, Eq, Debug, thiserror::Error)]
+#[derive(Clone, Copy, Debug, thiserror::Error)]
 #[error("out of memory")]
 pub struct NoMemory;
 
@@ -44,7 +44,7 @@ impl<T: Drop> From<AllocFailed<T>> for NoMemory {
 }
 
 /// A page number: an address divided by 4,096. It is below 2^36, four table levels of nine bits.
-#[derive(Clone, Copy, PartialEq, Eq, PartialOrd, Ord, Debug)]
+#[derive(Clone, Copy, PartialEq, Eq)]
 pub struct Page(u64);
 
 impl Model for Page {
@@ -85,7 +85,7 @@ impl Page {
 }
 
 /// A process, by its number below 32.
-#[derive(Clone, Copy, PartialEq, Eq, PartialOrd, Ord, Debug)]
+#[derive(Clone, Copy, PartialEq, Eq)]
 pub struct Proc(u32);
 
 impl Model for Proc {
@@ -127,7 +127,7 @@ impl Proc {
 }
 
 /// A device with private memory, by its number below 4.
-#[derive(Clone, Copy, PartialEq, Eq, PartialOrd, Ord, Debug)]
+#[derive(Clone, Copy, PartialEq, Eq)]
 pub struct Dev(u32);
 
 impl Model for Dev {
@@ -163,7 +163,7 @@ impl Dev {
 
 /// A mirror of a process's memory in a device, by its number below 32 (`struct dmirror` of
 /// lib/test_hmm.c).
-#[derive(Clone, Copy, PartialEq, Eq, PartialOrd, Ord, Debug)]
+#[derive(Clone, Copy, PartialEq, Eq)]
 pub struct MirrorId(u32);
 
 impl Model for MirrorId {
@@ -198,7 +198,7 @@ impl MirrorId {
 }
 
 /// An actor of a script, by its number below 16.
-#[derive(Clone, Copy, PartialEq, Eq, PartialOrd, Ord, Debug)]
+#[derive(Clone, Copy, PartialEq, Eq, Debug)]
 pub struct Actor(u32);
 
 impl Model for Actor {
@@ -233,7 +233,7 @@ impl Actor {
 }
 
 /// Where frames come from: the system's memory, or a device's own.
-#[derive(Clone, Copy, PartialEq, Eq, PartialOrd, Ord, Debug)]
+#[derive(Clone, Copy, PartialEq, Eq)]
 pub enum PoolId {
     /// Memory that the CPU reads and writes.
     System,
@@ -242,14 +242,14 @@ pub enum PoolId {
 }
 
 /// A frame of 4,096 bytes, by its pool and its number there.
-#[derive(Clone, Copy, PartialEq, Eq, PartialOrd, Ord, Debug)]
+#[derive(Clone, Copy, PartialEq, Eq)]
 pub struct Frame {
     pub pool: PoolId,
     pub number: u32,
 }
 
 /// One or more pages in a row, none at or above 2^36.
-#[derive(Clone, Copy, PartialEq, Eq, Debug)]
+#[derive(Clone, Copy, PartialEq, Eq)]
 pub struct Span {
     first: Page,
     count: u64,
@@ -303,7 +303,7 @@ impl Span {
 }
 
 /// What a page table has for a page: the meaning of a page table entry.
-#[derive(Clone, Copy, PartialEq, Eq, Debug)]
+#[derive(Clone, Copy, PartialEq, Eq)]
 pub enum Place {
     /// No entry.
     Empty,

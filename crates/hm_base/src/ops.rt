@@ -6,7 +6,7 @@ use crate::{Actor, Dev, MirrorId, NoMemory, Page, Proc, Span};
 use std::marker::Model;
 
 /// What an area allows: `PROT_READ`, or `PROT_READ | PROT_WRITE`.
-#[derive(Clone, Copy, PartialEq, Eq, Debug)]
+#[derive(Clone, Copy, PartialEq, Eq)]
 pub enum Rights {
     Read,
     ReadWrite,
@@ -113,14 +113,14 @@ pub enum Op {
 }
 
 /// A line of a schedule: a number of turns of one actor, or rounds of all until none has work left.
-#[derive(Clone, Copy, PartialEq, Eq, Debug)]
+#[derive(Clone, Copy)]
 pub enum ScheduleLine {
     Run { actor: Actor, count: u32 },
     Drain,
 }
 
 /// The version that a script's first line names. Version 2 has two operations more.
-#[derive(Clone, Copy, PartialEq, Eq, Debug)]
+#[derive(Clone, Copy)]
 pub enum Version {
     One,
     Two,

@@ -5,7 +5,7 @@ ghost use Rattle.hm_edge.specs.Messages.{code_of, race_code};
 use hm_script::Refused;
 
 /// How a search of a race ended that did not do all that was asked for.
-#[derive(Clone, Copy, Debug, PartialEq, Eq)]
+#[derive(Clone, Copy)]
 pub enum RaceEnd {
     /// A condition is none: its number among those that are given, and that of its first word that may not come, both
     /// from 1.
@@ -39,7 +39,7 @@ impl RaceEnd {
 }
 
 /// How a call of a program ended.
-#[derive(Clone, Copy, Debug, PartialEq, Eq)]
+#[derive(Clone, Copy)]
 pub enum Status {
     /// What the words ask for was done, and its text went out whole.
     Done,

@@ -19,7 +19,7 @@ use std::alloc::Global;
 use std::rc::Rc;
 
 /// Which parts of legality an entry is judged by.
-#[derive(Clone, Copy, PartialEq, Eq, Debug)]
+#[derive(Clone, Copy)]
 pub enum Judging {
     /// By all: they are the protocol.
     AllParts,

@@ -21,7 +21,7 @@ use hm_race_keys::page_places::Places;
 use hm_race_keys::questions::is_wanted;
 
 /// How a place may name a frame.
-#[derive(Clone, Copy, PartialEq, Eq)]
+#[derive(Clone, Copy)]
 pub enum Naming {
     /// But as a migration entry.
     Directly,

@@ -1,7 +1,7 @@
 // Flaws of a driver, and some of the memory manager: each is one thing that is done otherwise than is due, or left out.
 
 /// Which flaw a driver has; the right driver has none. With one of the memory manager's, the driver is a right one.
-#[derive(Clone, Copy, PartialEq, Eq, Debug)]
+#[derive(Clone, Copy)]
 pub enum Flaw {
     NoFlaw,
     // look-ups

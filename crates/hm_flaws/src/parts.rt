@@ -1,7 +1,7 @@
 // The parts of legality.
 
 /// A part of legality, beside that an entry is due.
-#[derive(Clone, Copy, PartialEq, Eq, Debug)]
+#[derive(Clone, Copy, PartialEq, Eq)]
 pub enum Part {
     /// An access answers the plain bytes, and fails only for a cause.
     Answers,

@@ -13,14 +13,14 @@ use hm_base::{
 use thiserror::Error;
 
 /// Whose access it is: a process's by the CPU, or a mirror's.
-#[derive(Clone, Copy, PartialEq, Eq, Debug)]
+#[derive(Clone, Copy, PartialEq, Eq)]
 pub enum Who {
     Cpu(Proc),
     Mirror(MirrorId),
 }
 
 /// What an entry of a mirror table allows.
-#[derive(Clone, Copy, PartialEq, Eq, Debug)]
+#[derive(Clone, Copy, PartialEq, Eq)]
 pub enum TableRight {
     Read,
     Write,
@@ -29,14 +29,14 @@ pub enum TableRight {
 }
 
 /// What was kept where it is.
-#[derive(Clone, Copy, PartialEq, Eq, Debug)]
+#[derive(Clone, Copy, PartialEq, Eq)]
 pub enum KeptAt {
     Page(Page),
     Frame(Frame),
 }
 
 /// Why it was kept.
-#[derive(Clone, Copy, PartialEq, Eq, Debug)]
+#[derive(Clone, Copy)]
 pub enum KeptWhy {
     /// The page is not where it would be migrated from, or has no area.
     NotHere,
@@ -233,7 +233,7 @@ pub struct Entry {
 }
 
 /// Why an actor waits.
-#[derive(Clone, Copy, PartialEq, Eq, Debug)]
+#[derive(Clone, Copy, PartialEq, Eq)]
 pub enum Why {
     /// That actor holds the process's mmap lock.
     MapLock(Proc, Actor),
@@ -257,7 +257,7 @@ pub enum Progress {
 }
 
 /// The history takes no more; it has this number of entries.
-#[derive(Clone, Copy, PartialEq, Eq, Debug)]
+#[derive(Clone, Copy)]
 pub struct Full(pub u64);
 
 /// Why no step was made: the history, with this number of entries, takes no more, or memory ran out.
@@ -270,7 +270,7 @@ pub enum StepError {
 }
 
 /// Why an entry was not applied to a state: it may not follow, or memory ran out.
-#[derive(Clone, Copy, PartialEq, Eq, Debug, Error)]
+#[derive(Clone, Copy, Debug, Error)]
 pub enum FoldError {
     #[error("the entry may not follow those before it")]
     NotLegal,

@@ -2,7 +2,7 @@
 use hm_base::Proc;
 
 /// Of which process an actor holds the mmap lock, and whether for writing.
-#[derive(Clone, Copy, PartialEq, Eq, Debug)]
+#[derive(Clone, Copy, PartialEq, Eq)]
 pub struct MapLock {
     pub proc: Proc,
     pub writes: bool,

@@ -3,7 +3,7 @@ use crate::{KeptAt, Kind, Why};
 use hm_base::{Frame, MirrorId, Page, Place, Proc, Span};
 
 /// The steps of a migration after its setup, in order (mm/migrate_device.c, and the driver's part in lib/test_hmm.c).
-#[derive(Clone, Copy, PartialEq, Eq, Debug)]
+#[derive(Clone, Copy, PartialEq, Eq)]
 pub enum MoveStep {
     /// The other mappings of each frame are frozen (`try_to_migrate`).
     FreezeOthers,
@@ -20,7 +20,7 @@ pub enum MoveStep {
 
 /// A page that a migration under way has frozen or found fresh: its frame, which a fresh page has not, the
 /// frame that was taken for it, and whether it was committed or placed.
-#[derive(Clone, Copy, PartialEq, Eq, Debug)]
+#[derive(Clone, Copy, PartialEq, Eq)]
 pub struct Migrating {
     pub page: Page,
     pub source: Option<Frame>,
@@ -31,7 +31,7 @@ pub struct Migrating {
 /// What the world shows at an entry, before it: the entry's position, whether an interval overlapped the span
 /// that it starts, the place that the step is about, the frame that it leaves unnamed, and the page that a
 /// migration has come to.
-#[derive(Clone, Copy, PartialEq, Eq, Debug)]
+#[derive(Clone, Copy)]
 pub struct Seen {
     pub at: u64,
     pub overlapped: bool,
@@ -42,7 +42,7 @@ pub struct Seen {
 
 /// Whose touch a fault is: a piece of a CPU access, the walk of a look-up with the position and sequence of its
 /// `begin`, or an access that wants the page alone.
-#[derive(Clone, Copy, PartialEq, Eq, Debug)]
+#[derive(Clone, Copy, PartialEq, Eq)]
 pub enum Touch {
     Cpu { piece: u32 },
     Walk { piece: u32, since: u64, seq: u64 },
@@ -50,7 +50,7 @@ pub enum Touch {
 }
 
 /// What a guard does between its start, after which mirrors are told, and its end.
-#[derive(Clone, Copy, PartialEq, Eq, Debug)]
+#[derive(Clone, Copy, PartialEq, Eq)]
 pub enum Body {
     /// Nothing more.
     Nothing,
@@ -77,7 +77,7 @@ pub enum Body {
 }
 
 /// Where an actor is within its operation. Cursors count pages or frames, and may pass a span's end.
-#[derive(Clone, Copy, PartialEq, Eq, Debug)]
+#[derive(Clone, Copy, PartialEq, Eq)]
 pub enum Phase {
     /// Nothing was done.
     Begin,

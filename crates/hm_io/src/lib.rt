@@ -13,7 +13,7 @@ pub use stream::{StdSink, StdSource, StreamSink, StreamSource};
 pub use sure::{SureSink, SureSource};
 
 /// What a read came to.
-#[derive(Clone, Copy, PartialEq, Eq, Debug)]
+#[derive(Clone, Copy, PartialEq, Eq)]
 pub enum Got {
     /// So many bytes were put at the front of the buffer.
     Bytes(usize),
@@ -24,7 +24,7 @@ pub enum Got {
 }
 
 /// What a write came to.
-#[derive(Clone, Copy, PartialEq, Eq, Debug)]
+#[derive(Clone, Copy, PartialEq, Eq)]
 pub enum Put {
     /// So many bytes of the front were taken.
     Took(usize),
@@ -35,7 +35,7 @@ pub enum Put {
 }
 
 /// What a flush came to.
-#[derive(Clone, Copy, PartialEq, Eq, Debug)]
+#[derive(Clone, Copy)]
 pub enum Flushed {
     /// All that was taken has gone on to where it was to go.
     Done,

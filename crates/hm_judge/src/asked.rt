@@ -3,7 +3,7 @@ ghost use Rattle.std.specs.Prelude.{◌≡◌, map, string_bytes};
 ghost use Rattle.hm_judge.specs.Asked as spec;
 
 /// What is to be said of a report.
-#[derive(Clone, Copy, Debug, PartialEq, Eq)]
+#[derive(Clone, Copy)]
 pub enum Asked {
     /// Whether it is legal, and what is wrong with it if it is not.
     Verdict,

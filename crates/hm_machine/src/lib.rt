@@ -26,7 +26,7 @@ use std::alloc::Global;
 use std::marker::Model;
 
 /// What a turn of a machine came to. An entry that it added is the history's last, and is not copied out.
-#[derive(Clone, Copy, PartialEq, Eq, Debug)]
+#[derive(Clone, Copy, PartialEq, Eq)]
 pub enum Turn {
     /// It added an entry, which is the history's last.
     Did,

@@ -3,7 +3,7 @@ use hm_base::{Dev, Proc, Span};
 use mirror_tables::MirrorTable;
 
 /// Whether a mirror is attached, or its interval waits to leave, or it is gone for good.
-#[derive(Clone, Copy, PartialEq, Eq, Debug)]
+#[derive(Clone, Copy)]
 pub enum MirrorStage {
     Attached,
     Detaching,
@@ -11,7 +11,7 @@ pub enum MirrorStage {
 }
 
 /// A mirror of a window of a process's memory in a device (`struct dmirror` of lib/test_hmm.c).
-#[derive(Clone, Copy, PartialEq, Eq, Debug)]
+#[derive(Clone, Copy)]
 pub struct MirrorInfo {
     pub device: Dev,
     pub process: Proc,

@@ -14,7 +14,7 @@ use hm_reads::Reads;
 use std::alloc::Global;
 
 /// Which parts an entry meets, besides being due to its actor.
-#[derive(Clone, Copy, PartialEq, Eq, Debug)]
+#[derive(Clone, Copy)]
 pub struct Parts {
     /// Its answer is by the plain bytes, areas, processes and mirrors.
     pub answers: bool,

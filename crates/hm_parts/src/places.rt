@@ -30,7 +30,7 @@ pub struct PlacesSoFar {
 }
 
 /// Whether an entry meets the parts that speak of places, frames, sequences and guards.
-#[derive(Clone, Copy, PartialEq, Eq, Debug)]
+#[derive(Clone, Copy)]
 pub struct PlaceParts {
     /// There is a next state of places.
     pub places: bool,

@@ -5,7 +5,7 @@ ghost use Rattle.hm_parts.specs.Rules.{keeps_all, leads_on, leaves_places, leave
 use hm_history::Kind;
 
 /// Which rules of memory an entry keeps after those before it. None of them asks how far the actors have come.
-#[derive(Clone, Copy, PartialEq, Eq, Debug)]
+#[derive(Clone, Copy)]
 pub struct Rules {
     /// Its answer is by the plain bytes, areas, processes and mirrors.
     pub answers: bool,

@@ -27,7 +27,7 @@ pub use hm_history::phases::{Body, Migrating, Phase, Seen, Touch};
 pub use items::Items;
 
 /// How many phases a stack has.
-#[derive(Clone, Copy, PartialEq, Eq, Debug)]
+#[derive(Clone, Copy)]
 enum Depth {
     Zero,
     One,

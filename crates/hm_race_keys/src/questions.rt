@@ -15,7 +15,7 @@ use hm_base::frames::{is_frame, names, names_directly};
 use hm_base::{Frame, Page, Place, Proc};
 
 /// How a place may name a frame.
-#[derive(Clone, Copy, PartialEq, Eq)]
+#[derive(Clone, Copy)]
 enum Naming {
     /// But as a migration entry.
     Directly,

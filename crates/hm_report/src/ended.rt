@@ -12,7 +12,7 @@ use hm_history::{Entry, History, Kind};
 pub const ACTORS: usize = 16;
 
 /// How far an actor is: how many operations have ended, and how many pieces of the next were answered.
-#[derive(Clone, Copy, PartialEq, Eq, Debug)]
+#[derive(Clone, Copy)]
 pub struct EndedOps {
     pub operations: u64,
     pub pieces: u64,

@@ -8,7 +8,7 @@ use crate::numerals::put_byte;
 use hm_io::{Flushed, Put, Sink};
 
 /// Why a text did not go out whole.
-#[derive(Clone, Copy, PartialEq, Eq, Debug)]
+#[derive(Clone, Copy)]
 pub enum Stop {
     Fault,
     NoMemory,

@@ -12,7 +12,7 @@ use hm_history::{Entry, History, Kind};
 use std::alloc::Global;
 
 /// What entries are counted.
-#[derive(Clone, Copy, PartialEq, Eq, Debug)]
+#[derive(Clone, Copy)]
 pub enum Topic {
     Loaded,
     Stored,
@@ -22,7 +22,7 @@ pub enum Topic {
 }
 
 /// What numbers of entries are summed.
-#[derive(Clone, Copy, PartialEq, Eq, Debug)]
+#[derive(Clone, Copy)]
 pub enum Amount {
     Migrated,
     Evicted,

@@ -18,7 +18,7 @@ pub struct Head<'a> {
 }
 
 /// The number, from 1, of a first bad line.
-#[derive(Clone, Copy, PartialEq, Eq, Debug)]
+#[derive(Clone, Copy)]
 pub struct BadLine(pub u64);
 
 /// Reads the script at a report's front, and the line `history` after it.

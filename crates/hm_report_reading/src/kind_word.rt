@@ -3,7 +3,7 @@ ghost use Rattle.std.specs.Prelude.{◌≡◌};
 ghost use Rattle.hm_report_reading.specs.KindWords.{kind_named, kind_text};
 
 /// The word of a kind of entry, by the name that the kind has in the program.
-#[derive(Clone, Copy, Debug, PartialEq, Eq)]
+#[derive(Clone, Copy)]
 pub enum KindWord {
     Loaded,
     Stored,

@@ -12,7 +12,7 @@ use hm_script::{LineWords, number};
 use std::alloc::Global;
 
 /// An actor with an operation that has not ended.
-#[derive(Clone, Copy, PartialEq, Eq, Debug)]
+#[derive(Clone, Copy, PartialEq, Eq)]
 pub struct Unfinished {
     pub actor: Actor,
     /// The number of its first such operation, from 0.

@@ -5,7 +5,7 @@ ghost use Rattle.hm_script.specs.Keywords.{op_text, op_named, keyword_named};
 ghost use Rattle.hm_script.specs.Built.{is_new_word};
 
 /// The word of an operation.
-#[derive(Clone, Copy, Debug, PartialEq, Eq)]
+#[derive(Clone, Copy)]
 pub enum OpWord {
     Map,
     Unmap,
@@ -28,7 +28,7 @@ pub enum OpWord {
 }
 
 /// A first word that a line after the first may have.
-#[derive(Clone, Copy, Debug, PartialEq, Eq)]
+#[derive(Clone, Copy)]
 pub enum Keyword {
     Frames,
     Device,

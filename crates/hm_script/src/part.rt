@@ -6,7 +6,7 @@ ghost use Rattle.hm_script.specs.Automaton.{allows};
 use crate::keyword::Keyword;
 
 /// The part of a script that has been reached.
-#[derive(Clone, Copy, Debug, PartialEq, Eq)]
+#[derive(Clone, Copy, PartialEq, Eq)]
 pub enum Part {
     Start,
     Headed,

@@ -63,7 +63,7 @@ impl Reason {
 }
 
 /// The first bad line, from 1, and its reason.
-#[derive(Clone, Copy, Debug, PartialEq, Eq)]
+#[derive(Clone, Copy, Debug)]
 pub struct Refused {
     pub line: u64,
     pub why: Reason,

@@ -6,7 +6,7 @@ use crate::keyword::OpWord;
 
 /// Which words of the grammar there are: a field for each operation and for each further word. A
 /// word that is not there is a bad word, as is a second line if only one is allowed.
-#[derive(Clone, Copy, PartialEq, Eq, Debug)]
+#[derive(Clone, Copy)]
 pub struct Words {
     pub map: bool,
     pub unmap: bool,

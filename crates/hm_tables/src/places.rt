@@ -10,7 +10,7 @@ use hm_base::frames::{is_frame, names};
 use hm_base::{Frame, Place};
 
 /// Which pages are looked for: those that have a place, or those that have the write right.
-#[derive(Clone, Copy, PartialEq, Eq, Debug)]
+#[derive(Clone, Copy)]
 pub enum PageTest {
     Used,
     Writable,

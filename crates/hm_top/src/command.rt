@@ -6,7 +6,7 @@ use hm_base::Proc;
 use hm_script::{address, number};
 
 /// Bytes of a process that are asked for: 1 to 256 of them, that end at or below 2^48.
-#[derive(Clone, Copy, Debug, PartialEq, Eq)]
+#[derive(Clone, Copy)]
 pub struct PeekedBytes {
     pub proc: Proc,
     /// The address of the first.
@@ -15,7 +15,7 @@ pub struct PeekedBytes {
 }
 
 /// What the program does on the calling thread alone.
-#[derive(Clone, Copy, Debug, PartialEq, Eq)]
+#[derive(Clone, Copy)]
 pub enum Alone {
     /// Runs a script by its schedule, and writes the report.
     Replay,
@@ -34,7 +34,7 @@ pub enum Alone {
 }
 
 /// How a run from threads begins.
-#[derive(Clone, Copy, Debug, PartialEq, Eq)]
+#[derive(Clone, Copy, PartialEq, Eq)]
 pub enum Begin {
     /// All actors race from the start, and the schedule is not used.
     AtOnce,
@@ -43,7 +43,7 @@ pub enum Begin {
 }
 
 /// What the program does, by its words.
-#[derive(Clone, Copy, Debug, PartialEq, Eq)]
+#[derive(Clone, Copy)]
 pub enum Command {
     /// What the calling thread does alone, which waits for nobody.
     Alone(Alone),

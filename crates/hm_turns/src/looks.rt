@@ -14,7 +14,7 @@ use hm_base::{Actor, Proc};
 use std::mem;
 
 /// What a look at bytes of a process finds.
-#[derive(Clone, Copy, PartialEq, Eq, Debug)]
+#[derive(Clone, Copy)]
 pub enum Looked {
     /// All the bytes were copied.
     Filled,
@@ -25,7 +25,7 @@ pub enum Looked {
 }
 
 /// What a try for a look comes to.
-#[derive(Clone, Copy, PartialEq, Eq, Debug)]
+#[derive(Clone, Copy)]
 pub enum Look {
     /// Another pass had the turn, and nothing was looked at.
     Busy,

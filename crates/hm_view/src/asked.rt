@@ -8,7 +8,7 @@ use hm_script::number;
 pub const MOST_ROWS: u64 = 20_000;
 
 /// The rows that are asked for.
-#[derive(Clone, Copy, Debug, PartialEq, Eq)]
+#[derive(Clone, Copy)]
 pub enum Asked {
     /// All.
     All,

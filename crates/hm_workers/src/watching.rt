@@ -93,7 +93,7 @@ impl Signs {
 }
 
 /// What the check of a copy comes to.
-#[derive(Clone, Copy, PartialEq, Eq, Debug)]
+#[derive(Clone, Copy)]
 pub(crate) enum Checked {
     /// It holds, and a peek was recorded.
     New,

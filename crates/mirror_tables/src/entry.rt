@@ -2,7 +2,7 @@
 use hm_base::Frame;
 
 /// What an entry names (`dmirror_do_fault` of lib/test_hmm.c).
-#[derive(Clone, Copy, PartialEq, Eq, Debug)]
+#[derive(Clone, Copy, PartialEq, Eq)]
 pub enum Target {
     /// The shared zero page.
     Zero,
@@ -14,7 +14,7 @@ pub enum Target {
 }
 
 /// An entry; `from` is the position in the history from which on nothing may have told the mirror.
-#[derive(Clone, Copy, PartialEq, Eq, Debug)]
+#[derive(Clone, Copy, PartialEq, Eq)]
 pub struct MirrorEntry {
     pub target: Target,
     pub writable: bool,

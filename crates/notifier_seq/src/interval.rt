@@ -7,7 +7,7 @@ ghost use Rattle.notifier_seq.specs.declared.interval.Interval.{Interval as AnyI
 use hm_base::Span;
 
 /// Where an interval is.
-#[derive(Clone, Copy, PartialEq, Eq, Debug)]
+#[derive(Clone, Copy)]
 pub enum Stage {
     InTree,
     /// It comes into the tree when the sequence moves.
@@ -19,7 +19,7 @@ pub enum Stage {
 
 /// The window of a mirror, the sequence with which it was last told, and where it is
 /// (`struct mmu_interval_notifier` of include/linux/mmu_notifier.h).
-#[derive(Clone, Copy, PartialEq, Eq, Debug)]
+#[derive(Clone, Copy)]
 pub struct Interval {
     pub window: Span,
     pub seq: u64,

@@ -41,7 +41,7 @@ mod subscriptions;
 
 /// What a start of an invalidation tells: the process's sequence afterwards, and whether an interval
 /// overlapped, so that mirrors are to be told.
-#[derive(Clone, Copy, PartialEq, Eq, Debug)]
+#[derive(Clone, Copy, PartialEq, Eq)]
 pub struct Started {
     pub seq: u64,
     pub overlapped: bool,
@@ -49,14 +49,14 @@ pub struct Started {
 
 /// A look-up that may begin has its interval's sequence; one that has to wait has the sequence that
 /// it waits for to move.
-#[derive(Clone, Copy, PartialEq, Eq, Debug)]
+#[derive(Clone, Copy, PartialEq, Eq)]
 pub enum Begin {
     Ready(u64),
     Invalidating(u64),
 }
 
 /// An interval is removed at once, or when this sequence moves.
-#[derive(Clone, Copy, PartialEq, Eq, Debug)]
+#[derive(Clone, Copy, PartialEq, Eq)]
 pub enum Removal {
     Removed,
     WaitFor(u64),

@@ -10,7 +10,7 @@ use std::marker::Model;
 
 /// A page of a process whose page table entry names the frame, as an `anon_vma` finds it
 /// (mm/rmap.c); a migration entry names it too.
-#[derive(Clone, Copy, PartialEq, Eq, Debug)]
+#[derive(Clone, Copy)]
 pub struct Use {
     pub proc: Proc,
     pub page: Page,

@@ -28,7 +28,7 @@ pub enum Taken {
 }
 
 /// Whether a copy is current.
-#[derive(Clone, Copy, PartialEq, Eq, Debug)]
+#[derive(Clone, Copy)]
 pub struct Still {
     /// The copy has the process's bytes after `count` entries.
     pub holds: bool,

@@ -73,7 +73,7 @@ impl Gate for InTurn {
 }
 
 /// What a turn came to.
-#[derive(Clone, Copy, PartialEq, Eq)]
+#[derive(Clone, Copy)]
 enum Came {
     Busy,
     Entry,

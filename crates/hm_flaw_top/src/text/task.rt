@@ -13,7 +13,7 @@ use hm_script::number;
 pub const MOST_STATES: u64 = 20_000;
 
 /// Of which drivers shortest races are looked for.
-#[derive(Clone, Copy, PartialEq, Eq, Debug)]
+#[derive(Clone, Copy)]
 pub enum Which {
     /// Of this one.
     One(Flaw),
@@ -22,7 +22,7 @@ pub enum Which {
 }
 
 /// What the words after the program's name ask for.
-#[derive(Clone, Copy, PartialEq, Eq, Debug)]
+#[derive(Clone, Copy)]
 pub struct Task {
     pub which: Which,
     pub judging: Judging,
@@ -31,7 +31,7 @@ pub struct Task {
 }
 
 /// What is wrong with a word.
-#[derive(Clone, Copy, PartialEq, Eq, Debug)]
+#[derive(Clone, Copy)]
 pub enum WordFault {
     /// It is missing.
     Missing,
@@ -44,7 +44,7 @@ pub enum WordFault {
 }
 
 /// A word that may not stand where it stands.
-#[derive(Clone, Copy, PartialEq, Eq, Debug)]
+#[derive(Clone, Copy)]
 pub struct BadWord {
     /// Its number among the words, from 1. One that is missing has the number after the last.
     pub at: u64,

@@ -2,7 +2,7 @@
 use hm_base::{ListOf, Text};
 
 /// Of how many outcomes the body of a condition is to hold.
-#[derive(Clone, Copy, PartialEq, Eq, Debug)]
+#[derive(Clone, Copy)]
 pub enum Quantifier {
     /// Of one at least.
     Exists,

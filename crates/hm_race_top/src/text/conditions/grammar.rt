@@ -14,7 +14,7 @@ use hm_base::{ListOf, NoMemory};
 use std::alloc::Global;
 
 /// Why a line is not read as a condition.
-#[derive(Clone, Copy, PartialEq, Eq, Debug)]
+#[derive(Clone, Copy)]
 pub enum BadCondition {
     /// The number, from 1, of the first word that may not come, or of the one that is missing at the end.
     Word(u64),

@@ -10,7 +10,7 @@ use crate::text::conditions::laws::holds_by_witness;
 use crate::text::conditions::lines::has_line;
 
 /// What outcomes say of a condition.
-#[derive(Clone, Copy, PartialEq, Eq, Debug)]
+#[derive(Clone, Copy)]
 pub struct Verdict {
     pub holds: bool,
     /// The index of the first outcome that decides it alone, if one does: it shows that a condition of `some` holds, or

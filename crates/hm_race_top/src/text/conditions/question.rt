@@ -17,7 +17,7 @@ pub struct Question {
 }
 
 /// Why texts are not read as conditions.
-#[derive(Clone, Copy, PartialEq, Eq, Debug)]
+#[derive(Clone, Copy)]
 pub enum BadQuestion {
     /// The number, from 1, of the first text that is no condition; and that of its first word that may not come, or of
     /// the one that is missing at the end.

@@ -11,7 +11,7 @@ use crate::text::conditions::judging::{Verdict, is_witness, judge};
 use crate::text::conditions::question::Question;
 
 /// What is said of a condition.
-#[derive(Clone, Copy, PartialEq, Eq, Debug)]
+#[derive(Clone, Copy)]
 pub enum Ruling {
     /// It holds of the race.
     Holds,

@@ -8,7 +8,7 @@ use crate::text::conditions::condition::Quantifier;
 use hm_script::number;
 
 /// What a word is for.
-#[derive(Clone, Copy, PartialEq, Eq, Debug)]
+#[derive(Clone, Copy)]
 pub enum WordKind {
     And,
     Or,
@@ -20,7 +20,7 @@ pub enum WordKind {
 }
 
 /// Where the words of a body have come to.
-#[derive(Clone, Copy, PartialEq, Eq, Debug)]
+#[derive(Clone, Copy, PartialEq, Eq)]
 pub enum Place {
     /// Where a literal begins.
     Fresh,

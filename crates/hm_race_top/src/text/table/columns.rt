@@ -7,7 +7,7 @@ use hm_base::{ListOf, NoMemory, Text};
 use std::alloc::Global;
 
 /// A position at which outcomes differ.
-#[derive(Clone, Copy, PartialEq, Eq, Debug)]
+#[derive(Clone, Copy)]
 pub struct Column {
     pub at: u64,
     /// How wide the widest answer there is.
