@@ -73,10 +73,7 @@ fn after_prefix(word: &[u8]) -> Option<&[u8]>
     ensures some { IfSome result (λ digits. word.now ≡ 48 ∷ 120 ∷ digits.now) }
     ensures none { IfNone result ((digits : List ℕ) → word.now ≡ 48 ∷ 120 ∷ digits → ⊥) }
 {
-    match word {
-        [b'0', b'x', digits @ ..] => Some(digits),
-        _ => None,
-    }
+    word.strip_prefix(b"0x".as_slice())
 }
 
 /// Reads an address: `0x` and hexadecimal digits in lower case, without leading zeros, below 2^64.
