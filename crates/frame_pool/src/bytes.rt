@@ -6,7 +6,7 @@ ghost use Rattle.frame_pool.specs.Frames.{overwritten, padded, part_of};
 pub const FRAME_BYTES: usize = 4096;
 
 /// Adds zeros at the end, up to this many bytes, for which there is room.
-pub fn grow(bytes: &mut Vec<u8>, len: usize)
+pub(crate) fn grow(bytes: &mut Vec<u8>, len: usize)
     requires { len ≤ vec_capacity bytes.old }
     ensures items { bytes.new.items ≡ bytes.old.items ++ replicate (len - length bytes.old.items) 0 }
     ensures capacity { vec_capacity bytes.old ≤ vec_capacity bytes.new }
@@ -20,7 +20,7 @@ pub fn grow(bytes: &mut Vec<u8>, len: usize)
 }
 
 /// Fills `into` with the bytes from `at` on, and with zeros if there are none.
-pub fn read(bytes: &[u8], at: usize, into: &mut [u8])
+pub(crate) fn read(bytes: &[u8], at: usize, into: &mut [u8])
     requires { at + length into.old < 2 ^ 64 }
     ensures { into.new ≡ padded (part_of bytes.now at (length into.old)) (length into.old) }
 {
@@ -32,7 +32,7 @@ pub fn read(bytes: &[u8], at: usize, into: &mut [u8])
 }
 
 /// Writes the bytes over those from `at` on.
-pub fn overwrite(bytes: &mut Vec<u8>, at: usize, from: &[u8])
+pub(crate) fn overwrite(bytes: &mut Vec<u8>, at: usize, from: &[u8])
     requires { at + length from.now ≤ length bytes.old.items }
     ensures items { bytes.new.items ≡ overwritten bytes.old.items at from.now }
     ensures capacity { vec_capacity bytes.new ≡ vec_capacity bytes.old }
@@ -41,7 +41,7 @@ pub fn overwrite(bytes: &mut Vec<u8>, at: usize, from: &[u8])
 }
 
 /// Writes this many bytes of another block from `from` on over those from `at` on, and zeros if it has none.
-pub fn read_over(bytes: &mut Vec<u8>, at: usize, count: usize, source: &[u8], from: usize)
+pub(crate) fn read_over(bytes: &mut Vec<u8>, at: usize, count: usize, source: &[u8], from: usize)
     requires target { at + count ≤ length bytes.old.items }
     requires source { from + count < 2 ^ 64 }
     ensures items { bytes.new.items ≡ overwritten bytes.old.items at (padded (part_of source.now from count) count) }
@@ -51,7 +51,7 @@ pub fn read_over(bytes: &mut Vec<u8>, at: usize, count: usize, source: &[u8], fr
 }
 
 /// Writes this many zeros over the bytes from `at` on.
-pub fn overwrite_by_zeros(bytes: &mut Vec<u8>, at: usize, count: usize)
+pub(crate) fn overwrite_by_zeros(bytes: &mut Vec<u8>, at: usize, count: usize)
     requires { at + count ≤ length bytes.old.items }
     ensures items { bytes.new.items ≡ overwritten bytes.old.items at (replicate count 0) }
     ensures capacity { vec_capacity bytes.new ≡ vec_capacity bytes.old }
@@ -60,7 +60,7 @@ pub fn overwrite_by_zeros(bytes: &mut Vec<u8>, at: usize, count: usize)
 }
 
 /// Copies this many bytes from `at` on over those from `to` on.
-pub fn copy(bytes: &mut Vec<u8>, at: usize, to: usize, count: usize)
+pub(crate) fn copy(bytes: &mut Vec<u8>, at: usize, to: usize, count: usize)
     requires source { at + count ≤ length bytes.old.items }
     requires target { to + count ≤ length bytes.old.items }
     ensures items { bytes.new.items ≡ overwritten bytes.old.items to (part_of bytes.old.items at count) }

@@ -28,7 +28,7 @@ impl Model for FrameBytes {
 
 impl FrameBytes {
     /// So many zeros.
-    pub fn new(alloc: Global, size: usize) -> Result<FrameBytes, NoMemory>
+    pub(crate) fn new(alloc: Global, size: usize) -> Result<FrameBytes, NoMemory>
         ensures { IfOk result (λ bytes. bytes ≡ replicate size 0) }
     {
         Ok(FrameBytes {
@@ -38,7 +38,7 @@ impl FrameBytes {
     }
 
     /// Fills `into` with the bytes from `at` on.
-    pub fn read(&self, at: usize, into: &mut [u8])
+    pub(crate) fn read(&self, at: usize, into: &mut [u8])
         requires { at + length into.old ≤ length self.now }
         ensures { into.new ≡ part_of self.now at (length into.old) }
     {
@@ -46,7 +46,7 @@ impl FrameBytes {
     }
 
     /// Writes the bytes over those from `at` on.
-    pub fn overwrite(&mut self, at: usize, from: &[u8])
+    pub(crate) fn overwrite(&mut self, at: usize, from: &[u8])
         requires { at + length from.now ≤ length self.old }
         ensures { self.new ≡ overwritten self.old at from.now }
     {
@@ -56,7 +56,7 @@ impl FrameBytes {
 
     /// Writes this many zeros over the bytes from `at` on. Where no byte at or past it was written, there is nothing to
     /// do.
-    pub fn zero(&mut self, at: usize, count: usize)
+    pub(crate) fn zero(&mut self, at: usize, count: usize)
         requires { at + count ≤ length self.old }
         ensures { self.new ≡ overwritten self.old at (replicate count 0) }
     {
@@ -68,7 +68,7 @@ impl FrameBytes {
     }
 
     /// Copies this many bytes from `at` on over those from `to` on.
-    pub fn copy(&mut self, at: usize, to: usize, count: usize)
+    pub(crate) fn copy(&mut self, at: usize, to: usize, count: usize)
         requires source { at + count ≤ length self.old }
         requires target { to + count ≤ length self.old }
         ensures { self.new ≡ overwritten self.old to (part_of self.old at count) }
@@ -80,7 +80,7 @@ impl FrameBytes {
 
     /// Copies this many bytes of another row from `at` on over those from `to` on. Where neither row has a byte there
     /// that was written, there is nothing to do.
-    pub fn copy_from(&mut self, from: &FrameBytes, at: usize, to: usize, count: usize)
+    pub(crate) fn copy_from(&mut self, from: &FrameBytes, at: usize, to: usize, count: usize)
         requires source { at + count ≤ length from.now }
         requires target { to + count ≤ length self.old }
         ensures { self.new ≡ overwritten self.old to (part_of from.now at count) }

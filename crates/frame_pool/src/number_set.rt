@@ -28,7 +28,7 @@ impl Model for NumberSet {
 
 impl NumberSet {
     /// The set without a member.
-    pub fn empty(alloc: Global, size: u32) -> Result<NumberSet, NoMemory>
+    pub(crate) fn empty(alloc: Global, size: u32) -> Result<NumberSet, NoMemory>
         ensures { IfOk result (λ set. set ≡ replicate size false) }
     {
         let words = zeros(alloc, (size as usize).div_ceil(64))?;
@@ -41,7 +41,7 @@ impl NumberSet {
     }
 
     /// The set of all numbers below the size.
-    pub fn full(alloc: Global, size: u32) -> Result<NumberSet, NoMemory>
+    pub(crate) fn full(alloc: Global, size: u32) -> Result<NumberSet, NoMemory>
         ensures { IfOk result (λ set. set ≡ replicate size true) }
     {
         let mut set = NumberSet::empty(alloc, size)?;
@@ -52,7 +52,7 @@ impl NumberSet {
     }
 
     /// Puts the number in.
-    pub fn insert(&mut self, number: u32)
+    pub(crate) fn insert(&mut self, number: u32)
         requires { number < length self.old }
         ensures { self.new ≡ slice_set self.old number true }
     {
@@ -62,7 +62,7 @@ impl NumberSet {
     }
 
     /// Takes out a member.
-    pub fn remove(&mut self, number: u32)
+    pub(crate) fn remove(&mut self, number: u32)
         requires { slice_index_or self.old number false ≡ true }
         ensures { self.new ≡ slice_set self.old number false }
     {
@@ -74,7 +74,7 @@ impl NumberSet {
     }
 
     /// The lowest member from `from` on.
-    pub fn next_at_or_after(&self, from: u32) -> Option<u32>
+    pub(crate) fn next_at_or_after(&self, from: u32) -> Option<u32>
         ensures { result ≡ next_true self.now from }
     {
         let first = from as usize / 64;

@@ -30,7 +30,7 @@ impl Model for PoolBytes {
 
 impl PoolBytes {
     /// So many zeros.
-    pub fn new(alloc: Global, size: usize) -> Result<PoolBytes, NoMemory>
+    pub(crate) fn new(alloc: Global, size: usize) -> Result<PoolBytes, NoMemory>
         ensures { IfOk result (λ bytes. bytes ≡ replicate size 0) }
     {
         let bytes = FrameBytes::new(alloc, size)?;
@@ -41,7 +41,7 @@ impl PoolBytes {
     }
 
     /// Fills `into` with the bytes of a frame from `at` on.
-    pub fn read(&self, at: usize, into: &mut [u8])
+    pub(crate) fn read(&self, at: usize, into: &mut [u8])
         requires inside { at + length into.old ≤ length self.now }
         requires frame { at % 4096 + length into.old ≤ 4096 }
         ensures { into.new ≡ part_of self.now at (length into.old) }
@@ -54,7 +54,7 @@ impl PoolBytes {
     }
 
     /// Writes the bytes over those from `at` on.
-    pub fn overwrite(&mut self, at: usize, from: &[u8])
+    pub(crate) fn overwrite(&mut self, at: usize, from: &[u8])
         requires { at + length from.now ≤ length self.old }
         ensures { self.new ≡ overwritten self.old at from.now }
     {
@@ -63,7 +63,7 @@ impl PoolBytes {
     }
 
     /// Zeros the frame that begins there, later.
-    pub fn zero_frame(&mut self, at: usize)
+    pub(crate) fn zero_frame(&mut self, at: usize)
         requires inside { at + 4096 ≤ length self.old }
         requires frame { at % 4096 ≡ 0 }
         ensures { self.new ≡ overwritten self.old at zero_frame }
@@ -73,7 +73,7 @@ impl PoolBytes {
     }
 
     /// Copies this many bytes from `at` on over those from `to` on.
-    pub fn copy(&mut self, at: usize, to: usize, count: usize)
+    pub(crate) fn copy(&mut self, at: usize, to: usize, count: usize)
         requires source { at + count ≤ length self.old }
         requires target { to + count ≤ length self.old }
         ensures { self.new ≡ overwritten self.old to (part_of self.old at count) }
@@ -88,7 +88,7 @@ impl PoolBytes {
     }
 
     /// Copies this many bytes of a frame of another row from `at` on over those from `to` on.
-    pub fn copy_from(&mut self, from: &PoolBytes, at: usize, to: usize, count: usize)
+    pub(crate) fn copy_from(&mut self, from: &PoolBytes, at: usize, to: usize, count: usize)
         requires source { at + count ≤ length from.now }
         requires frame { at % 4096 + count ≤ 4096 }
         requires target { to + count ≤ length self.old }

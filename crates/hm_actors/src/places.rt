@@ -24,7 +24,7 @@ fn is_above_all(records: &[Migrating], page: Page) -> bool
 }
 
 /// Whether the order is known to rise with a record of that page at the end.
-pub fn rises_by(records: &[Migrating], rising: bool, page: Page) -> bool
+pub(crate) fn rises_by(records: &[Migrating], rising: bool, page: Page) -> bool
     requires { rising ≡ true → Rises records.now }
     ensures { result ≡ true → (x : Record) → x.page ≡ page → Rises (records.now ++ x ∷ []) }
 {
@@ -52,7 +52,7 @@ fn place_of(records: &[Migrating], page: u64) -> usize
 }
 
 /// The records from the page on, and perhaps some before it.
-pub fn from_page(records: &[Migrating], page: u64) -> &[Migrating]
+pub(crate) fn from_page(records: &[Migrating], page: u64) -> &[Migrating]
     requires { Rises records.now }
     ensures { (test : Record → Bool) → first_from test page result.now ≡ first_from test page records.now }
 {
@@ -90,7 +90,7 @@ fn put_one(records: &mut [Migrating], migrating: &Migrating)
 }
 
 /// Puts the record in place of what there is of its page.
-pub fn put(records: &mut [Migrating], rising: bool, migrating: &Migrating)
+pub(crate) fn put(records: &mut [Migrating], rising: bool, migrating: &Migrating)
     requires { rising ≡ true → Rises records.old }
     ensures { records.new ≡ with_record migrating.now records.old }
 {

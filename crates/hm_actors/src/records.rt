@@ -46,7 +46,7 @@ fn frame_found(place: &Place) -> Option<Frame>
 
 impl Records {
     /// No record, and room for one.
-    pub fn with_room(alloc: Global) -> Result<Records, NoMemory>
+    pub(crate) fn with_room(alloc: Global) -> Result<Records, NoMemory>
         ensures { IfOk result (λ x. x ≡ record { items = []; spare = 1 }) }
     {
         let mut items = Vec::new(alloc);
@@ -80,7 +80,7 @@ impl Records {
     }
 
     /// The records from the page on; those before it are among them if the order is not known.
-    pub fn from_page(&self, page: u64) -> &[Migrating]
+    pub(crate) fn from_page(&self, page: u64) -> &[Migrating]
         ensures { (test : Record → Bool) → first_from test page result.now ≡ first_from test page self.now.items }
     {
         if self.rising {

@@ -35,7 +35,7 @@ pub fn op_at(script: &Script, actor: Actor, index: u64) -> Option<&Op>
 }
 
 /// The key of the actor's migration.
-pub fn key_of(tasks: &[Task], actor: Actor) -> Option<usize>
+pub(crate) fn key_of(tasks: &[Task], actor: Actor) -> Option<usize>
     ensures { result ≡ key_of tasks.now actor }
 {
     match tasks.get(actor.number() as usize) {
@@ -68,7 +68,7 @@ fn adds_at(top: &Phase, kind: &Kind) -> bool
 }
 
 impl Task {
-    pub fn start(alloc: Global, script: &Script, actor: Actor) -> Result<Task, NoMemory>
+    pub(crate) fn start(alloc: Global, script: &Script, actor: Actor) -> Result<Task, NoMemory>
         ensures { IfOk result
             (λ t. t ≡ record { index = 0; stack = first_stack (op_at script.now actor 0); migration = None }) }
     {
@@ -82,7 +82,7 @@ impl Task {
     }
 
     /// Makes room for the record that the entry adds, if it adds one.
-    pub fn reserve(
+    pub(crate) fn reserve(
         &mut self,
         migrations: &mut Slab<Records>,
         alloc: Global,
@@ -111,7 +111,7 @@ impl Task {
     }
 
     /// The task after its entry.
-    pub fn step(
+    pub(crate) fn step(
         &mut self,
         migrations: &mut Slab<Records>,
         script: &Script,

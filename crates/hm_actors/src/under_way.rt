@@ -16,7 +16,7 @@ use slab::Slab;
 use std::alloc::Global;
 
 /// The records under a key; none without one.
-pub fn records_at(migrations: &Slab<Records>, key: Option<usize>) -> &[Migrating]
+pub(crate) fn records_at(migrations: &Slab<Records>, key: Option<usize>) -> &[Migrating]
     ensures { result.now ≡ (kept_at migrations.now key).items }
 {
     let Some(key) = key else {
@@ -49,7 +49,7 @@ pub fn come_to<C: Concerns>(
 }
 
 /// Makes an item with room for a record, and gives its key.
-pub fn begin(migrations: &mut Slab<Records>, alloc: Global) -> Result<usize, NoMemory>
+pub(crate) fn begin(migrations: &mut Slab<Records>, alloc: Global) -> Result<usize, NoMemory>
     ensures vacant { IfOk result (λ key. get migrations.old key ≡ None) }
     ensures item { IfOk result
         (λ key. Updates migrations.old migrations.new key (Some (record { items = []; spare = 1 }))) }
@@ -61,7 +61,7 @@ pub fn begin(migrations: &mut Slab<Records>, alloc: Global) -> Result<usize, NoM
 }
 
 /// The items after an entry at this phase of the task that holds the key.
-pub fn step(
+pub(crate) fn step(
     migrations: &mut Slab<Records>,
     key: Option<usize>,
     top: &Phase,
@@ -83,7 +83,7 @@ pub fn step(
 }
 
 /// Gives the item of a migration that is over back.
-pub fn end(migrations: &mut Slab<Records>, key: Option<usize>)
+pub(crate) fn end(migrations: &mut Slab<Records>, key: Option<usize>)
     requires held { HasItem migrations.old key }
     ensures changes { Changes migrations.old migrations.new key None }
 {

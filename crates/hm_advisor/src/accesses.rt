@@ -19,7 +19,7 @@ pub struct Access {
 }
 
 /// The access that an entry answers.
-pub fn access_of(kind: &Kind) -> Option<Access>
+pub(crate) fn access_of(kind: &Kind) -> Option<Access>
     ensures { result ≡ access_of kind.now }
 {
     match kind {
@@ -64,7 +64,7 @@ pub struct Accesses {
 
 impl Accesses {
     /// No accesses.
-    pub fn new(alloc: Global) -> Result<Accesses, NoMemory>
+    pub(crate) fn new(alloc: Global) -> Result<Accesses, NoMemory>
         ensures sized { IfOk result AreSized }
         ensures none { IfOk result (λ a. (x : AnyWho) (v : ℕ) → count_for a x v ≡ 0) }
     {
@@ -75,7 +75,7 @@ impl Accesses {
     }
 
     /// How often that party accessed the page.
-    pub fn count(&self, who: Who, page: u64) -> u64
+    pub(crate) fn count(&self, who: Who, page: u64) -> u64
         requires { AreSized self.now }
         ensures { result ≡ count_for self.now who page }
     {
@@ -83,7 +83,7 @@ impl Accesses {
     }
 
     /// The accesses of that party.
-    pub fn of(&self, who: Who) -> &Tally
+    pub(crate) fn of(&self, who: Who) -> &Tally
         requires { AreSized self.now }
         ensures { (v : ℕ) → count_in result.now v ≡ count_for self.now who v }
     {
@@ -108,7 +108,7 @@ impl Accesses {
     }
 
     /// Counts the access that the entry answers, if it is one.
-    pub fn note(&mut self, kind: &Kind) -> Result<(), NoMemory>
+    pub(crate) fn note(&mut self, kind: &Kind) -> Result<(), NoMemory>
         requires sized { AreSized self.old }
         requires few { AreFew self.old }
         ensures sized { OnOk result (AreSized self.new) }

@@ -18,7 +18,7 @@ pub struct Tallies {
 
 impl Tallies {
     /// No accesses.
-    pub fn new(alloc: Global) -> Result<Tallies, NoMemory>
+    pub(crate) fn new(alloc: Global) -> Result<Tallies, NoMemory>
         ensures { IfOk result IsUnused }
     {
         let mut items = Vec::with_capacity(alloc, PARTIES)?;
@@ -29,7 +29,7 @@ impl Tallies {
     }
 
     /// The tally of that number.
-    pub fn get(&self, at: usize) -> &Tally
+    pub(crate) fn get(&self, at: usize) -> &Tally
         requires { at < length self.now.items.items }
         ensures { (v : ℕ) → count_in result.now v ≡ tally_count self.now at v }
     {
@@ -37,7 +37,7 @@ impl Tallies {
     }
 
     /// One access more of the page, in the tally of that number.
-    pub fn add(&mut self, at: usize, page: u64) -> Result<(), NoMemory>
+    pub(crate) fn add(&mut self, at: usize, page: u64) -> Result<(), NoMemory>
         requires within { at < length self.old.items.items }
         requires few { tally_count self.old at page + 1 < 2 ^ 64 }
         ensures length { length self.new.items.items ≡ length self.old.items.items }

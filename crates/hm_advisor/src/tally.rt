@@ -14,7 +14,7 @@ pub struct Tally {
 
 impl Tally {
     /// No accesses, without memory.
-    pub fn new(alloc: Global) -> Tally
+    pub(crate) fn new(alloc: Global) -> Tally
         ensures { (v : ℕ) → count_in result v ≡ 0 }
     {
         Tally {
@@ -23,7 +23,7 @@ impl Tally {
     }
 
     /// How often the page was accessed.
-    pub fn count(&self, page: u64) -> u64
+    pub(crate) fn count(&self, page: u64) -> u64
         ensures { result ≡ count_in self.now page }
     {
         match self.counts.get(&page) {
@@ -33,7 +33,7 @@ impl Tally {
     }
 
     /// One access more.
-    pub fn add(&mut self, page: u64) -> Result<(), NoMemory>
+    pub(crate) fn add(&mut self, page: u64) -> Result<(), NoMemory>
         requires { count_in self.old page + 1 < 2 ^ 64 }
         ensures ok { OnOk result (IsAdded self.old self.new page) }
     {
@@ -55,7 +55,7 @@ impl Tally {
     }
 
     /// The first page from there on with a count, or the end if none below it has one.
-    pub fn next(&self, from: u64, end: u64) -> u64
+    pub(crate) fn next(&self, from: u64, end: u64) -> u64
         requires { from ≤ end }
         ensures { IsNext self.now from end result }
     {

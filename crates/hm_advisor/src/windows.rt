@@ -16,7 +16,7 @@ pub struct Window {
 }
 
 /// What the entry changes in them, by the number of the mirror.
-pub fn step(windows: &mut [Option<Window>; MIRRORS], kind: &Kind)
+pub(crate) fn step(windows: &mut [Option<Window>; MIRRORS], kind: &Kind)
     ensures { windows.new ≡ windows_next kind.now windows.old }
 {
     match kind {

@@ -28,7 +28,7 @@ fn actor_at(digits: &[u8]) -> Option<Actor>
 
 /// The actor that the line names, if it is the line of an entry at this position; of other lines any or none. The
 /// buffer is written over.
-pub fn actor_in(out: &mut Buffer, line: &[u8], at: u64) -> Option<Actor>
+pub(crate) fn actor_in(out: &mut Buffer, line: &[u8], at: u64) -> Option<Actor>
     ensures { (e : Entry) → e.actor < 16 → line.now ≡ entry_line at e → result ≡ Some e.actor }
 {
     out.clear();

@@ -75,7 +75,7 @@ impl ToldSpans {
     }
 
     /// One span more, the last.
-    pub fn with(&self, alloc: Global, span: ToldSpan) -> Result<ToldSpans, NoMemory>
+    pub(crate) fn with(&self, alloc: Global, span: ToldSpan) -> Result<ToldSpans, NoMemory>
         ensures { IfOk result (λ x. x ≡ with_told span self.now) }
     {
         let mut spans = Vec::from_slice(alloc, self.spans.as_slice())?;

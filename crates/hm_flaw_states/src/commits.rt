@@ -118,7 +118,7 @@ impl FrameCommits {
 }
 
 /// Where frames were committed to after an entry.
-pub fn commits_after(
+pub(crate) fn commits_after(
     alloc: Global,
     commits: &Rc<FrameCommits>,
     kind: &Kind,

@@ -92,7 +92,7 @@ impl ExactSeqs {
     }
 
     /// The window of the mirror's interval; none if it has no interval.
-    pub fn window(&self, mirror: MirrorId) -> Option<Span>
+    pub(crate) fn window(&self, mirror: MirrorId) -> Option<Span>
         ensures { result ≡ option_map (λ (x : Interval). x.window) ((between_seqs self.now.kept).interval mirror) }
     {
         match self.interval(mirror) {
@@ -321,7 +321,7 @@ impl ExactSeqs {
 }
 
 /// The sequences after an entry. It fails if memory runs out, or one cannot be raised any more.
-pub fn seqs_after(
+pub(crate) fn seqs_after(
     alloc: Global,
     seqs: &Rc<ExactSeqs>,
     kind: &Kind,

@@ -13,12 +13,12 @@ ghost use Rattle.hm_flaw_states.specs.Found.{found_in};
 use crate::details::Details;
 use crate::held_locks::{lowest_other, writer};
 use crate::owns::{Own, backing, shown_at};
+use crate::steps::Finds;
 use hm_actors::Concerns;
 use hm_base::{
     Actor, Bytes, Cause, Dev, Frame, MirrorId, NoMemory, Op, Page, Place, PoolId, Proc, Rights,
     Script, Span,
 };
-use crate::steps::Finds;
 use hm_flaws::Flaw;
 use hm_history::TableRight;
 use hm_history::phases::{Migrating, MoveStep, Phase};

@@ -69,7 +69,7 @@ impl FrameBytes {
     }
 
     /// The byte that is shown at an offset, of the frame or of the zero page.
-    pub fn shown(&self, frame: &Option<Frame>, offset: u64) -> u8
+    pub(crate) fn shown(&self, frame: &Option<Frame>, offset: u64) -> u8
         ensures { result ≡ shown_by (contents_in self.now) frame.now offset }
     {
         match frame {
@@ -104,7 +104,12 @@ impl FrameBytes {
 
     /// Writes bytes into a frame, if there is one. It fails if memory runs out, or the bytes pass the page's end; then
     /// some may be written.
-    pub fn store(&mut self, frame: &Option<Frame>, addr: u64, bytes: &[u8]) -> Result<(), NoMemory>
+    pub(crate) fn store(
+        &mut self,
+        frame: &Option<Frame>,
+        addr: u64,
+        bytes: &[u8],
+    ) -> Result<(), NoMemory>
         ensures { OnOk result (contents_in self.new ≡ stored_in (contents_in self.old) frame.now addr bytes.now) }
     {
         match frame {
@@ -146,7 +151,7 @@ impl FrameBytes {
     }
 
     /// Copies an eighth of a frame, or all of it, into another. It fails if memory runs out; then some may be copied.
-    pub fn copy_part(
+    pub(crate) fn copy_part(
         &mut self,
         alloc: Global,
         from: &Frame,

@@ -210,7 +210,7 @@ fn going_by(
 
 /// The actor after its entry, given what it saw just before it. It fails if memory runs out, if its stack would have
 /// more than three phases, and if the page of a record has several that differ.
-pub fn task_after(
+pub(crate) fn task_after(
     alloc: Global,
     script: &Script,
     flaw: Flaw,

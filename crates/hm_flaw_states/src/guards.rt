@@ -202,7 +202,7 @@ impl ActorGuards {
 
 /// The guards after an entry; `seqs` are the sequences before it. It fails if memory runs out, or mirrors are not told
 /// in rising number.
-pub fn guards_after(
+pub(crate) fn guards_after(
     alloc: Global,
     guards: &Rc<ActorGuards>,
     seqs: &ExactSeqs,

@@ -70,7 +70,7 @@ fn writes(lock: Option<MapLock>, proc: Proc) -> bool
 }
 
 /// Who has the process's mmap lock for writing.
-pub fn writer<W: Details>(world: &W, flaw: Flaw, proc: Proc) -> Option<Actor>
+pub(crate) fn writer<W: Details>(world: &W, flaw: Flaw, proc: Proc) -> Option<Actor>
     ensures { result ≡ least (is_writer (locks_held flaw (W.program world.now) (W.state world.now)) proc) 0 16 }
 {
     for at in 0..16u32 {
@@ -83,7 +83,12 @@ pub fn writer<W: Details>(world: &W, flaw: Flaw, proc: Proc) -> Option<Actor>
 }
 
 /// The lowest other actor that has the process's mmap lock.
-pub fn lowest_other<W: Details>(world: &W, flaw: Flaw, proc: Proc, other: Actor) -> Option<Actor>
+pub(crate) fn lowest_other<W: Details>(
+    world: &W,
+    flaw: Flaw,
+    proc: Proc,
+    other: Actor,
+) -> Option<Actor>
     ensures { result
         ≡ least (is_other (locks_held flaw (W.program world.now) (W.state world.now)) proc other) 0 16 }
 {

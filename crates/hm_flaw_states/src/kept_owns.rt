@@ -10,7 +10,7 @@ use hm_race_keys::sparse::mixed;
 use std::alloc::Global;
 
 /// The same once more, in memory of its own.
-pub fn copy_own(alloc: Global, own: &Own) -> Result<Own, NoMemory>
+pub(crate) fn copy_own(alloc: Global, own: &Own) -> Result<Own, NoMemory>
     ensures { IfOk result (λ x. driver_in x ≡ driver_in own.now) }
 {
     Ok(Own {
@@ -50,7 +50,7 @@ fn same_parts(one: &Own, other: &Own) -> bool
 }
 
 /// Whether both stand for the same.
-pub fn same_own(one: &Own, other: &Own) -> bool
+pub(crate) fn same_own(one: &Own, other: &Own) -> bool
     ensures alike { result ≡ true → driver_in one.now ≡ driver_in other.now }
     ensures apart { driver_in one.now ≡ driver_in other.now → result ≡ true }
 {
@@ -68,7 +68,7 @@ fn mixed_numbers(sum: u64, numbers: &[u64; 32]) -> u64
 }
 
 /// A number that is the same for what stands for the same, and should mostly be another for another.
-pub fn bucket_own(own: &Own) -> u64
+pub(crate) fn bucket_own(own: &Own) -> u64
     ensures { result ≡ driver_number (driver_in own.now) }
 {
     mixed_numbers(1, &own.seqs)

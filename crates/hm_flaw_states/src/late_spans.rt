@@ -56,7 +56,7 @@ impl LateSpans {
     }
 
     /// The spans of an actor.
-    pub fn at(&self, actor: Actor) -> &[LateSpan]
+    pub(crate) fn at(&self, actor: Actor) -> &[LateSpan]
         ensures { map pair_of result.now ≡ late_in self.now.of_actors.items actor }
     {
         self.of_actors[actor.number() as usize].spans.as_slice()

@@ -132,7 +132,7 @@ impl OwnTables {
     }
 
     /// A mirror was told of a span; `own` says that it was for a migration of its own device.
-    pub fn tell<W: Details>(
+    pub(crate) fn tell<W: Details>(
         &mut self,
         world: &W,
         flaw: Flaw,
@@ -155,7 +155,7 @@ impl OwnTables {
     }
 
     /// The spans are erased.
-    pub fn erase_all(&mut self, spans: &[LateSpan])
+    pub(crate) fn erase_all(&mut self, spans: &[LateSpan])
         ensures { table_in self.new ≡ erased_all (table_in self.old) (map pair_of spans.now) }
     {
         for late in spans {
@@ -201,7 +201,7 @@ impl OwnTables {
     }
 
     /// A part of the frame was copied.
-    pub fn bring(&mut self, alloc: Global, flaw: Flaw, frame: &Frame) -> Result<(), NoMemory>
+    pub(crate) fn bring(&mut self, alloc: Global, flaw: Flaw, frame: &Frame) -> Result<(), NoMemory>
         ensures { OnOk result (table_in self.new ≡ brought_table flaw (table_in self.old) frame.now) }
     {
         match flaw {

@@ -56,7 +56,7 @@ fn is_late(flaw: Flaw) -> bool
 }
 
 /// The frame that a place stands for; none for the zero page and where nothing is mapped.
-pub fn backing<W: Details>(world: &W, place: &Place) -> Option<Frame>
+pub(crate) fn backing<W: Details>(world: &W, place: &Place) -> Option<Frame>
     ensures { result ≡ backing (W.state world.now).after.places place.now }
 {
     match place {
@@ -69,7 +69,11 @@ pub fn backing<W: Details>(world: &W, place: &Place) -> Option<Frame>
 }
 
 /// The frame that a process's page stands for. It fails if the address has more than 48 bits.
-pub fn shown_at<W: Details>(world: &W, proc: Proc, addr: u64) -> Result<Option<Frame>, NoMemory>
+pub(crate) fn shown_at<W: Details>(
+    world: &W,
+    proc: Proc,
+    addr: u64,
+) -> Result<Option<Frame>, NoMemory>
     ensures { IfOk result (λ f. f
         ≡ backing (W.state world.now).after.places
         ((W.state world.now).after.places.place proc (page_of addr))) }
@@ -116,7 +120,7 @@ impl Own {
 
     /// The frame of the table entry at an address of a mirror; none for the zero page, and if there is no entry. It
     /// fails if the address has more than 48 bits.
-    pub fn target(&self, mirror: MirrorId, addr: u64) -> Result<Option<Frame>, NoMemory>
+    pub(crate) fn target(&self, mirror: MirrorId, addr: u64) -> Result<Option<Frame>, NoMemory>
         ensures { IfOk result (λ f. f ≡ target_at (driver_in self.now) mirror addr) }
     {
         if addr >= 1 << 48 {

@@ -120,7 +120,7 @@ impl PlacedPages {
     }
 
     /// Whether the page was placed.
-    pub fn has(&self, proc: Proc, page: Page) -> bool
+    pub(crate) fn has(&self, proc: Proc, page: Page) -> bool
         ensures { result ≡ list_any (is_page proc page) (pages_in self.now.pages.items) }
     {
         has(&self.pages, proc, page)
@@ -137,7 +137,7 @@ impl PlacedPages {
     }
 
     /// The lowest page that passes a test, by process and then by page.
-    pub fn lowest<T: Asks>(&self, asks: &T) -> Option<(Proc, Page)>
+    pub(crate) fn lowest<T: Asks>(&self, asks: &T) -> Option<(Proc, Page)>
         ensures { result ≡ lowest (T.test asks.now) (pages_in self.now.pages.items) }
     {
         match lowest_of(&self.pages, asks) {
@@ -163,7 +163,7 @@ impl PlacedPages {
 }
 
 /// The pages after an entry.
-pub fn placed_after(
+pub(crate) fn placed_after(
     alloc: Global,
     placed: &Rc<PlacedPages>,
     kind: &Kind,

@@ -87,7 +87,7 @@ fn page_seen<W: Reads>(world: &W, actor: Actor) -> Option<Migrating>
 }
 
 /// What the actor sees at its entry; `orphan` is the frame that the entry leaves without a name and unlocked.
-pub fn seen<W: Reads>(world: &W, actor: Actor, kind: &Kind, orphan: Option<Frame>) -> Seen
+pub(crate) fn seen<W: Reads>(world: &W, actor: Actor, kind: &Kind, orphan: Option<Frame>) -> Seen
     requires { orphan ≡ locks.orphan (W.state world.now).after.locks (W.state world.now).after.places kind.now }
     ensures seen { IsSeen (W.program world.now) (W.state world.now).after actor ((W.state world.now).going actor)
         kind.now result }

@@ -327,7 +327,7 @@ fn led_on(op: Option<&Op>, at: u64, before: &SharedPhases, kind: &Kind, items: I
 
 /// The phases after an entry by the driver's flaw, given the operation, the entry's position, the phases before it, and
 /// the records after it.
-pub fn stack_by(
+pub(crate) fn stack_by(
     flaw: Flaw,
     op: Option<&Op>,
     at: u64,

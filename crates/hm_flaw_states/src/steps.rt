@@ -132,7 +132,7 @@ fn due_at<W: Finds>(
 /// What is due to the actor, if the driver has this flaw: the entry that its next step adds, or why it waits; idle if
 /// it has no operation left. The rule decides which pages a migration skips. Memory is taken for the bytes of an answer
 /// alone.
-pub fn due_found<W: Finds, R: SkipRule>(
+pub(crate) fn due_found<W: Finds, R: SkipRule>(
     found: &W,
     rule: &R,
     alloc: Global,

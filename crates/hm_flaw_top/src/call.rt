@@ -7,14 +7,14 @@ ghost use Rattle.hm_race_top.specs.Telling.{IsSentOn};
 ghost use Rattle.hm_script.specs.Built.{has_drain};
 ghost use Rattle.hm_flaw_top.specs.Withouts.{HasFound, Searches, Withouts};
 
+use crate::text::{Task, task_of};
 use crate::told::tell;
 use hm_base::Script;
 use hm_edge::{RaceEnd, Status, read_script};
-use crate::text::{Task, task_of};
 use hm_history::{Entry, StepError};
 use hm_io::{Sink, Source};
-use hm_race_top::run::set_up_of;
 use hm_race_top::has_drain;
+use hm_race_top::run::set_up_of;
 use hm_race_top::telling::write_telling;
 use skip_rules::SkipRule;
 use std::alloc::Global;

@@ -5,8 +5,8 @@ ghost use Rattle.hm_flaw_top.specs.Text.Answers.{answer_code};
 ghost use Rattle.hm_race_top.specs.Telling.{IsEnding};
 ghost use Rattle.hm_flaw_top.specs.Endings.{ending_by, ending_of, ending_of_all, has_code};
 
-use hm_edge::{RaceEnd, Status};
 use crate::text::{Answer, RuleAnswer};
+use hm_edge::{RaceEnd, Status};
 
 /// How a call ends that found a driver which does what it must not do, or one of which that is not known.
 fn ending_by(broken: bool, cut: bool) -> Status
@@ -23,7 +23,7 @@ fn ending_by(broken: bool, cut: bool) -> Status
 }
 
 /// How a call ends that says this of one driver. Its exit code is that of what was found.
-pub fn ending_of(answer: &Answer) -> Status
+pub(crate) fn ending_of(answer: &Answer) -> Status
     ensures same { result ≡ ending_of answer.now }
     ensures code { code_of result ≡ answer_code answer.now }
     ensures ends { IsEnding result }
@@ -45,7 +45,7 @@ fn has_code(code: u8, rows: &[RuleAnswer]) -> bool
 }
 
 /// How a call ends that says this of several: by the worst of them.
-pub fn ending_of_all(rows: &[RuleAnswer]) -> Status
+pub(crate) fn ending_of_all(rows: &[RuleAnswer]) -> Status
     ensures same { result ≡ ending_of_all rows.now }
     ensures ends { IsEnding result }
 {

@@ -14,11 +14,11 @@ mod played;
 mod race;
 mod stuck;
 
+use crate::text::Answer;
 use finding::found_of;
 use goals::Broken;
 use hm_base::{NoMemory, Script};
 use hm_flaw_parts::Judging;
-use crate::text::Answer;
 use hm_flaws::Flaw;
 use hm_history::{Entry, StepError};
 use hm_search::explore;
@@ -31,7 +31,7 @@ use std::alloc::Global;
 /// states that it knows for one at which nothing is due to anybody and some operation has not ended. It stops if it
 /// knows more than `most` states. It fails if memory runs out, and if a history has all its entries and one more is
 /// due; and, as if memory had run out, if a state cannot be kept.
-pub fn find_race<R: SkipRule>(
+pub(crate) fn find_race<R: SkipRule>(
     alloc: Global,
     script: &Script,
     set_up: &[Entry],

@@ -9,9 +9,9 @@ ghost use Rattle.hm_search.specs.Known.{MayFail};
 ghost use Rattle.hm_flaw_top.specs.Told.{rules_in, AreAnswers, FailsAtSome, FlawsMayFail, Tells, TellsAll, TellsOne};
 
 use crate::ending::{ending_of, ending_of_all};
-use hm_base::{ListOf, NoMemory, Script};
 use crate::search::find_race;
 use crate::text::{RuleAnswer, Task, Which, all_flaws, answer_text, rules_text};
+use hm_base::{ListOf, NoMemory, Script};
 use hm_flaws::Flaw;
 use hm_history::{Entry, StepError};
 use hm_race_top::telling::Telling;
@@ -106,7 +106,7 @@ fn tell_all<R: SkipRule>(
 
 /// What is to be written for a task, after a set-up whose entries were due one after the other. It fails as a search
 /// does, and if memory runs out.
-pub fn tell<R: SkipRule>(
+pub(crate) fn tell<R: SkipRule>(
     alloc: Global,
     script: &Script,
     set_up: &[Entry],

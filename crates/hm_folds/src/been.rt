@@ -8,7 +8,7 @@ use hm_base::Proc;
 use hm_history::Kind;
 
 /// Which processes were there at some time, after an entry.
-pub fn step_been(been: &mut [bool; 32], kind: &Kind)
+pub(crate) fn step_been(been: &mut [bool; 32], kind: &Kind)
     ensures { been_of been.new ≡ been_next (been_of been.old) kind.now }
 {
     match kind {
@@ -24,7 +24,7 @@ fn mark(been: &mut [bool; 32], proc: Proc)
 }
 
 /// Costs nothing: it hands the prover what the types of an entry's numbers say.
-pub fn facts_of(kind: &Kind)
+pub(crate) fn facts_of(kind: &Kind)
     ensures { InRange kind.now }
 {
     match kind {

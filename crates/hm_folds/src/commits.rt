@@ -36,7 +36,7 @@ pub struct PoolCommits {
 
 impl PoolCommits {
     /// None was committed. It takes no memory.
-    pub fn new(alloc: Global) -> PoolCommits
+    pub(crate) fn new(alloc: Global) -> PoolCommits
         ensures { (n : ℕ) → frame_in result n ≡ None }
     {
         PoolCommits {
@@ -45,7 +45,7 @@ impl PoolCommits {
     }
 
     /// Where a frame was committed to.
-    pub fn get(&self, number: u64) -> Option<Frame>
+    pub(crate) fn get(&self, number: u64) -> Option<Frame>
         ensures { result ≡ frame_in self.now number }
     {
         match self.frames.get(&number) {
@@ -55,7 +55,7 @@ impl PoolCommits {
     }
 
     /// A frame is committed to another, of no device if that is the system's; a failure changes nothing.
-    pub fn set(&mut self, number: u64, dev: Option<Dev>, to: u32) -> Result<(), NoMemory>
+    pub(crate) fn set(&mut self, number: u64, dev: Option<Dev>, to: u32) -> Result<(), NoMemory>
         ensures ok { OnOk result
             ((n : ℕ)
             → frame_in self.new n
@@ -70,7 +70,7 @@ impl PoolCommits {
     }
 
     /// A frame was committed nowhere.
-    pub fn forget(&mut self, number: u64)
+    pub(crate) fn forget(&mut self, number: u64)
         ensures { (n : ℕ) → frame_in self.new n ≡ (if n == number then None else frame_in self.old n) }
     {
         let _ = self.frames.remove(&number);
@@ -85,7 +85,7 @@ pub struct Commits {
 
 impl Commits {
     /// None was committed. It takes no memory.
-    pub fn new(alloc: Global) -> Commits
+    pub(crate) fn new(alloc: Global) -> Commits
         ensures { (f : AnyFrame) → committed_at result.pools f ≡ None }
     {
         Commits {
@@ -100,14 +100,14 @@ impl Commits {
     }
 
     /// Where a frame was committed to.
-    pub fn get(&self, frame: &Frame) -> Option<Frame>
+    pub(crate) fn get(&self, frame: &Frame) -> Option<Frame>
         ensures { result ≡ committed_at self.now.pools frame.now }
     {
         self.pools[pool_index(&frame.pool)].get(u64::from(frame.number))
     }
 
     /// A frame is committed to another; a failure changes nothing.
-    pub fn set(&mut self, frame: &Frame, to: &Frame) -> Result<(), NoMemory>
+    pub(crate) fn set(&mut self, frame: &Frame, to: &Frame) -> Result<(), NoMemory>
         ensures ok { OnOk result
             ((f : AnyFrame)
             → committed_at self.new.pools f
@@ -123,7 +123,7 @@ impl Commits {
     }
 
     /// A frame was committed nowhere since.
-    pub fn forget(&mut self, frame: &Frame)
+    pub(crate) fn forget(&mut self, frame: &Frame)
         ensures { (f : AnyFrame)
             → committed_at self.new.pools f ≡ with_frame (committed_at self.old.pools) frame.now None f }
     {

@@ -18,7 +18,7 @@ pub struct KeptGuard {
 }
 
 /// Whether the set has a mirror.
-pub fn has_some(set: &[bool; 32]) -> bool
+pub(crate) fn has_some(set: &[bool; 32]) -> bool
     ensures { result ≡ nat_lt 0 (length (mirrors_of set.now)) }
 {
     for number in 0..32usize {
@@ -30,7 +30,7 @@ pub fn has_some(set: &[bool; 32]) -> bool
 }
 
 /// Whether each mirror of `met` was told.
-pub fn all_told(met: &[bool; 32], told: &[bool; 32]) -> bool
+pub(crate) fn all_told(met: &[bool; 32], told: &[bool; 32]) -> bool
     ensures { result ≡ list_all (λ m. list_any (λ k. k == m) (mirrors_of told.now)) (mirrors_of met.now) }
 {
     for number in 0..32usize {
@@ -42,7 +42,7 @@ pub fn all_told(met: &[bool; 32], told: &[bool; 32]) -> bool
 }
 
 /// Whether each mirror of the set has a lower number.
-pub fn all_below(set: &[bool; 32], mirror: MirrorId) -> bool
+pub(crate) fn all_below(set: &[bool; 32], mirror: MirrorId) -> bool
     ensures { result ≡ list_all (λ k. nat_lt k mirror) (mirrors_of set.now) }
 {
     for number in 0..32u32 {
@@ -54,7 +54,7 @@ pub fn all_below(set: &[bool; 32], mirror: MirrorId) -> bool
 }
 
 /// Whether each lower mirror of `all` was told.
-pub fn lower_told(all: &[bool; 32], told: &[bool; 32], mirror: MirrorId) -> bool
+pub(crate) fn lower_told(all: &[bool; 32], told: &[bool; 32], mirror: MirrorId) -> bool
     ensures { result
         ≡ list_all (λ k. nat_le mirror k || list_any (λ t. t == k) (mirrors_of told.now)) (mirrors_of all.now) }
 {
@@ -67,7 +67,7 @@ pub fn lower_told(all: &[bool; 32], told: &[bool; 32], mirror: MirrorId) -> bool
 }
 
 /// How many invalidations of the process are under way.
-pub fn active(guards: &[Option<KeptGuard>; 16], proc: Proc) -> u64
+pub(crate) fn active(guards: &[Option<KeptGuard>; 16], proc: Proc) -> u64
     ensures active { result ≡ count_by (guards_proc proc) guards.now }
     ensures few { result ≤ 16 }
 {
@@ -99,7 +99,7 @@ fn with_mirror(set: &[bool; 32], mirror: MirrorId) -> [bool; 32]
 }
 
 /// The guard with one more mirror told.
-pub fn with_told(guard: &Option<KeptGuard>, mirror: MirrorId) -> Option<KeptGuard>
+pub(crate) fn with_told(guard: &Option<KeptGuard>, mirror: MirrorId) -> Option<KeptGuard>
     requires { guard_passes (λ (g : AnyGuard). list_all (λ k. nat_lt k mirror) g.told) (guard_of guard.now) ≡ true }
     ensures told { guard_of result ≡ with_told mirror (guard_of guard.now) }
     ensures proc { (p : ℕ) → guards_proc p result ≡ guards_proc p guard.now }
@@ -114,14 +114,14 @@ pub fn with_told(guard: &Option<KeptGuard>, mirror: MirrorId) -> Option<KeptGuar
 }
 
 /// Whether the actor has no guard.
-pub fn is_free(guard: &Option<KeptGuard>) -> bool
+pub(crate) fn is_free(guard: &Option<KeptGuard>) -> bool
     ensures { result ≡ is_none (guard_of guard.now) }
 {
     guard.is_none()
 }
 
 /// Whether the guard is of that process and span, and all mirrors that it met were told.
-pub fn is_done(guard: &Option<KeptGuard>, proc: Proc, span: Span) -> bool
+pub(crate) fn is_done(guard: &Option<KeptGuard>, proc: Proc, span: Span) -> bool
     ensures { result
         ≡ guard_passes (λ (g : AnyGuard). (g.proc == proc) && (same_span g.span span && all_told g))
         (guard_of guard.now) }
@@ -135,7 +135,7 @@ pub fn is_done(guard: &Option<KeptGuard>, proc: Proc, span: Span) -> bool
 }
 
 /// Whether the guard is of that process and has the page, and all mirrors that it met were told.
-pub fn covers_told(guard: &Option<KeptGuard>, proc: Proc, page: Page) -> bool
+pub(crate) fn covers_told(guard: &Option<KeptGuard>, proc: Proc, page: Page) -> bool
     ensures { result
         ≡ guard_passes (λ (g : AnyGuard). (g.proc == proc) && (covers g.span page && all_told g)) (guard_of guard.now) }
 {
@@ -155,7 +155,7 @@ fn has_page(span: Span, page: Page) -> bool
 }
 
 /// Whether the spans have the same pages.
-pub fn same_span(one: Span, other: Span) -> bool
+pub(crate) fn same_span(one: Span, other: Span) -> bool
     ensures { result ≡ same_span one other }
 {
     one.first() == other.first() && one.count() == other.count()

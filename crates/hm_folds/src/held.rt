@@ -22,7 +22,7 @@ pub struct HeldNumbers {
 
 impl HeldNumbers {
     /// So many frames, of which none is held. It takes no memory.
-    pub fn new(alloc: Global, frames: u32) -> HeldNumbers
+    pub(crate) fn new(alloc: Global, frames: u32) -> HeldNumbers
         ensures frames { result.frames ≡ frames }
         ensures held { (n : ℕ) → has_number result.held n ≡ false }
     {
@@ -35,14 +35,14 @@ impl HeldNumbers {
     }
 
     /// Whether the frame is held.
-    pub fn is_held(&self, number: u64) -> bool
+    pub(crate) fn is_held(&self, number: u64) -> bool
         ensures { result ≡ has_number self.now.held number }
     {
         self.held.has(number)
     }
 
     /// The lowest frame that is not held.
-    pub fn lowest_free(&self) -> Option<u64>
+    pub(crate) fn lowest_free(&self) -> Option<u64>
         ensures { result ≡ least (λ n. not (has_number self.now.held n)) 0 self.now.frames }
     {
         match self.free.first(0) {
@@ -56,14 +56,14 @@ impl HeldNumbers {
     }
 
     /// The lowest frame from there on that is held.
-    pub fn held_from(&self, from: u64) -> Option<u64>
+    pub(crate) fn held_from(&self, from: u64) -> Option<u64>
         ensures { result ≡ least (has_number self.now.held) from (self.now.frames - from) }
     {
         self.held.first(from)
     }
 
     /// The lowest free frame is held from now on; a failure changes nothing.
-    pub fn take(&mut self, number: u64) -> Result<(), NoMemory>
+    pub(crate) fn take(&mut self, number: u64) -> Result<(), NoMemory>
         requires { least (λ n. not (has_number self.old.held n)) 0 self.old.frames ≡ Some number }
         ensures frames { self.new.frames ≡ self.old.frames }
         ensures ok { OnOk result
@@ -80,7 +80,7 @@ impl HeldNumbers {
     }
 
     /// A held frame is free from now on; a failure changes nothing.
-    pub fn drop_frame(&mut self, number: u64) -> Result<(), NoMemory>
+    pub(crate) fn drop_frame(&mut self, number: u64) -> Result<(), NoMemory>
         requires { has_number self.old.held number ≡ true }
         ensures frames { self.new.frames ≡ self.old.frames }
         ensures ok { OnOk result

@@ -20,7 +20,7 @@ pub struct HeldFrames {
 
 impl HeldFrames {
     /// The pools of a script, of whose frames none is held. It takes no memory.
-    pub fn new(alloc: Global, script: &Script) -> HeldFrames
+    pub(crate) fn new(alloc: Global, script: &Script) -> HeldFrames
         ensures held { (f : AnyFrame) → held_at result.pools f ≡ false }
         ensures frames { (pool : AnyPool) → frames_in result.pools pool ≡ pool_size script.now pool }
     {
@@ -37,7 +37,7 @@ impl HeldFrames {
     }
 
     /// Whether the frame is held.
-    pub fn is_held(&self, frame: &Frame) -> bool
+    pub(crate) fn is_held(&self, frame: &Frame) -> bool
         ensures { result ≡ held_at self.now.pools frame.now }
     {
         self.pools[pool_index(&frame.pool)].is_held(u64::from(frame.number))
@@ -67,7 +67,7 @@ impl HeldFrames {
     }
 
     /// The lowest free frame of its pool is held from now on; a failure changes nothing.
-    pub fn take(&mut self, frame: &Frame) -> Result<(), NoMemory>
+    pub(crate) fn take(&mut self, frame: &Frame) -> Result<(), NoMemory>
         requires { least (λ n. not (held_at self.old.pools (frame_of frame.now.pool n))) 0
             (frames_in self.old.pools frame.now.pool)
             ≡ Some frame.now.number }
@@ -84,7 +84,7 @@ impl HeldFrames {
     }
 
     /// A held frame is free from now on; a failure changes nothing.
-    pub fn drop_frame(&mut self, frame: &Frame) -> Result<(), NoMemory>
+    pub(crate) fn drop_frame(&mut self, frame: &Frame) -> Result<(), NoMemory>
         requires { held_at self.old.pools frame.now ≡ true }
         ensures frames { (pool : AnyPool) → frames_in self.new.pools pool ≡ frames_in self.old.pools pool }
         ensures ok { OnOk result

@@ -94,7 +94,7 @@ pub fn is_removed(interval: &Option<KeptInterval>) -> bool
 }
 
 /// Whether there is one.
-pub fn is_there(interval: &Option<KeptInterval>) -> bool
+pub(crate) fn is_there(interval: &Option<KeptInterval>) -> bool
     ensures { result ≡ is_some (interval_of interval.now) }
 {
     interval.is_some()

@@ -115,7 +115,7 @@ impl MirrorTables {
 }
 
 /// The device of each mirror that was attached, after an entry.
-pub fn step_devices(devices: &mut [Option<Dev>; 32], kind: &Kind)
+pub(crate) fn step_devices(devices: &mut [Option<Dev>; 32], kind: &Kind)
     ensures { numbers_of devices.new ≡ device_next (numbers_of devices.old) kind.now }
 {
     match kind {
@@ -131,7 +131,7 @@ fn note_device(devices: &mut [Option<Dev>; 32], mirror: MirrorId, dev: Dev)
 }
 
 /// The process of each mirror that was attached, after an entry.
-pub fn step_owners(owners: &mut [Option<Proc>; 32], kind: &Kind)
+pub(crate) fn step_owners(owners: &mut [Option<Proc>; 32], kind: &Kind)
     ensures { numbers_of owners.new ≡ owner_next (numbers_of owners.old) kind.now }
 {
     match kind {
@@ -147,6 +147,6 @@ fn note_owner(owners: &mut [Option<Proc>; 32], mirror: MirrorId, proc: Proc)
 }
 
 /// The process that is noted of a mirror is the one that the plain state has, entry by entry.
-pub fn owners_follow()
+pub(crate) fn owners_follow()
     ensures { OwnersFollow }
 {}

@@ -14,7 +14,7 @@ pub struct Numbers {
 
 impl Numbers {
     /// No number. It takes no memory.
-    pub fn new(alloc: Global) -> Numbers
+    pub(crate) fn new(alloc: Global) -> Numbers
         ensures { (n : ℕ) → has_number result n ≡ false }
     {
         Numbers {
@@ -23,14 +23,14 @@ impl Numbers {
     }
 
     /// Whether the number is in it.
-    pub fn has(&self, number: u64) -> bool
+    pub(crate) fn has(&self, number: u64) -> bool
         ensures { result ≡ has_number self.now number }
     {
         self.numbers.contains(&number)
     }
 
     /// The number is in it from now on; a failure changes nothing.
-    pub fn add(&mut self, number: u64) -> Result<(), NoMemory>
+    pub(crate) fn add(&mut self, number: u64) -> Result<(), NoMemory>
         ensures ok { OnOk result ((n : ℕ) → has_number self.new n ≡ ((n == number) || has_number self.old n)) }
         ensures err { OnErr result ((n : ℕ) → has_number self.new n ≡ has_number self.old n) }
     {
@@ -41,14 +41,14 @@ impl Numbers {
     }
 
     /// The number is not in it from now on.
-    pub fn remove(&mut self, number: u64)
+    pub(crate) fn remove(&mut self, number: u64)
         ensures { (n : ℕ) → has_number self.new n ≡ (not (n == number) && has_number self.old n) }
     {
         let _ = self.numbers.remove(&number);
     }
 
     /// The first number of it from there on.
-    pub fn first(&self, from: u64) -> Option<u64>
+    pub(crate) fn first(&self, from: u64) -> Option<u64>
         ensures { IsFirstNumber self.now from result }
     {
         match self.numbers.range(from..).next() {

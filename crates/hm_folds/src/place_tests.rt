@@ -9,7 +9,7 @@ use hm_base::{Actor, Dev, Frame, Place, PoolId};
 use hm_history::TableRight;
 
 // Whether the CPU may read, or write, through a place.
-pub fn cpu_may(place: &Place, writes: bool) -> bool
+pub(crate) fn cpu_may(place: &Place, writes: bool) -> bool
     ensures { result ≡ (if writes then cpu_writes place.now else cpu_reads place.now) }
 {
     match place {
@@ -23,7 +23,7 @@ pub fn cpu_may(place: &Place, writes: bool) -> bool
 }
 
 // Whether an entry with this right is read, or written.
-pub fn right_allows(right: TableRight, writes: bool) -> bool
+pub(crate) fn right_allows(right: TableRight, writes: bool) -> bool
     ensures { result ≡ (if writes then may_write right else may_read right) }
 {
     match right {
@@ -34,7 +34,7 @@ pub fn right_allows(right: TableRight, writes: bool) -> bool
 }
 
 // Whether a device reads, or writes, a page with this place through an entry that others may have too.
-pub fn place_allows(place: &Place, writes: bool) -> bool
+pub(crate) fn place_allows(place: &Place, writes: bool) -> bool
     ensures { result ≡ (not (is_exclusive place.now) && (if writes then writable place.now else true)) }
 {
     match place {
@@ -43,13 +43,13 @@ pub fn place_allows(place: &Place, writes: bool) -> bool
     }
 }
 
-pub fn is_sole(right: TableRight) -> bool
+pub(crate) fn is_sole(right: TableRight) -> bool
     ensures { result ≡ is_sole right }
 {
     matches!(right, TableRight::Sole)
 }
 
-pub fn is_exclusive_of(place: &Place, actor: Actor, target: &Option<Frame>) -> bool
+pub(crate) fn is_exclusive_of(place: &Place, actor: Actor, target: &Option<Frame>) -> bool
     ensures { result ≡ is_exclusive_of place.now actor target.now }
 {
     match place {
@@ -60,7 +60,7 @@ pub fn is_exclusive_of(place: &Place, actor: Actor, target: &Option<Frame>) -> b
     }
 }
 
-pub fn is_for_device(target: &Option<Frame>, dev: Dev) -> bool
+pub(crate) fn is_for_device(target: &Option<Frame>, dev: Dev) -> bool
     ensures { result ≡ is_for_device target.now dev }
 {
     match target {

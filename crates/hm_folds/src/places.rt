@@ -127,7 +127,7 @@ impl PlaceState {
     }
 
     /// Whether no frame of the device is taken any more.
-    pub fn withdrawn(&self, dev: Dev) -> bool
+    pub(crate) fn withdrawn(&self, dev: Dev) -> bool
         ensures { ForShown self.now (λ c s. result ≡ s.withdrawn dev) }
     {
         self.withdrawn[dev.number() as usize]

@@ -91,7 +91,7 @@ impl PlainState {
     }
 
     /// The mirror's device, process and window, and whether it is attached; none if it never was.
-    pub fn mirror(&self, mirror: MirrorId) -> Option<(Dev, Proc, Span, bool)>
+    pub(crate) fn mirror(&self, mirror: MirrorId) -> Option<(Dev, Proc, Span, bool)>
         ensures { result ≡ mirror_read ((plain_of self.now).mirrors mirror) }
     {
         windows::read(&self.mirrors[mirror.number() as usize])

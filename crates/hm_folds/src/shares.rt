@@ -19,7 +19,7 @@ pub struct Shares {
 
 impl Shares {
     /// Those of one page with this place.
-    pub fn of_page(place: &Place) -> Shares
+    pub(crate) fn of_page(place: &Place) -> Shares
         ensures { result ≡ share_of place.now }
     {
         Shares {
@@ -42,7 +42,7 @@ impl Shares {
     }
 
     /// So many fewer.
-    pub fn less(self, fewer: Shares) -> Shares
+    pub(crate) fn less(self, fewer: Shares) -> Shares
         ensures { result ≡ less self fewer }
     {
         Shares {
@@ -52,7 +52,7 @@ impl Shares {
     }
 
     /// Whether, with these more, none is writable or there is one page at the most.
-    pub fn has_one_writer_with(self, more: Shares) -> bool
+    pub(crate) fn has_one_writer_with(self, more: Shares) -> bool
         ensures { result ≡ has_one_writer (plus self more) }
     {
         let one = match self.pages {
@@ -72,7 +72,7 @@ pub struct PoolShares {
 
 impl PoolShares {
     /// No pages. It takes no memory.
-    pub fn new(alloc: Global) -> PoolShares
+    pub(crate) fn new(alloc: Global) -> PoolShares
         ensures { (n : ℕ) → shares_in result n ≡ no_shares }
     {
         PoolShares {
@@ -81,7 +81,7 @@ impl PoolShares {
     }
 
     /// Those of a frame.
-    pub fn get(&self, number: u64) -> Shares
+    pub(crate) fn get(&self, number: u64) -> Shares
         ensures { result ≡ shares_in self.now number }
     {
         match self.shares.get(&number) {
@@ -94,7 +94,7 @@ impl PoolShares {
     }
 
     /// Those of a frame from now on; a failure changes nothing.
-    pub fn set(&mut self, number: u64, shares: Shares) -> Result<(), NoMemory>
+    pub(crate) fn set(&mut self, number: u64, shares: Shares) -> Result<(), NoMemory>
         ensures ok { OnOk result
             ((n : ℕ) → shares_in self.new n ≡ (if n == number then shares else shares_in self.old n)) }
         ensures err { OnErr result ((n : ℕ) → shares_in self.new n ≡ shares_in self.old n) }
@@ -117,7 +117,7 @@ impl PoolShares {
     }
 
     /// So many fewer of a frame.
-    pub fn lower(&mut self, number: u64, fewer: Shares)
+    pub(crate) fn lower(&mut self, number: u64, fewer: Shares)
         ensures { (n : ℕ)
             → shares_in self.new n
             ≡ (if n == number then less (shares_in self.old number) fewer else shares_in self.old n) }
@@ -137,7 +137,7 @@ pub struct FrameShares {
 
 impl FrameShares {
     /// No pages. It takes no memory.
-    pub fn new(alloc: Global) -> FrameShares
+    pub(crate) fn new(alloc: Global) -> FrameShares
         ensures { (f : AnyFrame) → shares_at result.pools f ≡ no_shares }
     {
         FrameShares {
@@ -152,14 +152,14 @@ impl FrameShares {
     }
 
     /// Those of a frame.
-    pub fn get(&self, frame: &Frame) -> Shares
+    pub(crate) fn get(&self, frame: &Frame) -> Shares
         ensures { result ≡ shares_at self.now.pools frame.now }
     {
         self.pools[pool_index(&frame.pool)].get(u64::from(frame.number))
     }
 
     /// So many more of a frame, if there is one; a failure changes nothing.
-    pub fn add(&mut self, frame: &Option<Frame>, more: Shares) -> Result<(), NoMemory>
+    pub(crate) fn add(&mut self, frame: &Option<Frame>, more: Shares) -> Result<(), NoMemory>
         ensures ok { OnOk result
             ((f : AnyFrame)
             → shares_at self.new.pools f
@@ -190,7 +190,7 @@ impl FrameShares {
     }
 
     /// So many fewer of a frame, if there is one.
-    pub fn lower(&mut self, frame: &Option<Frame>, fewer: Shares)
+    pub(crate) fn lower(&mut self, frame: &Option<Frame>, fewer: Shares)
         ensures { (f : AnyFrame)
             → shares_at self.new.pools f
             ≡
@@ -222,7 +222,7 @@ fn moving_frame(place: &Place) -> Option<Frame>
 }
 
 /// One page more of this place, which stands for the frame; a failure changes nothing.
-pub fn share_more(
+pub(crate) fn share_more(
     standing: &mut FrameShares,
     moving: &mut FrameShares,
     to: &Option<Frame>,
@@ -257,7 +257,7 @@ pub fn share_more(
 }
 
 /// One page of this place fewer.
-pub fn share_less(
+pub(crate) fn share_less(
     standing: &mut FrameShares,
     moving: &mut FrameShares,
     from: &Option<Frame>,

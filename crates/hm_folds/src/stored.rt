@@ -16,7 +16,7 @@ pub struct Stored {
 
 impl Stored {
     /// All bytes are zero. It takes no memory.
-    pub fn new(alloc: Global) -> Stored
+    pub(crate) fn new(alloc: Global) -> Stored
         ensures { (a : ℕ) → byte_in result a ≡ 0 }
     {
         Stored {
@@ -25,7 +25,7 @@ impl Stored {
     }
 
     /// The byte at an address.
-    pub fn byte(&self, addr: u64) -> u8
+    pub(crate) fn byte(&self, addr: u64) -> u8
         ensures { result ≡ byte_in self.now addr }
     {
         match self.bytes.get(&addr) {
@@ -74,7 +74,7 @@ impl Stored {
     }
 
     /// Writes bytes from an address on; a failure changes none.
-    pub fn write(&mut self, addr: u64, bytes: &[u8]) -> Result<(), NoMemory>
+    pub(crate) fn write(&mut self, addr: u64, bytes: &[u8]) -> Result<(), NoMemory>
         requires { addr < 2 ^ 48 }
         ensures ok { OnOk result ((a : ℕ) → byte_in self.new a ≡ with_bytes (byte_in self.old) addr bytes.now a) }
         ensures err { OnErr result ((a : ℕ) → byte_in self.new a ≡ byte_in self.old a) }
@@ -103,7 +103,7 @@ impl Stored {
     }
 
     /// The bytes from an address up to another are zeros.
-    pub fn clear(&mut self, from: u64, end: u64)
+    pub(crate) fn clear(&mut self, from: u64, end: u64)
         requires { from ≤ end }
         ensures { (a : ℕ)
             → byte_in self.new a ≡ (if nat_le from a && nat_lt a end then 0 else byte_in self.old a) }
@@ -119,14 +119,14 @@ impl Stored {
     }
 
     /// Whether both have the same bytes. It may say no though they have.
-    pub fn same(&self, other: &Stored) -> bool
+    pub(crate) fn same(&self, other: &Stored) -> bool
         ensures { result ≡ true → (a : ℕ) → byte_in self.now a ≡ byte_in other.now a }
     {
         self.bytes == other.bytes
     }
 
     /// The same bytes once more.
-    pub fn copy(&self) -> Result<Stored, NoMemory>
+    pub(crate) fn copy(&self) -> Result<Stored, NoMemory>
         ensures { IfOk result (λ x. (a : ℕ) → byte_in x a ≡ byte_in self.now a) }
     {
         let bytes = self.bytes.clone()?;

@@ -20,7 +20,7 @@ pub struct KeptEntry {
 }
 
 /// The device of a frame; none for a frame of the system, and for the zero page.
-pub fn dev_of(frame: &Option<Frame>) -> Option<Dev>
+pub(crate) fn dev_of(frame: &Option<Frame>) -> Option<Dev>
     ensures { result ≡ dev_of frame.now }
 {
     match frame {
@@ -33,7 +33,7 @@ pub fn dev_of(frame: &Option<Frame>) -> Option<Dev>
 }
 
 /// The number of a frame; none for the zero page.
-pub fn number_of(frame: &Option<Frame>) -> Option<u32>
+pub(crate) fn number_of(frame: &Option<Frame>) -> Option<u32>
     ensures { result ≡ option_map (λ (f : AnyFrame). f.number) frame.now }
 {
     match frame {
@@ -44,7 +44,7 @@ pub fn number_of(frame: &Option<Frame>) -> Option<u32>
 
 impl KeptEntry {
     /// Its frame; none for the zero page.
-    pub fn target(&self) -> Option<Frame>
+    pub(crate) fn target(&self) -> Option<Frame>
         ensures { result ≡ target_of self.now.dev self.now.number }
     {
         match self.number {
@@ -71,7 +71,7 @@ pub struct TableMap {
 
 impl TableMap {
     /// No entry. It takes no memory.
-    pub fn new(alloc: Global) -> TableMap
+    pub(crate) fn new(alloc: Global) -> TableMap
         ensures { (v : ℕ) → entry_in result v ≡ None }
     {
         TableMap {
@@ -80,14 +80,14 @@ impl TableMap {
     }
 
     /// The entry of a page.
-    pub fn get(&self, page: u64) -> Option<KeptEntry>
+    pub(crate) fn get(&self, page: u64) -> Option<KeptEntry>
         ensures { option_map entry_of result ≡ entry_in self.now page }
     {
         self.entries.get(&page).copied()
     }
 
     /// The page has this entry from now on; a failure changes nothing.
-    pub fn set(
+    pub(crate) fn set(
         &mut self,
         page: u64,
         dev: Option<Dev>,
@@ -131,7 +131,7 @@ impl TableMap {
     }
 
     /// No page from there up to another has an entry.
-    pub fn erase(&mut self, from: u64, end: u64)
+    pub(crate) fn erase(&mut self, from: u64, end: u64)
         requires { from ≤ end }
         ensures { (v : ℕ)
             → entry_in self.new v ≡ (if nat_le from v && nat_lt v end then None else entry_in self.old v) }
@@ -147,7 +147,7 @@ impl TableMap {
     }
 
     /// No page has an entry.
-    pub fn erase_all(&mut self)
+    pub(crate) fn erase_all(&mut self)
         ensures { (v : ℕ) → entry_in self.new v ≡ None }
     {
         self.entries.clear();

@@ -29,7 +29,7 @@ pub struct KeptMirror {
 }
 
 /// Whether it is attached.
-pub fn is_attached(mirror: &Option<KeptMirror>) -> bool
+pub(crate) fn is_attached(mirror: &Option<KeptMirror>) -> bool
     ensures { result ≡ mirror_passes is_attached_state (mirror_of mirror.now) }
 {
     match mirror {
@@ -39,7 +39,7 @@ pub fn is_attached(mirror: &Option<KeptMirror>) -> bool
 }
 
 /// Whether it is detaching.
-pub fn is_detaching(mirror: &Option<KeptMirror>) -> bool
+pub(crate) fn is_detaching(mirror: &Option<KeptMirror>) -> bool
     ensures { result ≡ mirror_passes is_detaching_state (mirror_of mirror.now) }
 {
     match mirror {
@@ -49,7 +49,7 @@ pub fn is_detaching(mirror: &Option<KeptMirror>) -> bool
 }
 
 /// Whether it is attached, and the page lies in its window.
-pub fn has_page(mirror: &Option<KeptMirror>, page: u64) -> bool
+pub(crate) fn has_page(mirror: &Option<KeptMirror>, page: u64) -> bool
     ensures { result
         ≡ mirror_passes (λ (x : AnyState). is_attached_state x && lies_in (one_page page) x.window)
         (mirror_of mirror.now) }
@@ -68,7 +68,7 @@ fn lies_in(page: u64, window: Span) -> bool
 }
 
 /// Its process, if it was attached at some time.
-pub fn owner(mirror: &Option<KeptMirror>) -> Option<Proc>
+pub(crate) fn owner(mirror: &Option<KeptMirror>) -> Option<Proc>
     ensures { result ≡ owner_in (mirror_of mirror.now) }
 {
     match mirror {
@@ -78,7 +78,7 @@ pub fn owner(mirror: &Option<KeptMirror>) -> Option<Proc>
 }
 
 /// Its process, and process 0 if it was never attached.
-pub fn proc_of(mirror: &Option<KeptMirror>) -> Proc
+pub(crate) fn proc_of(mirror: &Option<KeptMirror>) -> Proc
     ensures { result ≡ proc_in (mirror_of mirror.now) }
 {
     match mirror {
@@ -88,14 +88,14 @@ pub fn proc_of(mirror: &Option<KeptMirror>) -> Proc
 }
 
 /// Whether it was never attached.
-pub fn is_new(mirror: &Option<KeptMirror>) -> bool
+pub(crate) fn is_new(mirror: &Option<KeptMirror>) -> bool
     ensures { result ≡ is_none (mirror_of mirror.now) }
 {
     mirror.is_none()
 }
 
 /// Whether it is attached or detaching.
-pub fn may_detach(mirror: &Option<KeptMirror>) -> bool
+pub(crate) fn may_detach(mirror: &Option<KeptMirror>) -> bool
     ensures { result
         ≡ (mirror_passes is_attached_state (mirror_of mirror.now)
         || mirror_passes is_detaching_state (mirror_of mirror.now)) }
@@ -104,7 +104,7 @@ pub fn may_detach(mirror: &Option<KeptMirror>) -> bool
 }
 
 /// Its device, process and window, and whether it is attached.
-pub fn read(mirror: &Option<KeptMirror>) -> Option<(Dev, Proc, Span, bool)>
+pub(crate) fn read(mirror: &Option<KeptMirror>) -> Option<(Dev, Proc, Span, bool)>
     ensures { result ≡ mirror_read (mirror_of mirror.now) }
 {
     match mirror {
@@ -123,7 +123,7 @@ fn with_stage(mirror: &Option<KeptMirror>, stage: KeptAttachment) -> Option<Kept
 }
 
 /// The mirrors after an entry.
-pub fn step(mirrors: &mut [Option<KeptMirror>; 32], kind: &Kind)
+pub(crate) fn step(mirrors: &mut [Option<KeptMirror>; 32], kind: &Kind)
     ensures { mirrors_of mirrors.new ≡ mirrors_next (mirrors_of mirrors.old) kind.now }
 {
     match kind {

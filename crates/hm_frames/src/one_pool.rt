@@ -32,7 +32,7 @@ impl Model for OnePool {
 
 impl OnePool {
     /// A pool of `frames` frames, none of which is held.
-    pub fn new(alloc: Global, frames: u32) -> Result<OnePool, NoMemory>
+    pub(crate) fn new(alloc: Global, frames: u32) -> Result<OnePool, NoMemory>
         ensures { IfOk result (λ pool. pool ≡ fresh_pool frames) }
     {
         let pool = Pool::new(alloc, frames)?;
@@ -41,7 +41,7 @@ impl OnePool {
     }
 
     /// Takes the frame, which is the lowest that is free, and locks it for its taker.
-    pub fn take(&mut self, number: u32, actor: Actor)
+    pub(crate) fn take(&mut self, number: u32, actor: Actor)
         requires { lowest_free self.old.frames ≡ Some number }
         ensures { self.new ≡ pool_taken self.old number actor }
     {
@@ -51,7 +51,7 @@ impl OnePool {
     }
 
     /// Gives the frame back; it is then not locked.
-    pub fn drop_frame(&mut self, number: u32)
+    pub(crate) fn drop_frame(&mut self, number: u32)
         requires { is_held self.old.frames number ≡ true }
         ensures { self.new ≡ pool_dropped self.old number }
     {
@@ -59,14 +59,14 @@ impl OnePool {
     }
 
     /// Locks the frame for the actor, whoever had it locked.
-    pub fn lock(&mut self, number: u32, actor: Actor)
+    pub(crate) fn lock(&mut self, number: u32, actor: Actor)
         requires { is_held self.old.frames number ≡ true }
         ensures { self.new ≡ pool_locked self.old number actor }
     {
         lock(&mut self.pool, number, actor);
     }
 
-    pub fn unlock(&mut self, number: u32)
+    pub(crate) fn unlock(&mut self, number: u32)
         requires { is_some (locker self.old.frames number) ≡ true }
         ensures { self.new ≡ pool_unlocked self.old number }
     {
@@ -74,7 +74,7 @@ impl OnePool {
     }
 
     /// Unlocks the frame if the actor has it locked.
-    pub fn settle(&mut self, number: u32, actor: Actor)
+    pub(crate) fn settle(&mut self, number: u32, actor: Actor)
         ensures { self.new ≡ pool_settled self.old number actor }
     {
         if let Some(by) = self.pool.holder(number)
@@ -85,14 +85,14 @@ impl OnePool {
     }
 
     /// Locks the frame for the actor if nobody has it locked.
-    pub fn freeze(&mut self, number: u32, actor: Actor)
+    pub(crate) fn freeze(&mut self, number: u32, actor: Actor)
         requires { is_held self.old.frames number ≡ true }
         ensures { self.new ≡ pool_frozen self.old number actor }
     {
         let _ = self.pool.try_lock(number, actor);
     }
 
-    pub fn write(&mut self, number: u32, offset: u32, from: &[u8])
+    pub(crate) fn write(&mut self, number: u32, offset: u32, from: &[u8])
         requires held { is_held self.old.frames number ≡ true }
         requires lies { offset + length from.now ≤ 4096 }
         ensures { self.new ≡ pool_written self.old number offset from.now }
@@ -100,7 +100,7 @@ impl OnePool {
         self.pool.write(number, offset, from);
     }
 
-    pub fn copy_within(&mut self, from: u32, to: u32, piece: Piece)
+    pub(crate) fn copy_within(&mut self, from: u32, to: u32, piece: Piece)
         requires source { is_held self.old.frames from ≡ true }
         requires target { is_held self.old.frames to ≡ true }
         requires differ { from ≢ to }
@@ -111,7 +111,7 @@ impl OnePool {
     }
 
     /// Copies the piece of a frame of the other pool over that of a frame of this one.
-    pub fn copy_from(&mut self, other: &OnePool, from: u32, to: u32, piece: Piece)
+    pub(crate) fn copy_from(&mut self, other: &OnePool, from: u32, to: u32, piece: Piece)
         requires source { is_held other.now.frames from ≡ true }
         requires target { is_held self.old.frames to ≡ true }
         requires piece { IsPiece piece }
@@ -121,38 +121,38 @@ impl OnePool {
     }
 
     /// From now on the contents of the frame are those of the other.
-    pub fn commit(&mut self, number: u32, to: Frame)
+    pub(crate) fn commit(&mut self, number: u32, to: Frame)
         requires { is_held self.old.frames number ≡ true }
         ensures { self.new ≡ pool_committed self.old number to }
     {
         self.committed_to[number as usize] = Some(to);
     }
 
-    pub fn withdraw(&mut self)
+    pub(crate) fn withdraw(&mut self)
         ensures { self.new ≡ withdrawn_in self.old }
     {
         self.pool.withdraw();
     }
 
-    pub fn is_withdrawn(&self) -> bool
+    pub(crate) fn is_withdrawn(&self) -> bool
         ensures { result ≡ self.now.frames.withdrawn }
     {
         self.pool.is_withdrawn()
     }
 
-    pub fn is_held(&self, number: u32) -> bool
+    pub(crate) fn is_held(&self, number: u32) -> bool
         ensures { result ≡ is_held self.now.frames number }
     {
         self.pool.held_at_or_after(number) == Some(number)
     }
 
-    pub fn holder(&self, number: u32) -> Option<Actor>
+    pub(crate) fn holder(&self, number: u32) -> Option<Actor>
         ensures { result ≡ locker self.now.frames number }
     {
         self.pool.holder(number)
     }
 
-    pub fn committed_to(&self, number: u32) -> Option<Frame>
+    pub(crate) fn committed_to(&self, number: u32) -> Option<Frame>
         ensures { result ≡ slice_index_or self.now.committed_to number None }
     {
         match self.committed_to.get(number as usize) {
@@ -161,13 +161,13 @@ impl OnePool {
         }
     }
 
-    pub fn lowest_free(&self) -> Option<u32>
+    pub(crate) fn lowest_free(&self) -> Option<u32>
         ensures { result ≡ lowest_free self.now.frames }
     {
         self.pool.lowest_free()
     }
 
-    pub fn held_at_or_after(&self, from: u64) -> Option<u32>
+    pub(crate) fn held_at_or_after(&self, from: u64) -> Option<u32>
         ensures { result ≡ next_true self.now.frames.held from }
     {
         if from > u64::from(u32::MAX) {
@@ -177,7 +177,7 @@ impl OnePool {
         self.pool.held_at_or_after(from as u32)
     }
 
-    pub fn read(&self, number: u32, offset: u32, into: &mut [u8])
+    pub(crate) fn read(&self, number: u32, offset: u32, into: &mut [u8])
         requires held { is_held self.now.frames number ≡ true }
         requires lies { offset + length into.old ≤ 4096 }
         ensures { into.new ≡ part_of self.now.frames.bytes (number * 4096 + offset) (length into.old) }

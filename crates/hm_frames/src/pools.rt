@@ -211,7 +211,7 @@ impl FramePools {
     }
 
     /// Whether the frame was taken and not dropped since.
-    pub fn is_held(&self, frame: &Frame) -> bool
+    pub(crate) fn is_held(&self, frame: &Frame) -> bool
         ensures { result ≡ is_held_in self.now frame.now }
     {
         self.pools[pool_index(&frame.pool)].is_held(frame.number)
@@ -235,7 +235,7 @@ impl FramePools {
     }
 
     /// Where the frame was committed to since it was last taken.
-    pub fn committed_to(&self, frame: &Frame) -> Option<Frame>
+    pub(crate) fn committed_to(&self, frame: &Frame) -> Option<Frame>
         ensures { result ≡ committed_to_in self.now frame.now }
     {
         self.pools[pool_index(&frame.pool)].committed_to(frame.number)
@@ -278,7 +278,7 @@ impl FramePools {
     }
 
     /// What the place stands for: a frame, the zero page (`Some(None)`), or nothing.
-    pub fn stands_for(&self, place: &Place) -> Option<Option<Frame>>
+    pub(crate) fn stands_for(&self, place: &Place) -> Option<Option<Frame>>
         ensures { result ≡ stands_for_in self.now place.now }
     {
         match place {
@@ -312,7 +312,7 @@ impl FramePools {
     }
 
     /// The frame that the place stands for; none for the zero page, or if nothing is mapped.
-    pub fn backing(&self, place: &Place) -> Option<Frame>
+    pub(crate) fn backing(&self, place: &Place) -> Option<Frame>
         ensures { result ≡ backing_in self.now place.now }
     {
         match self.stands_for(place) {

@@ -23,7 +23,7 @@ impl Model for FaultPlan {
 }
 
 impl FaultPlan {
-    pub fn new(alloc: Global, failing: &[u64]) -> Result<FaultPlan, NoMemory>
+    pub(crate) fn new(alloc: Global, failing: &[u64]) -> Result<FaultPlan, NoMemory>
         ensures { IfOk result (λ plan. plan ≡ record { failing = failing.now; calls = 0; faults = 0 }) }
     {
         Ok(FaultPlan {
@@ -34,7 +34,7 @@ impl FaultPlan {
     }
 
     /// Counts a call, and says whether it fails: by the plan, or since it asks for too much.
-    pub fn call(&mut self, too_much: bool) -> bool
+    pub(crate) fn call(&mut self, too_much: bool) -> bool
         ensures answer { result ≡ fails self.old too_much }
         ensures after { self.new ≡ after_call self.old too_much }
         ensures risen { self.old.faults ≤ self.new.faults }
@@ -59,7 +59,7 @@ impl FaultPlan {
         }
     }
 
-    pub fn faults(&self) -> u64
+    pub(crate) fn faults(&self) -> u64
         ensures { result ≡ self.now.faults }
     {
         self.faults

@@ -200,7 +200,7 @@ fn judge_rest(alloc: Global, world: World, first: u64, rest: &[u8]) -> Result<Ju
 }
 
 /// The judgement on the lines after `history`, of which the first has this number.
-pub fn judge_behind(
+pub(crate) fn judge_behind(
     alloc: Global,
     script: Script,
     first: u64,

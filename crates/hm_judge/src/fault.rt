@@ -79,7 +79,12 @@ fn line_fault(alloc: Global, world: &World, line: &[u8]) -> Result<Fault, NoMemo
 
 /// What is wrong with the lines after the entries, of which the first `same` end the report. The first line is that of
 /// no entry that is due.
-pub fn fault_at(alloc: Global, world: &World, rest: &[u8], same: u64) -> Result<Fault, NoMemory>
+pub(crate) fn fault_at(
+    alloc: Global,
+    world: &World,
+    rest: &[u8],
+    same: u64,
+) -> Result<Fault, NoMemory>
     requires { BeginsNoEntry world.now.script world.now.history (lines rest.now) }
     ensures { IfOk result
         (IsFault world.now.script world.now.history same (slice_get (lines rest.now) same)) }

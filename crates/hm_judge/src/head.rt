@@ -41,7 +41,7 @@ fn history_after(alloc: Global, bytes: &[u8]) -> Result<Text, NoMemory>
 }
 
 /// What is said of bytes whose first bad line is no line of a script, and not `history` after one.
-pub fn head_report(alloc: Global, bytes: &[u8], line: u64) -> Result<BadReport, NoMemory>
+pub(crate) fn head_report(alloc: Global, bytes: &[u8], line: u64) -> Result<BadReport, NoMemory>
     requires { IsBadHead bytes.now line }
     ensures { IfOk result (HasBadHead bytes.now) }
 {

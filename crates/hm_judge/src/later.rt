@@ -28,7 +28,7 @@ fn follow_bytes(alloc: Global, bytes: &[u8]) -> Result<Later, NoMemory>
 }
 
 /// What is said of the later entries of bytes on which this is the judgement, if they are asked for.
-pub fn later_of(
+pub(crate) fn later_of(
     alloc: Global,
     asked: Asked,
     judgement: &Judgement,

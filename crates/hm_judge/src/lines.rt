@@ -8,7 +8,7 @@ use hm_script::cut_line;
 use std::alloc::Global;
 
 /// The line at a place, counted from 0.
-pub fn line_at(bytes: &[u8], place: u64) -> Option<&[u8]>
+pub(crate) fn line_at(bytes: &[u8], place: u64) -> Option<&[u8]>
     ensures { MatchOption result (slice_get (lines bytes.now) place ≡ None)
         (λ line. slice_get (lines bytes.now) place ≡ Some line.now) }
 {
@@ -29,7 +29,7 @@ pub fn line_at(bytes: &[u8], place: u64) -> Option<&[u8]>
 }
 
 /// The first lines, as many as this, or all.
-pub fn first_lines(bytes: &[u8], count: u64) -> &[u8]
+pub(crate) fn first_lines(bytes: &[u8], count: u64) -> &[u8]
     ensures { lines result.now ≡ take count (lines bytes.now) }
 {
     let mut rest = bytes;
@@ -46,7 +46,7 @@ pub fn first_lines(bytes: &[u8], count: u64) -> &[u8]
 }
 
 /// The line at a place; empty if there is none.
-pub fn line_or_empty(bytes: &[u8], place: u64) -> &[u8]
+pub(crate) fn line_or_empty(bytes: &[u8], place: u64) -> &[u8]
     ensures { result.now ≡ line_or_none (lines bytes.now) place }
 {
     match line_at(bytes, place) {
@@ -56,7 +56,7 @@ pub fn line_or_empty(bytes: &[u8], place: u64) -> &[u8]
 }
 
 /// A copy of the line at a place; empty if there is none.
-pub fn copy_line(alloc: Global, bytes: &[u8], place: u64) -> Result<Text, NoMemory>
+pub(crate) fn copy_line(alloc: Global, bytes: &[u8], place: u64) -> Result<Text, NoMemory>
     ensures { IfOk result (λ t. t ≡ line_or_none (lines bytes.now) place) }
 {
     Text::from_slice(alloc, line_or_empty(bytes, place))

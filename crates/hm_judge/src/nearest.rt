@@ -87,7 +87,7 @@ fn nearest_due(
 }
 
 /// The nearest of the lines that are due and the one that goes on to end the report.
-pub fn nearest_line(
+pub(crate) fn nearest_line(
     alloc: Global,
     line: &[u8],
     at: u64,

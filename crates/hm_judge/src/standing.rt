@@ -19,7 +19,7 @@ fn standing_of(alloc: Global, world: &World, actor: Actor) -> Result<Progress, N
 }
 
 /// What is due to each actor of the script.
-pub fn standings(alloc: Global, world: &World) -> Result<Vec<Progress>, NoMemory>
+pub(crate) fn standings(alloc: Global, world: &World) -> Result<Vec<Progress>, NoMemory>
     ensures { IfOk result
         (λ x. x.items ≡ map (due world.now.script world.now.history) (actors_of world.now.script)) }
 {

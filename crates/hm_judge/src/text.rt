@@ -76,7 +76,7 @@ fn add_shown(text: &mut Text, out: &mut Buffer, shown: &Option<Shown>) -> Result
 
 /// Adds the line of a part, and what shows it, if it is broken. The buffer is written over.
 #[tactic(auto, using(std::proofs::Common::append_assoc), unfolding(crate::specs::Texts::breaks))]
-pub fn add_break(
+pub(crate) fn add_break(
     text: &mut Text,
     out: &mut Buffer,
     met: bool,
@@ -251,7 +251,7 @@ fn add_line(text: &mut Text, word: &[u8], line: &[u8]) -> Result<(), NoMemory>
 
 /// Adds a line with a number.
 #[tactic(auto, using(std::proofs::Common::append_assoc))]
-pub fn add_numbered(
+pub(crate) fn add_numbered(
     text: &mut Text,
     out: &mut Buffer,
     word: &[u8],
@@ -311,7 +311,7 @@ fn add_legal(
 }
 
 /// Adds the text of a judgement. The buffer is written over.
-pub fn add_judgement(
+pub(crate) fn add_judgement(
     text: &mut Text,
     out: &mut Buffer,
     asked: Asked,

@@ -174,7 +174,7 @@ impl Mirrors {
     }
 
     /// What the mirror is, if it has come.
-    pub fn info(&self, mirror: MirrorId) -> Option<MirrorInfo>
+    pub(crate) fn info(&self, mirror: MirrorId) -> Option<MirrorInfo>
         ensures { result ≡ info_of self.now mirror }
     {
         match &self.mirrors[mirror.number() as usize] {

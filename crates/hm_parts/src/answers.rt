@@ -23,7 +23,7 @@ pub fn has_taken(answer: Result<(), FoldError>) -> Result<bool, NoMemory>
 }
 
 /// The plain state after the entries, of which each has to be legal after those before it.
-pub fn plain_after(
+pub(crate) fn plain_after(
     alloc: Global,
     script: &Script,
     entries: &[Entry],

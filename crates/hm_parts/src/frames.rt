@@ -35,7 +35,7 @@ fn wants_frame(cause: Cause) -> bool
 }
 
 /// Whether the entry fails or is refused for want of a frame.
-pub fn needs_full(kind: &Kind) -> bool
+pub(crate) fn needs_full(kind: &Kind) -> bool
     ensures { result ≡ needs_full kind.now }
 {
     match kind {
@@ -51,7 +51,7 @@ pub fn needs_full(kind: &Kind) -> bool
 }
 
 /// Whether every frame of the system is held.
-pub fn is_full(state: &PlaceState) -> bool
+pub(crate) fn is_full(state: &PlaceState) -> bool
     ensures { ForShown state.now (λ c s. result ≡ is_none (lowest_free c s AnyPool.System)) }
 {
     state.lowest_free(PoolId::System).is_none()
@@ -59,7 +59,7 @@ pub fn is_full(state: &PlaceState) -> bool
 
 /// Whether no frame was free when the actor last asked for one to bring a page home or to empty a frame, after one more
 /// entry. The state is that before it.
-pub fn short_next(state: &PlaceState, actor: Actor, short: bool, entry: &Entry) -> bool
+pub(crate) fn short_next(state: &PlaceState, actor: Actor, short: bool, entry: &Entry) -> bool
     ensures { ForShown state.now (λ c s. result ≡ short_next c s actor short entry.now) }
 {
     if entry.actor == actor && !is_finishing(&entry.kind) {

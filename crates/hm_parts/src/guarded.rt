@@ -7,7 +7,7 @@ ghost use Rattle.hm_base.specs.declared.Place.{Place as AnyPlace};
 use hm_base::Place;
 
 /// Whether a page that had the old place loses a mapping, its frame or its write right with the new one.
-pub fn loses(old: &Place, new: &Place) -> bool
+pub(crate) fn loses(old: &Place, new: &Place) -> bool
     ensures { result ≡ loses old.now new.now }
 {
     match old {

@@ -59,7 +59,7 @@ fn is_not_here<W: Reads>(world: &W, op: &Op, proc: Proc, page: Page) -> bool
     }
 }
 
-pub fn kept_frame<W: Reads>(world: &W, proc: Proc, at: &KeptAt) -> Option<Frame>
+pub(crate) fn kept_frame<W: Reads>(world: &W, proc: Proc, at: &KeptAt) -> Option<Frame>
     ensures { result ≡ spec.kept_frame (W.state world.now).after proc at.now }
 {
     match at {
@@ -99,7 +99,7 @@ fn skips<W: Reads>(world: &W, op: &Op, page: Page) -> bool
 }
 
 /// Where the migration takes its frames.
-pub fn pool_of<W: Reads>(world: &W, op: &Op) -> PoolId
+pub(crate) fn pool_of<W: Reads>(world: &W, op: &Op) -> PoolId
     ensures { result ≡ pool_of (W.state world.now).after op.now }
 {
     if is_to_device(op) {

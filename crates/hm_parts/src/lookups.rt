@@ -150,7 +150,7 @@ fn is_untold(entries: &[Entry], mirror: MirrorId, page: u64) -> bool
 
 /// Whether an access through a mirror, after the entries, uses only a table entry that nobody was told of since its
 /// look-up began.
-pub fn meets_untold(entries: &[Entry], kind: &Kind) -> bool
+pub(crate) fn meets_untold(entries: &[Entry], kind: &Kind) -> bool
     ensures { result ≡ uses_untold entries.now kind.now }
 {
     match kind {

@@ -102,7 +102,7 @@ impl Pasts {
     ghost use Rattle.hm_parts.specs.Pasts.{AreRecalled};
 
     /// Before the first entry.
-    pub fn new(alloc: Global) -> Result<Pasts, NoMemory>
+    pub(crate) fn new(alloc: Global) -> Result<Pasts, NoMemory>
         ensures { IfOk result (AreRecalled recalled_start) }
     {
         Ok(Pasts {
@@ -164,7 +164,7 @@ impl Pasts {
     }
 
     /// After one entry more, which has this position.
-    pub fn step(&mut self, entry: &Entry, at: u64) -> Result<(), NoMemory>
+    pub(crate) fn step(&mut self, entry: &Entry, at: u64) -> Result<(), NoMemory>
         ensures { OnOk result ((c : Program) (r : Recalled) → r.state.length ≡ at → AreRecalled r self.old
             → AreRecalled (recalled_next c r entry.now) self.new) }
     {
@@ -204,7 +204,7 @@ impl Pasts {
     }
 
     /// Whether an access through a mirror uses only a table entry that nobody was told of since its look-up began.
-    pub fn meets_untold(&self, kind: &Kind) -> bool
+    pub(crate) fn meets_untold(&self, kind: &Kind) -> bool
         ensures { (r : Recalled) → AreRecalled r self.now → result ≡ uses_untold_in r kind.now }
     {
         match kind {

@@ -57,7 +57,7 @@ fn go_on(so_far: &mut PlacesSoFar, actor: Actor, entry: &Entry) -> Result<(), No
 }
 
 /// The places and sequences after the entries, of which each has to be legal after those before it.
-pub fn places_after(
+pub(crate) fn places_after(
     alloc: Global,
     script: &Script,
     entries: &[Entry],
@@ -93,7 +93,7 @@ fn is_page_guarded(
 
 /// Whether the entry takes nothing from the page of its `place`, or does so under a guard of its actor in which all
 /// were told.
-pub fn is_guarded_by(state: &PlaceState, sequences: &SeqState, entry: &Entry) -> bool
+pub(crate) fn is_guarded_by(state: &PlaceState, sequences: &SeqState, entry: &Entry) -> bool
     ensures { ForShown state.now
         (λ c s. result ≡ narrows_guarded (sequences_of sequences.now) s.place entry.now.actor entry.now.kind) }
 {
@@ -133,7 +133,7 @@ fn meets_there(so_far: &mut PlacesSoFar, entry: &Entry) -> Result<PlaceParts, No
 }
 
 /// Whether the entry, after a legal history, meets these parts. It goes over the history once.
-pub fn meets_places(
+pub(crate) fn meets_places(
     alloc: Global,
     script: &Script,
     entries: &[Entry],

@@ -61,7 +61,7 @@ fn leaves_sequences(kind: &Kind) -> bool
 
 /// Whether there is a state after an entry of this kind, if these say whether its answers, places and sequences are
 /// allowed.
-pub fn leads_on(answers: bool, places: bool, sequences: bool, kind: &Kind) -> bool
+pub(crate) fn leads_on(answers: bool, places: bool, sequences: bool, kind: &Kind) -> bool
     ensures { result ≡ leads_on answers places sequences kind.now }
 {
     (answers || leaves_plain(kind))

@@ -23,7 +23,7 @@ pub struct Sets {
 
 impl Sets {
     /// None was set. It takes no memory.
-    pub fn new(alloc: Global) -> Sets
+    pub(crate) fn new(alloc: Global) -> Sets
         ensures { (v : ℕ) → set_at result v ≡ None }
     {
         Sets {
@@ -32,14 +32,14 @@ impl Sets {
     }
 
     /// The last `set` of a page.
-    pub fn get(&self, page: u64) -> Option<LastSet>
+    pub(crate) fn get(&self, page: u64) -> Option<LastSet>
         ensures { option_map set_of result ≡ set_at self.now page }
     {
         self.sets.get(&page).copied()
     }
 
     /// This is the last `set` of the page from now on.
-    pub fn put(&mut self, page: u64, goes_back: bool, since: u64) -> Result<(), NoMemory>
+    pub(crate) fn put(&mut self, page: u64, goes_back: bool, since: u64) -> Result<(), NoMemory>
         ensures { OnOk result ((v : ℕ) → set_at self.new v
             ≡ (if v == page then Some (goes_back, since) else set_at self.old v)) }
     {

@@ -311,7 +311,7 @@ fn shows_change<W: Reads>(world: &W, kind: &Kind) -> Option<Shown>
 }
 
 /// What shows why the entry is no answer by plain bytes, areas, processes and mirrors.
-pub fn shows_answers<W: Reads>(
+pub(crate) fn shows_answers<W: Reads>(
     alloc: Global,
     world: &W,
     entries: &[Entry],

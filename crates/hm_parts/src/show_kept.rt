@@ -77,7 +77,7 @@ fn shows_reason<W: Reads>(
 }
 
 /// What bears on the reason of an entry that keeps something.
-pub fn shows_kept<W: Reads>(world: &W, entry: &Entry) -> Option<Shown>
+pub(crate) fn shows_kept<W: Reads>(world: &W, entry: &Entry) -> Option<Shown>
     ensures { result ≡ shows_kept (W.program world.now) (W.state world.now) entry.now }
 {
     match &entry.kind {

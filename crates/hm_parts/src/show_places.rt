@@ -21,7 +21,7 @@ pub type Found = Option<(Option<Frame>, TableRight, u64)>;
 // ---- places
 
 /// The place of a page.
-pub fn place_shown<W: Reads>(world: &W, proc: Proc, page: Page) -> Shown
+pub(crate) fn place_shown<W: Reads>(world: &W, proc: Proc, page: Page) -> Shown
     ensures { result ≡ place_shown (W.state world.now).after.places proc page }
 {
     let place = world.place(proc, page);
@@ -86,7 +86,7 @@ fn dropped(dev: Dev, number: Option<u32>) -> Option<Shown>
 }
 
 /// Why places, frames and mirror tables do not allow the entry, if this is what the mirror's table has.
-pub fn shows_places<W: Reads>(world: &W, kind: &Kind, found: &Found) -> Option<Shown>
+pub(crate) fn shows_places<W: Reads>(world: &W, kind: &Kind, found: &Found) -> Option<Shown>
     ensures { found.now ≡ entry_read (table_of (W.state world.now).after.places kind.now) → result
         ≡ shows_places (W.program world.now) (W.state world.now).after.places kind.now }
 {
@@ -117,7 +117,7 @@ pub fn shows_places<W: Reads>(world: &W, kind: &Kind, found: &Found) -> Option<S
 }
 
 /// The place from which the entry would take something.
-pub fn shows_guarded<W: Reads>(world: &W, kind: &Kind) -> Option<Shown>
+pub(crate) fn shows_guarded<W: Reads>(world: &W, kind: &Kind) -> Option<Shown>
     ensures { result ≡ shows_guarded (W.state world.now).after.places kind.now }
 {
     match kind {
@@ -182,7 +182,7 @@ fn entry_at(at: Option<(MirrorId, u64)>, found: &Found) -> Option<Shown>
 }
 
 /// That the mirror's table has this for the page of an access through it.
-pub fn entry_of(kind: &Kind, found: &Found) -> Option<Shown>
+pub(crate) fn entry_of(kind: &Kind, found: &Found) -> Option<Shown>
     ensures { (x : Option TableEntry) → found.now ≡ entry_read x → result ≡ entry_of kind.now x }
 {
     entry_at(through(kind), found)
@@ -207,7 +207,7 @@ fn table_at(
 
 /// What the mirror's table has for the page of an access through it, after the entries, of which each has to be legal
 /// after those before it.
-pub fn table_of(
+pub(crate) fn table_of(
     alloc: Global,
     script: &Script,
     entries: &[Entry],

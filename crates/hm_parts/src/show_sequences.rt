@@ -32,7 +32,7 @@ fn told_next(actor: Actor, last: Option<MirrorId>, entry: &Entry) -> Option<Mirr
 }
 
 /// The last mirror that the actor told since its last start; none if it told none.
-pub fn last_told(entries: &[Entry], actor: Actor) -> Option<MirrorId>
+pub(crate) fn last_told(entries: &[Entry], actor: Actor) -> Option<MirrorId>
     ensures { result ≡ last_told entries.now actor }
 {
     let mut last = None;
@@ -128,7 +128,11 @@ fn shows_interval<W: Reads>(world: &W, kind: &Kind) -> Option<Shown>
 
 /// The entry with the sequence that it would have; or the next mirror that the invalidation is to tell, if this is the
 /// last that it told.
-pub fn shows_sequences<W: Reads>(world: &W, last: Option<MirrorId>, kind: &Kind) -> Option<Shown>
+pub(crate) fn shows_sequences<W: Reads>(
+    world: &W,
+    last: Option<MirrorId>,
+    kind: &Kind,
+) -> Option<Shown>
     ensures { result ≡ shows_sequences (W.state world.now).after last kind.now }
 {
     match kind {

@@ -36,7 +36,7 @@ pub struct ShownParts {
 }
 
 /// The first, if there is one, and else the other.
-pub fn or_else(one: Option<Shown>, other: Option<Shown>) -> Option<Shown>
+pub(crate) fn or_else(one: Option<Shown>, other: Option<Shown>) -> Option<Shown>
     ensures { result ≡ or_else one other }
 {
     match one {

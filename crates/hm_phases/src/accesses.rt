@@ -111,14 +111,14 @@ fn after_piece(stack: &mut Stack, op: &Op, piece: u32, touch: Touch, kind: &Kind
 }
 
 #[inline(never)]
-pub fn after_first(stack: &mut Stack, op: &Op, piece: u32, kind: &Kind, seen: &Seen)
+pub(crate) fn after_first(stack: &mut Stack, op: &Op, piece: u32, kind: &Kind, seen: &Seen)
     ensures { stack.new ≡ spec.after_piece op.now piece (spec.first_touch op.now piece) kind.now seen.now }
 {
     after_piece(stack, op, piece, first_touch(op, piece), kind, seen);
 }
 
 #[inline(never)]
-pub fn after_begun(
+pub(crate) fn after_begun(
     stack: &mut Stack,
     op: &Op,
     piece: u32,
@@ -140,7 +140,7 @@ pub fn after_begun(
 }
 
 #[inline(never)]
-pub fn after_noted(stack: &mut Stack, piece: u32)
+pub(crate) fn after_noted(stack: &mut Stack, piece: u32)
     ensures { stack.new ≡ AnyPhase.Piece piece ∷ [] }
 {
     stack.only(Phase::Piece { piece });
@@ -156,7 +156,7 @@ fn is_added(kind: &Kind) -> bool
 }
 
 #[inline(never)]
-pub fn after_fetched(stack: &mut Stack, op: &Op, kind: &Kind, seen: &Seen)
+pub(crate) fn after_fetched(stack: &mut Stack, op: &Op, kind: &Kind, seen: &Seen)
     ensures { stack.new ≡ spec.after_fetched op.now kind.now seen.now }
 {
     if is_added(kind) {
@@ -220,7 +220,7 @@ fn caught(place: Place) -> Body
 }
 
 #[inline(never)]
-pub fn after_decide(stack: &mut Stack, op: &Op, touch: &Touch, kind: &Kind, seen: &Seen)
+pub(crate) fn after_decide(stack: &mut Stack, op: &Op, touch: &Touch, kind: &Kind, seen: &Seen)
     ensures { stack.new ≡ spec.after_decide op.now touch.now kind.now seen.now }
 {
     let touch = *touch;
@@ -245,7 +245,7 @@ pub fn after_decide(stack: &mut Stack, op: &Op, touch: &Touch, kind: &Kind, seen
 }
 
 #[inline(never)]
-pub fn after_armed(
+pub(crate) fn after_armed(
     stack: &mut Stack,
     touch: &Touch,
     by: &Frame,
@@ -265,7 +265,7 @@ pub fn after_armed(
 }
 
 #[inline(never)]
-pub fn after_taken(stack: &mut Stack, touch: &Touch, by: &Frame, over: &Place, kind: &Kind)
+pub(crate) fn after_taken(stack: &mut Stack, touch: &Touch, by: &Frame, over: &Place, kind: &Kind)
     ensures { stack.new ≡ spec.after_taken touch.now by.now over.now kind.now }
 {
     match kind {
@@ -288,7 +288,7 @@ fn piece_of_given_up(touch: &Option<Touch>) -> u32
 }
 
 #[inline(never)]
-pub fn after_give_up(stack: &mut Stack, op: &Op, touch: &Option<Touch>, kind: &Kind)
+pub(crate) fn after_give_up(stack: &mut Stack, op: &Op, touch: &Option<Touch>, kind: &Kind)
     ensures { stack.new ≡ spec.after_give_up op.now touch.now kind.now }
 {
     match kind {

@@ -66,7 +66,7 @@ fn copy_phases(below: &mut Stack, from: &Frame, to: &Frame)
 }
 
 #[inline(never)]
-pub fn after_emptying(
+pub(crate) fn after_emptying(
     below: &mut Stack,
     op: &Op,
     frame: &Frame,
@@ -108,7 +108,7 @@ fn counted(below: &mut Stack)
 }
 
 #[inline(never)]
-pub fn after_copied(below: &mut Stack, from: &Frame, to: &Frame)
+pub(crate) fn after_copied(below: &mut Stack, from: &Frame, to: &Frame)
     requires room { length (Phase.Finish from.now (Some to.now) ∷ spec.with_one_more below.old) ≤ 3 }
     requires counted { IsTrue (first_takes_count below.old) }
     ensures { below.new ≡ Phase.Finish from.now (Some to.now) ∷ spec.with_one_more below.old }
@@ -121,7 +121,7 @@ pub fn after_copied(below: &mut Stack, from: &Frame, to: &Frame)
 }
 
 #[inline(never)]
-pub fn after_copy(below: &mut Stack, from: &Frame, to: &Frame, part: u8)
+pub(crate) fn after_copy(below: &mut Stack, from: &Frame, to: &Frame, part: u8)
     requires { length (spec.after_copy from.now to.now part below.old) ≤ 3 }
     ensures { below.new ≡ spec.after_copy from.now to.now part below.old }
 {
@@ -135,7 +135,7 @@ pub fn after_copy(below: &mut Stack, from: &Frame, to: &Frame, part: u8)
 }
 
 #[inline(never)]
-pub fn after_finish(below: &mut Stack, from: &Frame, to: &Option<Frame>, kind: &Kind)
+pub(crate) fn after_finish(below: &mut Stack, from: &Frame, to: &Option<Frame>, kind: &Kind)
     requires { length (spec.after_finish from.now to.now below.old kind.now) ≤ 3 }
     ensures { below.new ≡ spec.after_finish from.now to.now below.old kind.now }
 {
@@ -150,7 +150,13 @@ pub fn after_finish(below: &mut Stack, from: &Frame, to: &Option<Frame>, kind: &
 }
 
 /// A finish over this phase alone, after one of its entries.
-pub fn finishing_over(stack: &mut Stack, below: Phase, from: Frame, to: Option<Frame>, kind: &Kind)
+pub(crate) fn finishing_over(
+    stack: &mut Stack,
+    below: Phase,
+    from: Frame,
+    to: Option<Frame>,
+    kind: &Kind,
+)
     ensures { stack.new ≡ spec.after_finish from to (below ∷ []) kind.now }
 {
     match (kind, to) {
@@ -179,7 +185,7 @@ fn catching(frame: Option<Frame>) -> Body
 }
 
 #[inline(never)]
-pub fn after_frames(stack: &mut Stack, next: u64, emptied: u64, kind: &Kind, seen: &Seen)
+pub(crate) fn after_frames(stack: &mut Stack, next: u64, emptied: u64, kind: &Kind, seen: &Seen)
     ensures { stack.new ≡ spec.after_frames next emptied kind.now seen.now }
 {
     match kind {

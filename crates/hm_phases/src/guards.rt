@@ -9,7 +9,7 @@ use hm_base::{Frame, MirrorId, Op, Place, Proc, Span};
 use hm_history::phases::{Body, Phase, Seen};
 use hm_history::{KeptAt, Kind};
 
-pub fn opened(below: &mut Stack, kind: &Kind, seen: &Seen, body: Body)
+pub(crate) fn opened(below: &mut Stack, kind: &Kind, seen: &Seen, body: Body)
     requires { length (spec.with_guard kind.now seen.now body below.old) ≤ 3 }
     ensures { below.new ≡ spec.with_guard kind.now seen.now body below.old }
 {
@@ -27,7 +27,7 @@ pub fn opened(below: &mut Stack, kind: &Kind, seen: &Seen, body: Body)
 
 /// The guard that a `start` opens, over this phase alone.
 #[inline(always)]
-pub fn opened_over(stack: &mut Stack, below: Phase, kind: &Kind, seen: &Seen, body: Body)
+pub(crate) fn opened_over(stack: &mut Stack, below: Phase, kind: &Kind, seen: &Seen, body: Body)
     ensures { stack.new ≡ spec.with_guard kind.now seen.now body (below ∷ []) }
 {
     match kind {
@@ -90,7 +90,7 @@ fn fork_goes_on(next: &mut u64, half: &mut bool, proc: Proc, kind: &Kind)
 }
 
 /// Changes a body by one of its entries.
-pub fn body_goes_on(body: &mut Body, proc: Proc, kind: &Kind)
+pub(crate) fn body_goes_on(body: &mut Body, proc: Proc, kind: &Kind)
     ensures { body.new ≡ spec.body_next body.old proc kind.now }
 {
     match body {
@@ -116,7 +116,7 @@ fn ended(below: &mut Stack, body: Body, span: Span)
     }
 }
 
-pub fn dropping(below: &mut Stack, orphan: Option<Frame>)
+pub(crate) fn dropping(below: &mut Stack, orphan: Option<Frame>)
     requires { length (spec.dropping orphan below.old) ≤ 3 }
     ensures { below.new ≡ spec.dropping orphan below.old }
 {
@@ -135,7 +135,7 @@ fn frames_past(below: &mut Stack, frame: &Frame)
     }
 }
 
-pub fn past_frame(frame: &Frame, emptied: u64) -> Phase
+pub(crate) fn past_frame(frame: &Frame, emptied: u64) -> Phase
     ensures { result ≡ Phase.Frames (frame.now.number + 1) emptied }
 {
     Phase::Frames {
@@ -197,7 +197,7 @@ struct Guarding {
     body: Body,
 }
 
-pub fn told_mirror(kind: &Kind) -> Option<MirrorId>
+pub(crate) fn told_mirror(kind: &Kind) -> Option<MirrorId>
     ensures { result ≡ spec.told_mirror kind.now }
 {
     match kind {
@@ -210,7 +210,7 @@ pub fn told_mirror(kind: &Kind) -> Option<MirrorId>
     }
 }
 
-pub fn is_end(kind: &Kind) -> bool
+pub(crate) fn is_end(kind: &Kind) -> bool
     ensures { result ≡ spec.is_end kind.now }
 {
     match kind {
@@ -270,7 +270,7 @@ fn after_guard(below: &mut Stack, op: &Op, guard: &Guarding, kind: &Kind, seen: 
 
 /// What comes after an entry of the guard of these parts.
 #[inline(never)]
-pub fn after_guard_at(
+pub(crate) fn after_guard_at(
     below: &mut Stack,
     op: &Op,
     proc: &Proc,
@@ -299,7 +299,7 @@ pub fn after_guard_at(
 
 /// The page got a frame meanwhile: the taken one is dropped.
 #[inline(never)]
-pub fn after_lost(below: &mut Stack, by: &Frame)
+pub(crate) fn after_lost(below: &mut Stack, by: &Frame)
     requires { length below.old < 3 }
     ensures { below.new ≡ Phase.Drop by.now ∷ below.old }
 {

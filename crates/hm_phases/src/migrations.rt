@@ -119,7 +119,7 @@ fn after_moves(stack: &mut Stack, step: MoveStep, page: &Migrating, kind: &Kind,
 }
 
 #[inline(never)]
-pub fn after_migration(stack: &mut Stack, step: MoveStep, kind: &Kind, seen: &Seen)
+pub(crate) fn after_migration(stack: &mut Stack, step: MoveStep, kind: &Kind, seen: &Seen)
     ensures { stack.new ≡ spec.after_migration step seen.now.page kind.now seen.now }
 {
     match &seen.page {

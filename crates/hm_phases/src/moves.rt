@@ -59,7 +59,7 @@ fn after_top(below: &mut Stack, top: &Phase, op: &Op, kind: &Kind, seen: &Seen)
 
 /// The phases after an entry that does not only change the top.
 #[inline(never)]
-pub fn moved(stack: &mut Stack, op: &Op, kind: &Kind, seen: &Seen)
+pub(crate) fn moved(stack: &mut Stack, op: &Op, kind: &Kind, seen: &Seen)
     requires room { length (spec.stack_after op.now stack.old kind.now seen.now) ≤ 3 }
     requires counted { IsTrue (below_takes_count stack.old) }
     ensures { stack.new ≡ spec.stack_after op.now stack.old kind.now seen.now }

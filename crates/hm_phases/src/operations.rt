@@ -8,7 +8,7 @@ use hm_base::{Op, Rights, Span};
 use hm_history::Kind;
 use hm_history::phases::{Body, MoveStep, Phase, Seen, Touch};
 
-pub fn first_phase(op: &Op) -> Phase
+pub(crate) fn first_phase(op: &Op) -> Phase
     ensures { result ≡ spec.first_phase op.now }
 {
     match op {
@@ -35,7 +35,7 @@ fn read_locked(op: &Op) -> Phase
     }
 }
 
-pub fn after_begin(stack: &mut Stack, op: &Op, kind: &Kind)
+pub(crate) fn after_begin(stack: &mut Stack, op: &Op, kind: &Kind)
     ensures { stack.new ≡ spec.after_begin op.now kind.now }
 {
     match kind {
@@ -69,7 +69,7 @@ fn body_of(op: &Op, span: Span) -> Body
 }
 
 #[inline(never)]
-pub fn after_locked(stack: &mut Stack, op: &Op, kind: &Kind, seen: &Seen)
+pub(crate) fn after_locked(stack: &mut Stack, op: &Op, kind: &Kind, seen: &Seen)
     ensures { stack.new ≡ spec.after_locked op.now kind.now seen.now }
 {
     match kind {
@@ -112,7 +112,7 @@ fn forks(stack: &mut Stack, kind: &Kind, seen: &Seen)
 }
 
 #[inline(never)]
-pub fn after_ready(stack: &mut Stack, op: &Op, kind: &Kind, seen: &Seen)
+pub(crate) fn after_ready(stack: &mut Stack, op: &Op, kind: &Kind, seen: &Seen)
     ensures { stack.new ≡ spec.after_ready op.now kind.now seen.now }
 {
     match op {
@@ -123,7 +123,7 @@ pub fn after_ready(stack: &mut Stack, op: &Op, kind: &Kind, seen: &Seen)
     }
 }
 
-pub fn after_answer(stack: &mut Stack, kind: &Kind)
+pub(crate) fn after_answer(stack: &mut Stack, kind: &Kind)
     ensures { stack.new ≡ spec.after_answer kind.now }
 {
     match kind {
@@ -132,7 +132,7 @@ pub fn after_answer(stack: &mut Stack, kind: &Kind)
     }
 }
 
-pub fn after_pages(stack: &mut Stack, kind: &Kind)
+pub(crate) fn after_pages(stack: &mut Stack, kind: &Kind)
     ensures { stack.new ≡ spec.after_pages kind.now }
 {
     match kind {

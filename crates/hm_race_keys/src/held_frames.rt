@@ -58,7 +58,7 @@ impl HeldFrames {
     }
 
     /// Whether the frame is held.
-    pub fn is_held(&self, frame: &Frame) -> bool
+    pub(crate) fn is_held(&self, frame: &Frame) -> bool
         ensures { result ≡ held_in self.now frame.now }
     {
         self.items

@@ -170,7 +170,13 @@ impl Places {
     }
 
     /// Whether some place names the frame once the page has this place.
-    pub fn is_named_after(&self, proc: Proc, page: Page, place: &Place, frame: &Frame) -> bool
+    pub(crate) fn is_named_after(
+        &self,
+        proc: Proc,
+        page: Page,
+        place: &Place,
+        frame: &Frame,
+    ) -> bool
         ensures { result
             ≡ is_some (lowest_named (places_next (places_of self.now) (kinds.Kind.Place proc page place.now))
             frame.now) }

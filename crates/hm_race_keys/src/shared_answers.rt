@@ -59,7 +59,7 @@ impl Answer {
     }
 
     /// Whether the two are the same.
-    pub fn is_same(&self, other: &Answer) -> bool
+    pub(crate) fn is_same(&self, other: &Answer) -> bool
         ensures yes { result ≡ true → self.now ≡ other.now }
         ensures no { self.now ≡ other.now → result ≡ true }
     {

@@ -185,7 +185,7 @@ impl<V: Kept> Sparse<V> {
     }
 
     /// The first number of a row from there on that has a value, and the value.
-    pub fn next(&self, row: u32, from: u64) -> Option<(u64, V)>
+    pub(crate) fn next(&self, row: u32, from: u64) -> Option<(u64, V)>
         ensures { IsNextIn (found self.now row) from result }
     {
         match next_at(self.items.as_slice(), row, from) {

@@ -86,7 +86,7 @@ fn blurred_phase(own: u64, small: u64, phase: Phase) -> Phase
 
 /// The phases without positions and absolute sequences; `own` is the sequence of the interval of the actor's mirror,
 /// and `small` what is kept of it.
-pub fn blurred_items(own: u64, small: u64, items: Items) -> Items
+pub(crate) fn blurred_items(own: u64, small: u64, items: Items) -> Items
     ensures { phases_of result ≡ map (blurred_phase own small) (phases_of items) }
 {
     match items {
@@ -128,7 +128,7 @@ fn notes_nothing(phase: &Phase) -> bool
 }
 
 /// Whether no phase has a position or a sequence of its own. It may say no of such as have none.
-pub fn all_note_nothing(items: &Items) -> bool
+pub(crate) fn all_note_nothing(items: &Items) -> bool
     ensures { result ≡ true → (own small : ℕ)
         → map (blurred_phase own small) (phases_of items.now) ≡ phases_of items.now }
 {

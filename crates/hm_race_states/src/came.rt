@@ -8,7 +8,7 @@ use hm_base::MirrorId;
 use hm_history::Kind;
 
 /// Whether the entry leaves all sequences as they are. It may say no of one that does.
-pub fn is_still(kind: &Kind) -> bool
+pub(crate) fn is_still(kind: &Kind) -> bool
     ensures { result ≡ true → (s : Sequences) (a : ℕ) → sequences_next s a kind.now ≡ s }
 {
     !matches!(

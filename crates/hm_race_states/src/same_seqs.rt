@@ -39,7 +39,7 @@ pub fn same_interval(one: &Option<KeptInterval>, other: &Option<KeptInterval>) -
 }
 
 /// Whether each number has the same flag in both.
-pub fn same_flags(one: &[bool; 32], other: &[bool; 32]) -> bool
+pub(crate) fn same_flags(one: &[bool; 32], other: &[bool; 32]) -> bool
     ensures yes { result ≡ true → (p : ℕ) → slice_index_or one.now p false ≡ slice_index_or other.now p false }
     ensures no { ((p : ℕ) → slice_index_or one.now p false ≡ slice_index_or other.now p false) → result ≡ true }
 {

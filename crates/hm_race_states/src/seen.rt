@@ -92,7 +92,7 @@ impl<'a> Here<'a> {
     }
 
     /// What the actor sees at its entry.
-    pub fn seen(&self, actor: Actor, kind: &Kind) -> Seen
+    pub(crate) fn seen(&self, actor: Actor, kind: &Kind) -> Seen
         ensures { IsSeen self.now.script.now (state_in self.now.state.now).after actor
             ((state_in self.now.state.now).going actor) kind.now result }
     {

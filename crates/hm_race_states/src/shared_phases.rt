@@ -49,7 +49,7 @@ fn shared(alloc: Global, phase: Phase, kept: Option<&Rc<Phase>>) -> Result<Rc<Ph
 
 impl SharedPhases {
     /// No phase. It takes no memory.
-    pub fn none() -> SharedPhases
+    pub(crate) fn none() -> SharedPhases
         ensures { result ≡ [] }
     {
         SharedPhases {

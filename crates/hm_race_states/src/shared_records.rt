@@ -50,7 +50,7 @@ fn may_record(top: &Phase) -> bool
 
 impl SharedRecords {
     /// No record. It takes no memory.
-    pub fn none() -> SharedRecords
+    pub(crate) fn none() -> SharedRecords
         ensures { result ≡ [] }
     {
         SharedRecords { kept: None }

@@ -227,7 +227,7 @@ impl Between {
     ghost use Rattle.hm_race_states.specs.Small.{between_seqs, kept_seqs, settled};
 
     /// The small sequences again.
-    pub fn settled(&self, alloc: Global) -> Result<SmallSeqs, NoMemory>
+    pub(crate) fn settled(&self, alloc: Global) -> Result<SmallSeqs, NoMemory>
         ensures { IfOk result (λ x. kept_seqs x ≡ settled (between_seqs self.now)) }
     {
         let intervals = kept(alloc, &settled_intervals(&self.seqs, &self.intervals))?;
@@ -378,7 +378,7 @@ impl SmallSeqs {
     }
 
     /// Whether they stay as they are when they are made small again. It may say no of such as do.
-    pub fn is_steady(&self) -> bool
+    pub(crate) fn is_steady(&self) -> bool
         ensures { result ≡ true → settled (kept_seqs self.now) ≡ kept_seqs self.now }
     {
         all_steady(&self.odd, &self.intervals)

@@ -185,7 +185,7 @@ impl RaceTask {
 
     /// The actor without positions and absolute sequences of its phases; `own` is the sequence of the interval of the
     /// actor's mirror, and `small` what is kept of it.
-    pub fn blurred(&self, alloc: Global, own: u64, small: u64) -> Result<RaceTask, NoMemory>
+    pub(crate) fn blurred(&self, alloc: Global, own: u64, small: u64) -> Result<RaceTask, NoMemory>
         ensures { IfOk result (λ t. going_in t ≡ record (going_in self.now) {
           stack = map (blurred_phase own small) (going_in self.now).stack;
         }) }

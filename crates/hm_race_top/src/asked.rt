@@ -3,9 +3,9 @@ ghost use Rattle.std.specs.Prelude.{◌≡◌, ◌<◌, ◌∷◌, [], None, Som
 ghost use Rattle.std.specs.Prelude.{MatchOption};
 ghost use Rattle.hm_race_top.specs.Asked.{after_most, front, questions_in, HasNoTask, IsTask};
 
+use crate::text::{BadQuestion, Question, questions_of};
 use hm_base::ListOf;
 use hm_edge::{RaceEnd, Status};
-use crate::text::{BadQuestion, Question, questions_of};
 use hm_script::number;
 use std::alloc::Global;
 
@@ -27,7 +27,7 @@ pub enum Task {
 
 impl Task {
     /// The conditions of a task.
-    pub fn questions(&self) -> &[Question]
+    pub(crate) fn questions(&self) -> &[Question]
         ensures { result.now ≡ questions_in self.now }
     {
         match self {
@@ -53,7 +53,7 @@ fn after_most(words: &[String]) -> Option<(u64, &[String])>
 
 /// The number of states that the words ask for, and the words that say what is to be written; or none if a number is
 /// missing. A number is decimal, without leading zeros, and below 2^64.
-pub fn front(words: &[String]) -> Option<(u64, &[String])>
+pub(crate) fn front(words: &[String]) -> Option<(u64, &[String])>
     ensures { MatchOption result (front (map string_bytes words.now) ≡ None)
         (λ r. front (map string_bytes words.now) ≡ Some (r.0, map string_bytes r.1.now)) }
 {
@@ -132,7 +132,7 @@ fn long_task(alloc: Global, word: &str, more: &[String]) -> Result<Task, Status>
 }
 
 /// What is to be written by these words, or how a call ends that says nothing.
-pub fn task_of(alloc: Global, words: &[String]) -> Result<Task, Status>
+pub(crate) fn task_of(alloc: Global, words: &[String]) -> Result<Task, Status>
     ensures task { IfOk result (IsTask (map string_bytes words.now)) }
     ensures none { IfErr result (HasNoTask (map string_bytes words.now)) }
 {

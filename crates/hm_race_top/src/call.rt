@@ -10,6 +10,7 @@ ghost use Rattle.hm_edge.specs.Writing.{WriteFaulted};
 
 use crate::asked::{Task, front, task_of};
 use crate::laws::{all_is_listed, complete_is_all, known_is_true, true_is_real};
+use crate::run::{copy_script, search};
 use crate::settling::Settling;
 use crate::telling::{tell, write_telling};
 use crate::ways::{blocks_of, has_drain};
@@ -17,7 +18,6 @@ use hm_base::{NoMemory, Script};
 use hm_edge::{RaceEnd, Status, read_script};
 use hm_history::StepError;
 use hm_io::{Sink, Source};
-use crate::run::{copy_script, search};
 use hm_race_states::key::StateKey;
 use hm_search::Explored;
 use skip_rules::SkipRule;

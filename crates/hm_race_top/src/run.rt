@@ -32,7 +32,7 @@ use std::alloc::Global;
 /// at any time. The search comes first to the states that the fewest turns lead to. It stops if it knows more than
 /// `most`, and after the step in which it comes to a state that reaches the goal. It fails if memory runs out, and if a
 /// history has all its entries and one more is due.
-pub fn search<R: SkipRule, G: Goal<StateKey>>(
+pub(crate) fn search<R: SkipRule, G: Goal<StateKey>>(
     alloc: Global,
     script: Script,
     rule: R,

@@ -4,9 +4,9 @@ ghost use Rattle.hm_race_laws.specs.Outcomes.{Point};
 ghost use Rattle.hm_race_states.specs.Keyed.{form_in};
 ghost use Rattle.hm_race_top.specs.Goals.{IsGoal, settled};
 
+use crate::text::{Question, answer_lines, settles};
 use hm_base::NoMemory;
 use hm_race_states::key::StateKey;
-use crate::text::{Question, answer_lines, settles};
 use hm_search::Goal;
 use std::alloc::Global;
 use std::marker::Model;
@@ -30,7 +30,7 @@ impl<'a> Model for Settling<'a> {
 }
 
 impl<'a> Settling<'a> {
-    pub fn new(alloc: Global, questions: &'a [Question], actors: u64) -> Settling<'a>
+    pub(crate) fn new(alloc: Global, questions: &'a [Question], actors: u64) -> Settling<'a>
         requires { actors ≤ 16 }
         ensures questions { result.questions ≡ questions.now }
         ensures actors { result.actors ≡ actors }

@@ -7,13 +7,13 @@ ghost use Rattle.hm_race_top.specs.Telling.{script_told, telling};
 ghost use Rattle.hm_edge.specs.Writing.{WriteFaulted};
 
 use crate::asked::Task;
-use hm_base::{NoMemory, Script, Text};
-use hm_edge::{RaceEnd, Status};
-use hm_io::Sink;
 use crate::text::{
     OutcomeBlock, Question, Ruling, is_whole, outcomes_text, rulings_text, summary, table_text,
     text_with_turns,
 };
+use hm_base::{NoMemory, Script, Text};
+use hm_edge::{RaceEnd, Status};
+use hm_io::Sink;
 use hm_report::{Written, write_text};
 use hm_search::End;
 use std::alloc::Global;

@@ -7,9 +7,9 @@ ghost use Rattle.hm_race_states.specs.Keyed.{form_in};
 ghost use Rattle.hm_race_top.specs.Text.Text.{block_of, blocks_of};
 ghost use Rattle.hm_race_top.specs.Ways.{way_to, ways_by};
 
+use crate::text::{OutcomeBlock, add_block, answer_lines};
 use hm_base::{Actor, ListOf, NoMemory, ScheduleLine};
 use hm_race_states::key::StateKey;
-use crate::text::{OutcomeBlock, add_block, answer_lines};
 use hm_search::{Known, turns_to};
 use std::alloc::Global;
 
@@ -63,7 +63,7 @@ fn block_of(
 }
 
 /// The blocks of the ways to the outcomes, in the order in which the search came to them.
-pub fn blocks_of(
+pub(crate) fn blocks_of(
     alloc: Global,
     actors: u64,
     known: &[Known<StateKey>],

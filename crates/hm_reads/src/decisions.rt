@@ -33,7 +33,7 @@ pub fn rlock_mirror<W: Reads>(world: &W, mirror: MirrorId) -> Next
 }
 
 /// Takes the mmap lock for writing, once nobody else has it.
-pub fn wlock<W: Reads>(world: &W, proc: Proc, actor: Actor) -> Next
+pub(crate) fn wlock<W: Reads>(world: &W, proc: Proc, actor: Actor) -> Next
     ensures { result ≡ spec.wlock (W.state world.now).after proc actor }
 {
     match world.lowest_other(proc, actor) {
@@ -154,7 +154,7 @@ pub fn stored(alloc: Global, op: &Op, piece: u32) -> Result<Next, NoMemory>
 }
 
 /// The lowest free system frame is taken, or without one this is due.
-pub fn take_or<W: Reads>(world: &W, failing: Kind) -> Next
+pub(crate) fn take_or<W: Reads>(world: &W, failing: Kind) -> Next
     ensures { result ≡ spec.take_or (W.program world.now) (W.state world.now).after failing }
 {
     match world.lowest_free(PoolId::System) {

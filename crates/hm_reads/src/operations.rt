@@ -86,7 +86,7 @@ pub fn piece_page(op: &Op, piece: u32) -> Page
 }
 
 /// Whose access it is.
-pub fn op_who(op: &Op) -> Who
+pub(crate) fn op_who(op: &Op) -> Who
     ensures { result ≡ spec.op_who op.now }
 {
     match op {
@@ -144,7 +144,7 @@ pub fn op_writes(op: &Op) -> bool
 }
 
 /// Whether the operation makes a page exclusive.
-pub fn is_exclusive_op(op: &Op) -> bool
+pub(crate) fn is_exclusive_op(op: &Op) -> bool
     ensures { result ≡ spec.is_exclusive_op op.now }
 {
     match op {
@@ -218,7 +218,7 @@ fn bytes_of(alloc: Global, base: u64, bytes: &Bytes, addr: u64, len: u64) -> Res
 }
 
 /// The bytes that an operation writes in a piece.
-pub fn op_bytes(alloc: Global, op: &Op, addr: u64, len: u64) -> Result<Bytes, NoMemory>
+pub(crate) fn op_bytes(alloc: Global, op: &Op, addr: u64, len: u64) -> Result<Bytes, NoMemory>
     ensures { IfOk result (λ bytes. bytes ≡ spec.op_bytes op.now (addr, len)) }
 {
     match op {

@@ -78,7 +78,7 @@ impl Buffer {
 
     /// Adds the number's decimal digits.
     #[inline(always)]
-    pub fn put_number(&mut self, number: u64)
+    pub(crate) fn put_number(&mut self, number: u64)
         requires { length self.old + length (decimal number) ≤ ROOM }
         ensures { self.new ≡ self.old ++ decimal number }
     {
@@ -88,7 +88,7 @@ impl Buffer {
     /// Adds a space and the number's decimal digits.
     #[inline(always)]
     #[tactic(auto, using(std::proofs::Common::append_assoc))]
-    pub fn put_spaced(&mut self, number: u64)
+    pub(crate) fn put_spaced(&mut self, number: u64)
         requires { length self.old + 1 + length (decimal number) ≤ ROOM }
         ensures { self.new ≡ self.old ++ 32 ∷ decimal number }
     {
@@ -99,7 +99,7 @@ impl Buffer {
     /// Adds a space, a letter and the number's decimal digits.
     #[inline(always)]
     #[tactic(auto, using(std::proofs::Common::append_assoc))]
-    pub fn put_lettered(&mut self, letter: u8, number: u64)
+    pub(crate) fn put_lettered(&mut self, letter: u8, number: u64)
         requires { length self.old + 2 + length (decimal number) ≤ ROOM }
         ensures { self.new ≡ self.old ++ 32 ∷ letter ∷ decimal number }
     {
@@ -109,7 +109,7 @@ impl Buffer {
     }
 
     /// The piece at the front.
-    pub fn piece(&self) -> &[u8]
+    pub(crate) fn piece(&self) -> &[u8]
         requires { PIECE ≤ length self.now }
         ensures { result.now ≡ take 4096 self.now }
     {
@@ -118,7 +118,7 @@ impl Buffer {
     }
 
     /// Removes the piece at the front.
-    pub fn remove_piece(&mut self)
+    pub(crate) fn remove_piece(&mut self)
         requires { PIECE ≤ length self.old }
         ensures { self.new ≡ drop PIECE self.old }
     {

@@ -5,7 +5,7 @@ ghost use Rattle.hm_report.specs.Words.{pair_text};
 
 /// Writes one byte.
 #[inline(always)]
-pub fn put_at(block: &mut [u8], at: usize, byte: u8) -> usize
+pub(crate) fn put_at(block: &mut [u8], at: usize, byte: u8) -> usize
     requires { at < length block.old }
     ensures text { take (at + 1) block.new ≡ take at block.old ++ byte ∷ [] }
     ensures end { result ≡ at + 1 }
@@ -17,7 +17,7 @@ pub fn put_at(block: &mut [u8], at: usize, byte: u8) -> usize
 
 /// Writes some bytes. A few that are known at the call are stored as a word or two, without a call.
 #[inline(always)]
-pub fn put_bytes(block: &mut [u8], at: usize, bytes: &[u8]) -> usize
+pub(crate) fn put_bytes(block: &mut [u8], at: usize, bytes: &[u8]) -> usize
     requires { at + length bytes.now ≤ length block.old }
     ensures text { take result block.new ≡ take at block.old ++ bytes.now }
     ensures end { result ≡ at + length bytes.now }
@@ -114,7 +114,7 @@ fn put_many(block: &mut [u8], at: usize, number: u64) -> usize
 
 /// Writes a number. Most of a report have one digit, and are written without a call.
 #[inline(always)]
-pub fn put_digits(block: &mut [u8], at: usize, number: u64) -> usize
+pub(crate) fn put_digits(block: &mut [u8], at: usize, number: u64) -> usize
     requires { at + length (decimal number) ≤ length block.old }
     ensures text { take result block.new ≡ take at block.old ++ decimal number }
     ensures end { result ≡ at + length (decimal number) }

@@ -57,7 +57,7 @@ pub fn put_decimal(out: &mut Buffer, lead: &[u8], number: u64)
 
 /// Adds a space and the number.
 #[inline(always)]
-pub fn put_spaced(out: &mut Buffer, number: u64)
+pub(crate) fn put_spaced(out: &mut Buffer, number: u64)
     requires { length out.old + 1 + DIGITS ≤ ROOM }
     ensures text { out.new ≡ out.old ++ 32 ∷ decimal number }
     ensures room { length out.new ≤ length out.old + 1 + DIGITS }
@@ -67,7 +67,7 @@ pub fn put_spaced(out: &mut Buffer, number: u64)
 
 /// Adds a space, a letter and the number.
 #[inline(always)]
-pub fn put_lettered(out: &mut Buffer, letter: u8, number: u64)
+pub(crate) fn put_lettered(out: &mut Buffer, letter: u8, number: u64)
     requires { length out.old + 2 + DIGITS ≤ ROOM }
     ensures text { out.new ≡ out.old ++ 32 ∷ letter ∷ decimal number }
     ensures room { length out.new ≤ length out.old + 2 + DIGITS }
@@ -76,7 +76,7 @@ pub fn put_lettered(out: &mut Buffer, letter: u8, number: u64)
 }
 
 /// Adds a space and the address.
-pub fn put_address(out: &mut Buffer, address: u64)
+pub(crate) fn put_address(out: &mut Buffer, address: u64)
     requires { length out.old + 3 + DIGITS ≤ ROOM }
     ensures text { out.new ≡ out.old ++ 32 ∷ address_text address }
     ensures room { length out.new ≤ length out.old + 3 + DIGITS }
@@ -89,7 +89,7 @@ pub fn put_address(out: &mut Buffer, address: u64)
 
 /// Adds the two digits of a byte.
 #[inline(always)]
-pub fn put_byte(out: &mut Buffer, byte: u8)
+pub(crate) fn put_byte(out: &mut Buffer, byte: u8)
     requires { length out.old + 2 ≤ ROOM }
     ensures { out.new ≡ out.old ++ byte_text byte }
 {

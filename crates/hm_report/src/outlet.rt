@@ -102,7 +102,7 @@ pub fn settle<K: Sink>(out: &mut Buffer, sink: &mut K) -> Result<(), Stop>
 }
 
 /// Adds the bytes of a text.
-pub fn put_text<K: Sink>(out: &mut Buffer, sink: &mut K, text: &[u8]) -> Result<(), Stop>
+pub(crate) fn put_text<K: Sink>(out: &mut Buffer, sink: &mut K, text: &[u8]) -> Result<(), Stop>
     requires { length out.old ≤ PIECE }
     ensures ok { OnOk result
         (GoesOn (K.state sink.old)
@@ -123,7 +123,7 @@ pub fn put_text<K: Sink>(out: &mut Buffer, sink: &mut K, text: &[u8]) -> Result<
 }
 
 /// Adds a space and the digits of the bytes.
-pub fn put_hex<K: Sink>(out: &mut Buffer, sink: &mut K, bytes: &[u8]) -> Result<(), Stop>
+pub(crate) fn put_hex<K: Sink>(out: &mut Buffer, sink: &mut K, bytes: &[u8]) -> Result<(), Stop>
     requires { length out.old + 1 < ROOM }
     ensures ok { OnOk result
         (GoesOn (K.state sink.old)

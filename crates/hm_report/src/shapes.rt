@@ -16,7 +16,7 @@ use hm_history::Who;
 /// Adds a name and a number.
 #[inline(always)]
 #[tactic(auto, using(std::proofs::Common::append_assoc))]
-pub fn put_of_number(out: &mut Buffer, name: &[u8], number: u64)
+pub(crate) fn put_of_number(out: &mut Buffer, name: &[u8], number: u64)
     requires name { length name.now ≤ 100 }
     requires room { length out.old + 900 ≤ ROOM }
     ensures text { out.new ≡ out.old ++ (name.now ++ spaced (decimal number ∷ [])) }
@@ -29,7 +29,7 @@ pub fn put_of_number(out: &mut Buffer, name: &[u8], number: u64)
 /// Adds a name and a process.
 #[inline(always)]
 #[tactic(auto, using(std::proofs::Common::append_assoc))]
-pub fn put_of_proc(out: &mut Buffer, name: &[u8], proc: Proc)
+pub(crate) fn put_of_proc(out: &mut Buffer, name: &[u8], proc: Proc)
     requires name { length name.now ≤ 100 }
     requires room { length out.old + 900 ≤ ROOM }
     ensures text { out.new ≡ out.old ++ (name.now ++ spaced (proc_text proc ∷ [])) }
@@ -42,7 +42,7 @@ pub fn put_of_proc(out: &mut Buffer, name: &[u8], proc: Proc)
 /// Adds a name and two processes.
 #[inline(always)]
 #[tactic(auto, using(std::proofs::Common::append_assoc))]
-pub fn put_of_procs(out: &mut Buffer, name: &[u8], one: Proc, other: Proc)
+pub(crate) fn put_of_procs(out: &mut Buffer, name: &[u8], one: Proc, other: Proc)
     requires name { length name.now ≤ 100 }
     requires room { length out.old + 900 ≤ ROOM }
     ensures text { out.new ≡ out.old ++ (name.now ++ spaced (proc_text one ∷ proc_text other ∷ [])) }
@@ -56,7 +56,7 @@ pub fn put_of_procs(out: &mut Buffer, name: &[u8], one: Proc, other: Proc)
 /// Adds a name, a process and a page.
 #[inline(always)]
 #[tactic(auto, using(std::proofs::Common::append_assoc))]
-pub fn put_of_page(out: &mut Buffer, name: &[u8], proc: Proc, page: Page)
+pub(crate) fn put_of_page(out: &mut Buffer, name: &[u8], proc: Proc, page: Page)
     requires name { length name.now ≤ 100 }
     requires room { length out.old + 900 ≤ ROOM }
     ensures text { out.new ≡ out.old ++ (name.now ++ spaced (proc_text proc ∷ decimal page ∷ [])) }
@@ -70,7 +70,7 @@ pub fn put_of_page(out: &mut Buffer, name: &[u8], proc: Proc, page: Page)
 /// Adds a name, a process and a span.
 #[inline(always)]
 #[tactic(auto, using(std::proofs::Common::append_assoc))]
-pub fn put_of_span(out: &mut Buffer, name: &[u8], proc: Proc, span: Span)
+pub(crate) fn put_of_span(out: &mut Buffer, name: &[u8], proc: Proc, span: Span)
     requires name { length name.now ≤ 100 }
     requires room { length out.old + 900 ≤ ROOM }
     ensures text { out.new
@@ -85,7 +85,7 @@ pub fn put_of_span(out: &mut Buffer, name: &[u8], proc: Proc, span: Span)
 /// Adds a name, a process, a span and a right.
 #[inline(always)]
 #[tactic(auto, using(std::proofs::Common::append_assoc))]
-pub fn put_of_area(out: &mut Buffer, name: &[u8], proc: Proc, span: Span, rights: Rights)
+pub(crate) fn put_of_area(out: &mut Buffer, name: &[u8], proc: Proc, span: Span, rights: Rights)
     requires name { length name.now ≤ 100 }
     requires room { length out.old + 900 ≤ ROOM }
     ensures text { out.new
@@ -102,7 +102,7 @@ pub fn put_of_area(out: &mut Buffer, name: &[u8], proc: Proc, span: Span, rights
 /// Adds a name, a process, a span and a sequence.
 #[inline(always)]
 #[tactic(auto, using(std::proofs::Common::append_assoc))]
-pub fn put_of_guard(out: &mut Buffer, name: &[u8], proc: Proc, span: Span, seq: u64)
+pub(crate) fn put_of_guard(out: &mut Buffer, name: &[u8], proc: Proc, span: Span, seq: u64)
     requires name { length name.now ≤ 100 }
     requires room { length out.old + 900 ≤ ROOM }
     ensures text { out.new
@@ -119,7 +119,7 @@ pub fn put_of_guard(out: &mut Buffer, name: &[u8], proc: Proc, span: Span, seq: 
 /// Adds a name and a mirror.
 #[inline(always)]
 #[tactic(auto, using(std::proofs::Common::append_assoc))]
-pub fn put_of_mirror(out: &mut Buffer, name: &[u8], mirror: MirrorId)
+pub(crate) fn put_of_mirror(out: &mut Buffer, name: &[u8], mirror: MirrorId)
     requires name { length name.now ≤ 100 }
     requires room { length out.old + 900 ≤ ROOM }
     ensures text { out.new ≡ out.old ++ (name.now ++ spaced (mirror_text mirror ∷ [])) }
@@ -132,7 +132,7 @@ pub fn put_of_mirror(out: &mut Buffer, name: &[u8], mirror: MirrorId)
 /// Adds a name, a mirror and a number.
 #[inline(always)]
 #[tactic(auto, using(std::proofs::Common::append_assoc))]
-pub fn put_of_mirror_at(out: &mut Buffer, name: &[u8], mirror: MirrorId, number: u64)
+pub(crate) fn put_of_mirror_at(out: &mut Buffer, name: &[u8], mirror: MirrorId, number: u64)
     requires name { length name.now ≤ 100 }
     requires room { length out.old + 900 ≤ ROOM }
     ensures text { out.new ≡ out.old ++ (name.now ++ spaced (mirror_text mirror ∷ decimal number ∷ [])) }
@@ -146,7 +146,7 @@ pub fn put_of_mirror_at(out: &mut Buffer, name: &[u8], mirror: MirrorId, number:
 /// Adds a name and a device.
 #[inline(always)]
 #[tactic(auto, using(std::proofs::Common::append_assoc))]
-pub fn put_of_device(out: &mut Buffer, name: &[u8], dev: Dev)
+pub(crate) fn put_of_device(out: &mut Buffer, name: &[u8], dev: Dev)
     requires name { length name.now ≤ 100 }
     requires room { length out.old + 900 ≤ ROOM }
     ensures text { out.new ≡ out.old ++ (name.now ++ spaced (device_text dev ∷ [])) }
@@ -159,7 +159,7 @@ pub fn put_of_device(out: &mut Buffer, name: &[u8], dev: Dev)
 /// Adds a name and a frame.
 #[inline(always)]
 #[tactic(auto, using(std::proofs::Common::append_assoc))]
-pub fn put_of_frame(out: &mut Buffer, name: &[u8], frame: &Frame)
+pub(crate) fn put_of_frame(out: &mut Buffer, name: &[u8], frame: &Frame)
     requires name { length name.now ≤ 100 }
     requires room { length out.old + 900 ≤ ROOM }
     ensures text { out.new ≡ out.old ++ (name.now ++ spaced (frame_text frame.now ∷ [])) }
@@ -172,7 +172,7 @@ pub fn put_of_frame(out: &mut Buffer, name: &[u8], frame: &Frame)
 /// Adds a name and two frames.
 #[inline(always)]
 #[tactic(auto, using(std::proofs::Common::append_assoc))]
-pub fn put_of_frames(out: &mut Buffer, name: &[u8], from: &Frame, to: &Frame)
+pub(crate) fn put_of_frames(out: &mut Buffer, name: &[u8], from: &Frame, to: &Frame)
     requires name { length name.now ≤ 100 }
     requires room { length out.old + 900 ≤ ROOM }
     ensures text { out.new ≡ out.old ++ (name.now ++ spaced (frame_text from.now ∷ frame_text to.now ∷ [])) }
@@ -186,7 +186,7 @@ pub fn put_of_frames(out: &mut Buffer, name: &[u8], from: &Frame, to: &Frame)
 /// Adds a name, whose access it is, and an address.
 #[inline(always)]
 #[tactic(auto, using(std::proofs::Common::append_assoc))]
-pub fn put_of_access(out: &mut Buffer, name: &[u8], who: Who, addr: u64)
+pub(crate) fn put_of_access(out: &mut Buffer, name: &[u8], who: Who, addr: u64)
     requires name { length name.now ≤ 100 }
     requires room { length out.old + 900 ≤ ROOM }
     ensures text { out.new ≡ out.old ++ (name.now ++ spaced (who_text who ∷ address_text addr ∷ [])) }

@@ -15,7 +15,7 @@ use hm_history::{KeptAt, TableRight, Who};
 /// The most bytes that a word has, with its space.
 pub const WORD: usize = 132;
 
-pub fn put_number(out: &mut Buffer, number: u64)
+pub(crate) fn put_number(out: &mut Buffer, number: u64)
     requires { length out.old + WORD ≤ ROOM }
     ensures text { out.new ≡ out.old ++ 32 ∷ decimal number }
     ensures room { length out.new ≤ length out.old + WORD }
@@ -25,7 +25,7 @@ pub fn put_number(out: &mut Buffer, number: u64)
 
 /// The first page of a span, and how many pages it has.
 #[tactic(auto, using(std::proofs::Common::append_assoc))]
-pub fn put_span(out: &mut Buffer, span: Span)
+pub(crate) fn put_span(out: &mut Buffer, span: Span)
     requires { length out.old + WORD + WORD ≤ ROOM }
     ensures text { out.new ≡ out.old ++ spaced (decimal span.first ∷ decimal span.count ∷ []) }
     ensures room { length out.new ≤ length out.old + WORD + WORD }
@@ -34,7 +34,7 @@ pub fn put_span(out: &mut Buffer, span: Span)
     put_number(out, span.count());
 }
 
-pub fn put_proc(out: &mut Buffer, proc: Proc)
+pub(crate) fn put_proc(out: &mut Buffer, proc: Proc)
     requires { length out.old + WORD ≤ ROOM }
     ensures text { out.new ≡ out.old ++ 32 ∷ proc_text proc }
     ensures room { length out.new ≤ length out.old + WORD }
@@ -42,7 +42,7 @@ pub fn put_proc(out: &mut Buffer, proc: Proc)
     put_lettered(out, b'p', u64::from(proc.number()));
 }
 
-pub fn put_mirror(out: &mut Buffer, mirror: MirrorId)
+pub(crate) fn put_mirror(out: &mut Buffer, mirror: MirrorId)
     requires { length out.old + WORD ≤ ROOM }
     ensures text { out.new ≡ out.old ++ 32 ∷ mirror_text mirror }
     ensures room { length out.new ≤ length out.old + WORD }
@@ -50,7 +50,7 @@ pub fn put_mirror(out: &mut Buffer, mirror: MirrorId)
     put_lettered(out, b'm', u64::from(mirror.number()));
 }
 
-pub fn put_device(out: &mut Buffer, dev: Dev)
+pub(crate) fn put_device(out: &mut Buffer, dev: Dev)
     requires { length out.old + WORD ≤ ROOM }
     ensures text { out.new ≡ out.old ++ 32 ∷ device_text dev }
     ensures room { length out.new ≤ length out.old + WORD }
@@ -59,7 +59,7 @@ pub fn put_device(out: &mut Buffer, dev: Dev)
 }
 
 #[inline(always)]
-pub fn put_actor(out: &mut Buffer, actor: Actor)
+pub(crate) fn put_actor(out: &mut Buffer, actor: Actor)
     requires { length out.old + WORD ≤ ROOM }
     ensures text { out.new ≡ out.old ++ 32 ∷ actor_text actor }
     ensures room { length out.new ≤ length out.old + WORD }
@@ -67,7 +67,7 @@ pub fn put_actor(out: &mut Buffer, actor: Actor)
     put_lettered(out, b'a', u64::from(actor.number()));
 }
 
-pub fn put_who(out: &mut Buffer, who: Who)
+pub(crate) fn put_who(out: &mut Buffer, who: Who)
     requires { length out.old + WORD ≤ ROOM }
     ensures text { out.new ≡ out.old ++ 32 ∷ who_text who }
     ensures room { length out.new ≤ length out.old + WORD }
@@ -80,7 +80,7 @@ pub fn put_who(out: &mut Buffer, who: Who)
 
 /// The two digits of a byte.
 #[tactic(auto, using(std::proofs::Common::append_assoc))]
-pub fn put_hex(out: &mut Buffer, byte: u8)
+pub(crate) fn put_hex(out: &mut Buffer, byte: u8)
     requires { length out.old + WORD ≤ ROOM }
     ensures text { out.new ≡ out.old ++ 32 ∷ byte_text byte }
     ensures room { length out.new ≤ length out.old + WORD }
@@ -90,7 +90,7 @@ pub fn put_hex(out: &mut Buffer, byte: u8)
 }
 
 #[tactic(auto, using(std::proofs::Common::append_assoc))]
-pub fn put_frame(out: &mut Buffer, frame: &Frame)
+pub(crate) fn put_frame(out: &mut Buffer, frame: &Frame)
     requires { length out.old + WORD ≤ ROOM }
     ensures text { out.new ≡ out.old ++ 32 ∷ frame_text frame.now }
     ensures room { length out.new ≤ length out.old + WORD }
@@ -104,7 +104,7 @@ pub fn put_frame(out: &mut Buffer, frame: &Frame)
     }
 }
 
-pub fn put_rights(out: &mut Buffer, rights: Rights)
+pub(crate) fn put_rights(out: &mut Buffer, rights: Rights)
     requires { length out.old + WORD ≤ ROOM }
     ensures text { out.new ≡ out.old ++ 32 ∷ right_text rights }
     ensures room { length out.new ≤ length out.old + WORD }
@@ -116,7 +116,7 @@ pub fn put_rights(out: &mut Buffer, rights: Rights)
 }
 
 /// Whether writes are allowed.
-pub fn put_writes(out: &mut Buffer, writes: bool)
+pub(crate) fn put_writes(out: &mut Buffer, writes: bool)
     requires { length out.old + WORD ≤ ROOM }
     ensures text { out.new ≡ out.old ++ 32 ∷ write_text writes }
     ensures room { length out.new ≤ length out.old + WORD }
@@ -129,7 +129,7 @@ pub fn put_writes(out: &mut Buffer, writes: bool)
 }
 
 /// What a table entry names.
-pub fn put_target(out: &mut Buffer, target: &Option<Frame>)
+pub(crate) fn put_target(out: &mut Buffer, target: &Option<Frame>)
     requires { length out.old + WORD ≤ ROOM }
     ensures text { out.new ≡ out.old ++ 32 ∷ target_text target.now }
     ensures room { length out.new ≤ length out.old + WORD }
@@ -140,7 +140,7 @@ pub fn put_target(out: &mut Buffer, target: &Option<Frame>)
     }
 }
 
-pub fn put_table_right(out: &mut Buffer, right: TableRight)
+pub(crate) fn put_table_right(out: &mut Buffer, right: TableRight)
     requires { length out.old + WORD ≤ ROOM }
     ensures text { out.new ≡ out.old ++ 32 ∷ table_right_text right }
     ensures room { length out.new ≤ length out.old + WORD }
@@ -153,7 +153,7 @@ pub fn put_table_right(out: &mut Buffer, right: TableRight)
 }
 
 /// An eighth of a frame, or all of it.
-pub fn put_part(out: &mut Buffer, part: Option<u8>)
+pub(crate) fn put_part(out: &mut Buffer, part: Option<u8>)
     requires { length out.old + WORD ≤ ROOM }
     ensures text { out.new ≡ out.old ++ 32 ∷ part_text part }
     ensures room { length out.new ≤ length out.old + WORD }
@@ -164,7 +164,7 @@ pub fn put_part(out: &mut Buffer, part: Option<u8>)
     }
 }
 
-pub fn put_kept(out: &mut Buffer, at: &KeptAt)
+pub(crate) fn put_kept(out: &mut Buffer, at: &KeptAt)
     requires { length out.old + WORD ≤ ROOM }
     ensures text { out.new ≡ out.old ++ 32 ∷ kept_text at.now }
     ensures room { length out.new ≤ length out.old + WORD }
@@ -175,7 +175,7 @@ pub fn put_kept(out: &mut Buffer, at: &KeptAt)
     }
 }
 
-pub fn put_cause(out: &mut Buffer, cause: Cause)
+pub(crate) fn put_cause(out: &mut Buffer, cause: Cause)
     requires { length out.old + WORD ≤ ROOM }
     ensures text { out.new ≡ out.old ++ 32 ∷ decimal (cause_number cause) }
     ensures room { length out.new ≤ length out.old + WORD }

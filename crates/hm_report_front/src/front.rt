@@ -15,7 +15,7 @@ pub struct Front<'a> {
 }
 
 /// Cuts the bytes at the first line `history`.
-pub fn cut_front(bytes: &[u8]) -> Front<'_>
+pub(crate) fn cut_front(bytes: &[u8]) -> Front<'_>
     ensures parts { FrontOf bytes.now result.script.now result.rest }
     ensures count { result.lines ≡ length (lines result.script.now) }
     ensures few { result.lines ≤ length bytes.now }

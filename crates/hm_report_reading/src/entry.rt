@@ -12,7 +12,7 @@ use hm_script::{LineWords, Reason};
 use std::alloc::Global;
 
 /// What stands before this end, if the text has it.
-pub fn strip_end<'a>(text: &'a [u8], end: &[u8]) -> Option<&'a [u8]>
+pub(crate) fn strip_end<'a>(text: &'a [u8], end: &[u8]) -> Option<&'a [u8]>
     ensures { MatchOption result ((front : List ℕ) → text.now ≡ front ++ end.now → ⊥)
         (λ front. text.now ≡ front.now ++ end.now) }
 {
@@ -20,7 +20,7 @@ pub fn strip_end<'a>(text: &'a [u8], end: &[u8]) -> Option<&'a [u8]>
 }
 
 /// Reads the words of a line.
-pub fn read_words(alloc: Global, line: &[u8]) -> Result<Result<Entry, Reason>, NoMemory>
+pub(crate) fn read_words(alloc: Global, line: &[u8]) -> Result<Result<Entry, Reason>, NoMemory>
     ensures { IfOk result (λ r. r ≡ entry_at (split line.now)) }
 {
     let words = EntryWords {

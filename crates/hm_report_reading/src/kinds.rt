@@ -505,7 +505,11 @@ impl EntryWords<'_> {
     }
 
     /// Reads the words by the kind that they name.
-    pub fn read(&self, alloc: Global, kind: KindWord) -> Result<Result<Kind, Reason>, NoMemory>
+    pub(crate) fn read(
+        &self,
+        alloc: Global,
+        kind: KindWord,
+    ) -> Result<Result<Kind, Reason>, NoMemory>
         ensures { IfOk result (λ k. k ≡ kind_at kind self.now.words) }
     {
         Ok(match kind {

@@ -8,7 +8,7 @@ use hm_script::cut_line;
 use std::alloc::Global;
 
 /// Reads these lines up to the first other one, and gives that line and what follows it.
-pub fn read_unfinished<'a>(
+pub(crate) fn read_unfinished<'a>(
     alloc: Global,
     reader: &mut LineReader,
     bytes: &'a [u8],

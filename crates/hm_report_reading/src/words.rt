@@ -53,7 +53,7 @@ fn numbered(limit: u64, word: &[u8]) -> Result<u64, Reason>
 }
 
 #[tactic(auto, unfolding(crate::specs::Words::numbered))]
-pub fn proc(word: &[u8]) -> Result<Proc, Reason>
+pub(crate) fn proc(word: &[u8]) -> Result<Proc, Reason>
     ensures { result ≡ spec.numbered 32 word.now }
 {
     let number = number(behind(word))?;
@@ -64,7 +64,7 @@ pub fn proc(word: &[u8]) -> Result<Proc, Reason>
 }
 
 #[tactic(auto, unfolding(crate::specs::Words::numbered))]
-pub fn mirror(word: &[u8]) -> Result<MirrorId, Reason>
+pub(crate) fn mirror(word: &[u8]) -> Result<MirrorId, Reason>
     ensures { result ≡ spec.numbered 32 word.now }
 {
     let number = number(behind(word))?;
@@ -75,7 +75,7 @@ pub fn mirror(word: &[u8]) -> Result<MirrorId, Reason>
 }
 
 #[tactic(auto, unfolding(crate::specs::Words::numbered))]
-pub fn device(word: &[u8]) -> Result<Dev, Reason>
+pub(crate) fn device(word: &[u8]) -> Result<Dev, Reason>
     ensures { result ≡ spec.numbered 4 word.now }
 {
     let number = number(behind(word))?;
@@ -86,7 +86,7 @@ pub fn device(word: &[u8]) -> Result<Dev, Reason>
 }
 
 #[tactic(auto, unfolding(crate::specs::Words::numbered))]
-pub fn actor(word: &[u8]) -> Result<Actor, Reason>
+pub(crate) fn actor(word: &[u8]) -> Result<Actor, Reason>
     ensures { result ≡ spec.numbered 16 word.now }
 {
     let number = number(behind(word))?;
@@ -97,7 +97,7 @@ pub fn actor(word: &[u8]) -> Result<Actor, Reason>
 }
 
 #[tactic(auto, unfolding(crate::specs::Words::page_at))]
-pub fn page(word: &[u8]) -> Result<Page, Reason>
+pub(crate) fn page(word: &[u8]) -> Result<Page, Reason>
     ensures { result ≡ spec.page_at word.now }
 {
     let number = number(word)?;
@@ -118,7 +118,7 @@ fn checked_span(first: u64, count: u64) -> Result<Span, Reason>
 }
 
 #[tactic(auto, unfolding(crate::specs::Words::span_at))]
-pub fn span(first: &[u8], count: &[u8]) -> Result<Span, Reason>
+pub(crate) fn span(first: &[u8], count: &[u8]) -> Result<Span, Reason>
     ensures { result ≡ spec.span_at first.now count.now }
 {
     let first = number(first)?;
@@ -144,7 +144,7 @@ fn pair(high: u8, low: u8) -> u8
 }
 
 /// The byte that two hexadecimal digits write.
-pub fn byte(word: &[u8]) -> u8
+pub(crate) fn byte(word: &[u8]) -> u8
     ensures { result ≡ spec.byte_at word.now }
 {
     match word {
@@ -154,7 +154,7 @@ pub fn byte(word: &[u8]) -> u8
 }
 
 /// The bytes that pairs of hexadecimal digits write.
-pub fn bytes(alloc: Global, word: &[u8]) -> Result<Bytes, NoMemory>
+pub(crate) fn bytes(alloc: Global, word: &[u8]) -> Result<Bytes, NoMemory>
     ensures { IfOk result (λ bytes. bytes ≡ spec.bytes_at word.now) }
 {
     let mut bytes = Bytes::new(alloc);
@@ -167,7 +167,7 @@ pub fn bytes(alloc: Global, word: &[u8]) -> Result<Bytes, NoMemory>
 }
 
 /// What an area allows.
-pub fn right(word: &[u8]) -> Rights
+pub(crate) fn right(word: &[u8]) -> Rights
     ensures { result ≡ spec.right_at word.now }
 {
     if word == b"rw".as_slice() {
@@ -178,7 +178,7 @@ pub fn right(word: &[u8]) -> Rights
 }
 
 #[tactic(auto, unfolding(crate::specs::Words::who_at))]
-pub fn who(word: &[u8]) -> Result<Who, Reason>
+pub(crate) fn who(word: &[u8]) -> Result<Who, Reason>
     ensures { result ≡ spec.who_at word.now }
 {
     let number = numbered(32, word)?;
@@ -208,7 +208,7 @@ fn device_frame(word: &[u8]) -> Result<Frame, Reason>
 }
 
 #[tactic(auto, unfolding(crate::specs::Words::frame_at))]
-pub fn frame(word: &[u8]) -> Result<Frame, Reason>
+pub(crate) fn frame(word: &[u8]) -> Result<Frame, Reason>
     ensures { result ≡ spec.frame_at word.now }
 {
     if begins(word, b's') {
@@ -219,7 +219,7 @@ pub fn frame(word: &[u8]) -> Result<Frame, Reason>
 }
 
 #[tactic(auto, unfolding(crate::specs::Words::target_at))]
-pub fn target(word: &[u8]) -> Result<Option<Frame>, Reason>
+pub(crate) fn target(word: &[u8]) -> Result<Option<Frame>, Reason>
     ensures { result ≡ spec.target_at word.now }
 {
     if word == b"zero".as_slice() {
@@ -230,7 +230,7 @@ pub fn target(word: &[u8]) -> Result<Option<Frame>, Reason>
 }
 
 /// What a table entry allows.
-pub fn table_right(word: &[u8]) -> TableRight
+pub(crate) fn table_right(word: &[u8]) -> TableRight
     ensures { result ≡ spec.table_right_at word.now }
 {
     if word == b"r".as_slice() {
@@ -243,7 +243,7 @@ pub fn table_right(word: &[u8]) -> TableRight
 }
 
 #[tactic(auto, unfolding(crate::specs::Words::part_at))]
-pub fn part(word: &[u8]) -> Result<Option<u8>, Reason>
+pub(crate) fn part(word: &[u8]) -> Result<Option<u8>, Reason>
     ensures { result ≡ spec.part_at word.now }
 {
     if word == b"all".as_slice() {
@@ -254,7 +254,7 @@ pub fn part(word: &[u8]) -> Result<Option<u8>, Reason>
 }
 
 #[tactic(auto, unfolding(crate::specs::Words::kept_at))]
-pub fn kept(word: &[u8]) -> Result<KeptAt, Reason>
+pub(crate) fn kept(word: &[u8]) -> Result<KeptAt, Reason>
     ensures { result ≡ spec.kept_at word.now }
 {
     if begins(word, b's') || begins(word, b'd') {
@@ -285,7 +285,7 @@ fn cause_of(number: u64) -> Result<Cause, Reason>
 }
 
 #[tactic(auto, unfolding(crate::specs::Words::cause_at))]
-pub fn cause(word: &[u8]) -> Result<Cause, Reason>
+pub(crate) fn cause(word: &[u8]) -> Result<Cause, Reason>
     ensures { result ≡ spec.cause_at word.now }
 {
     let number = number(word)?;
@@ -293,14 +293,14 @@ pub fn cause(word: &[u8]) -> Result<Cause, Reason>
 }
 
 /// Whether writes are allowed.
-pub fn writes(word: &[u8]) -> bool
+pub(crate) fn writes(word: &[u8]) -> bool
     ensures { result ≡ spec.writes word.now }
 {
     word == b"w".as_slice()
 }
 
 /// The number of a frame of the system.
-pub fn system_number(frame: &Frame) -> Result<u32, Reason>
+pub(crate) fn system_number(frame: &Frame) -> Result<u32, Reason>
     ensures { result ≡ spec.system_number frame.now.pool frame.now.number }
 {
     match frame.pool {
@@ -310,7 +310,7 @@ pub fn system_number(frame: &Frame) -> Result<u32, Reason>
 }
 
 /// The place in a device's own frame.
-pub fn own_place(frame: &Frame, writable: bool) -> Result<Place, Reason>
+pub(crate) fn own_place(frame: &Frame, writable: bool) -> Result<Place, Reason>
     ensures { result ≡ spec.own_place frame.now.pool frame.now.number writable }
 {
     match frame.pool {

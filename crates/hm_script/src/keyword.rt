@@ -87,7 +87,7 @@ impl OpWord {
     }
 
     /// Whether only version 2 has the operation.
-    pub fn is_new(self) -> bool
+    pub(crate) fn is_new(self) -> bool
         ensures { result ≡ is_new_word self }
     {
         matches!(self, OpWord::Exclusive | OpWord::Add)

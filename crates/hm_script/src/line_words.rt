@@ -118,7 +118,7 @@ impl<'a> LineWords<'a> {
     }
 
     /// Whether there are `count` words, none of them empty.
-    pub fn shape(&self, count: usize) -> Result<(), Reason>
+    pub(crate) fn shape(&self, count: usize) -> Result<(), Reason>
         ensures { result ≡ shape count self.now }
     {
         shape_of(self.line, count)

@@ -35,7 +35,7 @@ fn all_printable(text: &[u8]) -> bool
 
 /// The line without its line feed.
 #[tactic(auto, unfolding(crate::specs::Automaton::line_text))]
-pub fn text_of(line: &[u8]) -> Result<&[u8], Reason>
+pub(crate) fn text_of(line: &[u8]) -> Result<&[u8], Reason>
     requires { 0 < length line.now }
     ensures { MatchResult result (λ text. line_text line.now ≡ Ok text.now) (λ r. line_text line.now ≡ Err r) }
 {

@@ -100,7 +100,7 @@ fn pair(high: u8, low: u8) -> Option<u8>
 }
 
 /// Reads pairs of hexadecimal digits.
-pub fn hex(alloc: Global, word: &[u8]) -> Result<Bytes, LineError>
+pub(crate) fn hex(alloc: Global, word: &[u8]) -> Result<Bytes, LineError>
     ensures { Gives (λ bytes. bytes) result (hex word.now) }
 {
     let mut bytes = Bytes::new(alloc);
@@ -120,7 +120,7 @@ pub fn hex(alloc: Global, word: &[u8]) -> Result<Bytes, LineError>
 
 /// Reads what an area allows.
 #[tactic(auto, unfolding(crate::specs::Numerals::right))]
-pub fn right(word: &[u8]) -> Result<Rights, Reason>
+pub(crate) fn right(word: &[u8]) -> Result<Rights, Reason>
     ensures { result ≡ right word.now }
 {
     if word == b"r".as_slice() {

@@ -339,7 +339,7 @@ impl OpLine<'_> {
     }
 
     /// Reads the line.
-    pub fn read(&self, alloc: Global, op: OpWord) -> Result<Op, LineError>
+    pub(crate) fn read(&self, alloc: Global, op: OpWord) -> Result<Op, LineError>
         ensures { Gives (λ op. op) result (op_at self.now.devices op self.now.words) }
     {
         let op = match op {

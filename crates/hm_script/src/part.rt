@@ -19,7 +19,7 @@ pub enum Part {
 
 impl Part {
     /// Whether a line with this first word may come next.
-    pub fn allows(self, keyword: Keyword) -> bool
+    pub(crate) fn allows(self, keyword: Keyword) -> bool
         ensures { result ≡ allows self keyword }
     {
         match self {

@@ -59,7 +59,7 @@ impl Reader {
     ghost use Rattle.hm_base.specs.Program.{IsScript};
     ghost use Rattle.hm_script.specs.Automaton.{start, step, permits, keyword_at, next, read_header, read_text};
 
-    pub fn new(alloc: Global) -> Reader
+    pub(crate) fn new(alloc: Global) -> Reader
         ensures { state_of result ≡ start }
     {
         Reader {
@@ -244,7 +244,12 @@ impl Reader {
 
     /// Reads the next line.
     #[tactic(auto, unfolding(crate::specs::Automaton::next))]
-    pub fn line(&mut self, alloc: Global, line: &[u8], words: &Words) -> Result<(), LineError>
+    pub(crate) fn line(
+        &mut self,
+        alloc: Global,
+        line: &[u8],
+        words: &Words,
+    ) -> Result<(), LineError>
         requires { 0 < length line.now }
         ensures { Moves result (next words.now (state_of self.old) line.now) (state_of self.new) }
     {
@@ -256,7 +261,7 @@ impl Reader {
     }
 
     /// The script that was read.
-    pub fn into_script(self) -> Script
+    pub(crate) fn into_script(self) -> Script
         requires { IsScript (program_of self) }
         ensures { result ≡ program_of self }
     {

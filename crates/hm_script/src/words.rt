@@ -72,7 +72,7 @@ impl Words {
     }
 
     /// Whether the operation is there.
-    pub fn has(&self, op: OpWord) -> bool
+    pub(crate) fn has(&self, op: OpWord) -> bool
         ensures { result ≡ has_op self.now op }
     {
         match op {

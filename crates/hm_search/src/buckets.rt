@@ -48,7 +48,7 @@ impl Buckets {
     }
 
     /// No number.
-    pub fn new(alloc: Global) -> Result<Buckets, NoMemory>
+    pub(crate) fn new(alloc: Global) -> Result<Buckets, NoMemory>
         ensures { IfOk result (λ b. b.numbers ≡ []) }
     {
         Buckets::with_slots(alloc, FIRST_SLOTS)
@@ -63,14 +63,14 @@ impl Buckets {
     }
 
     /// The last place whose number falls into the slot of this number.
-    pub fn last(&self, number: u64) -> Option<usize>
+    pub(crate) fn last(&self, number: u64) -> Option<usize>
         ensures { IsLast self.now (length self.now.numbers) (slot_in self.now.slots number) result }
     {
         self.last[self.slot(number)]
     }
 
     /// The place before this one whose number falls into the same slot.
-    pub fn before(&self, at: usize) -> Option<usize>
+    pub(crate) fn before(&self, at: usize) -> Option<usize>
         requires { at < length self.now.numbers }
         ensures { IsLast self.now at (slot_at self.now at) result }
     {
@@ -78,7 +78,7 @@ impl Buckets {
     }
 
     /// The number at this place.
-    pub fn number(&self, at: usize) -> u64
+    pub(crate) fn number(&self, at: usize) -> u64
         requires { at < length self.now.numbers }
         ensures { result ≡ get_or self.now.numbers at 0 }
     {
@@ -110,7 +110,7 @@ impl Buckets {
     }
 
     /// One number more, at the end.
-    pub fn push(&mut self, alloc: Global, number: u64) -> Result<(), NoMemory>
+    pub(crate) fn push(&mut self, alloc: Global, number: u64) -> Result<(), NoMemory>
         ensures { OnOk result (self.new.numbers ≡ self.old.numbers ++ number ∷ []) }
     {
         if self.links.len() >= self.last.len() {

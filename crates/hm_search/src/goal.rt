@@ -36,7 +36,7 @@ impl<K> Goal<K> for Nowhere {
 }
 
 /// Whether one of the states from this place on that counts as ended reaches the goal.
-pub fn any_reached<K, G: Goal<K>>(
+pub(crate) fn any_reached<K, G: Goal<K>>(
     goal: &G,
     known: &[Known<K>],
     from: usize,

@@ -47,7 +47,7 @@ impl<K: SearchKey + Drop> States<K> {
     }
 
     /// Whether a state with this key, whose bucket this is, is known.
-    pub fn has(&self, bucket: u64, key: &K) -> bool
+    pub(crate) fn has(&self, bucket: u64, key: &K) -> bool
         requires fits { Fits K.form K.number K.Valid self.now.known.items self.now.buckets }
         requires bucket { bucket ≡ K.number key.now }
         ensures some { result ≡ true → IsListed (key_forms K.form self.now.known.items) (K.form key.now) }

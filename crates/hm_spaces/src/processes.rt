@@ -4,7 +4,7 @@ ghost use Rattle.hm_spaces.specs.Spaces.{there_next, named_next};
 
 use hm_history::Kind;
 
-pub fn step_there(there: &mut [bool; 32], kind: &Kind)
+pub(crate) fn step_there(there: &mut [bool; 32], kind: &Kind)
     ensures { there.new ≡ there_next kind.now there.old }
 {
     match kind {
@@ -14,7 +14,7 @@ pub fn step_there(there: &mut [bool; 32], kind: &Kind)
     }
 }
 
-pub fn step_named(named: &mut [bool; 32], kind: &Kind)
+pub(crate) fn step_named(named: &mut [bool; 32], kind: &Kind)
     ensures { named.new ≡ named_next kind.now named.old }
 {
     match kind {

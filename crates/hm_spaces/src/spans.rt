@@ -12,7 +12,7 @@ use std::alloc::Global;
 use std::mem;
 use vm_areas::{AreaRefusal, Areas};
 
-pub fn nothing_mapped(alloc: Global) -> Result<Vec<Areas>, NoMemory>
+pub(crate) fn nothing_mapped(alloc: Global) -> Result<Vec<Areas>, NoMemory>
     ensures { IfOk result (λ x. x.items ≡ replicate 32 []) }
 {
     let mut areas = Vec::with_capacity(alloc, 32)?;
@@ -22,7 +22,7 @@ pub fn nothing_mapped(alloc: Global) -> Result<Vec<Areas>, NoMemory>
     Ok(areas)
 }
 
-pub fn step(areas: &mut Vec<Areas>, spare: &mut Areas, kind: &Kind)
+pub(crate) fn step(areas: &mut Vec<Areas>, spare: &mut Areas, kind: &Kind)
     requires len { length areas.old.items ≡ 32 }
     requires fits { SpacesFit (plain_with areas.old.items) kind.now }
     ensures next { areas.new.items ≡ areas_next kind.now areas.old.items }
@@ -65,7 +65,7 @@ fn cause_of(refusal: Option<AreaRefusal>) -> Option<Cause>
     }
 }
 
-pub fn refusal(areas: &Vec<Areas>, op: &Op) -> Option<Cause>
+pub(crate) fn refusal(areas: &Vec<Areas>, op: &Op) -> Option<Cause>
     requires len { length areas.now.items ≡ 32 }
     ensures refusal { result ≡ area_refusal (plain_with areas.now.items) op.now }
     ensures proc { proc_of_op op.now < 32 }

@@ -48,7 +48,7 @@ fn due_step<W: Reads, R: SkipRule>(
 }
 
 /// The turn of a migration that has come to a step and a page: what that step has for its next page, or the answer.
-pub fn due_moves<W: Reads, R: SkipRule>(
+pub(crate) fn due_moves<W: Reads, R: SkipRule>(
     world: &W,
     rule: &R,
     actor: Actor,

@@ -19,7 +19,7 @@ use std::alloc::Global;
 use unmap_zap::step_areas;
 
 /// The first turn of an operation that is no access.
-pub fn due_begin<W: Reads>(world: &W, actor: Actor, op: &Op) -> Next
+pub(crate) fn due_begin<W: Reads>(world: &W, actor: Actor, op: &Op) -> Next
     ensures { result ≡ spec.due_begin (W.state world.now).after actor op.now }
 {
     match op {
@@ -44,7 +44,7 @@ pub fn due_begin<W: Reads>(world: &W, actor: Actor, op: &Op) -> Next
 }
 
 /// The turn under the write lock.
-pub fn due_locked<W: Reads>(world: &W, op: &Op) -> Kind
+pub(crate) fn due_locked<W: Reads>(world: &W, op: &Op) -> Kind
     ensures { result ≡ spec.due_locked (W.state world.now).after op.now }
 {
     match op {
@@ -54,7 +54,7 @@ pub fn due_locked<W: Reads>(world: &W, op: &Op) -> Kind
 }
 
 /// The start of the guard over an operation's span.
-pub fn due_ready<W: Reads>(world: &W, op: &Op) -> Kind
+pub(crate) fn due_ready<W: Reads>(world: &W, op: &Op) -> Kind
     ensures { result ≡ spec.due_ready (W.state world.now).after op.now }
 {
     match op {
@@ -66,7 +66,7 @@ pub fn due_ready<W: Reads>(world: &W, op: &Op) -> Kind
 }
 
 /// An operation's answer, or the release of its lock.
-pub fn due_answer<W: Reads>(world: &W, op: &Op) -> Kind
+pub(crate) fn due_answer<W: Reads>(world: &W, op: &Op) -> Kind
     ensures { result ≡ spec.due_answer (W.state world.now).after op.now }
 {
     match op {
@@ -93,7 +93,7 @@ pub fn due_answer<W: Reads>(world: &W, op: &Op) -> Kind
 }
 
 /// A snapshot's turn.
-pub fn due_pages<W: Reads>(world: &W, op: &Op, next: u64) -> Kind
+pub(crate) fn due_pages<W: Reads>(world: &W, op: &Op, next: u64) -> Kind
     ensures { result ≡ spec.due_pages (W.state world.now).after op.now next }
 {
     match op {
@@ -103,7 +103,7 @@ pub fn due_pages<W: Reads>(world: &W, op: &Op, next: u64) -> Kind
 }
 
 /// The turn at a piece of an access.
-pub fn due_piece<W: Reads>(
+pub(crate) fn due_piece<W: Reads>(
     world: &W,
     alloc: Global,
     actor: Actor,

@@ -389,7 +389,7 @@ fn fetched_turn<W: Reads>(
 
 /// The turn at a phase. Only the answers of accesses take memory.
 #[inline(always)]
-pub fn due_phase<W: Reads, R: SkipRule>(
+pub(crate) fn due_phase<W: Reads, R: SkipRule>(
     world: &W,
     rule: &R,
     alloc: Global,

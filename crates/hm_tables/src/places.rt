@@ -17,7 +17,7 @@ pub enum PageTest {
 }
 
 impl PageTest {
-    pub fn passes(self, place: Place) -> bool
+    pub(crate) fn passes(self, place: Place) -> bool
         ensures { result ≡ page_test self place }
     {
         match self {
@@ -38,7 +38,7 @@ fn is_used(place: Place) -> bool
 
 /// The place that a word stands for.
 #[tactic(auto, unfolding(crate::specs::Values::place_of_word))]
-pub fn place_of_word(word: u64) -> Place
+pub(crate) fn place_of_word(word: u64) -> Place
     ensures { result ≡ place_of_word word }
 {
     match place_at(word) {
@@ -48,14 +48,14 @@ pub fn place_of_word(word: u64) -> Place
 }
 
 /// Whether a place names the frame.
-pub fn is_named_by(frame: &Frame, place: &Place) -> bool
+pub(crate) fn is_named_by(frame: &Frame, place: &Place) -> bool
     ensures { result ≡ is_frame (names place.now) frame.now }
 {
     is_frame(names(place), frame)
 }
 
 /// Whether it is a migration entry.
-pub fn is_moving(place: &Place) -> bool
+pub(crate) fn is_moving(place: &Place) -> bool
     ensures { result ≡ is_moving place.now }
 {
     match place {

@@ -17,7 +17,7 @@ use std::alloc::Global;
 const POOLS: u32 = 5;
 
 /// The maps of the pools of a script, in which no frame has a use.
-pub fn new_pools(alloc: Global, script: &Script) -> Result<Vec<RevMaps>, NoMemory>
+pub(crate) fn new_pools(alloc: Global, script: &Script) -> Result<Vec<RevMaps>, NoMemory>
     ensures { IfOk result (λ pools. pools.items ≡ first_pools script.now 5) }
 {
     let mut pools = Vec::new(alloc);
@@ -44,7 +44,7 @@ fn frames_of(script: &Script, index: u32) -> u32
 }
 
 /// Where the maps of a pool stand.
-pub fn pool_index(pool: &PoolId) -> usize
+pub(crate) fn pool_index(pool: &PoolId) -> usize
     ensures index { result ≡ pool_field pool.now }
     ensures below { result < 5 }
 {
@@ -55,7 +55,7 @@ pub fn pool_index(pool: &PoolId) -> usize
 }
 
 /// Makes room for a use of the frame.
-pub fn reserve_use(pools: &mut Vec<RevMaps>, frame: Option<Frame>) -> Result<(), NoMemory>
+pub(crate) fn reserve_use(pools: &mut Vec<RevMaps>, frame: Option<Frame>) -> Result<(), NoMemory>
     requires pools { length pools.old.items ≡ 5 }
     requires fits { FrameFits (size_in pools.old.items) frame }
     ensures same { SamePools pools.old.items pools.new.items }
@@ -72,7 +72,7 @@ pub fn reserve_use(pools: &mut Vec<RevMaps>, frame: Option<Frame>) -> Result<(),
 
 /// The use of the page from its old place to its new one. Where the frame stays, the list stays, or its
 /// entry is marked.
-pub fn change_use(pools: &mut Vec<RevMaps>, proc: Proc, page: Page, old: &Place, new: &Place)
+pub(crate) fn change_use(pools: &mut Vec<RevMaps>, proc: Proc, page: Page, old: &Place, new: &Place)
     requires pools { length pools.old.items ≡ 5 }
     requires says { SaysOf pools.old.items proc page old.now }
     requires room { HasUseRoom pools.old.items (names new.now) }

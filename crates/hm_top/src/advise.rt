@@ -33,7 +33,7 @@ fn advise_on<K: Sink>(alloc: Global, ran: Ran, sink: &mut K, leans: &Leans) -> E
 
 /// Reads a script, makes its schedule's turns, and writes how often the pages of its mirrors' windows were accessed,
 /// and which of them should move.
-pub fn advise<S: Source, K: Sink>(
+pub(crate) fn advise<S: Source, K: Sink>(
     alloc: Global,
     source: &mut S,
     sink: &mut K,

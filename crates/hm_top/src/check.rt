@@ -17,7 +17,7 @@ use hm_workers::PeekList;
 use std::alloc::Global;
 
 /// The line on bytes with this first bad line.
-pub fn bad_line(alloc: Global, line: u64) -> Result<Text, NoMemory>
+pub(crate) fn bad_line(alloc: Global, line: u64) -> Result<Text, NoMemory>
     ensures { IfOk result (λ t. t ≡ bad_line line) }
 {
     let text = format!(in alloc; "bad {line}\n")?;
@@ -57,7 +57,7 @@ fn answer(alloc: Global, verdict: Verdict) -> Ended
 }
 
 /// Ends a call whose text of the verdict was written so.
-pub fn end_judged(alloc: Global, verdict: Verdict, written: Written) -> Ended
+pub(crate) fn end_judged(alloc: Global, verdict: Verdict, written: Written) -> Ended
     ensures status { result.status ≡ told_status verdict written }
     ensures peeks { result.peeks ≡ [] }
     ensures ends { EndsAt verdict result result.status }
@@ -93,7 +93,7 @@ fn write_verdict<K: Sink>(alloc: Global, verdict: Verdict, sink: &mut K) -> Ende
 }
 
 /// Reads a report, and writes the verdict on it.
-pub fn check<S: Source, K: Sink>(alloc: Global, source: &mut S, sink: &mut K) -> Ended
+pub(crate) fn check<S: Source, K: Sink>(alloc: Global, source: &mut S, sink: &mut K) -> Ended
     ensures does { Checks
         (traffic S.state K.state source.old source.new sink.old sink.new) result }
     ensures peeks { result.peeks ≡ [] }

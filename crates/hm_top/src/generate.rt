@@ -13,7 +13,7 @@ use skip_rules::Kept;
 use std::alloc::Global;
 
 /// Writes the text of the trial of this number.
-pub fn generate<K: Sink>(alloc: Global, number: u64, sink: &mut K) -> Ended
+pub(crate) fn generate<K: Sink>(alloc: Global, number: u64, sink: &mut K) -> Ended
     ensures does { (source : SourceState) → Generates number
         (traffic_of source K.state sink.old sink.new) result }
     ensures peeks { result.peeks ≡ [] }
@@ -25,7 +25,7 @@ pub fn generate<K: Sink>(alloc: Global, number: u64, sink: &mut K) -> Ended
 }
 
 /// Runs the trial of this number, and writes the summary.
-pub fn trial<K: Sink>(alloc: Global, number: u64, sink: &mut K, skip: &Kept) -> Ended
+pub(crate) fn trial<K: Sink>(alloc: Global, number: u64, sink: &mut K, skip: &Kept) -> Ended
     ensures does { (source : SourceState) → Tries number
         (traffic_of source K.state sink.old sink.new) result }
     ensures peeks { result.peeks ≡ [] }

@@ -20,7 +20,7 @@ use hm_workers::PeekList;
 use std::alloc::Global;
 
 /// Ends a call whose text of what ran was written so.
-pub fn show_run(alloc: Global, ran: Ran, written: Written) -> Ended
+pub(crate) fn show_run(alloc: Global, ran: Ran, written: Written) -> Ended
     ensures shows { Shows ran result }
     ensures status { result.status ≡ shown_status written ran.full }
     ensures peeks { result.peeks ≡ [] }
@@ -41,7 +41,7 @@ pub fn show_run(alloc: Global, ran: Ran, written: Written) -> Ended
 }
 
 /// Writes the report of what ran, and ends the call.
-pub fn report_run<K: Sink>(alloc: Global, ran: Ran, sink: &mut K) -> Ended
+pub(crate) fn report_run<K: Sink>(alloc: Global, ran: Ran, sink: &mut K) -> Ended
     requires { Legal ran.script ran.history.entries }
     ensures shows { Shows ran result }
     ensures written { HasWritten (report ran.script ran.history.entries)
@@ -55,7 +55,7 @@ pub fn report_run<K: Sink>(alloc: Global, ran: Ran, sink: &mut K) -> Ended
 }
 
 /// Writes the script's text, and ends the call.
-pub fn write_script<K: Sink>(alloc: Global, script: Script, sink: &mut K) -> Ended
+pub(crate) fn write_script<K: Sink>(alloc: Global, script: Script, sink: &mut K) -> Ended
     ensures made { HasMade (IsAlone script) result.script result.history.entries result.status }
     ensures written { HasWritten (text script) (λ t. t ≡ text script)
         (K.state sink.old) (K.state sink.new)
@@ -83,7 +83,7 @@ pub fn write_script<K: Sink>(alloc: Global, script: Script, sink: &mut K) -> End
 }
 
 /// Writes the summary of a trial's run, and ends the call.
-pub fn write_summary<K: Sink>(alloc: Global, number: u64, ran: Ran, sink: &mut K) -> Ended
+pub(crate) fn write_summary<K: Sink>(alloc: Global, number: u64, ran: Ran, sink: &mut K) -> Ended
     requires { Legal ran.script ran.history.entries }
     ensures made { HasMade (IsRan ran) result.script result.history.entries result.status }
     ensures written { HasWritten (summary number ran.script ran.history.entries)

@@ -197,7 +197,7 @@ fn report_peeked<K: Sink>(alloc: Global, peeked: Peeked, sink: &mut K) -> Ended
 
 /// Reads a script, runs each actor from a thread of its own to its end, with a watcher that looks at these bytes, and
 /// writes the report and what the watcher saw.
-pub fn peek<R: Threads + Wait + Sync, S: Source, K: Sink, G: Gate + Sync>(
+pub(crate) fn peek<R: Threads + Wait + Sync, S: Source, K: Sink, G: Gate + Sync>(
     rt: &R,
     alloc: Global,
     source: &mut S,

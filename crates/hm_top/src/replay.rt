@@ -13,7 +13,12 @@ use skip_rules::Kept;
 use std::alloc::Global;
 
 /// Reads a script, makes its schedule's turns and writes the report.
-pub fn replay<S: Source, K: Sink>(alloc: Global, source: &mut S, sink: &mut K, skip: &Kept) -> Ended
+pub(crate) fn replay<S: Source, K: Sink>(
+    alloc: Global,
+    source: &mut S,
+    sink: &mut K,
+    skip: &Kept,
+) -> Ended
     ensures does { Replays
         (traffic S.state K.state source.old source.new sink.old sink.new) result }
     ensures peeks { result.peeks ≡ [] }

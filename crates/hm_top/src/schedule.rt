@@ -39,7 +39,7 @@ fn run_schedule(machine: &mut Machine<&Kept>) -> Result<bool, NoMemory>
 }
 
 /// Runs the script by its schedule. The rule decides which pages a migration skips.
-pub fn run_script(alloc: Global, script: Script, skip: &Kept) -> Result<Ran, NoMemory>
+pub(crate) fn run_script(alloc: Global, script: Script, skip: &Kept) -> Result<Ran, NoMemory>
     ensures script { IfOk result (λ r. r.script ≡ script) }
     ensures receipt { IfOk result (λ r. r.receipt ≡ None) }
     ensures legal { IfOk result (λ r. Legal r.script r.history.entries) }

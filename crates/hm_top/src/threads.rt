@@ -80,7 +80,7 @@ fn run_from<R: Threads + Wait + Sync, G: Gate + Sync>(
 }
 
 /// Reads a script, runs each actor from a thread of its own to its end, and writes the report.
-pub fn threads<R: Threads + Wait + Sync, S: Source, K: Sink, G: Gate + Sync>(
+pub(crate) fn threads<R: Threads + Wait + Sync, S: Source, K: Sink, G: Gate + Sync>(
     rt: &R,
     alloc: Global,
     source: &mut S,

@@ -10,7 +10,7 @@ use hm_io::{Sink, Source};
 use std::alloc::Global;
 
 /// Reads a script, and writes its text in version 2.
-pub fn upgrade<S: Source, K: Sink>(alloc: Global, source: &mut S, sink: &mut K) -> Ended
+pub(crate) fn upgrade<S: Source, K: Sink>(alloc: Global, source: &mut S, sink: &mut K) -> Ended
     ensures does { Upgrades
         (traffic S.state K.state source.old source.new sink.old sink.new) result }
     ensures peeks { result.peeks ≡ [] }

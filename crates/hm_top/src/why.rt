@@ -61,7 +61,7 @@ fn write_sources<K: Sink>(alloc: Global, verdict: Verdict, sink: &mut K) -> Ende
 }
 
 /// Reads a report, and writes for each load the entries that its bytes came from.
-pub fn why<S: Source, K: Sink>(alloc: Global, source: &mut S, sink: &mut K) -> Ended
+pub(crate) fn why<S: Source, K: Sink>(alloc: Global, source: &mut S, sink: &mut K) -> Ended
     ensures does { Explains
         (traffic S.state K.state source.old source.new sink.old sink.new) result }
     ensures peeks { result.peeks ≡ [] }

@@ -267,7 +267,7 @@ fn close_at<S: Stepped>(board: Board<S>, seat: Seated<S>) -> (S, u64)
 }
 
 // Takes the turn and the value. None if another seat has it.
-pub(crate) fn take<S: Stepped>(board: &Board<S>, seat: &mut Seated<S>) -> Option<S>
+pub fn take<S: Stepped>(board: &Board<S>, seat: &mut Seated<S>) -> Option<S>
     requires table { (seat.old.table_id ≡ board.now.shared.table_id) × IsSized seat.old.table_id }
     requires idle { IsIdle seat.old }
     ensures { Takes S.script S.history S.halt seat.old result seat.new }

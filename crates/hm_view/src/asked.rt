@@ -52,7 +52,7 @@ impl Asked {
     }
 
     /// The position after the last row, of n.
-    pub fn behind(self, count: u64) -> u64
+    pub(crate) fn behind(self, count: u64) -> u64
         ensures same { result ≡ spec.behind self count }
         ensures within { result ≤ count }
     {
@@ -63,14 +63,14 @@ impl Asked {
     }
 
     /// Whether the rows are there, of n.
-    pub fn is_there(self, count: u64) -> bool
+    pub(crate) fn is_there(self, count: u64) -> bool
         ensures { result ≡ spec.is_there self count }
     {
         self.first() <= self.behind(count)
     }
 
     /// Whether the rows are few enough for a page, of n.
-    pub fn fits(self, count: u64) -> bool
+    pub(crate) fn fits(self, count: u64) -> bool
         ensures { result ≡ spec.fits self count }
     {
         self.behind(count).saturating_sub(self.first()) <= MOST_ROWS

@@ -41,7 +41,7 @@ fn put_map(out: &mut Buffer, actor: Actor, kind: &Kind)
 }
 
 /// The place of the page that a `place` is about.
-pub fn place_before(world: &World, kind: &Kind) -> Place
+pub(crate) fn place_before(world: &World, kind: &Kind) -> Place
     ensures { result ≡ place_before (now world.now).after kind.now }
 {
     match kind {
@@ -153,7 +153,7 @@ fn put_seqs(out: &mut Buffer, world: &World, kind: &Kind)
 
 /// Puts what the entry changed over the buffer. The world is that after the entry.
 #[tactic(auto, using(std::proofs::Common::append_assoc))]
-pub fn put_changes(out: &mut Buffer, world: &World, before: &Place, entry: &Entry)
+pub(crate) fn put_changes(out: &mut Buffer, world: &World, before: &Place, entry: &Entry)
     ensures { out.new
         ≡ map_change entry.now.actor entry.now.kind
         ++ (flat_map (frame_change (now world.now).after.locks) (frames_about before.now entry.now.kind)

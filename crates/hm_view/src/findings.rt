@@ -31,7 +31,11 @@ fn add_finding(text: &mut Text, out: &mut Buffer, at: u64, entry: &Entry) -> Res
 }
 
 /// Adds the lines of the findings.
-pub fn add_findings(text: &mut Text, out: &mut Buffer, entries: &[Entry]) -> Result<(), NoMemory>
+pub(crate) fn add_findings(
+    text: &mut Text,
+    out: &mut Buffer,
+    entries: &[Entry],
+) -> Result<(), NoMemory>
     ensures { OnOk result (text.new ≡ text.old ++ findings entries.now (length entries.now)) }
 {
     for at in 0..entries.len() {

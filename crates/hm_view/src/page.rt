@@ -1404,7 +1404,7 @@ if (byId('data').textContent.trim()) show(byId('data').textContent);
 
 /// The page's head.
 #[tactic(none)]
-pub fn head() -> &'static [u8]
+pub(crate) fn head() -> &'static [u8]
     ensures { result.now ≡ page_head }
 {
     HEAD
@@ -1412,7 +1412,7 @@ pub fn head() -> &'static [u8]
 
 /// What stands after the lines.
 #[tactic(none)]
-pub fn end() -> &'static [u8]
+pub(crate) fn end() -> &'static [u8]
     ensures { result.now ≡ page_end }
 {
     TAIL

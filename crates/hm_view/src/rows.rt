@@ -83,7 +83,7 @@ fn add_row(
 }
 
 /// Goes on from the start by the entries before a position, and adds their rows.
-pub fn add_rows(
+pub(crate) fn add_rows(
     alloc: Global,
     text: &mut Text,
     out: &mut Buffer,

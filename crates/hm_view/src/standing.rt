@@ -65,7 +65,7 @@ fn add_standings(
 
 /// Adds the line that tells how each actor stands.
 #[tactic(auto, using(std::proofs::Common::append_assoc))]
-pub fn add_standing_line(
+pub(crate) fn add_standing_line(
     alloc: Global,
     text: &mut Text,
     out: &mut Buffer,

@@ -46,7 +46,7 @@ impl Changes {
     }
 
     /// The changes from an address on and before an end, in their order.
-    pub fn ahead(&self, from: u64, end: u64) -> Range<'_, u64, Option<u64>>
+    pub(crate) fn ahead(&self, from: u64, end: u64) -> Range<'_, u64, Option<u64>>
         requires { from ≤ end }
         ensures { IsAhead (change_at self.now) result from end }
     {
@@ -108,7 +108,7 @@ impl Changes {
 }
 
 /// Takes the next of the changes.
-pub fn next_change(points: &mut Range<'_, u64, Option<u64>>) -> Option<(u64, Option<u64>)>
+pub(crate) fn next_change(points: &mut Range<'_, u64, Option<u64>>) -> Option<(u64, Option<u64>)>
     ensures { points.old ≡ pending result points.new }
 {
     match points.next() {
@@ -118,7 +118,7 @@ pub fn next_change(points: &mut Range<'_, u64, Option<u64>>) -> Option<(u64, Opt
 }
 
 /// The entry that stands for an address, if that for the one before it is known, and the changes from it on.
-pub fn entry_on(
+pub(crate) fn entry_on(
     points: &mut Range<'_, u64, Option<u64>>,
     next: &mut Option<(u64, Option<u64>)>,
     addr: u64,

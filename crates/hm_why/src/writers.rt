@@ -25,7 +25,7 @@ pub struct Writers {
 
 impl Writers {
     /// Before the first entry.
-    pub fn new(alloc: Global) -> Result<Writers, NoMemory>
+    pub(crate) fn new(alloc: Global) -> Result<Writers, NoMemory>
         ensures sized { IfOk result IsSized }
         ensures fresh { IfOk result IsFresh }
     {
@@ -39,7 +39,7 @@ impl Writers {
     }
 
     /// The process whose memory an access is of; process 0 for a mirror that was never attached.
-    pub fn process(&self, who: Who) -> Proc
+    pub(crate) fn process(&self, who: Who) -> Proc
         requires { IsSized self.now }
         ensures { result ≡ process_in self.now who }
     {
@@ -60,7 +60,7 @@ impl Writers {
     }
 
     /// The position of the entry that a byte of the process came from.
-    pub fn source(&self, proc: Proc, addr: u64) -> Option<u64>
+    pub(crate) fn source(&self, proc: Proc, addr: u64) -> Option<u64>
         requires { IsSized self.now }
         ensures { result ≡ source_in self.now proc addr }
     {
@@ -68,7 +68,7 @@ impl Writers {
     }
 
     /// The changes of a process.
-    pub fn changes_of(&self, proc: Proc) -> &Changes
+    pub(crate) fn changes_of(&self, proc: Proc) -> &Changes
         requires { IsSized self.now }
         ensures { (b : ℕ) → source_in self.now proc b ≡ entry_for result.now b }
     {
@@ -117,7 +117,7 @@ impl Writers {
     }
 
     /// The entry at this position comes next. Where memory runs out, some of what was kept may be lost.
-    pub fn note(&mut self, at: u64, kind: &Kind) -> Result<(), NoMemory>
+    pub(crate) fn note(&mut self, at: u64, kind: &Kind) -> Result<(), NoMemory>
         requires { IsSized self.old }
         ensures { OnOk result (IsNoted self.old self.new at kind.now) }
     {

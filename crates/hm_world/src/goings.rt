@@ -10,14 +10,14 @@ use hm_phases::Items;
 
 impl World {
     /// The number of the operation that the actor is at.
-    pub fn index(&self, actor: Actor) -> u64
+    pub(crate) fn index(&self, actor: Actor) -> u64
         ensures { result ≡ ((now self.now).going actor).index }
     {
         self.actors.index(actor)
     }
 
     /// Its phases, the top first.
-    pub fn phases(&self, actor: Actor) -> Items
+    pub(crate) fn phases(&self, actor: Actor) -> Items
         ensures { phases_of result ≡ ((now self.now).going actor).stack }
     {
         self.actors.phases(actor)

@@ -27,7 +27,7 @@ fn reserve_tables(tables: &mut PageTables, kind: &Kind) -> Result<(), NoMemory>
 
 /// Makes room for an entry in each structure that may grow by it; a failure may leave some of it.
 #[inline(always)]
-pub fn reserve(
+pub(crate) fn reserve(
     history: &mut History,
     tables: &mut PageTables,
     mirrors: &mut Mirrors,
@@ -56,7 +56,7 @@ pub fn reserve(
 
 /// An entry for which there is no memory is dropped here, apart from where it would be added.
 #[inline(never)]
-pub fn lost(_entry: Entry) -> Result<(), NoMemory>
+pub(crate) fn lost(_entry: Entry) -> Result<(), NoMemory>
     ensures { OnOk result ⊥ }
 {
     Err(NoMemory)

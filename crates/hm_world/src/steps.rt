@@ -14,7 +14,7 @@ use hm_history::Kind;
 use hm_tables::PageTables;
 
 #[inline(always)]
-pub fn step_frames(
+pub(crate) fn step_frames(
     frames: &mut FramePools,
     actor: Actor,
     kind: &Kind,
@@ -41,7 +41,7 @@ pub fn step_frames(
 
 /// `old` is the place that the entry is about.
 #[inline(always)]
-pub fn step_tables(tables: &mut PageTables, kind: &Kind, old: &Place)
+pub(crate) fn step_tables(tables: &mut PageTables, kind: &Kind, old: &Place)
     requires old { (p v : ℕ) (y : AnyPlace) → kind.now ≡ AnyKind.Place p v y → old.now ≡ place_of tables.old p v }
     requires fits { TablesFit (size_in tables.old.pools) kind.now }
     requires room { TablesRoom kind.now tables.old }

@@ -62,7 +62,7 @@ impl Model for Tree {
 }
 
 /// The interval's place in the order.
-pub fn key(interval: &Interval) -> u64
+pub(crate) fn key(interval: &Interval) -> u64
     ensures { result ≡ key interval.now }
 {
     interval.span.first().number() * 32 + u64::from(interval.id.number())
@@ -75,14 +75,14 @@ fn upto(interval: &Interval) -> u64
 }
 
 impl Tree {
-    pub fn new() -> Tree
+    pub(crate) fn new() -> Tree
         ensures { result ≡ nothing }
     {
         Tree { node: Node::Leaf }
     }
 
     /// How many nodes the longest path has.
-    pub fn height(&self) -> u64
+    pub(crate) fn height(&self) -> u64
         ensures height { result ≡ self.now.height }
         ensures few { self.now.height ≤ length self.now.items }
     {
@@ -131,7 +131,7 @@ impl Tree {
     }
 
     /// One interval more, in a node without sides. No interval of the tree has its key.
-    pub fn insert(&mut self, new: Box<Inner>)
+    pub(crate) fn insert(&mut self, new: Box<Inner>)
         requires number { new.value.interval.id < 32 }
         requires alone { (new.value.left ≡ nothing) × (new.value.right ≡ nothing) }
         requires lacks { LacksKey (key new.value.interval) self.old.items }
@@ -155,7 +155,7 @@ impl Tree {
     }
 
     /// Without the interval of this key.
-    pub fn remove(&mut self, at: u64)
+    pub(crate) fn remove(&mut self, at: u64)
         requires { length self.old.items < 2 ^ 50 }
         ensures items { self.new.items ≡ without_key at self.old.items }
         ensures not_higher { self.new.height ≤ self.old.height }
@@ -203,7 +203,7 @@ impl Tree {
     }
 
     /// The least number, not below one, of an interval that overlaps the span.
-    pub fn least_overlapping(&self, span: &Span, from: u32) -> Option<MirrorId>
+    pub(crate) fn least_overlapping(&self, span: &Span, from: u32) -> Option<MirrorId>
         ensures { result ≡ least_id (is_wanted span.now from) self.now.items }
     {
         match &self.node {
@@ -225,7 +225,7 @@ impl Tree {
 
 impl Inner {
     /// A node without sides.
-    pub fn alone(id: MirrorId, span: Span) -> Inner
+    pub(crate) fn alone(id: MirrorId, span: Span) -> Inner
         ensures interval { result.interval ≡ record { id = id; span = span } }
         ensures sides { (result.left ≡ nothing) × (result.right ≡ nothing) }
     {

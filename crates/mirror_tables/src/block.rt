@@ -28,7 +28,7 @@ impl Model for Block {
 
 impl Block {
     /// A block without an entry, and without memory.
-    pub fn new(alloc: Global) -> Block
+    pub(crate) fn new(alloc: Global) -> Block
         ensures { result ≡ empty_block }
     {
         Block {
@@ -37,14 +37,14 @@ impl Block {
     }
 
     /// Costs nothing: it hands the prover the invariant.
-    pub fn facts(&self)
+    pub(crate) fn facts(&self)
         ensures { IsBlock self.now.entries }
     {
         let _ = &self.entries;
     }
 
     /// Makes room for one entry more.
-    pub fn reserve(&mut self) -> Result<(), NoMemory>
+    pub(crate) fn reserve(&mut self) -> Result<(), NoMemory>
         ensures block { self.new ≡ changed self.old self.old.entries self.new.room }
         ensures more { self.old.room ≤ self.new.room }
         ensures ok { OnOk result (1 ≤ self.new.room) }
@@ -55,7 +55,7 @@ impl Block {
     }
 
     /// Sets the entry of a page, for which there is room.
-    pub fn set_reserved(&mut self, page: Page, entry: MirrorEntry)
+    pub(crate) fn set_reserved(&mut self, page: Page, entry: MirrorEntry)
         requires room { 1 ≤ self.old.room }
         ensures block { self.new ≡ changed self.old (with_entry self.old page entry) self.new.room }
         ensures room { self.old.room ≤ self.new.room + 1 }
@@ -69,7 +69,7 @@ impl Block {
     }
 
     /// The entry of the page, if it has one.
-    pub fn get(&self, page: Page) -> Option<MirrorEntry>
+    pub(crate) fn get(&self, page: Page) -> Option<MirrorEntry>
         ensures { result ≡ entry_at self.now page }
     {
         let at = place(&self.entries, page.number());
@@ -83,7 +83,7 @@ impl Block {
     /// Takes away the entries of the span's pages (`dmirror_do_update` of lib/test_hmm.c). A block without an entry is
     /// passed over at once.
     #[inline(always)]
-    pub fn erase(&mut self, span: Span)
+    pub(crate) fn erase(&mut self, span: Span)
         ensures block { self.new ≡ changed self.old (without_span self.old span) self.new.room }
         ensures room { self.old.room ≤ self.new.room }
     {

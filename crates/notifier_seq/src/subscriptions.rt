@@ -34,7 +34,7 @@ impl Model for Subscriptions {
 }
 
 impl Subscriptions {
-    pub fn new(alloc: Global) -> Subscriptions
+    pub(crate) fn new(alloc: Global) -> Subscriptions
         ensures { result ≡ nothing_listed }
     {
         Subscriptions {
@@ -46,7 +46,7 @@ impl Subscriptions {
     }
 
     /// Makes room for one insert more, deferred or not.
-    pub fn reserve(&mut self) -> Result<(), NoMemory>
+    pub(crate) fn reserve(&mut self) -> Result<(), NoMemory>
         ensures intervals { self.new.intervals ≡ self.old.intervals }
         ensures room { OnOk result (self.new.room ≡ true) }
         ensures same { OnErr result (self.new ≡ self.old) }
@@ -59,20 +59,20 @@ impl Subscriptions {
     }
 
     /// The interval of a mirror, if it ever had one.
-    pub fn interval(&self, id: MirrorId) -> &Option<Interval>
+    pub(crate) fn interval(&self, id: MirrorId) -> &Option<Interval>
         ensures { result.now ≡ listed_at self.now id }
     {
         &self.intervals[id.number() as usize]
     }
 
     /// The least mirror above `after` whose interval is in the tree and overlaps the span.
-    pub fn next_overlapping(&self, span: Span, after: Option<MirrorId>) -> Option<MirrorId>
+    pub(crate) fn next_overlapping(&self, span: Span, after: Option<MirrorId>) -> Option<MirrorId>
         ensures { result ≡ next_overlapping (map tree_window self.now.intervals) span after }
     {
         self.tree.next_overlapping(span, after)
     }
 
-    pub fn set_seq(&mut self, id: MirrorId, seq: u64)
+    pub(crate) fn set_seq(&mut self, id: MirrorId, seq: u64)
         ensures { self.new ≡ with_listed self.old id (with_seq seq (listed_at self.old id)) }
     {
         let at = id.number() as usize;
@@ -80,7 +80,7 @@ impl Subscriptions {
     }
 
     /// An interval that comes into the tree now.
-    pub fn insert(&mut self, id: MirrorId, window: Span, seq: u64)
+    pub(crate) fn insert(&mut self, id: MirrorId, window: Span, seq: u64)
         requires absent { listed_at self.old id ≡ None }
         requires room { self.old.room ≡ true }
         ensures { self.new ≡ listed_with self.old id (record { window = window; seq = seq; stage = InTree }) }
@@ -96,7 +96,7 @@ impl Subscriptions {
     }
 
     /// An interval that is to come into the tree.
-    pub fn defer_insert(&mut self, id: MirrorId, window: Span, seq: u64)
+    pub(crate) fn defer_insert(&mut self, id: MirrorId, window: Span, seq: u64)
         requires absent { listed_at self.old id ≡ None }
         requires room { self.old.room ≡ true }
         ensures { self.new ≡ listed_with self.old id (record { window = window; seq = seq; stage = InsertDeferred }) }
@@ -112,7 +112,7 @@ impl Subscriptions {
     }
 
     /// An interval of the tree that goes now.
-    pub fn remove(&mut self, id: MirrorId)
+    pub(crate) fn remove(&mut self, id: MirrorId)
         requires { stage_of (listed_at self.old id) ≡ InTree }
         ensures { self.new ≡ with_listed self.old id (with_stage Out (listed_at self.old id)) }
     {
@@ -122,7 +122,7 @@ impl Subscriptions {
     }
 
     /// An interval of the tree that is to go.
-    pub fn defer_remove(&mut self, id: MirrorId)
+    pub(crate) fn defer_remove(&mut self, id: MirrorId)
         requires { stage_of (listed_at self.old id) ≡ InTree }
         ensures { self.new ≡ with_listed self.old id (with_stage RemoveDeferred (listed_at self.old id)) }
     {
@@ -132,7 +132,7 @@ impl Subscriptions {
     }
 
     /// An interval that is not in the tree, and now not to come either.
-    pub fn cancel(&mut self, id: MirrorId)
+    pub(crate) fn cancel(&mut self, id: MirrorId)
         requires { tree_window (listed_at self.old id) ≡ None }
         ensures { self.new ≡ with_listed self.old id (with_stage Out (listed_at self.old id)) }
     {
@@ -141,7 +141,7 @@ impl Subscriptions {
     }
 
     /// The deferred inserts and removes are made.
-    pub fn settle(&mut self)
+    pub(crate) fn settle(&mut self)
         ensures { self.new ≡ record self.old { intervals = map settled self.old.intervals } }
     {
         if self.deferred {

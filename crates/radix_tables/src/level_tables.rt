@@ -21,7 +21,7 @@ pub enum Step {
 }
 
 /// Where in a level the entry of a table for a number stands.
-pub fn place(table: u64, number: u64) -> usize
+pub(crate) fn place(table: u64, number: u64) -> usize
     requires { table < 2 ^ 57 }
     ensures { result ≡ table * 64 + number % 64 }
 {
@@ -29,7 +29,7 @@ pub fn place(table: u64, number: u64) -> usize
 }
 
 /// The entry of a table for a number.
-pub fn entry(entries: &[u64], table: u64, number: u64) -> u64
+pub(crate) fn entry(entries: &[u64], table: u64, number: u64) -> u64
     requires { table < 2 ^ 57 }
     ensures { result ≡ slice_index entries.now (table * 64 + number % 64) }
 {
@@ -40,7 +40,7 @@ pub fn entry(entries: &[u64], table: u64, number: u64) -> u64
 }
 
 /// Goes on from a table to the one that its entry names.
-pub fn step_down(entries: &[u64], above: Step, number: u64) -> Step
+pub(crate) fn step_down(entries: &[u64], above: Step, number: u64) -> Step
     requires above { (t : ℕ) → above ≡ Step.Table t → t < 2 ^ 57 }
     requires number { number < 2 ^ 36 }
     ensures { (levels : List (List ℕ)) → IsWhole entries.now → IsStepIn levels (number / 64) above
@@ -77,7 +77,7 @@ fn gap_end(entries: &[u64], table: u64, number: u64) -> u64
 }
 
 /// Makes the table of the lowest numbers, if it is not there.
-pub fn first_table(entries: &mut Vec<u64>) -> Result<(), NoMemory>
+pub(crate) fn first_table(entries: &mut Vec<u64>) -> Result<(), NoMemory>
     requires { IsWhole entries.old.items }
     ensures entries { IsLonger entries.old.items entries.new.items }
     ensures whole { IsWhole entries.new.items }
@@ -108,7 +108,11 @@ fn add_table(entries: &mut Vec<u64>) -> Result<u64, NoMemory>
 }
 
 /// The table that an entry names, which is made if it names none.
-pub fn child(entries: &mut Vec<u64>, at: usize, below: &mut Vec<u64>) -> Result<u64, NoMemory>
+pub(crate) fn child(
+    entries: &mut Vec<u64>,
+    at: usize,
+    below: &mut Vec<u64>,
+) -> Result<u64, NoMemory>
     requires at { at < length entries.old.items }
     requires below { length below.old.items % 64 ≡ 0 }
     ensures child { MatchResult result
@@ -123,7 +127,7 @@ pub fn child(entries: &mut Vec<u64>, at: usize, below: &mut Vec<u64>) -> Result<
 }
 
 /// As `first_table`, of words.
-pub fn first_words(words: &mut WordRows) -> Result<(), NoMemory>
+pub(crate) fn first_words(words: &mut WordRows) -> Result<(), NoMemory>
     requires whole { IsWhole words.old.items }
     requires room { IsWhole words.old.room }
     requires long { length words.old.room ≡ length words.old.items }
@@ -150,7 +154,11 @@ fn add_words(words: &mut WordRows) -> Result<u64, NoMemory>
 }
 
 /// As `child`, if the level below has words.
-pub fn child_words(entries: &mut Vec<u64>, at: usize, below: &mut WordRows) -> Result<u64, NoMemory>
+pub(crate) fn child_words(
+    entries: &mut Vec<u64>,
+    at: usize,
+    below: &mut WordRows,
+) -> Result<u64, NoMemory>
     requires at { at < length entries.old.items }
     requires long { length below.old.room ≡ length below.old.items }
     ensures child { MatchResult result

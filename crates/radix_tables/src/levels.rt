@@ -44,7 +44,7 @@ pub struct Levels {
 }
 
 impl Levels {
-    pub fn new(alloc: Global) -> Levels
+    pub(crate) fn new(alloc: Global) -> Levels
         ensures levels { IsLevels result }
         ensures room { (v : ℕ) → room_of result v ≡ 0 }
         ensures words { (v : ℕ) → word_of result v ≡ 0 }
@@ -62,7 +62,7 @@ impl Levels {
     }
 
     /// Gives all tables back.
-    pub fn give_back(&mut self)
+    pub(crate) fn give_back(&mut self)
         ensures levels { IsLevels self.new }
         ensures room { (v : ℕ) → room_of self.new v ≡ 0 }
         ensures words { (v : ℕ) → word_of self.new v ≡ 0 }
@@ -154,7 +154,7 @@ impl Levels {
     }
 
     #[inline(always)]
-    pub fn word(&self, page: u64) -> u64
+    pub(crate) fn word(&self, page: u64) -> u64
         requires levels { IsLevels self.now }
         requires page { page < 2 ^ 36 }
         ensures { result ≡ word_of self.now page }
@@ -163,7 +163,7 @@ impl Levels {
     }
 
     /// A page with a word has room for it.
-    pub fn facts(&self)
+    pub(crate) fn facts(&self)
         requires { IsLevels self.now }
         ensures { (v : ℕ) → word_of self.now v ≢ 0 → room_of self.now v ≢ 0 }
     {
@@ -181,7 +181,7 @@ impl Levels {
     }
 
     /// Makes the tables down to the page, and room for its word.
-    pub fn make_room(&mut self, page: u64) -> Result<(), NoMemory>
+    pub(crate) fn make_room(&mut self, page: u64) -> Result<(), NoMemory>
         requires levels { IsLevels self.old }
         requires page { page < 2 ^ 36 }
         ensures { MatchResult result (λ _. IsMade self.old self.new page) (λ _. IsSame self.old self.new) }
@@ -325,7 +325,7 @@ impl Levels {
     }
 
     /// Sets the word of a page for which there is room.
-    pub fn set(&mut self, page: u64, word: u64)
+    pub(crate) fn set(&mut self, page: u64, word: u64)
         requires levels { IsLevels self.old }
         requires page { page < 2 ^ 36 }
         requires room { room_of self.old page ≢ 0 }
@@ -340,7 +340,7 @@ impl Levels {
     }
 
     /// The least page from `page` on and before `end` that has a word, and that word.
-    pub fn next(&self, page: u64, end: u64) -> Option<(u64, u64)>
+    pub(crate) fn next(&self, page: u64, end: u64) -> Option<(u64, u64)>
         requires levels { IsLevels self.now }
         requires page { page < 2 ^ 36 }
         ensures { IsLeast (word_of self.now) page end result }
@@ -362,7 +362,7 @@ impl Levels {
     }
 
     /// The least page from `page` on and before `end` whose word is marked, and that word.
-    pub fn next_marked(&self, page: u64, end: u64) -> Option<(u64, u64)>
+    pub(crate) fn next_marked(&self, page: u64, end: u64) -> Option<(u64, u64)>
         requires levels { IsLevels self.now }
         requires page { page < 2 ^ 36 }
         ensures { IsLeast (marked_of self.now) page end result }

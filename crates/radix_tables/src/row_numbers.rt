@@ -36,7 +36,7 @@ impl Model for RowNumbers {
 }
 
 impl RowNumbers {
-    pub fn new(alloc: Global) -> RowNumbers
+    pub(crate) fn new(alloc: Global) -> RowNumbers
         ensures { result ≡ [] }
     {
         RowNumbers {
@@ -45,7 +45,7 @@ impl RowNumbers {
     }
 
     /// How many tables there are.
-    pub fn tables(&self) -> usize
+    pub(crate) fn tables(&self) -> usize
         ensures count { result * 8 ≡ length self.now }
         ensures few { result ≤ 2 ^ 32 }
     {
@@ -54,7 +54,7 @@ impl RowNumbers {
 
     /// The number of a row, 0 if it is not there.
     #[inline(always)]
-    pub fn get(&self, at: usize) -> u64
+    pub(crate) fn get(&self, at: usize) -> u64
         ensures number { result ≡ slice_index self.now at }
         ensures bound { result < 2 ^ 60 }
     {
@@ -63,7 +63,7 @@ impl RowNumbers {
 
     /// The only row of a table, by its place among the eight and its number. If there is none, the table has no row, or
     /// all eight.
-    pub fn only(&self, table: usize) -> Option<(usize, u64)>
+    pub(crate) fn only(&self, table: usize) -> Option<(usize, u64)>
         ensures one { IfSome result (λ r. HasOne self.now table r.0 r.1) }
         ensures none { IfNone result (IsAllOrNone self.now table) }
         ensures bound { IfSome result (λ r. r.1 < 2 ^ 60) }
@@ -76,7 +76,7 @@ impl RowNumbers {
     }
 
     /// Adds tables with no row until there are as many as this.
-    pub fn grow(&mut self, tables: usize) -> Result<(), NoMemory>
+    pub(crate) fn grow(&mut self, tables: usize) -> Result<(), NoMemory>
         requires { length self.old ≤ tables * 8 }
         ensures { MatchResult result
             (λ _. IsLonger self.old self.new × (length self.new ≡ tables * 8) × (tables ≤ 2 ^ 32))
@@ -90,7 +90,7 @@ impl RowNumbers {
     }
 
     /// Gives a table without rows its first one.
-    pub fn set(&mut self, at: usize, row: u32)
+    pub(crate) fn set(&mut self, at: usize, row: u32)
         requires inside { at < length self.old }
         requires none { (k : ℕ) → k / 8 ≡ at / 8 → slice_index self.old k ≡ 0 }
         ensures { self.new ≡ slice_set self.old at row }
@@ -99,7 +99,7 @@ impl RowNumbers {
     }
 
     /// Gives a table eight rows side by side in place of those that it has. The first has this number.
-    pub fn spread(&mut self, table: usize, first: u32)
+    pub(crate) fn spread(&mut self, table: usize, first: u32)
         requires inside { table * 8 < length self.old }
         requires some { 1 ≤ first }
         ensures { IsSpread self.old self.new table first }

@@ -37,7 +37,7 @@ impl Model for WordRows {
 }
 
 impl WordRows {
-    pub fn new(alloc: Global) -> WordRows
+    pub(crate) fn new(alloc: Global) -> WordRows
         ensures { result ≡ record { items = []; room = [] } }
     {
         WordRows {
@@ -46,12 +46,12 @@ impl WordRows {
         }
     }
 
-    pub fn allocator(&self) -> Global {
+    pub(crate) fn allocator(&self) -> Global {
         *self.words.allocator()
     }
 
     /// How many tables there are.
-    pub fn tables(&self) -> usize
+    pub(crate) fn tables(&self) -> usize
         ensures count { result * 64 ≡ length self.now.items }
         ensures room { length self.now.room ≡ length self.now.items }
         ensures few { result ≤ 2 ^ 32 }
@@ -60,7 +60,7 @@ impl WordRows {
     }
 
     /// There are not too many words for their places, and each that is not 0 has a row.
-    pub fn facts(&self)
+    pub(crate) fn facts(&self)
         ensures few { length self.now.items ≤ 2 ^ 38 }
         ensures room { (k : ℕ) → slice_index self.now.items k ≢ 0 → slice_index self.now.room k ≢ 0 }
     {
@@ -69,14 +69,14 @@ impl WordRows {
 
     /// The number of the row that a word has, 0 if it has none.
     #[inline(always)]
-    pub fn row(&self, at: usize) -> u64
+    pub(crate) fn row(&self, at: usize) -> u64
         ensures { result ≡ slice_index self.now.room at }
     {
         self.rows.get(at / ROW)
     }
 
     #[inline(always)]
-    pub fn get(&self, at: usize) -> u64
+    pub(crate) fn get(&self, at: usize) -> u64
         ensures { result ≡ slice_index self.now.items at }
     {
         let row = self.rows.get(at / ROW);
@@ -84,7 +84,7 @@ impl WordRows {
     }
 
     /// Adds tables with no row until there are as many as this.
-    pub fn grow(&mut self, tables: usize) -> Result<(), NoMemory>
+    pub(crate) fn grow(&mut self, tables: usize) -> Result<(), NoMemory>
         requires { length self.old.items ≤ tables * 64 }
         ensures { MatchResult result
             (λ _. IsLonger self.old.items self.new.items × IsLonger self.old.room self.new.room
@@ -96,7 +96,7 @@ impl WordRows {
     }
 
     /// Gives a word memory, and others of its table: those beside it in its row, or all if the table has a row already.
-    pub fn reserve(&mut self, at: usize) -> Result<(), NoMemory>
+    pub(crate) fn reserve(&mut self, at: usize) -> Result<(), NoMemory>
         requires at { at < length self.old.items }
         requires none { slice_index self.old.room at ≡ 0 }
         ensures items { self.new.items ≡ self.old.items }
@@ -119,7 +119,7 @@ impl WordRows {
 
     /// Sets a word that has a row.
     #[inline(always)]
-    pub fn set(&mut self, at: usize, word: u64)
+    pub(crate) fn set(&mut self, at: usize, word: u64)
         requires { slice_index self.old.room at ≢ 0 }
         ensures items { self.new.items ≡ slice_set self.old.items at word }
         ensures room { self.new.room ≡ self.old.room }

@@ -136,7 +136,7 @@ fn written_piece<W: Finds>(
 }
 
 /// A device that goes on with its table after the detach.
-pub fn used_detached<W: Finds>(
+pub(crate) fn used_detached<W: Finds>(
     found: &W,
     alloc: Global,
     actor: Actor,
@@ -157,7 +157,7 @@ pub fn used_detached<W: Finds>(
 }
 
 /// A device that writes through an entry for reads.
-pub fn reads_written<W: Finds>(
+pub(crate) fn reads_written<W: Finds>(
     found: &W,
     alloc: Global,
     actor: Actor,
@@ -197,7 +197,13 @@ fn added(op: &Op, old: u8, right: Next) -> Next
 }
 
 /// An addition that writes its sum, whatever became of the page.
-pub fn added_anyway<W: Reads>(found: &W, actor: Actor, op: &Op, top: &Phase, right: Next) -> Next
+pub(crate) fn added_anyway<W: Reads>(
+    found: &W,
+    actor: Actor,
+    op: &Op,
+    top: &Phase,
+    right: Next,
+) -> Next
     requires { right ≡ right_at (W.program found.now) (W.state found.now) actor op.now top.now }
     ensures { result
         ≡ flawed_at flaws.Flaw.AddedAnyway (W.program found.now) (W.state found.now) actor op.now top.now }
@@ -237,7 +243,13 @@ fn set_alone<W: Reads>(found: &W, proc: Proc, page: Page, right: Next) -> Next
 }
 
 /// An actor that sets a page which it has alone, though the interval is being invalidated.
-pub fn sole_anyway<W: Reads>(found: &W, actor: Actor, op: &Op, top: &Phase, right: Next) -> Next
+pub(crate) fn sole_anyway<W: Reads>(
+    found: &W,
+    actor: Actor,
+    op: &Op,
+    top: &Phase,
+    right: Next,
+) -> Next
     requires range { IsTrue (op_in_range op.now) }
     requires right { right ≡ right_at (W.program found.now) (W.state found.now) actor op.now top.now }
     ensures { result

@@ -146,7 +146,13 @@ fn detached_now(next: Next) -> Next
 }
 
 /// A look-up that begins while its interval is being invalidated.
-pub fn begun_anyway<W: Reads>(found: &W, actor: Actor, op: &Op, top: &Phase, right: Next) -> Next
+pub(crate) fn begun_anyway<W: Reads>(
+    found: &W,
+    actor: Actor,
+    op: &Op,
+    top: &Phase,
+    right: Next,
+) -> Next
     requires { right ≡ right_at (W.program found.now) (W.state found.now) actor op.now top.now }
     ensures { result
         ≡ flawed_at flaws.Flaw.BegunAnyway (W.program found.now) (W.state found.now) actor op.now top.now }
@@ -161,7 +167,13 @@ pub fn begun_anyway<W: Reads>(found: &W, actor: Actor, op: &Op, top: &Phase, rig
 }
 
 /// A look-up that reads the sequence of its interval after the walk.
-pub fn begun_last<W: Reads>(found: &W, actor: Actor, op: &Op, top: &Phase, right: Next) -> Next
+pub(crate) fn begun_last<W: Reads>(
+    found: &W,
+    actor: Actor,
+    op: &Op,
+    top: &Phase,
+    right: Next,
+) -> Next
     requires range { IsTrue (op_in_range op.now) }
     requires right { right ≡ right_at (W.program found.now) (W.state found.now) actor op.now top.now }
     ensures { result
@@ -176,7 +188,7 @@ pub fn begun_last<W: Reads>(found: &W, actor: Actor, op: &Op, top: &Phase, right
 }
 
 /// A detach that does not wait until its interval has left the tree.
-pub fn detached_at_once<W: Reads>(
+pub(crate) fn detached_at_once<W: Reads>(
     found: &W,
     actor: Actor,
     op: &Op,

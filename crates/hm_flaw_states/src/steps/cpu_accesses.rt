@@ -88,7 +88,7 @@ fn any_piece<W: Finds>(
 }
 
 /// A CPU that accesses a device's memory.
-pub fn device_accessed<W: Finds>(
+pub(crate) fn device_accessed<W: Finds>(
     found: &W,
     alloc: Global,
     actor: Actor,

@@ -76,7 +76,13 @@ fn done_with(next: Next) -> Next
 }
 
 /// A migration that does not put back what was not moved.
-pub fn not_put_back<W: Reads>(found: &W, actor: Actor, op: &Op, top: &Phase, right: Next) -> Next
+pub(crate) fn not_put_back<W: Reads>(
+    found: &W,
+    actor: Actor,
+    op: &Op,
+    top: &Phase,
+    right: Next,
+) -> Next
     requires { right ≡ right_at (W.program found.now) (W.state found.now) actor op.now top.now }
     ensures { result
         ≡ flawed_at flaws.Flaw.NotPutBack (W.program found.now) (W.state found.now) actor op.now top.now }
@@ -88,7 +94,13 @@ pub fn not_put_back<W: Reads>(found: &W, actor: Actor, op: &Op, top: &Phase, rig
 }
 
 /// A migration that drops no frame that no place names any more.
-pub fn unnamed_held<W: Reads>(found: &W, actor: Actor, op: &Op, top: &Phase, right: Next) -> Next
+pub(crate) fn unnamed_held<W: Reads>(
+    found: &W,
+    actor: Actor,
+    op: &Op,
+    top: &Phase,
+    right: Next,
+) -> Next
     requires { right ≡ right_at (W.program found.now) (W.state found.now) actor op.now top.now }
     ensures { result
         ≡ flawed_at flaws.Flaw.UnnamedHeld (W.program found.now) (W.state found.now) actor op.now top.now }

@@ -26,7 +26,7 @@ use hm_history::phases::{Next, Phase};
 use std::alloc::Global;
 
 /// What is due at a phase to a driver with the flaw, before its device has read, given what is due to the right driver.
-pub fn flawed<W: Finds>(
+pub(crate) fn flawed<W: Finds>(
     found: &W,
     alloc: Global,
     flaw: Flaw,

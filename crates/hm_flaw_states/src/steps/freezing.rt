@@ -92,7 +92,13 @@ fn frozen_at<W: Reads>(
 }
 
 /// A migration that freezes the mappings of a frame only after it has copied it.
-pub fn frozen_late<W: Reads>(found: &W, actor: Actor, op: &Op, top: &Phase, right: Next) -> Next
+pub(crate) fn frozen_late<W: Reads>(
+    found: &W,
+    actor: Actor,
+    op: &Op,
+    top: &Phase,
+    right: Next,
+) -> Next
     requires { right ≡ right_at (W.program found.now) (W.state found.now) actor op.now top.now }
     ensures { result
         ≡ flawed_at flaws.Flaw.FrozenLate (W.program found.now) (W.state found.now) actor op.now top.now }

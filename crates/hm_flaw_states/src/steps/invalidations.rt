@@ -61,7 +61,13 @@ fn ended_now<W: Reads>(found: &W, next: Next) -> Result<Next, NoMemory>
 }
 
 /// An invalidation that changes places first, and tells mirrors at its end.
-pub fn told_last<W: Reads>(found: &W, actor: Actor, op: &Op, top: &Phase, right: Next) -> Next
+pub(crate) fn told_last<W: Reads>(
+    found: &W,
+    actor: Actor,
+    op: &Op,
+    top: &Phase,
+    right: Next,
+) -> Next
     requires range { IsTrue (phase_in_range top.now) }
     requires right { right ≡ right_at (W.program found.now) (W.state found.now) actor op.now top.now }
     ensures { result
@@ -83,7 +89,7 @@ pub fn told_last<W: Reads>(found: &W, actor: Actor, op: &Op, top: &Phase, right:
 }
 
 /// An invalidation whose end makes the sequence even, though another is under way.
-pub fn ended_at_once<W: Reads>(
+pub(crate) fn ended_at_once<W: Reads>(
     found: &W,
     actor: Actor,
     op: &Op,

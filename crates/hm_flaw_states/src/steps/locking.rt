@@ -16,7 +16,7 @@ use hm_reads::Reads;
 use hm_reads::decisions::start_page;
 
 /// A place as it is frozen; one that names no frame stays.
-pub fn frozen(place: Place) -> Place
+pub(crate) fn frozen(place: Place) -> Place
     ensures { result ≡ frozen place }
 {
     match names(&place) {
@@ -192,7 +192,13 @@ fn at_frame<W: Reads>(found: &W, right: Next) -> Next
 }
 
 /// Migrations that take a page, and evictions that take a frame, which another actor has locked.
-pub fn locked_taken<W: Reads>(found: &W, actor: Actor, op: &Op, top: &Phase, right: Next) -> Next
+pub(crate) fn locked_taken<W: Reads>(
+    found: &W,
+    actor: Actor,
+    op: &Op,
+    top: &Phase,
+    right: Next,
+) -> Next
     requires { right ≡ right_at (W.program found.now) (W.state found.now) actor op.now top.now }
     ensures { result
         ≡ flawed_at flaws.Flaw.LockedTaken (W.program found.now) (W.state found.now) actor op.now top.now }

@@ -65,7 +65,7 @@ fn set_for_writes(kind: Kind) -> Kind
 }
 
 /// A table entry is set for writes.
-pub fn for_writes(next: Next) -> Next
+pub(crate) fn for_writes(next: Next) -> Next
     ensures { result ≡ for_writes next }
 {
     match next {
@@ -75,7 +75,7 @@ pub fn for_writes(next: Next) -> Next
 }
 
 /// Whether an access may do this at the place, if any device's memory is its own.
-pub fn suits_any(writes: bool, place: &Place) -> bool
+pub(crate) fn suits_any(writes: bool, place: &Place) -> bool
     ensures { result ≡ suits_any writes place.now }
 {
     match place {
@@ -116,7 +116,13 @@ fn walk_any<W: Reads>(found: &W, actor: Actor, op: &Op, seq: u64, at: &Wanted) -
 }
 
 /// A look-up that commits without comparing sequences.
-pub fn not_compared<W: Reads>(found: &W, actor: Actor, op: &Op, top: &Phase, right: Next) -> Next
+pub(crate) fn not_compared<W: Reads>(
+    found: &W,
+    actor: Actor,
+    op: &Op,
+    top: &Phase,
+    right: Next,
+) -> Next
     requires range { IsTrue (op_in_range op.now) }
     requires right { right ≡ right_at (W.program found.now) (W.state found.now) actor op.now top.now }
     ensures { result
@@ -135,7 +141,13 @@ pub fn not_compared<W: Reads>(found: &W, actor: Actor, op: &Op, top: &Phase, rig
 }
 
 /// A look-up that asks only whether its interval is being invalidated at its commit.
-pub fn compared_now<W: Reads>(found: &W, actor: Actor, op: &Op, top: &Phase, right: Next) -> Next
+pub(crate) fn compared_now<W: Reads>(
+    found: &W,
+    actor: Actor,
+    op: &Op,
+    top: &Phase,
+    right: Next,
+) -> Next
     requires range { IsTrue (op_in_range op.now) }
     requires right { right ≡ right_at (W.program found.now) (W.state found.now) actor op.now top.now }
     ensures { result
@@ -154,7 +166,13 @@ pub fn compared_now<W: Reads>(found: &W, actor: Actor, op: &Op, top: &Phase, rig
 }
 
 /// A look-up that sets its page for writes.
-pub fn all_for_writes<W: Reads>(found: &W, actor: Actor, op: &Op, top: &Phase, right: Next) -> Next
+pub(crate) fn all_for_writes<W: Reads>(
+    found: &W,
+    actor: Actor,
+    op: &Op,
+    top: &Phase,
+    right: Next,
+) -> Next
     requires { right ≡ right_at (W.program found.now) (W.state found.now) actor op.now top.now }
     ensures { result
         ≡ flawed_at flaws.Flaw.AllForWrites (W.program found.now) (W.state found.now) actor op.now top.now }
@@ -169,7 +187,13 @@ pub fn all_for_writes<W: Reads>(found: &W, actor: Actor, op: &Op, top: &Phase, r
 }
 
 /// A look-up that does not wait for the mmap lock.
-pub fn walks_unlocked<W: Reads>(found: &W, actor: Actor, op: &Op, top: &Phase, right: Next) -> Next
+pub(crate) fn walks_unlocked<W: Reads>(
+    found: &W,
+    actor: Actor,
+    op: &Op,
+    top: &Phase,
+    right: Next,
+) -> Next
     requires { right ≡ right_at (W.program found.now) (W.state found.now) actor op.now top.now }
     ensures { result
         ≡ flawed_at flaws.Flaw.WalksUnlocked (W.program found.now) (W.state found.now) actor op.now top.now }
@@ -209,7 +233,13 @@ fn any_decides<W: Reads>(found: &W, actor: Actor, op: &Op, touch: &Touch, right:
 }
 
 /// A look-up that takes another device's memory for its own.
-pub fn any_device<W: Reads>(found: &W, actor: Actor, op: &Op, top: &Phase, right: Next) -> Next
+pub(crate) fn any_device<W: Reads>(
+    found: &W,
+    actor: Actor,
+    op: &Op,
+    top: &Phase,
+    right: Next,
+) -> Next
     requires range { IsTrue (op_in_range op.now) }
     requires right { right ≡ right_at (W.program found.now) (W.state found.now) actor op.now top.now }
     ensures { result

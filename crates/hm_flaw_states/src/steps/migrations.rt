@@ -104,7 +104,13 @@ fn taken_anyway<W: Reads>(found: &W, op: &Op, page: Page, right: Next) -> Next
 }
 
 /// A migration that sets each moved page for writes in its own table.
-pub fn own_for_writes<W: Reads>(found: &W, actor: Actor, op: &Op, top: &Phase, right: Next) -> Next
+pub(crate) fn own_for_writes<W: Reads>(
+    found: &W,
+    actor: Actor,
+    op: &Op,
+    top: &Phase,
+    right: Next,
+) -> Next
     requires { right ≡ right_at (W.program found.now) (W.state found.now) actor op.now top.now }
     ensures { result
         ≡ flawed_at flaws.Flaw.OwnForWrites (W.program found.now) (W.state found.now) actor op.now top.now }
@@ -173,7 +179,13 @@ fn set_anyway<W: Finds>(
 }
 
 /// A migration that sets each moved page in its own table, though the interval is being invalidated.
-pub fn own_anyway<W: Finds>(found: &W, actor: Actor, op: &Op, top: &Phase, right: Next) -> Next
+pub(crate) fn own_anyway<W: Finds>(
+    found: &W,
+    actor: Actor,
+    op: &Op,
+    top: &Phase,
+    right: Next,
+) -> Next
     requires { right ≡ right_at (W.program found.now) (W.state found.now) actor op.now top.now }
     ensures { result
         ≡ flawed_at flaws.Flaw.OwnAnyway (W.program found.now) (W.state found.now) actor op.now top.now }
@@ -209,7 +221,13 @@ fn moved_on<W: Reads>(
 }
 
 /// A migration that takes frames of a withdrawn device.
-pub fn withdrawn_taken<W: Reads>(found: &W, actor: Actor, op: &Op, top: &Phase, right: Next) -> Next
+pub(crate) fn withdrawn_taken<W: Reads>(
+    found: &W,
+    actor: Actor,
+    op: &Op,
+    top: &Phase,
+    right: Next,
+) -> Next
     requires { right ≡ right_at (W.program found.now) (W.state found.now) actor op.now top.now }
     ensures { result
         ≡ flawed_at flaws.Flaw.WithdrawnTaken (W.program found.now) (W.state found.now) actor op.now top.now }

@@ -178,7 +178,13 @@ fn forked_at<W: Reads>(found: &W, op: &Op, proc: Proc, body: &Body, right: Next)
 }
 
 /// A fork that gives the child the parent's right, and leaves the parent that right.
-pub fn forked_whole<W: Reads>(found: &W, actor: Actor, op: &Op, top: &Phase, right: Next) -> Next
+pub(crate) fn forked_whole<W: Reads>(
+    found: &W,
+    actor: Actor,
+    op: &Op,
+    top: &Phase,
+    right: Next,
+) -> Next
     requires { right ≡ right_at (W.program found.now) (W.state found.now) actor op.now top.now }
     ensures { result
         ≡ flawed_at flaws.Flaw.ForkedWhole (W.program found.now) (W.state found.now) actor op.now top.now }
@@ -191,7 +197,13 @@ pub fn forked_whole<W: Reads>(found: &W, actor: Actor, op: &Op, top: &Phase, rig
 }
 
 /// A fault that replaces a page without a second look at it.
-pub fn replaced_anyway<W: Reads>(found: &W, actor: Actor, op: &Op, top: &Phase, right: Next) -> Next
+pub(crate) fn replaced_anyway<W: Reads>(
+    found: &W,
+    actor: Actor,
+    op: &Op,
+    top: &Phase,
+    right: Next,
+) -> Next
     requires { right ≡ right_at (W.program found.now) (W.state found.now) actor op.now top.now }
     ensures { result
         ≡ flawed_at flaws.Flaw.ReplacedAnyway (W.program found.now) (W.state found.now) actor op.now top.now }
@@ -206,7 +218,13 @@ pub fn replaced_anyway<W: Reads>(found: &W, actor: Actor, op: &Op, top: &Phase, 
 }
 
 /// A migration that places a fresh page without a second look at it.
-pub fn fresh_anyway<W: Reads>(found: &W, actor: Actor, op: &Op, top: &Phase, right: Next) -> Next
+pub(crate) fn fresh_anyway<W: Reads>(
+    found: &W,
+    actor: Actor,
+    op: &Op,
+    top: &Phase,
+    right: Next,
+) -> Next
     requires { right ≡ right_at (W.program found.now) (W.state found.now) actor op.now top.now }
     ensures { result
         ≡ flawed_at flaws.Flaw.FreshAnyway (W.program found.now) (W.state found.now) actor op.now top.now }
@@ -225,7 +243,7 @@ pub fn fresh_anyway<W: Reads>(found: &W, actor: Actor, op: &Op, top: &Phase, rig
 }
 
 /// A migration that places a fresh page for writes.
-pub fn fresh_for_writes<W: Reads>(
+pub(crate) fn fresh_for_writes<W: Reads>(
     found: &W,
     actor: Actor,
     op: &Op,
@@ -246,7 +264,13 @@ pub fn fresh_for_writes<W: Reads>(
 }
 
 /// Mappings that come back for writes.
-pub fn back_for_writes<W: Reads>(found: &W, actor: Actor, op: &Op, top: &Phase, right: Next) -> Next
+pub(crate) fn back_for_writes<W: Reads>(
+    found: &W,
+    actor: Actor,
+    op: &Op,
+    top: &Phase,
+    right: Next,
+) -> Next
     requires { right ≡ right_at (W.program found.now) (W.state found.now) actor op.now top.now }
     ensures { result
         ≡ flawed_at flaws.Flaw.BackForWrites (W.program found.now) (W.state found.now) actor op.now top.now }

@@ -63,7 +63,12 @@ fn read_through<W: Finds>(found: &W, alloc: Global, next: Next) -> Result<Next, 
 }
 
 /// What is due, with the bytes that are read; with the right driver they are the plain bytes.
-pub fn as_read<W: Finds>(found: &W, alloc: Global, flaw: Flaw, next: Next) -> Result<Next, NoMemory>
+pub(crate) fn as_read<W: Finds>(
+    found: &W,
+    alloc: Global,
+    flaw: Flaw,
+    next: Next,
+) -> Result<Next, NoMemory>
     ensures { IfOk result (λ n. n ≡ as_read flaw (W.driver found.now) next) }
 {
     match flaw {

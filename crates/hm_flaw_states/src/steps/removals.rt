@@ -119,7 +119,13 @@ fn passed<W: Reads>(found: &W, actor: Actor, op: &Op, next: u64, emptied: u64, r
 }
 
 /// A removal that ends once its device is withdrawn.
-pub fn removed_at_once<W: Reads>(found: &W, actor: Actor, op: &Op, top: &Phase, right: Next) -> Next
+pub(crate) fn removed_at_once<W: Reads>(
+    found: &W,
+    actor: Actor,
+    op: &Op,
+    top: &Phase,
+    right: Next,
+) -> Next
     requires { right ≡ right_at (W.program found.now) (W.state found.now) actor op.now top.now }
     ensures { result
         ≡ flawed_at flaws.Flaw.RemovedAtOnce (W.program found.now) (W.state found.now) actor op.now top.now }
@@ -132,7 +138,13 @@ pub fn removed_at_once<W: Reads>(found: &W, actor: Actor, op: &Op, top: &Phase, 
 }
 
 /// A removal that does not withdraw its device first.
-pub fn not_withdrawn<W: Reads>(found: &W, actor: Actor, op: &Op, top: &Phase, right: Next) -> Next
+pub(crate) fn not_withdrawn<W: Reads>(
+    found: &W,
+    actor: Actor,
+    op: &Op,
+    top: &Phase,
+    right: Next,
+) -> Next
     requires { right ≡ right_at (W.program found.now) (W.state found.now) actor op.now top.now }
     ensures { result
         ≡ flawed_at flaws.Flaw.NotWithdrawn (W.program found.now) (W.state found.now) actor op.now top.now }
@@ -144,7 +156,13 @@ pub fn not_withdrawn<W: Reads>(found: &W, actor: Actor, op: &Op, top: &Phase, ri
 }
 
 /// A removal that passes over a frame that another actor has locked.
-pub fn locked_passed<W: Reads>(found: &W, actor: Actor, op: &Op, top: &Phase, right: Next) -> Next
+pub(crate) fn locked_passed<W: Reads>(
+    found: &W,
+    actor: Actor,
+    op: &Op,
+    top: &Phase,
+    right: Next,
+) -> Next
     requires { right ≡ right_at (W.program found.now) (W.state found.now) actor op.now top.now }
     ensures { result
         ≡ flawed_at flaws.Flaw.LockedPassed (W.program found.now) (W.state found.now) actor op.now top.now }

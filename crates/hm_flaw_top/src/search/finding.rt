@@ -7,9 +7,9 @@ ghost use Rattle.hm_flaw_top.specs.Search.Finding.{goal_of, IsFoundFirst};
 
 use crate::search::goals::{Broken, Stuck, first_reached};
 use crate::search::race::FlawRace;
+use crate::text::Found;
 use hm_base::NoMemory;
 use hm_flaw_states::key::FlawKey;
-use crate::text::Found;
 use hm_search::{End, Goal, Known, turns_to};
 use skip_rules::SkipRule;
 
@@ -33,7 +33,7 @@ fn found_first<R: SkipRule, G: Goal<FlawKey>>(
 
 /// What was found by a search that knows these states, and ended so: if it came to an entry that breaks a part, the
 /// first such, and else the first state at which nobody can go on.
-pub fn found_of<R: SkipRule>(
+pub(crate) fn found_of<R: SkipRule>(
     race: &FlawRace<R>,
     known: &[Known<FlawKey>],
     end: End,

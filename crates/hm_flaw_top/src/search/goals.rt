@@ -60,7 +60,7 @@ fn is_at<G: Goal<FlawKey>>(goal: &G, state: &Known<FlawKey>) -> Result<bool, NoM
 }
 
 /// The place of the first known state that reaches the goal, if one does.
-pub fn first_reached<G: Goal<FlawKey>>(
+pub(crate) fn first_reached<G: Goal<FlawKey>>(
     goal: &G,
     known: &[Known<FlawKey>],
 ) -> Result<Option<usize>, NoMemory>

@@ -6,9 +6,9 @@ ghost use Rattle.hm_flaw_parts.specs.Judged.{judged_parts};
 ghost use Rattle.hm_flaw_top.specs.Search.Played.{IsPlayed, found_by};
 
 use crate::search::race::FlawRace;
+use crate::text::Found;
 use hm_base::{Actor, ListOf, NoMemory};
 use hm_flaw_states::key::FlawKey;
-use crate::text::Found;
 use hm_history::Entry;
 use hm_machine::copy_entry;
 use skip_rules::SkipRule;
@@ -44,7 +44,7 @@ impl<'a, R: SkipRule> FlawRace<'a, R> {
 
     /// What turns of these actors come to: a part is broken, or else the entries are told as those of a race that is
     /// stuck. It fails as `next_key` of hm_flaw_states.
-    pub fn race_of(&self, turns: &[Actor]) -> Result<Found, NoMemory>
+    pub(crate) fn race_of(&self, turns: &[Actor]) -> Result<Found, NoMemory>
         ensures { IfOk result (λ f. f ≡ found_by (judged (judged_parts self.now.judging) self.now.flaw
             self.now.script self.now.set_up turns.now)) }
     {

@@ -63,7 +63,7 @@ impl<'a, R: SkipRule> FlawRace<'a, R> {
     }
 
     /// Whether nothing is due to any actor at the state with this key, and some operation has not ended.
-    pub fn is_stuck_at(&self, key: &FlawKey) -> Result<bool, NoMemory>
+    pub(crate) fn is_stuck_at(&self, key: &FlawKey) -> Result<bool, NoMemory>
         ensures { IfOk result
             (λ b. b ≡ is_stuck self.now.flaw self.now.script (form_in key.now).flawed) }
     {

@@ -36,7 +36,7 @@ pub struct Answer {
 impl Answer {
     /// How much of the race is known, as it is written: a search that came to an entry that breaks a part has looked at
     /// all that it was to look at.
-    pub fn extent(&self) -> End
+    pub(crate) fn extent(&self) -> End
         ensures { result ≡ extent self.now.found self.now.end }
     {
         match &self.found {

@@ -83,7 +83,7 @@ pub fn next_key<R: SkipRule>(
 }
 
 /// Whether all operations of all actors have ended.
-pub fn has_ended(script: &Script, state: &RaceState) -> bool
+pub(crate) fn has_ended(script: &Script, state: &RaceState) -> bool
     ensures { result ≡ ended_in script.now (state_in state.now) }
 {
     let here = Here { script, state };

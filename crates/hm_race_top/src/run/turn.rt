@@ -46,7 +46,7 @@ fn blurred_entry(entry: Entry) -> Entry
 }
 
 /// A turn of the actor: the entry that is due and the state after it, or `None` if none is due.
-pub fn turn<R: SkipRule>(
+pub(crate) fn turn<R: SkipRule>(
     alloc: Global,
     script: &Script,
     rule: &R,

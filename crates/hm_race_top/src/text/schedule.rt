@@ -40,7 +40,7 @@ fn add_from(alloc: Global, text: &mut Text, first: Actor, more: &[Actor]) -> Res
 }
 
 /// Adds the lines of the turns: those of one actor in a row are one line.
-pub fn add_turns(alloc: Global, text: &mut Text, turns: &[Actor]) -> Result<(), NoMemory>
+pub(crate) fn add_turns(alloc: Global, text: &mut Text, turns: &[Actor]) -> Result<(), NoMemory>
     ensures { OnOk result (text.new ≡ text.old ++ turns_text turns.now) }
 {
     match turns {

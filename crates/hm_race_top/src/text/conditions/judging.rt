@@ -51,7 +51,7 @@ pub fn meets(condition: &Condition, lines: &[u8]) -> bool
 }
 
 /// Whether an outcome of these lines decides the condition alone.
-pub fn is_witness(condition: &Condition, lines: &[u8]) -> bool
+pub(crate) fn is_witness(condition: &Condition, lines: &[u8]) -> bool
     ensures { result ≡ is_witness condition.now lines.now }
 {
     match condition.quantifier {

@@ -146,7 +146,7 @@ impl Reading {
     }
 
     /// With one more word, if it may come.
-    pub fn with_word(self, alloc: Global, word: &[u8]) -> Result<Option<Reading>, NoMemory>
+    pub(crate) fn with_word(self, alloc: Global, word: &[u8]) -> Result<Option<Reading>, NoMemory>
         requires alone { split word.now ≡ word.now ∷ [] }
         requires plain { stands self ≡ true }
         ensures place { IfOk result (λ o. MatchOption o (place_after self.place (word_kind word.now) ≡ None)

@@ -40,7 +40,7 @@ fn space_in(text: &[u8]) -> Option<usize>
 }
 
 /// The first word, and the text after the space that follows it, if there is one.
-pub fn cut(text: &[u8]) -> (&[u8], Option<&[u8]>)
+pub(crate) fn cut(text: &[u8]) -> (&[u8], Option<&[u8]>)
     ensures text { text.now ≡ result.0.now ++ tail_of result.1 }
     ensures words { split text.now ≡ result.0.now ∷ words_in result.1 }
     ensures alone { split result.0.now ≡ result.0.now ∷ [] }
@@ -53,7 +53,7 @@ pub fn cut(text: &[u8]) -> (&[u8], Option<&[u8]>)
 }
 
 /// The quantifier that the word names.
-pub fn quantifier_of(word: &[u8]) -> Option<Quantifier>
+pub(crate) fn quantifier_of(word: &[u8]) -> Option<Quantifier>
     ensures { result ≡ quantifier_of word.now }
 {
     if word == b"some".as_slice() {
@@ -81,7 +81,7 @@ fn is_actor(word: &[u8]) -> bool
 }
 
 /// What the word is for.
-pub fn word_kind(word: &[u8]) -> WordKind
+pub(crate) fn word_kind(word: &[u8]) -> WordKind
     ensures { result ≡ word_kind word.now }
 {
     if word == b"and".as_slice() {

@@ -43,7 +43,10 @@ fn answers_in(alloc: Global, lines: &[u8]) -> Result<AnswerList, NoMemory>
 }
 
 /// The answers of each outcome.
-pub fn rows_of(alloc: Global, blocks: &[OutcomeBlock]) -> Result<ListOf<AnswerList>, NoMemory>
+pub(crate) fn rows_of(
+    alloc: Global,
+    blocks: &[OutcomeBlock],
+) -> Result<ListOf<AnswerList>, NoMemory>
     ensures { IfOk result (λ rows. rows ≡ rows_of blocks.now) }
 {
     let mut rows = ListOf::new(alloc);
@@ -54,7 +57,7 @@ pub fn rows_of(alloc: Global, blocks: &[OutcomeBlock]) -> Result<ListOf<AnswerLi
 }
 
 /// The answer at a position, and nothing after the last.
-pub fn answer_at(row: &AnswerList, at: u64) -> &[u8]
+pub(crate) fn answer_at(row: &AnswerList, at: u64) -> &[u8]
     ensures { result.now ≡ answer_at at row.now }
 {
     match row.get(at) {

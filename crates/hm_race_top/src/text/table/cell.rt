@@ -7,7 +7,7 @@ use hm_base::{NoMemory, Text};
 
 /// Adds a cell, with the bar before it.
 #[tactic(auto, using(std::proofs::Common::append_assoc))]
-pub fn add_cell(text: &mut Text, width: u64, from: &[u8]) -> Result<(), NoMemory>
+pub(crate) fn add_cell(text: &mut Text, width: u64, from: &[u8]) -> Result<(), NoMemory>
     ensures { OnOk result (text.new ≡ text.old ++ cell width from.now) }
 {
     text.extend(b"| ")?;

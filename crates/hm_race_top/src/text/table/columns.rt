@@ -60,7 +60,7 @@ fn is_shared(rows: &[AnswerList], at: u64) -> bool
 }
 
 /// The answers that all outcomes have at the same position.
-pub fn shared(alloc: Global, rows: &[AnswerList]) -> Result<AnswerList, NoMemory>
+pub(crate) fn shared(alloc: Global, rows: &[AnswerList]) -> Result<AnswerList, NoMemory>
     ensures { IfOk result (λ answers. answers ≡ shared rows.now) }
 {
     let mut answers = ListOf::new(alloc);
@@ -73,7 +73,7 @@ pub fn shared(alloc: Global, rows: &[AnswerList]) -> Result<AnswerList, NoMemory
 }
 
 /// The columns: the positions at which not all outcomes have the same answer.
-pub fn columns(alloc: Global, rows: &[AnswerList]) -> Result<ListOf<Column>, NoMemory>
+pub(crate) fn columns(alloc: Global, rows: &[AnswerList]) -> Result<ListOf<Column>, NoMemory>
     ensures { IfOk result (λ cs. cs ≡ columns rows.now) }
 {
     let mut columns = ListOf::new(alloc);

@@ -56,7 +56,7 @@ fn add_row(
 
 /// Adds the rows of all outcomes, numbered from 1.
 #[tactic(auto, using(std::proofs::Common::append_assoc))]
-pub fn add_rows(
+pub(crate) fn add_rows(
     alloc: Global,
     text: &mut Text,
     columns: &[Column],

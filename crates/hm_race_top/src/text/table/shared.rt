@@ -18,7 +18,7 @@ fn add_answers(text: &mut Text, answers: &[Text]) -> Result<(), NoMemory>
 
 /// Adds what all outcomes share, with its heading, if there is something.
 #[tactic(auto, using(std::proofs::Common::append_assoc))]
-pub fn add_shared(text: &mut Text, answers: &[Text]) -> Result<(), NoMemory>
+pub(crate) fn add_shared(text: &mut Text, answers: &[Text]) -> Result<(), NoMemory>
     ensures { OnOk result (text.new ≡ text.old ++ shared_text answers.now) }
 {
     if answers.is_empty() {
