@@ -86,7 +86,7 @@ impl Page {
 
 /// A process, by its number below 32.
 #[derive(Clone, Copy, PartialEq, Eq)]
-pub struct Proc(u32);
+pub struct Proc(u8);
 
 impl Model for Proc {
     ghost use Rattle.std.specs.Prelude.{ℕ, ◌<◌};
@@ -107,7 +107,7 @@ impl Proc {
         requires { number < MOST_PROCESSES }
         ensures { result ≡ number }
     {
-        Proc(number)
+        Proc(number as u8)
     }
 
     /// Costs nothing: it hands the prover the invariant.
@@ -122,13 +122,13 @@ impl Proc {
         ensures same { result ≡ self }
         ensures below { result < MOST_PROCESSES }
     {
-        self.0
+        u32::from(self.0)
     }
 }
 
 /// A device with private memory, by its number below 4.
 #[derive(Clone, Copy, PartialEq, Eq)]
-pub struct Dev(u32);
+pub struct Dev(u8);
 
 impl Model for Dev {
     ghost use Rattle.std.specs.Prelude.{ℕ, ◌<◌};
@@ -149,7 +149,7 @@ impl Dev {
         requires { number < MOST_DEVICES }
         ensures { result ≡ number }
     {
-        Dev(number)
+        Dev(number as u8)
     }
 
     /// Its number.
@@ -157,14 +157,14 @@ impl Dev {
         ensures same { result ≡ self }
         ensures below { result < MOST_DEVICES }
     {
-        self.0
+        u32::from(self.0)
     }
 }
 
 /// A mirror of a process's memory in a device, by its number below 32 (`struct dmirror` of
 /// lib/test_hmm.c).
 #[derive(Clone, Copy, PartialEq, Eq)]
-pub struct MirrorId(u32);
+pub struct MirrorId(u8);
 
 impl Model for MirrorId {
     ghost use Rattle.std.specs.Prelude.{ℕ, ◌<◌};
@@ -185,7 +185,7 @@ impl MirrorId {
         requires { number < MOST_MIRRORS }
         ensures { result ≡ number }
     {
-        MirrorId(number)
+        MirrorId(number as u8)
     }
 
     /// Its number.
@@ -193,13 +193,13 @@ impl MirrorId {
         ensures same { result ≡ self }
         ensures below { result < MOST_MIRRORS }
     {
-        self.0
+        u32::from(self.0)
     }
 }
 
 /// An actor of a script, by its number below 16.
 #[derive(Clone, Copy, PartialEq, Eq, Debug)]
-pub struct Actor(u32);
+pub struct Actor(u8);
 
 impl Model for Actor {
     ghost use Rattle.std.specs.Prelude.{ℕ, ◌<◌};
@@ -220,7 +220,7 @@ impl Actor {
         requires { number < MOST_ACTORS }
         ensures { result ≡ number }
     {
-        Actor(number)
+        Actor(number as u8)
     }
 
     /// Its number.
@@ -228,7 +228,7 @@ impl Actor {
         ensures same { result ≡ self }
         ensures below { result < MOST_ACTORS }
     {
-        self.0
+        u32::from(self.0)
     }
 }
 
