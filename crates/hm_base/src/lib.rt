@@ -8,6 +8,7 @@ use std::alloc::{AllocError, AllocFailed};
 use std::marker::Model;
 
 mod area;
+mod bytes;
 mod cause;
 pub mod frames;
 mod limits;
@@ -16,13 +17,14 @@ mod ops;
 mod snap;
 
 pub use area::Area;
+pub use bytes::Bytes;
 pub use cause::Cause;
 pub use limits::{
     MOST_ACTORS, MOST_AREAS, MOST_DEVICE_FRAMES, MOST_DEVICES, MOST_ENTRIES, MOST_MIRRORS,
     MOST_OPERATIONS, MOST_PROCESSES, MOST_REPORT_BYTES, MOST_SCHEDULE_LINES, MOST_SCRIPT_BYTES,
     MOST_SYSTEM_FRAMES, PAGE_BYTES,
 };
-pub use lists::{ActorLists, Bytes, DeviceList, ListOf, MaskList, Masks, OpList, Schedule, Text};
+pub use lists::{ActorLists, DeviceList, ListOf, MaskList, Masks, OpList, Schedule, Text};
 pub use ops::{Op, Rights, ScheduleLine, Script, Version};
 pub use snap::snap_code;
 

@@ -6,9 +6,6 @@ use crate::ops::{Op, ScheduleLine};
 use std::alloc::Global;
 use std::marker::Model;
 
-/// Bytes.
-pub type Bytes = ListOf<u8>;
-
 /// A text, as its bytes.
 pub type Text = ListOf<u8>;
 

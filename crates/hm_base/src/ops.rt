@@ -1,7 +1,8 @@
 // Operations and scripts.
 ghost use Rattle.std.specs.Prelude.{◌≡◌, ◌<◌, length, true, OnOk, OnErr};
 
-use crate::lists::{ActorLists, Bytes, DeviceList, Schedule};
+use crate::bytes::Bytes;
+use crate::lists::{ActorLists, DeviceList, Schedule};
 use crate::{Actor, Dev, MirrorId, NoMemory, Page, Proc, Span};
 use std::marker::Model;
 
