@@ -14,39 +14,39 @@ pub fn flaw_races_are_systems()
 {}
 
 /// The point after turns is what these turns are judged to come to.
-pub(crate) fn turns_are_judged()
+pub fn turns_are_judged()
     ensures { TurnsAreJudged }
 {}
 
 /// Turns that break a part are a race in which the driver breaks it; if each adds an entry, with the last of them.
-pub(crate) fn broken_turns_break()
+pub fn broken_turns_break()
     ensures { BrokenTurnsBreak }
 {
     hm_flaws::judged_breaks();
 }
 
 /// Turns after which the driver is stuck, if no part was broken, are a race that comes to that.
-pub(crate) fn stuck_turns_stick()
+pub fn stuck_turns_stick()
     ensures { StuckTurnsStick }
 {}
 
 /// If no turns break a part, the driver breaks none, in whatever order its actors take turns.
-pub(crate) fn unbroken_breaks_none()
+pub fn unbroken_breaks_none()
     ensures { UnbrokenBreaksNone }
 {}
 
 /// If no turns that are fewer than n break a part, no race breaks one with fewer than n entries.
-pub(crate) fn unbroken_breaks_later()
+pub fn unbroken_breaks_later()
     ensures { UnbrokenBreaksLater }
 {}
 
 /// If no turns come to where nobody can go on, the driver is never stuck.
-pub(crate) fn unstuck_never_sticks()
+pub fn unstuck_never_sticks()
     ensures { UnstuckNeverSticks }
 {}
 
 /// If no turns that are fewer than n come to where nobody can go on, nobody is stuck after fewer than n entries.
-pub(crate) fn unstuck_sticks_later()
+pub fn unstuck_sticks_later()
     ensures { UnstuckSticksLater }
 {}
 
@@ -77,7 +77,7 @@ pub fn first_sticks_soonest()
 }
 
 /// No turns of the right driver break a part.
-pub(crate) fn right_turns_break_none()
+pub fn right_turns_break_none()
     ensures { RightTurnsBreakNone }
 {
     broken_turns_break();
