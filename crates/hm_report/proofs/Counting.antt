@@ -1,19 +1,35 @@
 -- How far actors are, one entry more.
-use Rattle.std.proofs.Common.{◌≡◌, ◌≢◌, ℕ, ◌+◌, ◌≤◌, ◌<◌, ◌⊎◌, List, [], ◌∷◌, ◌++◌, length, get_or, take, slice_set, zero, suc, inl, inr, refl, sym, ap, ◌∙◌, arith, get_or-set_other, get_or-set_same}
+use Rattle.std.proofs.Common.{◌≡◌, ◌≢◌, ℕ, ◌+◌, ◌^◌, ◌≤◌, ◌<◌, ◌⊎◌, List, [], ◌∷◌, ◌++◌, length, get_or, take, slice_set, zero, suc, inl, inr, refl, sym, subst, ap, ◌∙◌, arith, get_or-set_other, get_or-set_same}
 use Rattle.std.specs.Prelude.{slice_index}
-use Rattle.std.proofs.lemmas.List.{take_more}
+use Rattle.std.proofs.lemmas.List.{length-take-le, take_more}
 use Rattle.std.proofs.lemmas.List.Sums.{fold-append}
 use Rattle.hm_base.specs.Program.{Program}
 use Rattle.hm_history.specs.Memory.Words.{with_at}
 use Rattle.hm_history.specs.Kernel.Going.{ops_of}
 use Rattle.hm_history.specs.declared.Entry.{Entry}
 use Rattle.hm_report.specs.Ended.{ended_next, ended_start, all_next, ended_after}
+use Rattle.hm_report.specs.Ends.{AreEnds, Fits}
 use Rattle.hm_report.specs.declared.ended.EndedOps.{EndedOps}
+use Rattle.hm_report.specs.declared.ended.Ends.{Ends}
 use Rattle.hm_history.proofs.Updates.{here_at, other_at}
 
-pub ended_more : (c : Program) (es : List Entry) (i : ℕ) (e : Entry) → i < length es → e ≡ get_or es i e → ended_after c (take (i + 1) es) ≡ all_next c (ended_after c (take i es)) e
-ended_more c es i e lt is =
-    ap (ended_after c) (take_more es i e lt ∙ ap (λ (x : Entry). take i es ++ x ∷ []) (sym is)) ∙ fold-append (all_next c) (λ a. ended_start) (take i es) (e ∷ [])
+pub ended_with : (c : Program) (es : List Entry) (e : Entry) → ended_after c (es ++ e ∷ []) ≡ all_next c (ended_after c es) e
+ended_with c es e = fold-append (all_next c) (λ a. ended_start) es (e ∷ [])
+
+-- in a list the entries so far and the next one are one more of its front
+pub ends_more : (c : Program) (es : List Entry) (i : ℕ) (e : Entry) (x : Ends) → i < length es → e ≡ get_or es i e → AreEnds c (take i es ++ e ∷ []) x → AreEnds c (take (i + 1) es) x
+ends_more c es i e x lt is h = subst (λ xs. AreEnds c xs x) (sym (take_more es i e lt ∙ ap (λ (y : Entry). take i es ++ y ∷ []) (sym is))) h
+
+-- among fewer entries than numbers reach, one more can be counted
+pub ends_fit : (c : Program) (es : List Entry) (x : Ends) (i : ℕ) → i < length es → i + 1 < 2 ^ 64 → AreEnds c (take i es) x → Fits x
+ends_fit c es x i lt few h =
+    let count = length-take-le i es (omega arith) in
+    record {
+      operations_len = h.operations_len;
+      pieces_len = h.pieces_len;
+      operations = λ a small. omega (arith, few, h.few_operations a small, count);
+      pieces = λ a small. omega (arith, few, h.few_pieces a small, count);
+    }
 
 pub same_or_not : (a k : ℕ) → (a ≡ k) ⊎ (a ≢ k)
 same_or_not zero zero = inl refl

@@ -7,3 +7,4 @@ pub mod Summary
 pub mod Sends
 pub mod Words
 pub mod Written
+pub mod Ends

@@ -1,7 +1,9 @@
 // Which operations have ended, from the entries alone.
-ghost use Rattle.std.specs.Prelude.{◌≡◌, ℕ, ◌+◌, ◌≤◌, ◌<◌, ◌^◌, [], false, length, slice_index};
+ghost use Rattle.std.specs.Prelude.{◌≡◌, ℕ, ◌+◌, ◌≤◌, ◌<◌, ◌^◌, List, [], ◌∷◌, ◌++◌, false, length, slice_index};
 ghost use Rattle.hm_history.specs.Memory.Words.{pieces};
 ghost use Rattle.hm_history.specs.Kernel.Operation.{op_pieces};
+ghost use Rattle.hm_base.specs.Program.{Program};
+ghost use Rattle.hm_history.specs.declared.Entry.{Entry as AnyEntry};
 ghost use Rattle.hm_history.specs.Kernel.Going.{ops_of};
 ghost use Rattle.hm_report.specs.Kinds.{is_answer, is_snap, finishes, TellsNothing};
 
@@ -114,6 +116,7 @@ fn finishes(op: &Op, kind: &Kind) -> bool
 }
 
 ghost use Rattle.hm_report.specs.Ended.{ended_next, ended_after};
+ghost use Rattle.hm_report.specs.Ends.{AreEnds, Fits};
 
 /// Whether the entry may answer a piece of an operation, or end one. Most entries do neither.
 #[inline(always)]
@@ -182,22 +185,50 @@ pub fn op_count(script: &Script, actor: u64) -> u64
     }
 }
 
+/// How far each actor is.
+#[derive(Drop)]
+pub(crate) struct Ends {
+    pub operations: [u64; ACTORS],
+    pub pieces: [u64; ACTORS],
+}
+
+impl Ends {
+    /// Before the first entry.
+    pub(crate) fn none() -> Ends
+        ensures { (c : Program) → AreEnds c [] result }
+    {
+        Ends {
+            operations: [0; ACTORS],
+            pieces: [0; ACTORS],
+        }
+    }
+
+    /// After one entry more.
+    #[inline(always)]
+    pub(crate) fn add(&mut self, script: &Script, entry: &Entry)
+        requires { Fits self.old }
+        ensures { (es : List AnyEntry) → AreEnds script.now es self.old
+            → AreEnds script.now (es ++ entry.now ∷ []) self.new }
+    {
+        let at = entry.actor.number() as usize;
+        let ended = EndedOps {
+            operations: self.operations[at],
+            pieces: self.pieces[at],
+        };
+        let after = after_entry(script, entry, &ended);
+        self.operations[at] = after.operations;
+        self.pieces[at] = after.pieces;
+    }
+}
+
 /// How many operations of each actor have ended.
 pub fn operations_ended(script: &Script, history: &History) -> [u64; ACTORS]
     ensures len { length result ≡ 16 }
     ensures each { (a : ℕ) → a < 16 → slice_index result a ≡ (ended_after script.now history.now.entries a).operations }
 {
-    let mut operations = [0; ACTORS];
-    let mut pieces = [0; ACTORS];
+    let mut ends = Ends::none();
     for entry in history.as_slice() {
-        let at = entry.actor.number() as usize;
-        let ended = EndedOps {
-            operations: operations[at],
-            pieces: pieces[at],
-        };
-        let after = after_entry(script, entry, &ended);
-        operations[at] = after.operations;
-        pieces[at] = after.pieces;
+        ends.add(script, entry);
     }
-    operations
+    ends.operations
 }

@@ -1,7 +1,8 @@
 // The report of a script and a history.
-ghost use Rattle.std.specs.Prelude.{◌≡◌, ◌+◌, ◌≤◌, ◌<◌, ◌++◌, [], false, length, slice_index, OnOk, IfErr};
+ghost use Rattle.std.specs.Prelude.{◌≡◌, ◌+◌, ◌≤◌, ◌<◌, ◌++◌, [], false, length, slice_index, OnOk, IfErr, IfOk};
 ghost use Rattle.hm_history.specs.Kernel.Legal.{Legal};
 ghost use Rattle.hm_report.specs.Counted.{counted};
+ghost use Rattle.hm_report.specs.Ends.{AreCounted};
 ghost use Rattle.hm_script.specs.Spelling.{text as script_text};
 ghost use Rattle.hm_report.specs.Words.{tail_text};
 ghost use Rattle.hm_report.specs.Report.{entry_line, entry_lines, history_line, unfinished_line, unfinished_lines};
@@ -10,7 +11,7 @@ ghost use Rattle.hm_report.specs.Sends.{Sends, GoesOn, Stops};
 ghost use Rattle.hm_report.specs.Written.{Writes, SentOn, FaultCause, TextWants, ReportWants};
 
 use crate::buffer::{Buffer, PIECE, ROOM};
-use crate::ended::{op_count, operations_ended};
+use crate::ended::{ACTORS, Ends, op_count};
 use crate::kinds::put_front;
 use crate::laws::ends_are_counted;
 use crate::numerals::put_decimal;
@@ -70,9 +71,16 @@ fn put_entry<K: Sink>(out: &mut Buffer, sink: &mut K, at: u64, entry: &Entry) ->
     settle(out, sink)
 }
 
-/// Adds the lines of the entries, from position 0 on.
-fn put_entries<K: Sink>(out: &mut Buffer, sink: &mut K, entries: &[Entry]) -> Result<(), Stop>
+/// Adds the lines of the entries, from position 0 on, and counts as it goes: the answer is how many operations of each
+/// actor have ended.
+fn put_entries<K: Sink>(
+    out: &mut Buffer,
+    sink: &mut K,
+    script: &Script,
+    entries: &[Entry],
+) -> Result<[u64; ACTORS], Stop>
     requires { length out.old ≤ 5000 }
+    ensures ended { IfOk result (AreCounted script.now entries.now) }
     ensures ok { OnOk result
         (GoesOn (K.state sink.old)
         (K.state sink.new) out.old out.new (entry_lines 0 entries.now)) }
@@ -81,10 +89,12 @@ fn put_entries<K: Sink>(out: &mut Buffer, sink: &mut K, entries: &[Entry]) -> Re
         (Stops (K.state sink.old) (K.state sink.new)
         (out.old ++ entry_lines 0 entries.now)) }
 {
+    let mut ends = Ends::none();
     for (at, entry) in entries.iter().enumerate() {
         put_entry(out, sink, at as u64, entry)?;
+        ends.add(script, entry);
     }
-    Ok(())
+    Ok(ends.operations)
 }
 
 /// Adds the line of an actor with an operation that has not ended.
@@ -127,14 +137,16 @@ fn put_unfinished<K: Sink>(
     Ok(())
 }
 
-/// Adds the script's text and the lines of the entries.
+/// Adds the script's text and the lines of the entries, and answers how many operations of each actor have ended.
 fn put_lines<K: Sink>(
     out: &mut Buffer,
     sink: &mut K,
     text: &[u8],
+    script: &Script,
     entries: &[Entry],
-) -> Result<(), Stop>
+) -> Result<[u64; ACTORS], Stop>
     requires { length out.old ≤ PIECE }
+    ensures ended { IfOk result (AreCounted script.now entries.now) }
     ensures ok { OnOk result
         (GoesOn (K.state sink.old)
         (K.state sink.new) out.old out.new
@@ -146,7 +158,7 @@ fn put_lines<K: Sink>(
 {
     put_text(out, sink, text)?;
     out.put(b"history\n");
-    put_entries(out, sink, entries)
+    put_entries(out, sink, script, entries)
 }
 
 /// Adds the last line.
@@ -194,9 +206,7 @@ fn write_lines<K: Sink>(
         (report_by script.now history.now.entries (counted script.now history.now.entries))) }
 {
     script.facts();
-    let entries = history.as_slice();
-    put_lines(out, sink, text, entries)?;
-    let ended = operations_ended(script, history);
+    let ended = put_lines(out, sink, text, script, history.as_slice())?;
     put_unfinished(out, sink, script, &ended)?;
     let count = history.len();
     write_end(out, sink, count)
