@@ -1,6 +1,6 @@
 pub mod Words
 pub mod Members
 pub mod Overwrites
-pub mod Pending
+pub mod Blank
 pub mod Padded
 pub mod Free

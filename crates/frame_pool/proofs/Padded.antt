@@ -1,9 +1,9 @@
 -- Bytes that are followed by zeros up to a length.
-use Rattle.std.proofs.Common.{◌≡◌, ℕ, zero, suc, ◌+◌, ◌-◌, ◌<◌, ◌≤◌, List, [], length, take, drop, replicate, ◌++◌, sym, refl, ap, ◌∙◌, arith, ◌⊎◌, inl, inr}
+use Rattle.std.proofs.Common.{◌≡◌, ℕ, ◌+◌, ◌-◌, ◌<◌, ◌≤◌, List, length, take, drop, replicate, ◌++◌, sym, ap, ◌∙◌, arith, ◌⊎◌, inl, inr}
 use Rattle.std.proofs.Math.Seq.{take-append-add, drop-append-add}
 use Rattle.std.proofs.lemmas.Bool.{cases_lt}
 use Rattle.std.proofs.lemmas.Grind.{common_steps}
-use Rattle.std.proofs.lemmas.List.{append_assoc, length-append, length-replicate, replicate-append-replicate, append-nil, take-append-le, drop-append-le, take-replicate, drop-replicate, take_all, drop_all, drop-drop, take-append-drop, length-take, length-take-le, length-drop}
+use Rattle.std.proofs.lemmas.List.{append_assoc, length-append, length-replicate, replicate-append-replicate, append-nil, take-append-le, drop-append-le, take-replicate, drop-replicate, take_all, drop_all, length-take, length-take-le, length-drop}
 use Rattle.frame_pool.specs.Frames.{overwritten, padded, part_of}
 use Rattle.frame_pool.proofs.Overwrites.{length-overwritten}
 
@@ -81,44 +81,6 @@ part_before xs n at m l k = sym (part_shown xs n at m (omega arith)) ∙ (ap (λ
 
 pub length_padded : (xs : List ℕ) (n : ℕ) → length xs ≤ n → length (padded xs n) ≡ n
 length_padded xs n l = omega (arith, length-append xs (replicate (n - length xs) 0), length-replicate {A = ℕ} (n - length xs) 0)
-
--- what is written over itself stays
-own_part : (xs : List ℕ) (at m : ℕ) → at + m ≤ length xs → overwritten xs at (part_of xs at m) ≡ xs
-own_part xs at m l =
-    ap (λ k. take at xs ++ (part_of xs at m ++ drop (at + k) xs)) len
-    ∙ (ap (λ k. take at xs ++ (take k (drop at xs) ++ drop (at + m) xs)) span
-    ∙ (ap (λ (zs : List ℕ). take at xs ++ zs) (ap (λ (zs : List ℕ). take m (drop at xs) ++ zs) (sym (drop-drop m at xs)) ∙ take-append-drop m (drop at xs))
-    ∙ take-append-drop at xs))
-  where
-    len : length (part_of xs at m) ≡ m
-    len = omega (arith, l, length-take (at + m - at) (drop at xs), length-drop at xs)
-
-    span : at + m - at ≡ m
-    span = omega arith
-
--- past what was written all is zeros
-blank_part : (xs : List ℕ) (n at m : ℕ) → length xs ≤ at → at + m ≤ n → part_of (padded xs n) at m ≡ replicate m 0
-blank_part xs n at m p l = sym (part_shown xs n at m l) ∙ (rw (drop_all at xs p, take_nil (at + m - at)) (ap (λ k. replicate {A = ℕ} k 0) all))
-  where
-    take_nil : (k : ℕ) → take {A = ℕ} k [] ≡ []
-    take_nil zero = refl
-    take_nil (suc k) = refl
-
-    all : m - 0 ≡ m
-    all = omega arith
-
--- zeros over zeros
-pub zeros_over : (xs s : List ℕ) (n at m : ℕ) → padded xs n ≡ s → length xs ≤ at → at + m ≤ length s → length xs ≤ n → overwritten s at (replicate m 0) ≡ s
-zeros_over xs s n at m is p l k =
-    let room : at + m ≤ n = omega (arith, l, length_padded xs n k, ap length is) in
-    ap (overwritten s at) (sym (blank_part xs n at m p room) ∙ ap (λ ws. part_of ws at m) is) ∙ own_part s at m l
-
--- a copy of zeros over zeros
-pub blank_over : (xs ys s t : List ℕ) (n i at to m : ℕ) → padded xs n ≡ s → padded ys i ≡ t → length xs ≤ to → length ys ≤ at →
-    length xs ≤ n → length ys ≤ i → to + m ≤ length s → at + m ≤ length t → overwritten s to (part_of t at m) ≡ s
-blank_over xs ys s t n i at to m is it p q k j l o =
-    let room : at + m ≤ i = omega (arith, o, length_padded ys i j, ap length it) in
-    ap (λ ws. overwritten s to (part_of ws at m)) (sym it) ∙ (ap (overwritten s to) (blank_part ys i at m q room) ∙ zeros_over xs s n to m is p l k)
 
 pub length_part : (xs : List ℕ) (at m : ℕ) → length (padded (part_of xs at m) m) ≡ m
 length_part xs at m = grind (arith, common_steps)

@@ -1,4 +1,4 @@
 pub mod Bits
 pub mod Frames
 pub mod Pools
-pub mod Pending
+pub mod Parts

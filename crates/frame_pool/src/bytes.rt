@@ -5,20 +5,6 @@ ghost use Rattle.frame_pool.specs.Frames.{overwritten, padded, part_of};
 /// The bytes of a frame.
 pub const FRAME_BYTES: usize = 4096;
 
-/// Adds zeros at the end, up to this many bytes, for which there is room.
-pub(crate) fn grow(bytes: &mut Vec<u8>, len: usize)
-    requires { len ≤ vec_capacity bytes.old }
-    ensures items { bytes.new.items ≡ bytes.old.items ++ replicate (len - length bytes.old.items) 0 }
-    ensures capacity { vec_capacity bytes.old ≤ vec_capacity bytes.new }
-{
-    if bytes.len() < len {
-        match bytes.resize(len, 0) {
-            Ok(_) => (),
-            Err(_) => unreachable!(),
-        }
-    }
-}
-
 /// Fills `into` with the bytes from `at` on, and with zeros if there are none.
 pub(crate) fn read(bytes: &[u8], at: usize, into: &mut [u8])
     requires { at + length into.old < 2 ^ 64 }

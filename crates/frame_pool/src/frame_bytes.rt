@@ -3,6 +3,7 @@ ghost use Rattle.std.specs.Prelude.{◌≡◌, ◌+◌, ◌≤◌, length, repli
 ghost use Rattle.frame_pool.specs.Frames.{overwritten, part_of};
 
 use crate::bytes;
+use crate::growing::grow;
 use hm_base::NoMemory;
 use std::alloc::Global;
 use std::marker::Model;
@@ -50,20 +51,16 @@ impl FrameBytes {
         requires { at + length from.now ≤ length self.old }
         ensures { self.new ≡ overwritten self.old at from.now }
     {
-        bytes::grow(&mut self.front, at + from.len());
+        grow(&mut self.front, at + from.len(), 0);
         bytes::overwrite(&mut self.front, at, from);
     }
 
-    /// Writes this many zeros over the bytes from `at` on. Where no byte at or past it was written, there is nothing to
-    /// do.
+    /// Writes this many zeros over the bytes from `at` on.
     pub(crate) fn zero(&mut self, at: usize, count: usize)
         requires { at + count ≤ length self.old }
         ensures { self.new ≡ overwritten self.old at (replicate count 0) }
     {
-        if self.front.len() <= at {
-            return;
-        }
-        bytes::grow(&mut self.front, at + count);
+        grow(&mut self.front, at + count, 0);
         bytes::overwrite_by_zeros(&mut self.front, at, count);
     }
 
@@ -73,22 +70,18 @@ impl FrameBytes {
         requires target { to + count ≤ length self.old }
         ensures { self.new ≡ overwritten self.old to (part_of self.old at count) }
     {
-        bytes::grow(&mut self.front, at + count);
-        bytes::grow(&mut self.front, to + count);
+        grow(&mut self.front, at + count, 0);
+        grow(&mut self.front, to + count, 0);
         bytes::copy(&mut self.front, at, to, count);
     }
 
-    /// Copies this many bytes of another row from `at` on over those from `to` on. Where neither row has a byte there
-    /// that was written, there is nothing to do.
+    /// Copies this many bytes of another row from `at` on over those from `to` on.
     pub(crate) fn copy_from(&mut self, from: &FrameBytes, at: usize, to: usize, count: usize)
         requires source { at + count ≤ length from.now }
         requires target { to + count ≤ length self.old }
         ensures { self.new ≡ overwritten self.old to (part_of from.now at count) }
     {
-        if from.front.len() <= at && self.front.len() <= to {
-            return;
-        }
-        bytes::grow(&mut self.front, to + count);
+        grow(&mut self.front, to + count, 0);
         bytes::read_over(&mut self.front, to, count, &from.front, at);
     }
 }

@@ -5,7 +5,9 @@
 pub mod bits;
 mod bytes;
 mod frame_bytes;
+mod growing;
 mod number_set;
+mod parts;
 mod pool;
 mod pool_bytes;
 

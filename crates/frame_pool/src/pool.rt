@@ -7,13 +7,11 @@ ghost use Rattle.frame_pool.specs.Frames.{dropped, written, copied, part_of, loc
 
 use crate::bytes::FRAME_BYTES;
 use crate::number_set::NumberSet;
+use crate::parts::PART_BYTES;
 use crate::pool_bytes::PoolBytes;
 use hm_base::{Actor, NoMemory};
 use std::alloc::Global;
 use std::marker::Model;
-
-/// The bytes of one of the eight parts of a frame.
-const PART_BYTES: usize = 512;
 
 /// How much of a frame is copied: all of it, or the part of this number below 8, 512 bytes long.
 #[derive(Clone, Copy)]
@@ -145,9 +143,15 @@ impl Pool {
         requires piece { IsPiece piece }
         ensures { self.new ≡ copied self.old src self.old dst piece }
     {
-        let from = src as usize * FRAME_BYTES + piece.start();
-        let to = dst as usize * FRAME_BYTES + piece.start();
-        self.bytes.copy(from, to, piece.len());
+        let from = src as usize * FRAME_BYTES;
+        let to = dst as usize * FRAME_BYTES;
+        match piece {
+            Piece::All => self.bytes.copy_frame(from, to),
+            Piece::Part(part) => {
+                let start = part as usize * PART_BYTES;
+                self.bytes.copy_part(from + start, to + start);
+            }
+        }
     }
 
     /// Locks the frame for the actor; `Held` names the actor that has it locked already.
@@ -204,27 +208,6 @@ impl Pool {
     }
 }
 
-impl Piece {
-    fn start(self) -> usize
-        requires { IsPiece self }
-        ensures { result ≡ piece_start self }
-    {
-        match self {
-            Piece::All => 0,
-            Piece::Part(part) => part as usize * PART_BYTES,
-        }
-    }
-
-    fn len(self) -> usize
-        ensures { result ≡ piece_len self }
-    {
-        match self {
-            Piece::All => FRAME_BYTES,
-            Piece::Part(_) => PART_BYTES,
-        }
-    }
-}
-
 /// Copies the piece of a frame of one pool over that of a frame of another.
 pub fn copy_across(from: &Pool, src: u32, to: &mut Pool, dst: u32, piece: Piece)
     requires src { is_held from.now src ≡ true }
@@ -232,9 +215,16 @@ pub fn copy_across(from: &Pool, src: u32, to: &mut Pool, dst: u32, piece: Piece)
     requires piece { IsPiece piece }
     ensures { to.new ≡ copied from.now src to.old dst piece }
 {
-    let at = src as usize * FRAME_BYTES + piece.start();
-    let over = dst as usize * FRAME_BYTES + piece.start();
-    to.bytes.copy_from(&from.bytes, at, over, piece.len());
+    let at = src as usize * FRAME_BYTES;
+    let over = dst as usize * FRAME_BYTES;
+    match piece {
+        Piece::All => to.bytes.copy_frame_from(&from.bytes, at, over),
+        Piece::Part(part) => {
+            let start = part as usize * PART_BYTES;
+            to.bytes
+                .copy_part_from(&from.bytes, at + start, over + start);
+        }
+    }
 }
 
 /// The locks of this many frames, which nobody has.

@@ -1,31 +1,35 @@
-// Bytes of the frames of a pool. The frame that was taken last may still have to be zeroed: most frames are copied over
-// at once, and then zeros would be written for nothing.
-ghost use Rattle.std.specs.Prelude.{◌≡◌, ℕ, ◌+◌, ◌%◌, ◌≤◌, true, Some, None, List, length, replicate, IfOk};
+// Bytes of the frames of a pool, and which parts of them may hold another byte than 0. A frame has zeros when it is
+// taken, and most of it never gets anything else. So what holds zeros alone is neither cleared nor copied.
+ghost use Rattle.std.specs.Prelude.{◌≡◌, ◌≢◌, ℕ, ◌+◌, ◌*◌, ◌%◌, ◌/◌, ◌≤◌, List, length, replicate, IfOk};
 ghost use Rattle.frame_pool.specs.Frames.{overwritten, part_of, zero_frame};
-ghost use Rattle.frame_pool.specs.Pending.{shown, IsPending, IsApart, is_pending};
+ghost use Rattle.frame_pool.specs.Parts.{zero_part};
 
 use crate::bytes::FRAME_BYTES;
 use crate::frame_bytes::FrameBytes;
+use crate::parts::{PART_BYTES, Parts};
 use hm_base::NoMemory;
 use std::alloc::Global;
 use std::marker::Model;
 
-/// Bytes in a row, and where a frame begins among them that has zeros which were not written yet.
+/// Parts of a frame.
+const PARTS: usize = FRAME_BYTES / PART_BYTES;
+
+/// Bytes in a row, and the parts of 512 of them that may hold another byte than 0.
 #[derive(Drop)]
 pub struct PoolBytes {
     bytes: FrameBytes,
-    pending: Option<usize>,
+    parts: Parts,
 }
 
 impl Model for PoolBytes {
     ghost use Rattle.std.specs.Prelude.{ℕ, List};
-    ghost use Rattle.frame_pool.specs.Pending.{shown, IsPending};
+    ghost use Rattle.frame_pool.specs.Parts.{AreParts};
 
     ghost Value = { List ℕ };
 
-    ghost view = { λ b. shown b.bytes b.pending };
+    ghost view = { λ b. b.bytes };
 
-    ghost invariant = { λ b. IsPending b.bytes b.pending };
+    ghost invariant = { λ b. AreParts b.bytes b.parts };
 }
 
 impl PoolBytes {
@@ -33,24 +37,18 @@ impl PoolBytes {
     pub(crate) fn new(alloc: Global, size: usize) -> Result<PoolBytes, NoMemory>
         ensures { IfOk result (λ bytes. bytes ≡ replicate size 0) }
     {
-        let bytes = FrameBytes::new(alloc, size)?;
         Ok(PoolBytes {
-            bytes,
-            pending: None,
+            bytes: FrameBytes::new(alloc, size)?,
+            parts: Parts::new(alloc, size)?,
         })
     }
 
-    /// Fills `into` with the bytes of a frame from `at` on.
+    /// Fills `into` with the bytes from `at` on.
     pub(crate) fn read(&self, at: usize, into: &mut [u8])
-        requires inside { at + length into.old ≤ length self.now }
-        requires frame { at % 4096 + length into.old ≤ 4096 }
+        requires { at + length into.old ≤ length self.now }
         ensures { into.new ≡ part_of self.now at (length into.old) }
     {
-        if is_pending(self.pending, at) {
-            clear(into);
-        } else {
-            self.bytes.read(at, into);
-        }
+        self.bytes.read(at, into);
     }
 
     /// Writes the bytes over those from `at` on.
@@ -58,111 +56,89 @@ impl PoolBytes {
         requires { at + length from.now ≤ length self.old }
         ensures { self.new ≡ overwritten self.old at from.now }
     {
-        settle(&mut self.bytes, &mut self.pending);
         self.bytes.overwrite(at, from);
+        self.parts.mark(at, from.len());
     }
 
-    /// Zeros the frame that begins there, later.
+    /// Writes zeros over the part that begins there, unless it has nothing else.
+    fn zero_part(&mut self, at: usize)
+        requires inside { at + 512 ≤ length self.old }
+        requires part { at % 512 ≡ 0 }
+        ensures { self.new ≡ overwritten self.old at zero_part }
+    {
+        if self.parts.has(at / PART_BYTES) {
+            self.bytes.zero(at, PART_BYTES);
+            self.parts.clear(at / PART_BYTES);
+        }
+    }
+
+    /// Writes zeros over the frame that begins there.
     pub(crate) fn zero_frame(&mut self, at: usize)
         requires inside { at + 4096 ≤ length self.old }
         requires frame { at % 4096 ≡ 0 }
         ensures { self.new ≡ overwritten self.old at zero_frame }
     {
-        settle(&mut self.bytes, &mut self.pending);
-        self.pending = Some(at);
-    }
-
-    /// Copies this many bytes from `at` on over those from `to` on.
-    pub(crate) fn copy(&mut self, at: usize, to: usize, count: usize)
-        requires source { at + count ≤ length self.old }
-        requires target { to + count ≤ length self.old }
-        ensures { self.new ≡ overwritten self.old to (part_of self.old at count) }
-    {
-        if lies_apart(at, to) && is_copied_over(self.pending, to, count) {
-            self.pending = None;
-            self.bytes.copy(at, to, count);
-            return;
+        for part in 0..PARTS {
+            self.zero_part(at + part * PART_BYTES);
         }
-        settle(&mut self.bytes, &mut self.pending);
-        self.bytes.copy(at, to, count);
     }
 
-    /// Copies this many bytes of a frame of another row from `at` on over those from `to` on.
-    pub(crate) fn copy_from(&mut self, from: &PoolBytes, at: usize, to: usize, count: usize)
-        requires source { at + count ≤ length from.now }
-        requires frame { at % 4096 + count ≤ 4096 }
-        requires target { to + count ≤ length self.old }
-        ensures { self.new ≡ overwritten self.old to (part_of from.now at count) }
+    /// Copies the part that begins at `at` over that at `to`.
+    pub(crate) fn copy_part(&mut self, at: usize, to: usize)
+        requires source { at + 512 ≤ length self.old }
+        requires target { to + 512 ≤ length self.old }
+        requires from { at % 512 ≡ 0 }
+        requires over { to % 512 ≡ 0 }
+        ensures { self.new ≡ overwritten self.old to (part_of self.old at 512) }
     {
-        make_ready(&mut self.bytes, &mut self.pending, to, count);
-        if is_pending(from.pending, at) {
-            self.bytes.zero(to, count);
+        if self.parts.has(at / PART_BYTES) {
+            self.bytes.copy(at, to, PART_BYTES);
+            self.parts.mark(to, PART_BYTES);
         } else {
-            self.bytes.copy_from(&from.bytes, at, to, count);
+            self.zero_part(to);
         }
     }
-}
 
-/// Writes the zeros that were not written yet.
-fn settle(bytes: &mut FrameBytes, pending: &mut Option<usize>)
-    requires { IsPending bytes.old pending.old }
-    ensures bytes { bytes.new ≡ shown bytes.old pending.old }
-    ensures pending { pending.new ≡ None }
-{
-    if let Some(at) = *pending {
-        bytes.zero(at, FRAME_BYTES);
-        *pending = None;
+    /// Copies the frame that begins at `at` over another one at `to`.
+    pub(crate) fn copy_frame(&mut self, at: usize, to: usize)
+        requires source { at + 4096 ≤ length self.old }
+        requires target { to + 4096 ≤ length self.old }
+        requires from { at % 4096 ≡ 0 }
+        requires over { to % 4096 ≡ 0 }
+        requires differ { at ≢ to }
+        ensures { self.new ≡ overwritten self.old to (part_of self.old at 4096) }
+    {
+        for part in 0..PARTS {
+            self.copy_part(at + part * PART_BYTES, to + part * PART_BYTES);
+        }
     }
-}
 
-/// Writes the zeros that were not written yet, unless all of them are to be written over.
-fn make_ready(bytes: &mut FrameBytes, pending: &mut Option<usize>, to: usize, count: usize)
-    requires { IsPending bytes.old pending.old }
-    ensures bytes { (ys : List ℕ) → length ys ≡ count
-        → overwritten bytes.new to ys ≡ overwritten (shown bytes.old pending.old) to ys }
-    ensures len { length bytes.new ≡ length bytes.old }
-    ensures pending { pending.new ≡ None }
-{
-    if is_copied_over(*pending, to, count) {
-        *pending = None;
-    } else {
-        settle(bytes, pending);
+    /// Copies the part of another row that begins at `at` over that at `to`.
+    pub(crate) fn copy_part_from(&mut self, from: &PoolBytes, at: usize, to: usize)
+        requires source { at + 512 ≤ length from.now }
+        requires target { to + 512 ≤ length self.old }
+        requires from { at % 512 ≡ 0 }
+        requires over { to % 512 ≡ 0 }
+        ensures { self.new ≡ overwritten self.old to (part_of from.now at 512) }
+    {
+        if from.parts.has(at / PART_BYTES) {
+            self.bytes.copy_from(&from.bytes, at, to, PART_BYTES);
+            self.parts.mark(to, PART_BYTES);
+        } else {
+            self.zero_part(to);
+        }
     }
-}
 
-fn clear(into: &mut [u8])
-    ensures { into.new ≡ replicate (length into.old) 0 }
-{
-    into.fill(0);
-}
-
-/// Whether the byte is one of a frame that is still to be zeroed.
-fn is_pending(pending: Option<usize>, at: usize) -> bool
-    ensures { result ≡ is_pending pending at }
-{
-    match pending {
-        None => false,
-        Some(start) => at / FRAME_BYTES * FRAME_BYTES == start,
-    }
-}
-
-/// Whether a copy of this many bytes to there goes over the whole frame that is still to be zeroed.
-fn is_copied_over(pending: Option<usize>, to: usize, count: usize) -> bool
-    ensures { result ≡ true → (pending ≡ Some to) × (count ≡ 4096) }
-{
-    match pending {
-        None => false,
-        Some(start) => start == to && count == FRAME_BYTES,
-    }
-}
-
-/// Whether frames that begin there have no byte in common.
-fn lies_apart(at: usize, to: usize) -> bool
-    ensures { result ≡ true → IsApart at to }
-{
-    if at <= to {
-        to - at >= FRAME_BYTES
-    } else {
-        at - to >= FRAME_BYTES
+    /// Copies the frame of another row that begins at `at` over that at `to`.
+    pub(crate) fn copy_frame_from(&mut self, from: &PoolBytes, at: usize, to: usize)
+        requires source { at + 4096 ≤ length from.now }
+        requires target { to + 4096 ≤ length self.old }
+        requires from { at % 4096 ≡ 0 }
+        requires over { to % 4096 ≡ 0 }
+        ensures { self.new ≡ overwritten self.old to (part_of from.now at 4096) }
+    {
+        for part in 0..PARTS {
+            self.copy_part_from(from, at + part * PART_BYTES, to + part * PART_BYTES);
+        }
     }
 }

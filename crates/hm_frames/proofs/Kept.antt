@@ -25,7 +25,7 @@ use Rattle.hm_frames.proofs.Bytes.{stored, get_part, copied_whole, copied_part}
 use Rattle.hm_frames.proofs.PoolKept.{shown_as, held_below, locked_below, fresh_shown, taken_shown, dropped_shown, locked_shown, unlocked_shown, written_shown, committed_shown, withdrawn_shown}
 use Rattle.hm_frames.proofs.Updates.{at_pool, at_other, pool_below, same_pools, replaced, closed}
 use Rattle.hm_frames.proofs.Shows.{held_shown, lock_shown, lowest_number, lowest_free_shown, backing_shown}
-use Rattle.frame_pool.proofs.Pending.{part_length}
+use Rattle.frame_pool.proofs.Blank.{part_length}
 
 -- a held frame is one of its pool
 number_below : {c : Program} {h : Frame → Bool} {m : Frame → Option Frame} {w g : ℕ → Bool} {l : Frame → Option ℕ} {b : Frame → ℕ → ℕ} (x : PoolsState) (f : Frame) → PoolsShown c h m w g l b x → h f ≡ true → f.number < length (pool_at x f.pool).frames.held

@@ -21,7 +21,7 @@ use Rattle.hm_frames.specs.Shown.{PoolsShown, FramesShown}
 use Rattle.hm_frames.proofs.Searches.{next_least, free_least}
 use Rattle.hm_frames.proofs.Bytes.{get_part, bytes_are}
 use Rattle.hm_frames.proofs.PoolKept.{held_below}
-use Rattle.frame_pool.proofs.Pending.{part_length}
+use Rattle.frame_pool.proofs.Blank.{part_length}
 
 pub held_shown : {c : Program} {h : Frame → Bool} {m : Frame → Option Frame} {w g : ℕ → Bool} {l : Frame → Option ℕ} {b : Frame → ℕ → ℕ} (x : PoolsState) (f : Frame) → PoolsShown c h m w g l b x → is_held_in x f ≡ h f
 held_shown x f s = (s.pool f.pool).held f.number

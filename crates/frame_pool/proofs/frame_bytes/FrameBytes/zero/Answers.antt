@@ -1,13 +1,7 @@
-use Rattle.std.proofs.Common.{◌≤◌, ℕ, replicate, sym, arith, ap, length}
+use Rattle.std.proofs.Common.{◌≤◌, ℕ, replicate, arith, ap, length}
 use Rattle.std.proofs.lemmas.List.{length-replicate}
-use Rattle.frame_pool.proofs.Padded.{length_padded, written_grown, zeros_over}
+use Rattle.frame_pool.proofs.Padded.{length_padded, written_grown}
 use Rattle.frame_pool.proofs.frame_bytes.FrameBytes.zero.Goals as goal
-
-pub returns-then-len-at : goal.returns-then-len-at
-returns-then-len-at c =
-    let b = c.self.inside in
-    let fits : length c.self.inside.front.items ≤ c.self.inside.size = omega (arith, c.self.invariant.within, b.front.ok.0) in
-    sym (zeros_over b.front.items _ b.size c.args.at c.args.count c.self.view_is (omega (arith, c.if-len-at.true, c.len.ensures)) c.requires fits)
 
 pub returns : goal.returns
 returns c =
