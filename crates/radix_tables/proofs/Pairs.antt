@@ -248,7 +248,7 @@ marked_first f p (a ∷ ns) = by (is_marked (f a)) refl (eqb (f a) 0) refl (mark
 pub least_marked : (f t : ℕ → ℕ) (p end : ℕ) (r : Option (ℕ × ℕ)) → IsLeast (λ v. marked (f v)) p end r → ((q : ℕ) → marked (f q) ≢ 0 → q < 2 ^ 36) → r ≡ next_marked (map_of f t) p end
 least_marked f t p end r h l = least_word (λ v. marked (f v)) t p end r h l ∙ ap (before end) (marked_first f p pages)
 
-some_test : (x : ℕ) → not (eqb x 0) ≡ true → x ≢ 0
+pub some_test : (x : ℕ) → not (eqb x 0) ≡ true → x ≢ 0
 some_test x e z = absurd (no (sym e ∙ rw (eq-eqb x 0 z) refl))
   where
     no : true ≡ false → ⊥

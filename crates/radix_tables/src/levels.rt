@@ -71,8 +71,8 @@ impl Levels {
     }
 
     /// The table of the first level for a block of 64 pages. Those of a small process are found in a load or two.
-    #[inline(always)]
-    fn table(&self, block: u64) -> u64
+    #[inline]
+    pub(crate) fn table(&self, block: u64) -> u64
         requires levels { IsLevels self.now }
         requires block { block < 2 ^ 30 }
         ensures { result ≡ table_in (from_second self.now) block }
@@ -142,6 +142,18 @@ impl Levels {
         entry(&self.sixth, FIRST, number)
     }
 
+    /// Where the word of a page of this table stands among all words.
+    #[inline(always)]
+    fn place_in(&self, table: u64, page: u64) -> usize
+        requires levels { IsLevels self.now }
+        requires page { page < 2 ^ 36 }
+        requires table { table ≡ table_in (from_second self.now) (page / 64) }
+        ensures { result ≡ table_in (from_second self.now) (page / 64) * 64 + page % 64 }
+    {
+        self.words.facts();
+        place(table, page)
+    }
+
     /// Where the word of a page stands among all words.
     #[inline(always)]
     fn place_of(&self, page: u64) -> usize
@@ -149,17 +161,18 @@ impl Levels {
         requires page { page < 2 ^ 36 }
         ensures { result ≡ table_in (from_second self.now) (page / 64) * 64 + page % 64 }
     {
-        self.words.facts();
-        place(self.table(page / ENTRIES), page)
+        self.place_in(self.table(page / ENTRIES), page)
     }
 
+    /// The word of a page of this table.
     #[inline(always)]
-    pub(crate) fn word(&self, page: u64) -> u64
+    pub(crate) fn word(&self, table: u64, page: u64) -> u64
         requires levels { IsLevels self.now }
         requires page { page < 2 ^ 36 }
+        requires table { table ≡ table_in (from_second self.now) (page / 64) }
         ensures { result ≡ word_of self.now page }
     {
-        self.words.get(self.place_of(page))
+        self.words.get(self.place_in(table, page))
     }
 
     /// A page with a word has room for it.
@@ -170,14 +183,15 @@ impl Levels {
         self.words.facts();
     }
 
-    /// Whether there is room for the word of a page.
+    /// Whether there is room for the word of a page of this table.
     #[inline(always)]
-    fn has_room(&self, page: u64) -> bool
+    pub(crate) fn has_room(&self, table: u64, page: u64) -> bool
         requires levels { IsLevels self.now }
         requires page { page < 2 ^ 36 }
+        requires table { table ≡ table_in (from_second self.now) (page / 64) }
         ensures { result ≡ not (room_of self.now page == 0) }
     {
-        self.words.row(self.place_of(page)) != 0
+        self.words.row(self.place_in(table, page)) != 0
     }
 
     /// Makes the tables down to the page, and room for its word.
@@ -186,9 +200,6 @@ impl Levels {
         requires page { page < 2 ^ 36 }
         ensures { MatchResult result (λ _. IsMade self.old self.new page) (λ _. IsSame self.old self.new) }
     {
-        if self.has_room(page) {
-            return Ok(());
-        }
         self.make_tables(page / ENTRIES)?;
         self.make_row(page)
     }
@@ -324,16 +335,18 @@ impl Levels {
         first_table(&mut self.sixth)
     }
 
-    /// Sets the word of a page for which there is room.
-    pub(crate) fn set(&mut self, page: u64, word: u64)
+    /// Sets the word of a page of this table, for which there is room.
+    pub(crate) fn set(&mut self, table: u64, page: u64, word: u64)
         requires levels { IsLevels self.old }
         requires page { page < 2 ^ 36 }
+        requires table { table ≡ table_in (from_second self.old) (page / 64) }
         requires room { room_of self.old page ≢ 0 }
         ensures levels { IsLevels self.new }
         ensures words { (v : ℕ) → word_of self.new v ≡ (if v == page then word else word_of self.old v) }
         ensures room { (v : ℕ) → room_of self.new v ≡ room_of self.old v }
+        ensures tables { from_second self.new ≡ from_second self.old }
     {
-        let at = self.place_of(page);
+        let at = self.place_in(table, page);
         self.words.set(at, word);
         put_bit(&mut self.used, at, is_used(word));
         put_bit(&mut self.marks, at, is_marked(word));
@@ -381,6 +394,38 @@ impl Levels {
             }
         }
         None
+    }
+
+    /// As `next`, if the table of the page is known. Most often the word is found in it.
+    #[inline(always)]
+    pub(crate) fn next_from(&self, table: u64, page: u64, end: u64) -> Option<(u64, u64)>
+        requires levels { IsLevels self.now }
+        requires page { page < 2 ^ 36 }
+        requires table { table ≡ table_in (from_second self.now) (page / 64) }
+        ensures { IsLeast (word_of self.now) page end result }
+    {
+        if table != 0
+            && let Some(found) = self.next_in_table(table, page)
+        {
+            return before(found, end);
+        }
+        self.next(page, end)
+    }
+
+    /// As `next_marked`, if the table of the page is known.
+    #[inline(always)]
+    pub(crate) fn next_marked_from(&self, table: u64, page: u64, end: u64) -> Option<(u64, u64)>
+        requires levels { IsLevels self.now }
+        requires page { page < 2 ^ 36 }
+        requires table { table ≡ table_in (from_second self.now) (page / 64) }
+        ensures { IsLeast (marked_of self.now) page end result }
+    {
+        if table != 0
+            && let Some(found) = self.next_mark(table, page)
+        {
+            return before(found, end);
+        }
+        self.next_marked(page, end)
     }
 
     /// A page from which on to look for a word, once the table of this page has none from there on.

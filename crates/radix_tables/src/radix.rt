@@ -3,16 +3,19 @@ ghost use Rattle.std.specs.Prelude.{◌≡◌, ◌≢◌, ℕ, ◌^◌, ◌<◌,
 ghost use Rattle.radix_tables.specs.Maps.{word_at, with_word, without_word, given_back, next_word, next_marked};
 ghost use Rattle.radix_tables.specs.Maps.{is_reserved};
 
+use crate::last_table::LastTable;
 use crate::levels::{Levels, PAGES};
 use hm_base::{NoMemory, Page};
 use std::alloc::Global;
 use std::marker::Model;
 
 /// A map from pages to words that are not 0, in levels of tables as the kernel's page tables are
-/// (include/linux/pgtable.h), but in six levels of 64 entries and not in five of 512.
+/// (include/linux/pgtable.h), but in six levels of 64 entries and not in five of 512. A walk through pages in their order
+/// stays in a table for 64 of them, so the last table in which there was room when it was asked for is remembered.
 #[derive(Drop)]
 pub struct Radix {
     levels: Levels,
+    last: LastTable,
 }
 
 impl Model for Radix {
@@ -34,6 +37,7 @@ impl Radix {
     {
         Radix {
             levels: Levels::new(alloc),
+            last: LastTable::none(),
         }
     }
 
@@ -41,7 +45,9 @@ impl Radix {
     pub fn get(&self, page: Page) -> u64
         ensures { result ≡ word_at self.now page }
     {
-        self.levels.word(page.number())
+        let number = page.number();
+        let table = self.last.table_of(&self.levels, number);
+        self.levels.word(table, number)
     }
 
     /// Makes room for a word of the page (`__pte_alloc` of mm/memory.c).
@@ -51,7 +57,14 @@ impl Radix {
         ensures kept { (v : ℕ) → is_reserved self.old v ≡ true → is_reserved self.new v ≡ true }
         ensures err { OnErr result (self.new ≡ self.old) }
     {
-        self.levels.make_room(page.number())
+        let number = page.number();
+        let table = self.last.table_of(&self.levels, number);
+        if self.levels.has_room(table, number) {
+            self.last = LastTable::new(&self.levels, number, table);
+            return Ok(());
+        }
+        self.last = LastTable::none();
+        self.levels.make_room(number)
     }
 
     /// Sets the word of a page for which there is room.
@@ -60,7 +73,9 @@ impl Radix {
         requires some { word ≢ 0 }
         ensures { self.new ≡ with_word self.old page word }
     {
-        self.levels.set(page.number(), word);
+        let number = page.number();
+        let table = self.last.table_of(&self.levels, number);
+        self.levels.set(table, number, word);
     }
 
     /// Takes away the word of the page, if it has one.
@@ -68,9 +83,10 @@ impl Radix {
         ensures { self.new ≡ without_word self.old page }
     {
         let number = page.number();
-        if self.levels.word(number) != 0 {
+        let table = self.last.table_of(&self.levels, number);
+        if self.levels.word(table, number) != 0 {
             self.levels.facts();
-            self.levels.set(number, 0);
+            self.levels.set(table, number, 0);
         }
     }
 
@@ -79,7 +95,10 @@ impl Radix {
         ensures { self.new ≡ given_back self.old }
     {
         match self.levels.next(0, PAGES) {
-            None => self.levels.give_back(),
+            None => {
+                self.last = LastTable::none();
+                self.levels.give_back();
+            }
             Some(_) => (),
         }
     }
@@ -89,7 +108,9 @@ impl Radix {
     pub fn next_at_or_after(&self, page: Page, end: u64) -> Option<(Page, u64)>
         ensures { result ≡ next_word self.now page end }
     {
-        let (number, word) = self.levels.next(page.number(), end)?;
+        let from = page.number();
+        let table = self.last.table_of(&self.levels, from);
+        let (number, word) = self.levels.next_from(table, from, end)?;
         Some((Page::new(number), word))
     }
 
@@ -98,7 +119,9 @@ impl Radix {
     pub fn next_marked(&self, page: Page, end: u64) -> Option<(Page, u64)>
         ensures { result ≡ next_marked self.now page end }
     {
-        let (found, word) = self.levels.next_marked(page.number(), end)?;
+        let from = page.number();
+        let table = self.last.table_of(&self.levels, from);
+        let (found, word) = self.levels.next_marked_from(table, from, end)?;
         Some((Page::new(found), word))
     }
 }

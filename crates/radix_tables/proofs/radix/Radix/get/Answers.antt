@@ -7,4 +7,4 @@ use Rattle.radix_tables.proofs.radix.Radix.get.Goals as goal
 pub returns : goal.returns
 returns c =
     let l = c.self.inside.levels in
-    c.word.ensures ∙ (word_is (word_of l) (room_of l) c.number.result c.number.ensures.below ∙ (ap (λ v. word_at (map_of (word_of l) (room_of l)) v) c.number.ensures.same ∙ ap (λ m. word_at m c.args.page) c.self.view_is))
+    c.word.ensures ∙ (word_is (word_of l) (room_of l) c.number-number.result c.number-number.ensures.below ∙ (ap (λ v. word_at (map_of (word_of l) (room_of l)) v) c.number-number.ensures.same ∙ ap (λ m. word_at m c.args.page) c.self.view_is))

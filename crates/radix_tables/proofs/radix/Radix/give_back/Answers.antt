@@ -19,10 +19,10 @@ pub returns-in-None : goal.returns-in-None
 returns-in-None c =
     let l = c.self.inside.levels in
     let n = c.give_back.new.self in
-    map_empty (word_of l) (room_of l) (word_of n) (room_of n) _ c.self.view_is (λ v. none_at l c.self.invariant v c.in-None.ensures) c.give_back.ensures.words c.give_back.ensures.room
+    map_empty (word_of l) (room_of l) (word_of n) (room_of n) _ c.self.view_is (λ v. none_at l c.self.invariant.levels v c.in-None.ensures) c.give_back.ensures.words c.give_back.ensures.room
 
 pub returns-in-Some : goal.returns-in-Some
 returns-in-Some c =
     let l = c.self.inside.levels in
     map_some c.args.self.now 0 (2 ^ 36) _
-    (least_word (word_of l) (room_of l) 0 (2 ^ 36) (Some _) c.in-Some.ensures (word_below l c.self.invariant) ∙ ap (λ m. next_word m 0 (2 ^ 36)) c.self.view_is)
+    (least_word (word_of l) (room_of l) 0 (2 ^ 36) (Some _) c.in-Some.ensures (word_below l c.self.invariant.levels) ∙ ap (λ m. next_word m 0 (2 ^ 36)) c.self.view_is)
