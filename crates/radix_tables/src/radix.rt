@@ -10,8 +10,9 @@ use std::alloc::Global;
 use std::marker::Model;
 
 /// A map from pages to words that are not 0, in levels of tables as the kernel's page tables are
-/// (include/linux/pgtable.h), but in six levels of 64 entries and not in five of 512. A walk through pages in their order
-/// stays in a table for 64 of them, so the last table in which there was room when it was asked for is remembered.
+/// (include/linux/pgtable.h), but in six levels of 64 entries and not in five of 512. A walk through pages in their
+/// order stays in a table for 64 of them, so the last table in which there was room when it was asked for is kept in
+/// mind.
 #[derive(Drop)]
 pub struct Radix {
     levels: Levels,
