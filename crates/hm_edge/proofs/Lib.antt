@@ -1,3 +1,4 @@
 pub mod Came
 mod Saying
 pub mod Sending
+pub mod Telling

@@ -2,7 +2,7 @@
 use Rattle.std.proofs.Common.{◌≡◌, ℕ, List, refl}
 use Rattle.hm_io.specs.Streams.{SinkState}
 use Rattle.hm_script.specs.declared.reason.Refused.{Refused}
-use Rattle.hm_edge.specs.Messages.{Says, SaysRace, Wrote, fixed_text, line_of, race_text}
+use Rattle.hm_edge.specs.Messages.{Says, Wrote, fixed_text, line_of, race_message, race_text}
 use Rattle.hm_edge.specs.declared.status.RaceEnd.{RaceEnd}
 use Rattle.hm_edge.specs.declared.status.Status.{Status}
 
@@ -21,11 +21,12 @@ says_fixed name usage Status.NoRows k k' done refused race w = w
 says_fixed name usage Status.TooManyRows k k' done refused race w = w
 says_fixed name usage (Status.Race end) k k' done refused race w = absurd (race end refl)
 
-pub says_race : (name : List ℕ) (end : RaceEnd) (k k' : SinkState) → ((m n : ℕ) → end ≡ RaceEnd.NoCondition m n → ⊥) → Wrote (line_of name (race_text end)) k k' → SaysRace name end k k'
-says_race name (RaceEnd.NoCondition m n) k k' none w = absurd (none m n refl)
-says_race name RaceEnd.Fails k k' none w = w
-says_race name RaceEnd.Unsettled k k' none w = w
-says_race name RaceEnd.NoOutcome k k' none w = w
-says_race name RaceEnd.Drained k k' none w = w
-says_race name RaceEnd.Broken k k' none w = w
-says_race name RaceEnd.Open k k' none w = w
+pub race_unnumbered : (end : RaceEnd) → ((m n : ℕ) → end ≡ RaceEnd.NoCondition m n → ⊥) → race_text end ≡ race_message end
+race_unnumbered (RaceEnd.NoCondition m n) none = absurd (none m n refl)
+race_unnumbered RaceEnd.Fails none = refl
+race_unnumbered RaceEnd.Unsettled none = refl
+race_unnumbered RaceEnd.NoOutcome none = refl
+race_unnumbered RaceEnd.NotFound none = refl
+race_unnumbered RaceEnd.Drained none = refl
+race_unnumbered RaceEnd.Broken none = refl
+race_unnumbered RaceEnd.Open none = refl

@@ -15,21 +15,22 @@ abbrev pub ArgumentsAre : (List (List ℕ) → Type 0) → Option (List (List �
 ArgumentsAre Are None = ⊥
 ArgumentsAre Are (Some args) = Are args
 
--- how a program ends that makes no call: there was no memory for the words or for the rules, or an argument is no text
-abbrev pub MayNotBegin : Status → Type 0
-MayNotBegin Status.NoMemory = Unit {0}
-MayNotBegin Status.Usage = Unit {0}
-MayNotBegin _ = ⊥
+-- how a program with these arguments ends that makes no call: there was no memory for the words or for the rules; or,
+-- if the arguments could not be read, one of them is no text
+abbrev pub MayNotBegin : Option (List (List ℕ)) → Status → Type 0
+MayNotBegin args Status.NoMemory = Unit {0}
+MayNotBegin None Status.Usage = Unit {0}
+MayNotBegin args _ = ⊥
 
 -- it has read nothing, and written nothing
-pub record HasNotBegun (io : Traffic) (status : Status) : Type 0 where
-  pub why : MayNotBegin status
+pub record HasNotBegun (args : Option (List (List ℕ))) (io : Traffic) (status : Status) : Type 0 where
+  pub why : MayNotBegin args status
   pub untouched : IsUntouched io
 
 -- a call was made with the words after the program's name, or none was
 abbrev pub Begins : (List (List ℕ) → Traffic → Status → Type 0) → Option (List (List ℕ)) → Traffic → Status → Type 0
-Begins Does None io status = HasNotBegun io status
-Begins Does (Some args) io status = Does (drop 1 args) io status ⊎ HasNotBegun io status
+Begins Does None io status = HasNotBegun None io status
+Begins Does (Some args) io status = Does (drop 1 args) io status ⊎ HasNotBegun (Some args) io status
 
 -- A program with this name and this line on its words, which makes such calls, ends with this exit code.
 pub record Exits (Does : List (List ℕ) → Traffic → Status → Type 0) (name usage : List ℕ)

@@ -4,4 +4,5 @@ pub mod Input
 pub mod Messages
 pub mod Reading
 pub mod Traffic
+pub mod Users
 pub mod Writing

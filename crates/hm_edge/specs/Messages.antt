@@ -14,6 +14,7 @@ race_code (RaceEnd.NoCondition condition word) = 2
 race_code RaceEnd.Fails = 1
 race_code RaceEnd.Unsettled = 10
 race_code RaceEnd.NoOutcome = 9
+race_code RaceEnd.NotFound = 10
 race_code RaceEnd.Drained = 9
 race_code RaceEnd.Broken = 1
 race_code RaceEnd.Open = 10
@@ -40,6 +41,7 @@ race_text (RaceEnd.NoCondition condition word) = []
 race_text RaceEnd.Fails = codes "a condition fails"
 race_text RaceEnd.Unsettled = codes "a condition is not settled: the search was cut; allow more states"
 race_text RaceEnd.NoOutcome = codes "no such outcome"
+race_text RaceEnd.NotFound = codes "no such outcome was found, but the search was cut; allow more states"
 race_text RaceEnd.Drained = codes "nothing is left to race after drain: end the schedule where the race is to begin"
 race_text RaceEnd.Broken = codes "in some order of turns a driver does what it must not do"
 race_text RaceEnd.Open = codes "nothing was found, but the search was cut; allow more states"
@@ -64,10 +66,15 @@ fixed_text usage (Status.Race end) = race_text end
 abbrev pub no_condition_text : ℕ → ℕ → List ℕ
 no_condition_text condition word = codes "condition " ++ (decimal condition ++ (codes ": bad word " ++ decimal word))
 
+-- the message of a search that did not do all that was asked for
+abbrev pub race_message : RaceEnd → List ℕ
+race_message (RaceEnd.NoCondition condition word) = no_condition_text condition word
+race_message end = race_text end
+
 -- the message, which is empty if all was done
 abbrev pub message_text : List ℕ → Status → List ℕ
 message_text usage (Status.Refused refused) = refused_text refused
-message_text usage (Status.Race (RaceEnd.NoCondition condition word)) = no_condition_text condition word
+message_text usage (Status.Race end) = race_message end
 message_text usage status = fixed_text usage status
 
 -- the line of a message, after the program's name
@@ -79,21 +86,7 @@ abbrev pub Wrote : List ℕ → SinkState → SinkState → Type 0
 Wrote bytes before after =
     (Sends before after bytes × (after.pending ≡ false)) ⊎ ((why : Stop) × Stops before after bytes why)
 
--- what is written on standard error of a message with a number: its line, or, if there is no memory for the number,
--- that memory ran out
-abbrev pub SaysNumbered : List ℕ → List ℕ → SinkState → SinkState → Type 0
-SaysNumbered name message before after =
-    Wrote (line_of name message) before after ⊎ Wrote (line_of name (codes "out of memory")) before after
-
--- what is written on standard error of a search that did not do all that was asked for
-abbrev pub SaysRace : List ℕ → RaceEnd → SinkState → SinkState → Type 0
-SaysRace name (RaceEnd.NoCondition condition word) before after =
-    SaysNumbered name (no_condition_text condition word) before after
-SaysRace name end before after = Wrote (line_of name (race_text end)) before after
-
 -- what is written on standard error: nothing if all was done, and else the line of the status
 abbrev pub Says : List ℕ → List ℕ → Status → SinkState → SinkState → Type 0
 Says name usage Status.Done before after = after ≡ before
-Says name usage (Status.Refused refused) before after = SaysNumbered name (refused_text refused) before after
-Says name usage (Status.Race end) before after = SaysRace name end before after
-Says name usage status before after = Wrote (line_of name (fixed_text usage status)) before after
+Says name usage status before after = Wrote (line_of name (message_text usage status)) before after

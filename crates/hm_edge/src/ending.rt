@@ -1,14 +1,12 @@
 // What a program says at its end, and its exit code.
-ghost use Rattle.std.specs.Prelude.{◌≡◌, ◌++◌, false, ℕ, List, IfOk, OnOk, IfErr};
-ghost use Rattle.hm_edge.specs.Messages.{Says, SaysNumbered, SaysRace, Wrote, code_of, line_of};
+ghost use Rattle.std.specs.Prelude.{◌≡◌, ◌++◌, false, OnOk, IfErr};
+ghost use Rattle.hm_edge.specs.Messages.{Says, Wrote, code_of, line_of, race_message};
 ghost use Rattle.hm_report.specs.Sends.{Sends, Stops};
 
 use crate::messages::{fixed_text, no_condition, race_text, refusal};
 use crate::status::{RaceEnd, Status};
-use hm_base::{NoMemory, Text};
 use hm_io::Sink;
 use hm_report::{Stop, send_on, write_all};
-use std::alloc::Global;
 
 /// Writes two pieces, one after the other.
 fn write_both<K: Sink>(sink: &mut K, first: &[u8], second: &[u8]) -> Result<(), Stop>
@@ -40,54 +38,40 @@ fn say<K: Sink>(errors: &mut K, name: &str, message: &[u8])
     }
 }
 
-/// Says a message with a number; or, if there was no memory for the number, that.
-fn say_numbered<K: Sink>(name: &str, message: Result<Text, NoMemory>, errors: &mut K)
-    ensures { (m : List ℕ) → IfOk message (λ t. t ≡ m)
-        → SaysNumbered name.now m (K.state errors.old) (K.state errors.new) }
-{
-    match message {
-        Ok(text) => say(errors, name, text.as_slice()),
-        Err(NoMemory) => say(errors, name, b"out of memory"),
-    }
-}
-
 /// Says why a search of a race did not do all that was asked for.
-fn say_race<K: Sink>(alloc: Global, name: &str, end: &RaceEnd, errors: &mut K)
-    ensures { SaysRace name.now end.now (K.state errors.old) (K.state errors.new) }
+fn say_race<K: Sink>(name: &str, end: &RaceEnd, errors: &mut K)
+    ensures { Wrote (line_of name.now (race_message end.now)) (K.state errors.old) (K.state errors.new) }
 {
     match end {
         RaceEnd::NoCondition(condition, word) => {
-            say_numbered(name, no_condition(alloc, *condition, *word), errors);
+            say(
+                errors,
+                name,
+                no_condition(*condition, *word).as_str().as_bytes(),
+            );
         }
         _ => say(errors, name, race_text(end).as_bytes()),
     }
 }
 
 /// Says why the call did not end with all done.
-fn say_why<K: Sink>(alloc: Global, name: &str, usage: &str, status: &Status, errors: &mut K)
+fn say_why<K: Sink>(name: &str, usage: &str, status: &Status, errors: &mut K)
     ensures { Says name.now usage.now status.now (K.state errors.old) (K.state errors.new) }
 {
     match status {
         Status::Done => (),
-        Status::Refused(refused) => say_numbered(name, refusal(alloc, refused), errors),
-        Status::Race(end) => say_race(alloc, name, end, errors),
+        Status::Refused(refused) => say(errors, name, refusal(refused).as_str().as_bytes()),
+        Status::Race(end) => say_race(name, end, errors),
         _ => say(errors, name, fixed_text(status, usage).as_bytes()),
     }
 }
 
 /// Says on the error stream why the call did not end with all done, in one line after the program's name, and gives the
-/// exit code. It takes memory only for the number in the line of a refused script. `usage` is what it says at
-/// `Status::Usage`.
-pub fn finish<K: Sink>(
-    alloc: Global,
-    name: &str,
-    usage: &str,
-    status: &Status,
-    errors: &mut K,
-) -> u8
+/// exit code. It takes no memory of its own. `usage` is what it says at `Status::Usage`.
+pub fn finish<K: Sink>(name: &str, usage: &str, status: &Status, errors: &mut K) -> u8
     ensures code { result ≡ code_of status.now }
     ensures says { Says name.now usage.now status.now (K.state errors.old) (K.state errors.new) }
 {
-    say_why(alloc, name, usage, status, errors);
+    say_why(name, usage, status, errors);
     status.code()
 }

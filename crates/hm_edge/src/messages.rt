@@ -4,24 +4,36 @@ ghost use Rattle.hm_edge.specs.Messages.{fixed_text, message_text, no_condition_
 ghost use Rattle.hm_script.specs.Reasons.{refused_text};
 
 use crate::status::{RaceEnd, Status};
+use arrayvec::ArrayString;
 use hm_base::{NoMemory, Text};
 use hm_script::Refused;
 use std::alloc::Global;
 
+/// The bytes of a message with numbers, of which it has two at the most. It takes no memory.
+pub(crate) type Numbered = ArrayString<80>;
+
 /// The first bad line of a script and its reason.
-pub(crate) fn refusal(alloc: Global, refused: &Refused) -> Result<Text, NoMemory>
-    ensures { IfOk result (λ t. t ≡ refused_text refused.now) }
+pub(crate) fn refusal(refused: &Refused) -> Numbered
+    ensures { result.bytes ≡ refused_text refused.now }
 {
-    let text = format!(in alloc; "{refused}")?;
-    Text::from_slice(alloc, text.as_bytes())
+    let mut text = Numbered::new();
+    text.push_str("script line ");
+    text.push_str(itoa::Buffer::new().format(refused.line));
+    text.push_str(": ");
+    text.push_str(refused.why.text());
+    text
 }
 
 /// The condition and its first word that may not come.
-pub(crate) fn no_condition(alloc: Global, condition: u64, word: u64) -> Result<Text, NoMemory>
-    ensures { IfOk result (λ t. t ≡ no_condition_text condition word) }
+pub(crate) fn no_condition(condition: u64, word: u64) -> Numbered
+    ensures { result.bytes ≡ no_condition_text condition word }
 {
-    let text = format!(in alloc; "condition {condition}: bad word {word}")?;
-    Text::from_slice(alloc, text.as_bytes())
+    let mut text = Numbered::new();
+    text.push_str("condition ");
+    text.push_str(itoa::Buffer::new().format(condition));
+    text.push_str(": bad word ");
+    text.push_str(itoa::Buffer::new().format(word));
+    text
 }
 
 /// The message of a search that did not do all that was asked for, if it has no number in it.
@@ -33,6 +45,7 @@ pub(crate) fn race_text(end: &RaceEnd) -> &'static str
         RaceEnd::Fails => "a condition fails",
         RaceEnd::Unsettled => "a condition is not settled: the search was cut; allow more states",
         RaceEnd::NoOutcome => "no such outcome",
+        RaceEnd::NotFound => "no such outcome was found, but the search was cut; allow more states",
         RaceEnd::Drained => {
             "nothing is left to race after drain: end the schedule where the race is to begin"
         }
@@ -66,10 +79,10 @@ pub fn message(alloc: Global, usage: &str, status: &Status) -> Result<Text, NoMe
     ensures { IfOk result (λ t. t ≡ message_text usage.now status.now) }
 {
     match status {
-        Status::Refused(refused) => refusal(alloc, refused),
-        Status::Race(RaceEnd::NoCondition(condition, word)) => no_condition(
-            alloc, *condition, *word,
-        ),
+        Status::Refused(refused) => Text::from_slice(alloc, refusal(refused).as_str().as_bytes()),
+        Status::Race(RaceEnd::NoCondition(condition, word)) => {
+            Text::from_slice(alloc, no_condition(*condition, *word).as_str().as_bytes())
+        }
         _ => Text::from_slice(alloc, fixed_text(status, usage).as_bytes()),
     }
 }

@@ -66,5 +66,5 @@ pub fn program<C: Call, S: Source, K: Sink, E: Sink>(
         result }
 {
     let status = begin(alloc, args, call, source, sink);
-    finish(alloc, name, usage, &status, errors)
+    finish(name, usage, &status, errors)
 }

@@ -14,8 +14,10 @@ pub enum RaceEnd {
     Fails,
     /// No condition fails, and one is not settled: the search was cut before.
     Unsettled,
-    /// The outcome that is asked for is not among those that were found.
+    /// The race has no outcome with the number that is asked for.
     NoOutcome,
+    /// No outcome with that number was found, and the search was cut before all were known.
+    NotFound,
     /// The schedule of the script ends in `drain`, which leaves nothing to race.
     Drained,
     /// In some order of turns a driver does what it must not do.
@@ -33,7 +35,7 @@ impl RaceEnd {
             RaceEnd::Fails | RaceEnd::Broken => 1,
             RaceEnd::NoCondition(_, _) => 2,
             RaceEnd::NoOutcome | RaceEnd::Drained => 9,
-            RaceEnd::Unsettled | RaceEnd::Open => 10,
+            RaceEnd::Unsettled | RaceEnd::NotFound | RaceEnd::Open => 10,
         }
     }
 }

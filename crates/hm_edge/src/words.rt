@@ -27,7 +27,7 @@ fn without_name(alloc: Global, args: Args) -> Result<Vec<String>, NoMemory>
 pub fn words_after_name(alloc: Global, args: io::Result<Args>) -> Result<Vec<String>, Status>
     ensures words { IfOk result (λ words. ArgumentsAre (λ given. drop 1 given ≡ map string_bytes words.items)
         (arguments (λ x. map string_bytes (into_iter_items x)) args)) }
-    ensures none { IfErr result MayNotBegin }
+    ensures none { IfErr result (MayNotBegin (arguments (λ x. map string_bytes (into_iter_items x)) args)) }
 {
     match args {
         Ok(args) => match without_name(alloc, args) {

@@ -104,5 +104,5 @@ pub fn program<R: Threads + Wait + Sync, S: Source, K: Sink, E: Sink>(
         result }
 {
     let status = begin(rt, alloc, args, source, sink, seed);
-    finish(alloc, NAME, USAGE, &status, errors)
+    finish(NAME, USAGE, &status, errors)
 }
