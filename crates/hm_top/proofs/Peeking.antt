@@ -15,8 +15,8 @@ use Rattle.hm_turns.specs.declared.looks.Looked.{Looked}
 use Rattle.hm_workers.specs.Peeking.{ArePeeks, IsPlain, ReachesEnd, last_count}
 use Rattle.hm_workers.specs.declared.peeks.Peek.{Peek}
 use Rattle.hm_world.specs.WorldValue.{WorldValue}
-use Rattle.hm_top.specs.Peeks.{AnswersPeeks, HasSeen, IsPeekedReport, RunsPeeked, SawAll, peeked_text}
-use Rattle.hm_top.specs.Ran.{Shows, ShowsAt, shown_status}
+use Rattle.hm_top.specs.Peeks.{AnswersPeeks, HasSeen, IsPeekedReport, RunsPeeked, SawAll, SawSoFar, peeked_text}
+use Rattle.hm_top.specs.Ran.{HasAll, Shows, ShowsAt, shown_status}
 use Rattle.hm_edge.specs.Reading.{IsTextOf, ReadAs}
 use Rattle.hm_top.specs.RunsThreads.{AllEnded, StoppedFull}
 use Rattle.hm_edge.specs.Traffic.{Traffic}
@@ -24,6 +24,7 @@ use Rattle.hm_edge.specs.Writing.{HasWritten, IsFlushed, WriteFaulted}
 use Rattle.hm_top.specs.declared.ended.Ended.{Ended}
 use Rattle.hm_top.specs.declared.schedule.Ran.{Ran}
 use Rattle.hm_edge.specs.declared.status.Status.{Status}
+use Rattle.hm_top.proofs.Replaying.{answered}
 use Rattle.hm_top.proofs.Threading.{came, shown_for}
 use Rattle.hm_report.proofs.Sending.{adds_more}
 
@@ -75,24 +76,29 @@ saw_so s script w m r h saw told p at n world is_s is_h is_r due ended running s
     let due_r : DueFrom s [] r = subst (λ x. DueFrom x [] r) (ap (λ x. x.script) world ∙ is_s) (subst (DueFrom w.script []) (ap (λ x. x.history) world ∙ is_r) due) in
     subst (λ x. SawAll p at n x told) (sym whole) (subst (SawAll p at n r) (sym same) (saw_all s script r due_r (subst (AllEnded s) whole ended) p at n saw right (reaches running) areas))
 
-seen_at : (p at n : ℕ) (r : Ran) (saw : List Peek) (e : Ended) (status : Status) → ShowsAt r e status → AnswersPeeks saw e.peeks status → (r.full ≡ false → SawAll p at n r.history.entries saw) → (r.full ≡ true → saw ≡ []) → HasSeen p at n e.history.entries e.peeks status
-seen_at p at n r saw e Status.Done shows same whole none = subst (λ h. SawAll p at n h e.peeks) (sym shows.1.history_is) (subst (SawAll p at n r.history.entries) (sym same) (whole shows.0))
-seen_at p at n r saw e Status.HistoryFull shows same whole none = same ∙ none shows.0
-seen_at p at n r saw e Status.WriteFault shows same whole none = by r.full whole none
-  where
-    by : (full : Bool) → (full ≡ false → SawAll p at n r.history.entries saw) → (full ≡ true → saw ≡ []) → HasSeen p at n e.history.entries e.peeks Status.WriteFault
-    by false whole none = inl (subst (λ h. SawAll p at n h e.peeks) (sym shows.history_is) (subst (SawAll p at n r.history.entries) (sym same) (whole refl)))
-    by true whole none = inr (same ∙ none refl)
-seen_at p at n r saw e Status.NoMemory shows same whole none = same
-seen_at p at n r saw e Status.Usage shows same whole none = absurd shows
-seen_at p at n r saw e (Status.NotLegal l) shows same whole none = absurd shows
-seen_at p at n r saw e (Status.Refused x) shows same whole none = absurd shows
-seen_at p at n r saw e Status.ScriptTooLong shows same whole none = absurd shows
-seen_at p at n r saw e Status.ReportTooLong shows same whole none = absurd shows
-seen_at p at n r saw e Status.NoRows shows same whole none = absurd shows
-seen_at p at n r saw e Status.TooManyRows shows same whole none = absurd shows
-seen_at p at n r saw e (Status.Race end) shows same whole none = absurd shows
-seen_at p at n r saw e Status.ReadFault shows same whole none = absurd shows
+module _ (p at n : ℕ) (r : Ran) (saw : List Peek) (e : Ended) (whole : r.full ≡ false → SawAll p at n r.history.entries saw) (none : r.full ≡ true → saw ≡ []) (over : r.full ≡ false → AllEnded r.script r.history.entries) (stopped : r.full ≡ true → StoppedFull r.script r.history.entries) where
+  all_seen : HasAll r e → e.peeks ≡ saw → r.full ≡ false → SawAll p at n e.history.entries e.peeks
+  all_seen all same f = subst (λ h. SawAll p at n h e.peeks) (sym all.history_is) (subst (SawAll p at n r.history.entries) (sym same) (whole f))
+
+  -- by how far the run came
+  so_far : HasAll r e → e.peeks ≡ saw → (full : Bool) → r.full ≡ full → SawSoFar p at n e.script e.history.entries e.peeks
+  so_far all same false f = inl (answered AllEnded r e all (over f), all_seen all same f)
+  so_far all same true f = inr (answered StoppedFull r e all (stopped f), same ∙ none f)
+
+  seen_at : (status : Status) → ShowsAt r e status → AnswersPeeks saw e.peeks status → HasSeen p at n e.script e.history.entries e.peeks status
+  seen_at Status.Done shows same = all_seen shows.1 same shows.0
+  seen_at Status.HistoryFull shows same = same ∙ none shows.0
+  seen_at Status.WriteFault shows same = so_far shows same r.full refl
+  seen_at Status.NoMemory shows same = same
+  seen_at Status.Usage shows same = absurd shows
+  seen_at (Status.NotLegal l) shows same = absurd shows
+  seen_at (Status.Refused x) shows same = absurd shows
+  seen_at Status.ScriptTooLong shows same = absurd shows
+  seen_at Status.ReportTooLong shows same = absurd shows
+  seen_at Status.NoRows shows same = absurd shows
+  seen_at Status.TooManyRows shows same = absurd shows
+  seen_at (Status.Race end) shows same = absurd shows
+  seen_at Status.ReadFault shows same = absurd shows
 
 no_peeks : (p at n : ℕ) (h : List Entry) → ArePeeks p at n (IsPlain h) []
 no_peeks p at n h = record {
@@ -119,5 +125,6 @@ peeked p at n io r saw e s is read same whole over some seen none shows answers 
     right = right_so p at n r.history.entries saw r.full seen none;
     text_is = text ∙ ap (λ x. peeked_text saw x r.history.entries) is;
   }) w faults flushed;
-  peeks = seen_at p at n r saw e e.status shows answers seen none;
+  peeks = seen_at p at n r saw e seen none (λ f. subst (λ x. AllEnded x r.history.entries) (sym is) (whole f))
+      (λ f. subst (λ x. StoppedFull x r.history.entries) (sym is) (over f)) e.status shows answers;
 }

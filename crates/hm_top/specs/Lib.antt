@@ -14,3 +14,4 @@ pub mod Checks
 pub mod Verdicts
 pub mod Usage
 pub mod Does
+pub mod Theorem

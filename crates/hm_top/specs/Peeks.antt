@@ -1,6 +1,6 @@
 -- The call with the word `peek`: as `threads`, with a watcher that looks at bytes of a process; what it saw follows the
 -- report.
-use Rattle.std.specs.Prelude.{◌≡◌, ◌⊎◌, ◌↔◌, ℕ, true, false, List, [], ◌∷◌, ◌++◌, length, Some, IfSome, codes}
+use Rattle.std.specs.Prelude.{◌≡◌, ◌⊎◌, ◌↔◌, ℕ, true, false, List, [], ◌∷◌, ◌++◌, length, Option, Some, IfSome, codes}
 use Rattle.std.specs.Fmt.{decimal, digits}
 use Rattle.std.specs.List.{flat_map}
 use Rattle.hm_base.specs.Program.{Program}
@@ -12,7 +12,8 @@ use Rattle.hm_turns.specs.Looking.{all_have_areas}
 use Rattle.hm_workers.specs.Peeking.{ArePeeks, IsPlain, last_count}
 use Rattle.hm_workers.specs.declared.peeks.Peek.{Peek}
 use Rattle.hm_edge.specs.Reading.{IsTextOf}
-use Rattle.hm_top.specs.RunsThreads.{CameToEnd, TellsOfThreads}
+use Rattle.hm_top.specs.Running.{Answered}
+use Rattle.hm_top.specs.RunsThreads.{AllEnded, CameToEnd, StoppedFull, TellsOfThreads}
 use Rattle.hm_io.specs.Streams.{SourceState}
 use Rattle.hm_edge.specs.Traffic.{Traffic}
 use Rattle.hm_top.specs.declared.ended.Ended.{Ended}
@@ -34,11 +35,16 @@ pub record SawAll (p at n : ℕ) (h : List Entry) (xs : List Peek) : Type 0 wher
   pub right : ArePeeks p at n (IsPlain h) xs
   pub last : (last_count xs ≡ Some (length h)) ↔ (all_have_areas (after h).plain p at n ≡ true)
 
+-- the peeks in the answer, by how far the run came: those of a whole run, or none if the history got full
+abbrev pub SawSoFar : ℕ → ℕ → ℕ → Option Program → List Entry → List Peek → Type 0
+SawSoFar p at n script h xs =
+    (Answered AllEnded script h × SawAll p at n h xs) ⊎ (Answered StoppedFull script h × (xs ≡ []))
+
 -- the peeks in the answer, by how the call ends
-abbrev pub HasSeen : ℕ → ℕ → ℕ → List Entry → List Peek → Status → Type 0
-HasSeen p at n h xs Status.Done = SawAll p at n h xs
-HasSeen p at n h xs Status.WriteFault = SawAll p at n h xs ⊎ (xs ≡ [])
-HasSeen p at n h xs _ = xs ≡ []
+abbrev pub HasSeen : ℕ → ℕ → ℕ → Option Program → List Entry → List Peek → Status → Type 0
+HasSeen p at n script h xs Status.Done = SawAll p at n h xs
+HasSeen p at n script h xs Status.WriteFault = SawSoFar p at n script h xs
+HasSeen p at n script h xs _ = xs ≡ []
 
 -- if a text went out, or a front of it, the answer has these peeks, and else none
 abbrev pub AnswersPeeks : List Peek → List Peek → Status → Type 0
@@ -63,5 +69,5 @@ pub record RunsPeeked (p at n : ℕ) (io : Traffic) (ended : Ended) : Type 0 whe
   -- answer.
   pub threads : TellsOfThreads (peeked_text ended.peeks) (IsPeekedReport p at n io.source) io ended
   -- At `Done` the peeks are right, and the last is of the whole history exactly if all the bytes have areas then. At
-  -- `HistoryFull` there are none.
-  pub peeks : HasSeen p at n ended.history.entries ended.peeks ended.status
+  -- `HistoryFull` there are none. At `WriteFault` one of the two holds, by how far the run came.
+  pub peeks : HasSeen p at n ended.script ended.history.entries ended.peeks ended.status

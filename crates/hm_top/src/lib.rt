@@ -6,6 +6,7 @@ mod check;
 mod command;
 mod ended;
 mod generate;
+mod laws;
 mod output;
 mod peek;
 mod process;
@@ -18,5 +19,6 @@ mod why;
 
 pub use command::{Command, PeekedBytes};
 pub use ended::Ended;
+pub use laws::{calls_answer_so, users_are_told};
 pub use process::{NAME, USAGE, program};
 pub use top::{run, run_alone};

@@ -1,0 +1,5 @@
+use Rattle.hm_top.proofs.Told.{answers}
+use Rattle.hm_top.proofs.laws.calls_answer_so.Goals as goal
+
+pub returns : goal.returns
+returns c = answers
