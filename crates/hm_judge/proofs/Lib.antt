@@ -6,3 +6,4 @@ pub mod Pieces
 pub mod Heads
 pub mod Near
 pub mod LaterLines
+mod Users

@@ -8,3 +8,4 @@ pub mod Later
 pub mod LaterTexts
 pub mod Judging
 pub mod Runs
+pub mod Theorem

@@ -324,15 +324,3 @@ pub(crate) fn add_judgement(
         Judgement::Bad(bad) => add_bad(text, out, bad),
     }
 }
-
-/// The text of a judgement: `legal N` with the number of entries, and how each actor stands at its end if that is asked
-/// for; or `bad L` with the first bad line, what is wrong with it, how each actor stands there, and what would end the
-/// report.
-pub fn judgement_text(alloc: Global, asked: Asked, judgement: &Judgement) -> Result<Text, NoMemory>
-    ensures { IfOk result (λ t. t ≡ judgement_text asked judgement.now) }
-{
-    let mut out = Buffer::new(alloc)?;
-    let mut text = Text::new(alloc);
-    add_judgement(&mut text, &mut out, asked, judgement)?;
-    Ok(text)
-}
