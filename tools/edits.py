@@ -3,6 +3,7 @@
 
     tools/edits.py [NAME ..]     tries crates/NAME/edits/*.edit; with no names, those of all crates
       --gate                     also tries crates/NAME/must-fail/*.edit, the edits that the gate tries
+      --apply                    proves nothing: says which edits, those of the gate too, do not apply (status 1)
       --only TEXT                tries only edits whose name has this text
       --anew                     tries again what the log has already
       --most N                   puts at most N edits into one check (99 unless given)
@@ -349,6 +350,7 @@ def words():
     parser = argparse.ArgumentParser(description=__doc__, formatter_class=argparse.RawDescriptionHelpFormatter)
     parser.add_argument('names', nargs='*', metavar='NAME')
     parser.add_argument('--gate', action='store_true', help='also the edits of must-fail')
+    parser.add_argument('--apply', action='store_true', help='only say which edits do not apply')
     parser.add_argument('--only', default='', metavar='TEXT', help='only edits whose name has this text')
     parser.add_argument('--anew', action='store_true', help='try again what the log has')
     parser.add_argument('--most', type=int, default=99, metavar='N', help='at most N edits in one check')
@@ -357,10 +359,23 @@ def words():
     return parser.parse_args()
 
 
+def misapplied(kit, crates):
+    """Returns a line for each edit that does not apply."""
+    lines = []
+    for crate in crates:
+        _, bad = edits_of(kit, crate, '', ['edits', 'must-fail'], '')
+        lines += [f'{BAD}: {crate.name}/{label}: {result.said}' for label, result in bad.items()]
+    return lines
+
+
 def main():
     asked, kit = words(), load_kit()
     kit.rtlib.guarded()
     crates = kit.rtlib.crates_below(TOP)
+    if asked.apply:
+        lines = misapplied(kit, crates)
+        print(*lines, sep='\n', end='\n' if lines else '')
+        return min(len(lines), 1)
     lacking = [it for it in asked.names if it not in [crate.name for crate in crates]]
     if lacking:
         print(f'edits.py: {lacking[0]} is no crate', file=sys.stderr)
