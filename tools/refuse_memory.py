@@ -1,22 +1,26 @@
 #!/usr/bin/env python3
-"""Refuses each request for memory of a replay in turn, in the proved program itself.
+"""Refuses each request for memory of a program in turn, in the proved program itself.
 
-    tools/refuse_memory.py [--long] [--most N] [--words WORD ..] [SCRIPT ..]
+    tools/refuse_memory.py [--program NAME] [--five] [--long] [--most N] [--words WORD ..] [SCRIPT ..]
 
 For each script: counts the program's requests (malloc, realloc, calloc), then runs it once for each of them with that
 one refused, and once with that one and all later ones refused. Each run must end with status 6 and have written
 nothing, or be the same as the run without refusals. Prints the counts, and ends with 1 at the first run that differs.
 
+    --program  this program (hmmrun unless given); hmmjudge and hmmview are given the report of each script
+    --five     all five programs, one after the other
     --long     two scripts more, made here: one of more than 1,000,000 bytes, and one of 4,194,304, the most there are
     --most N   at most N of the requests, spread evenly, with the first and the last among them
-    --words    these words, and not `replay`
+    --words    these words, in place of those in WORDS below
 """
 import argparse, os, subprocess, sys, tempfile
 
 import words
 
 TOP = os.path.dirname(os.path.dirname(os.path.abspath(__file__)))
-PROGRAM = os.environ.get('HMMRUN', os.path.join(TOP, 'crates/hmmrun/out/hmmrun'))
+# the programs, each with the words that it is given
+WORDS = {'hmmrun': ['replay'], 'hmmraces': [], 'hmmwithout': ['compare'], 'hmmjudge': ['--all'], 'hmmview': []}
+OF_REPORTS = {'hmmjudge', 'hmmview'}
 
 # Loaded before the C library: refuses request REFUSE_AT, and those after it if REFUSE_ALL is set; keeps how many
 # requests there were in the file COUNT_TO, as 8 bytes, since a program may end without a call of destructors.
@@ -77,7 +81,13 @@ def chosen(requests, most):
     return sorted({1 + at * (requests - 1) // (most - 1) for at in range(most)})
 
 
-def replay(room, words, script, at=None, all_later=False):
+def path_of(name):
+    """Where the program is: HMMRUN names another hmmrun."""
+    built = os.path.join(TOP, 'crates', name, 'out', name)
+    return os.environ.get('HMMRUN', built) if name == 'hmmrun' else built
+
+
+def run_with(room, program, words, data, at=None, all_later=False):
     """Status, output and number of requests of one run, with request `at` refused."""
     count = os.path.join(room, 'count')
     environment = dict(os.environ, LD_PRELOAD=os.path.join(room, 'refuser.so'), COUNT_TO=count)
@@ -85,24 +95,26 @@ def replay(room, words, script, at=None, all_later=False):
         environment['REFUSE_AT'] = str(at)
     if all_later:
         environment['REFUSE_ALL'] = '1'
-    done = subprocess.run([PROGRAM] + words, input=script, capture_output=True, env=environment)
+    done = subprocess.run([path_of(program)] + words, input=data, capture_output=True, env=environment)
     with open(count, 'rb') as file:
         return done.returncode, done.stdout, int.from_bytes(file.read(), 'little')
 
 
-def sweep(room, given, name, script):
+def sweep(room, given, program, name, script):
     """Whether every refusal is answered as it should be."""
-    status, report, requests = replay(room, given.words, script)
+    words = WORDS[program] if given.words is None else given.words
+    data = run_with(room, 'hmmrun', ['replay'], script)[1] if program in OF_REPORTS else script
+    status, report, requests = run_with(room, program, words, data)
     refused, empty = chosen(requests, given.most), 0
     for at in refused:
         for all_later in (False, True):
-            got, written, _ = replay(room, given.words, script, at, all_later)
+            got, written, _ = run_with(room, program, words, data, at, all_later)
             if (got, written) == (6, b''):
                 empty += 1
             elif (got, written) != (status, report):
-                print(f'{name}: request {at} of {requests} refused: status {got}, {len(written)} bytes written')
+                print(f'{program}, {name}: request {at} of {requests} refused: status {got}, {len(written)} bytes written')
                 return False
-    print(f'{name}: status {status}; {requests} requests, of which {len(refused)} were refused; of {2 * len(refused)} runs '
+    print(f'{program}, {name}: status {status}; {requests} requests, of which {len(refused)} were refused; of {2 * len(refused)} runs '
           f'{empty} ended with 6 and nothing written')
     return True
 
@@ -113,11 +125,15 @@ def main():
     parse.add_argument('scripts', nargs='*')
     parse.add_argument('--long', action='store_true')
     parse.add_argument('--most', type=int)
-    parse.add_argument('--words', nargs='+', default=['replay'])
+    parse.add_argument('--words', nargs='+')
+    parse.add_argument('--program', choices=WORDS, default='hmmrun')
+    parse.add_argument('--five', action='store_true')
     given = parse.parse_args()
+    programs = list(WORDS) if given.five else [given.program]
     if not given.scripts and not given.long:
         words.refuse('no script is given, so nothing is tried')
-    words.need(PROGRAM)
+    for program in {'hmmrun', *programs}:
+        words.need(path_of(program))
     scripts = [(name, open(name, 'rb').read()) for name in given.scripts]
     if given.long:
         scripts += [(f'a script of {size} bytes', long_script(size)) for size in (1_200_000, LONGEST)]
@@ -126,7 +142,8 @@ def main():
         with open(source, 'w') as file:
             file.write(REFUSER)
         subprocess.run(['cc', '-shared', '-fPIC', '-O1', '-o', os.path.join(room, 'refuser.so'), source], check=True)
-        return 0 if all([sweep(room, given, name, script) for name, script in scripts]) else 1
+        done = [sweep(room, given, program, *script) for program in programs for script in scripts]
+        return 0 if all(done) else 1
 
 
 if __name__ == '__main__':
