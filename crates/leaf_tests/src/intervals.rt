@@ -47,7 +47,7 @@ fn turn(tree: &mut IntervalTree, windows: &mut [Option<(u64, u64)>; 32], x: u64)
         tree.remove(id);
         return true;
     }
-    if tree.reserve(1).is_err() {
+    if tree.reserve(1).is_err() || tree.spare() == 0 {
         return false;
     }
     windows[number as usize] = Some((first, first + count));

@@ -55,6 +55,7 @@ fn are_found(maps: &mut RevMaps) -> Option<bool>
     maps.add_reserved(1, high());
     maps.reserve(1).ok()?;
     maps.add_reserved(1, low());
+    maps.rising(1);
     let both = finds(maps, Some(low()), None, 2);
     maps.set_moving(1, low().proc, low().page);
     let moving = finds(maps, Some(high()), Some(low()), 2) && is_named(maps, low());
