@@ -6,7 +6,7 @@ use Rattle.hm_race_top.specs.Text.Conditions.Texts.{is_whole}
 use Rattle.hm_race_top.specs.declared.text.conditions.question.Question.{Question}
 use Rattle.hm_history.specs.Kernel.Run.{run}
 use Rattle.hm_search.specs.Goals.{AreMissed, Reaches}
-use Rattle.hm_race_top.specs.Run.Known.{KnownValue, AreFewest, AreKnown, HaveForms, IsComplete, IsCut, IsNear}
+use Rattle.hm_race_top.specs.Run.Known.{KnownValue, AreFewest, AreKnown, HaveForms, IsComplete, IsCut, IsNear, IsSoon}
 use Rattle.hm_search.specs.Known.{forms, AreRising}
 use Rattle.hm_search.specs.declared.search.End.{End}
 use Rattle.hm_race_laws.specs.Closed.{AreDistinct}
@@ -25,6 +25,7 @@ pub record HasSearched (most : ℕ) (c : Program) (goal : Point → Bool) (count
   pub few : end ≡ End.Whole → count ≤ most
   pub cut : end ≡ End.Cut → IsCut c most count
   pub reached : end ≡ End.Reached → Reaches goal known
+  pub soon : end ≡ End.Reached → IsSoon c goal known
   pub near : end ≡ End.Reached → IsNear c most count
   pub missed : (end ≡ End.Reached → ⊥) → AreMissed goal known
   pub are_known : AreKnown c (run c) known
@@ -58,6 +59,7 @@ holds_by by most c script none qs known end s = record {
   once = s.distinct;
   cut = s.cut;
   stopped = s.reached;
+  soon = s.soon;
   near = s.near;
   missed = s.missed;
   right = λ q l. by.right c q.condition (lines_of (blocks_known c known)) (is_whole end) (by.are_real c (blocks_known c known) real)

@@ -29,3 +29,4 @@ pub mod Turning
 mod Systems
 mod Outcomes
 mod Turns
+mod Told

@@ -1,5 +1,5 @@
 -- What a call has found, by how it ends.
-use Rattle.std.proofs.Common.{◌≡◌, ℕ, inr, Bool, false, Option, Some, None, List, length, refl, sym, ap, ◌∙◌, subst}
+use Rattle.std.proofs.Common.{◌≡◌, ℕ, inr, Bool, true, false, Option, Some, None, List, length, refl, sym, ap, ◌∙◌, subst}
 use Rattle.hm_base.specs.Program.{Program}
 use Rattle.hm_race_top.specs.declared.text.conditions.rulings.Ruling.{Ruling}
 use Rattle.hm_race_top.specs.Text.Conditions.Rulings.{summary}
@@ -25,13 +25,15 @@ use Rattle.hm_race_top.specs.declared.telling.Telling.{Telling}
 abbrev IsOfOutcomes : Status → Type 0
 IsOfOutcomes Status.Done = Unit {0}
 IsOfOutcomes (Status.Race RaceEnd.NoOutcome) = Unit {0}
+IsOfOutcomes (Status.Race RaceEnd.NotFound) = Unit {0}
 IsOfOutcomes (Status.Race RaceEnd.Fails) = Unit {0}
 IsOfOutcomes (Status.Race RaceEnd.Unsettled) = Unit {0}
 IsOfOutcomes _ = ⊥
 
-script_ends : (c : Program) (o : Option OutcomeBlock) → IsOfOutcomes (script_told c o).ends
-script_ends c None = tt
-script_ends c (Some b) = tt
+script_ends : (c : Program) (o : Option OutcomeBlock) (whole : Bool) → IsOfOutcomes (script_told c o whole).ends
+script_ends c None true = tt
+script_ends c None false = tt
+script_ends c (Some b) whole = tt
 
 ruling_ends : (r : Ruling) → IsOfOutcomes (ending_of r)
 ruling_ends Ruling.Holds = tt
@@ -41,7 +43,7 @@ ruling_ends Ruling.Open = tt
 telling_ends : (c : Program) (task : Task) (bs : List OutcomeBlock) (states : ℕ) (end : End) → IsOfOutcomes (telling c task bs states end).ends
 telling_ends c Task.Outcomes bs states end = tt
 telling_ends c Task.Table bs states end = tt
-telling_ends c (Task.Script n) bs states end = script_ends c (numbered bs n)
+telling_ends c (Task.Script n) bs states end = script_ends c (numbered bs n) (is_whole end)
 telling_ends c (Task.Expect qs) bs states end = ruling_ends (summary qs (lines_of bs) (is_whole end))
 
 module _ (most : ℕ) (c : Program) (task : Task) (known : List KnownValue) (end : End) (holds : Holds most c (questions_in task) known end) (none : has_drain c.schedule ≡ false) (before after : SinkState) where
@@ -56,6 +58,7 @@ module _ (most : ℕ) (c : Program) (task : Task) (known : List KnownValue) (end
   race_found RaceEnd.Fails w = found (Status.Race RaceEnd.Fails) w
   race_found RaceEnd.Unsettled w = found (Status.Race RaceEnd.Unsettled) w
   race_found RaceEnd.NoOutcome w = found (Status.Race RaceEnd.NoOutcome) w
+  race_found RaceEnd.NotFound w = found (Status.Race RaceEnd.NotFound) w
   race_found RaceEnd.Drained w = absurd (not_so (Status.Race RaceEnd.Drained) (λ u. u) w.0)
   race_found RaceEnd.Broken w = absurd (not_so (Status.Race RaceEnd.Broken) (λ u. u) w.0)
   race_found RaceEnd.Open w = absurd (not_so (Status.Race RaceEnd.Open) (λ u. u) w.0)
@@ -97,6 +100,7 @@ whole_told t before after is adds = by t.ends refl is
     by (Status.Race RaceEnd.Fails) e i = (e, adds)
     by (Status.Race RaceEnd.Unsettled) e i = (e, adds)
     by (Status.Race RaceEnd.NoOutcome) e i = (e, adds)
+    by (Status.Race RaceEnd.NotFound) e i = (e, adds)
     by (Status.Race RaceEnd.Drained) e i = absurd i
     by (Status.Race RaceEnd.Broken) e i = (e, adds)
     by (Status.Race RaceEnd.Open) e i = (e, adds)
@@ -134,6 +138,7 @@ all_sent (Status.Race (RaceEnd.NoCondition m n)) pending i same = absurd i
 all_sent (Status.Race RaceEnd.Fails) pending i same = same
 all_sent (Status.Race RaceEnd.Unsettled) pending i same = same
 all_sent (Status.Race RaceEnd.NoOutcome) pending i same = same
+all_sent (Status.Race RaceEnd.NotFound) pending i same = same
 all_sent (Status.Race RaceEnd.Drained) pending i same = absurd i
 all_sent (Status.Race RaceEnd.Broken) pending i same = same
 all_sent (Status.Race RaceEnd.Open) pending i same = same

@@ -7,3 +7,4 @@ pub mod Telling
 pub mod Races
 pub mod Laws
 pub mod Runs
+pub mod Theorem

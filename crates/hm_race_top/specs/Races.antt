@@ -9,7 +9,7 @@ use Rattle.hm_history.specs.declared.StepError.{StepError}
 use Rattle.hm_search.specs.Goals.{AreMissed, Reaches}
 use Rattle.hm_race_top.specs.Run.Known.{KnownValue, AreFewest, AreKnown, HaveForms}
 use Rattle.hm_search.specs.Known.{forms, AreRising}
-use Rattle.hm_race_top.specs.Run.Known.{IsCut, IsNear, MayFail}
+use Rattle.hm_race_top.specs.Run.Known.{IsCut, IsNear, IsSoon, MayFail}
 use Rattle.hm_search.specs.declared.search.End.{End}
 use Rattle.hm_race_laws.specs.Closed.{AreDistinct, IsListed}
 use Rattle.hm_race_top.specs.Text.Laws.{lines_of}
@@ -46,6 +46,8 @@ pub record Holds (most : ℕ) (c : Program) (qs : List Question) (known : List K
   pub cut : end ≡ End.Cut → IsCut c most (length known)
   -- It is `stopped` only if an outcome settles the conditions; and if it is not, none of those that it knows does.
   pub stopped : end ≡ End.Reached → Reaches (settled qs (length c.actors)) known
+  -- Only the states that it came to last can settle them.
+  pub soon : end ≡ End.Reached → IsSoon c (settled qs (length c.actors)) known
   pub near : end ≡ End.Reached → IsNear c most (length known)
   pub missed : (end ≡ End.Reached → ⊥) → AreMissed (settled qs (length c.actors)) known
   -- What is said of each condition is right of the race.

@@ -26,10 +26,14 @@ use Rattle.hm_race_top.specs.Ways.{blocks_known}
 abbrev pub done : List ℕ → Telling
 done t = record { text = t; ends = Status.Done }
 
--- the script with the schedule of the outcome with this index, if there is one
-abbrev pub script_told : Program → Option OutcomeBlock → Telling
-script_told c None = record { text = []; ends = Status.Race RaceEnd.NoOutcome }
-script_told c (Some b) = done (text (with_turns c b.turns))
+-- how a call ends that has found no outcome with the number that is asked for: there is none if all are known
+abbrev pub missing : Bool → RaceEnd
+missing whole = if whole then RaceEnd.NoOutcome else RaceEnd.NotFound
+
+-- the script with the schedule of an outcome, if it was found; whether all outcomes are known
+abbrev pub script_told : Program → Option OutcomeBlock → Bool → Telling
+script_told c None whole = record { text = []; ends = Status.Race (missing whole) }
+script_told c (Some b) whole = done (text (with_turns c b.turns))
 
 -- the outcome with this number, from 1
 abbrev pub numbered : List OutcomeBlock → ℕ → Option OutcomeBlock
@@ -50,7 +54,7 @@ rulings_told qs bs states end =
 abbrev pub telling : Program → Task → List OutcomeBlock → ℕ → End → Telling
 telling c Task.Outcomes bs states end = done (outcomes_text bs states end)
 telling c Task.Table bs states end = done (table_text bs states end)
-telling c (Task.Script n) bs states end = script_told c (numbered bs n)
+telling c (Task.Script n) bs states end = script_told c (numbered bs n) (is_whole end)
 telling c (Task.Expect qs) bs states end = rulings_told qs bs states end
 
 -- the same of the states that it knows
@@ -61,6 +65,7 @@ told c task known end = telling c task (blocks_known c known) (length known) end
 abbrev pub IsEnding : Status → Type 0
 IsEnding Status.Done = Unit {0}
 IsEnding (Status.Race RaceEnd.NoOutcome) = Unit {0}
+IsEnding (Status.Race RaceEnd.NotFound) = Unit {0}
 IsEnding (Status.Race RaceEnd.Fails) = Unit {0}
 IsEnding (Status.Race RaceEnd.Unsettled) = Unit {0}
 IsEnding (Status.Race RaceEnd.Broken) = Unit {0}
@@ -83,6 +88,7 @@ HasTold t before after status = HasToldBy t.text t.ends before after status
 abbrev pub IsSentOn : Bool → Status → Type 0
 IsSentOn pending Status.Done = pending ≡ false
 IsSentOn pending (Status.Race RaceEnd.NoOutcome) = pending ≡ false
+IsSentOn pending (Status.Race RaceEnd.NotFound) = pending ≡ false
 IsSentOn pending (Status.Race RaceEnd.Fails) = pending ≡ false
 IsSentOn pending (Status.Race RaceEnd.Unsettled) = pending ≡ false
 IsSentOn pending (Status.Race RaceEnd.Broken) = pending ≡ false

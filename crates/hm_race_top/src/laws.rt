@@ -1,6 +1,7 @@
 // Laws of what is written of a search: each is the contract of a function that does nothing.
 ghost use Rattle.hm_race_top.specs.Laws.{AllIsListed, CompleteIsAll, DrainIsLast, KnownIsTrue, TrueIsReal};
 ghost use Rattle.hm_race_top.specs.Laws.{WaysAreOutcomes};
+ghost use Rattle.hm_race_top.specs.Theorem.{Theorem};
 
 /// The answers of the ways that are written are the outcomes that a search knows.
 pub fn ways_are_outcomes()
@@ -44,4 +45,10 @@ pub fn true_is_real()
 /// If they are all, every outcome is listed.
 pub fn all_is_listed()
     ensures { AllIsListed }
+{}
+
+/// What the user of the program is told follows from how it ends. Every field of the records of its call is used here,
+/// so none of them can be left out unseen.
+pub fn users_are_told()
+    ensures { Theorem }
 {}

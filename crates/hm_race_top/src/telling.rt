@@ -3,7 +3,7 @@ ghost use Rattle.std.specs.Prelude.{◌≡◌, IfOk, MatchOption, None, Some};
 ghost use Rattle.hm_race_top.specs.Text.Conditions.Texts.{is_whole};
 ghost use Rattle.hm_race_top.specs.Text.Laws.{lines_of};
 ghost use Rattle.hm_race_top.specs.Telling.{HasTold, IsEnding, IsSentOn, ending_of, rulings_told, numbered};
-ghost use Rattle.hm_race_top.specs.Telling.{script_told, telling};
+ghost use Rattle.hm_race_top.specs.Telling.{missing, script_told, telling};
 ghost use Rattle.hm_edge.specs.Writing.{WriteFaulted};
 
 use crate::asked::Task;
@@ -35,20 +35,33 @@ fn numbered(blocks: &[OutcomeBlock], number: u64) -> Option<&OutcomeBlock>
     blocks.get((number - 1) as usize)
 }
 
-/// The script with the schedule of the outcome with this number, if there is one.
+/// How a call ends that has found no outcome with the number that is asked for.
+fn missing(whole: bool) -> RaceEnd
+    ensures same { result ≡ missing whole }
+    ensures ends { IsEnding (Status.Race result) }
+{
+    if whole {
+        RaceEnd::NoOutcome
+    } else {
+        RaceEnd::NotFound
+    }
+}
+
+/// The script with the schedule of the outcome with this number, if it was found; `whole` says whether all are known.
 fn tell_script(
     alloc: Global,
     script: &Script,
     blocks: &[OutcomeBlock],
     number: u64,
+    whole: bool,
 ) -> Result<Telling, NoMemory>
-    ensures telling { IfOk result (λ t. t ≡ script_told script.now (numbered blocks.now number)) }
+    ensures telling { IfOk result (λ t. t ≡ script_told script.now (numbered blocks.now number) whole) }
     ensures ends { IfOk result (λ t. IsEnding t.ends) }
 {
     match numbered(blocks, number) {
         None => Ok(Telling {
             text: Text::new(alloc),
-            ends: Status::Race(RaceEnd::NoOutcome),
+            ends: Status::Race(missing(whole)),
         }),
         Some(block) => Ok(Telling {
             text: text_with_turns(alloc, script, block.turns.as_slice())?,
@@ -99,7 +112,9 @@ pub(crate) fn tell(
     ensures ends { IfOk result (λ t. IsEnding t.ends) }
 {
     let text = match task {
-        Task::Script(number) => return tell_script(alloc, script, blocks, *number),
+        Task::Script(number) => {
+            return tell_script(alloc, script, blocks, *number, is_whole(end));
+        }
         Task::Expect(questions) => {
             return tell_rulings(alloc, questions.as_slice(), blocks, states, end);
         }

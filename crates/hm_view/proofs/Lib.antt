@@ -1,3 +1,4 @@
 pub mod Texts
 pub mod Told
 pub mod Going
+mod Users

@@ -6,3 +6,4 @@ pub mod Asked
 pub mod Laws
 pub mod Views
 pub mod Runs
+pub mod Theorem

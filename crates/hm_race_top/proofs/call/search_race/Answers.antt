@@ -29,6 +29,7 @@ returns-in-Ok-search-clause-found g c =
       few = c.in-Ok-search.ensures.few;
       cut = c.in-Ok-search.ensures.cut;
       reached = c.in-Ok-search.ensures.reached;
+      soon = c.in-Ok-search.ensures.soon;
       near = c.in-Ok-search.ensures.near;
       missed = c.in-Ok-search.ensures.missed;
       are_known = c.in-Ok-search.ensures.known;

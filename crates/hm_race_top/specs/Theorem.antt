@@ -1,0 +1,138 @@
+-- The theorem of the program hmmraces: what its user is told.
+use Rattle.std.specs.Prelude.{◌≡◌, ◌⊎◌, ℕ, ◌≤◌, true, false, List, [], ◌++◌, length, Option, Some, None}
+use Rattle.hm_base.specs.Program.{Program}
+use Rattle.hm_edge.specs.Exits.{Exits}
+use Rattle.hm_edge.specs.Traffic.{IsUntouched, Traffic}
+use Rattle.hm_edge.specs.Users.{CutShort, EndsSo, GoesOut, IsStarted, NothingOut, Spells, ToldNoScript, ToldUsage}
+use Rattle.hm_edge.specs.declared.status.RaceEnd.{RaceEnd}
+use Rattle.hm_edge.specs.declared.status.Status.{Status}
+use Rattle.hm_history.specs.Kernel.Run.{run}
+use Rattle.hm_history.specs.Laws.{DueFrom}
+use Rattle.hm_history.specs.declared.Entry.{Entry}
+use Rattle.hm_history.specs.declared.StepError.{StepError}
+use Rattle.hm_io.specs.Streams.{SinkState}
+use Rattle.hm_race_laws.specs.Blur.{form_of}
+use Rattle.hm_race_laws.specs.Closed.{AreDistinct, IsListed}
+use Rattle.hm_race_laws.specs.Outcomes.{Point, Reached, answers_of, ended, outcome}
+use Rattle.hm_script.specs.Built.{has_drain}
+use Rattle.hm_search.specs.Goals.{AreMissed, Reaches}
+use Rattle.hm_search.specs.Known.{AreRising, forms}
+use Rattle.hm_search.specs.declared.search.End.{End}
+use Rattle.hm_race_top.specs.Asked.{HasNoTask, IsTask, front, questions_in}
+use Rattle.hm_race_top.specs.Goals.{settled}
+use Rattle.hm_race_top.specs.Races.{IsSure}
+use Rattle.hm_race_top.specs.Run.Known.{AreFewest, IsCut, IsKnown, IsNear, IsSoon, KnownValue, MayFail}
+use Rattle.hm_race_top.specs.Runs.{Runs, name, usage}
+use Rattle.hm_race_top.specs.Telling.{told}
+use Rattle.hm_race_top.specs.Text.Answers.{answer_lines}
+use Rattle.hm_race_top.specs.Text.Conditions.Rulings.{IsRuled, ruling_of}
+use Rattle.hm_race_top.specs.Text.Conditions.Texts.{is_whole}
+use Rattle.hm_race_top.specs.Text.Laws.{lines_of}
+use Rattle.hm_race_top.specs.Ways.{IsTrueOf, blocks_known}
+use Rattle.hm_race_top.specs.declared.asked.Task.{Task}
+use Rattle.hm_race_top.specs.declared.text.block.OutcomeBlock.{OutcomeBlock}
+use Rattle.hm_race_top.specs.declared.text.conditions.question.Question.{Question}
+
+-- What is right of the outcomes and states that are told of a script's race.
+pub record AreRight (most : ℕ) (c : Program) (qs : List Question) (known : List KnownValue) (end : End) : Type 0 where
+  -- **If the search ended `whole`, every outcome is there**: after every list of entries that are due one after the
+  -- other from the set-up on, after which all operations have ended, the lines of its answers are those of a block.
+  pub all : end ≡ End.Whole → (es : List Entry) → DueFrom c (run c) es → ended c (run c ++ es) ≡ true
+      → IsListed (lines_of (blocks_known c known)) (answer_lines (outcome c (answers_of es)))
+  -- Every outcome that is there can come: its schedule leads to it, by a legal history. None is there twice.
+  pub real : (b : OutcomeBlock) → IsListed (blocks_known c known) b → IsTrueOf c b
+  pub once : AreDistinct (lines_of (blocks_known c known))
+  -- What is said of each condition is right of the race.
+  pub right : (q : Question) → IsListed qs q
+      → IsRuled c q.condition (ruling_of q.condition (lines_of (blocks_known c known)) (is_whole end))
+  -- Each state that is counted is what its turns lead to, and none is counted twice; at `whole` all are counted, and they
+  -- are no more than were asked for.
+  pub states : (n : KnownValue) → IsListed known n → IsKnown c (run c) n
+  pub states_once : AreDistinct (forms known)
+  pub all_states : end ≡ End.Whole → (x : Point) → Reached c (run c) x → IsListed (forms known) (form_of c x)
+  pub few : end ≡ End.Whole → length known ≤ most
+  -- They stand in the order of how many turns lead to them, and no fewer lead to one of them.
+  pub rising : AreRising known
+  pub fewest : AreFewest c (run c) known
+  -- A search is `cut` only if there are more states than were asked for.
+  pub cut : end ≡ End.Cut → IsCut c most (length known)
+  -- It is `stopped` only if an outcome settles the conditions, as soon as one does; else none that it knows does.
+  pub stopped : end ≡ End.Reached → Reaches (settled qs (length c.actors)) known
+  pub soon : end ≡ End.Reached → IsSoon c (settled qs (length c.actors)) known
+  pub near : end ≡ End.Reached → IsNear c most (length known)
+  pub missed : ¬ (end ≡ End.Reached) → AreMissed (settled qs (length c.actors)) known
+
+-- The bytes are the text of a script, its race was searched, and what is told of that went out. The call ends as it
+-- says.
+pub record TellsRace (most : ℕ) (task : Task) (bytes held : List ℕ) (io : Traffic) (status : Status) : Type 0 where
+  pub script : Program
+  pub spells : Spells script bytes
+  pub read : io.source_after.left ≡ Some []
+  pub races : has_drain script.schedule ≡ false
+  pub known : List KnownValue
+  pub end : End
+  pub are : AreRight most script (questions_in task) known end
+  pub ends : status ≡ (told script task known end).ends
+  pub out : GoesOut held (told script task known end).text io
+
+-- the text tells of a search of the race of a script with these bytes
+pub record IsOfRace (most : ℕ) (task : Task) (bytes t : List ℕ) : Type 0 where
+  pub script : Program
+  pub spells : Spells script bytes
+  pub known : List KnownValue
+  pub end : End
+  pub are : AreRight most script (questions_in task) known end
+  pub text_is : t ≡ (told script task known end).text
+
+-- a script was read, of which this holds, and nothing is written
+pub record NoRace (Is : Program → Type 0) (bytes held : List ℕ) (io : Traffic) : Type 0 where
+  pub script : Program
+  pub spells : Spells script bytes
+  pub read : io.source_after.left ≡ Some []
+  pub is : Is script
+  pub nothing : NothingOut held io
+
+-- by how it ends; it ends in no other way
+abbrev pub ToldRace : ℕ → Task → List ℕ → List ℕ → Traffic → Status → Type 0
+ToldRace most task bytes held io Status.Done = TellsRace most task bytes held io Status.Done
+ToldRace most task bytes held io (Status.Race RaceEnd.Fails) =
+    TellsRace most task bytes held io (Status.Race RaceEnd.Fails)
+ToldRace most task bytes held io (Status.Race RaceEnd.Unsettled) =
+    TellsRace most task bytes held io (Status.Race RaceEnd.Unsettled)
+ToldRace most task bytes held io (Status.Race RaceEnd.NoOutcome) =
+    TellsRace most task bytes held io (Status.Race RaceEnd.NoOutcome)
+ToldRace most task bytes held io (Status.Race RaceEnd.NotFound) =
+    TellsRace most task bytes held io (Status.Race RaceEnd.NotFound)
+ToldRace most task bytes held io (Status.Race RaceEnd.Drained) =
+    NoRace (λ c. has_drain c.schedule ≡ true) bytes held io
+ToldRace most task bytes held io (Status.Race end) = ⊥
+ToldRace most task bytes held io Status.HistoryFull =
+    NoRace (λ c. MayFail c (run c) (StepError.Full 2000000)) bytes held io
+ToldRace most task bytes held io Status.NoMemory = CutShort (IsOfRace most task bytes) held io
+ToldRace most task bytes held io status = ToldNoScript bytes held io status
+
+-- what is asked for of the race of a script
+pub record ToldRacing (most : ℕ) (task : Task) (bytes held : List ℕ) (io : Traffic) (status : Status) : Type 0 where
+  pub told : ToldRace most task bytes held io status
+  -- The race of a script is searched, unless memory runs out, its history is full, or it ends in `drain`.
+  pub sure : (s : Program) → Spells s bytes → IsSure status
+
+-- words that ask for something, or for nothing that there is
+pub record ToldTask (most : ℕ) (words : List (List ℕ)) (bytes held : List ℕ) (io : Traffic) (status : Status) : Type 0
+  where
+    pub task : Task
+    pub asks : IsTask words task
+    pub told : ToldRacing most task bytes held io status
+
+-- by the number of states that may be known, and the words after it
+abbrev pub ToldBy : Option (ℕ × List (List ℕ)) → List ℕ → List ℕ → Traffic → Status → Type 0
+ToldBy None bytes held io status = ToldUsage io status
+ToldBy (Some p) bytes held io status =
+    ToldTask p.0 p.1 bytes held io status ⊎ (HasNoTask p.1 status × IsUntouched io)
+
+-- Whoever starts the program with words after its name, an input and an output that do not fail, is told this.
+abbrev pub Theorem : Type 0
+Theorem = (words : List (List ℕ)) (bytes held : List ℕ) (args : Option (List (List ℕ))) (io : Traffic)
+    (errors errors_after : SinkState) (code : ℕ) → IsStarted words bytes held args io
+    → Exits Runs name usage args io errors errors_after code
+    → EndsSo (ToldBy (front words) bytes held io) name usage errors errors_after code
