@@ -5,3 +5,4 @@ mod Judging
 pub mod Recalling
 mod Searched
 mod Exact
+mod ToldApart

@@ -7,3 +7,4 @@ pub mod Recalled
 pub mod Closed
 pub mod Races
 pub mod Laws
+pub mod Told

@@ -1,13 +1,13 @@
 -- Races that tell why a rule is there: the turns of one, and what they come to.
-use Rattle.std.specs.Prelude.{◌≡◌, ℕ, ◌+◌, Bool, true, false, not, ◌&&◌, Option, Some, None, List, [], ◌∷◌, ◌++◌}
-use Rattle.std.specs.Prelude.{length, replicate}
+use Rattle.std.specs.Prelude.{◌≡◌, ℕ, ◌+◌, Bool, true, false, not, ◌&&◌, Option, Some, None, is_none, List, [], ◌∷◌}
+use Rattle.std.specs.Prelude.{◌++◌, length, replicate}
 use Rattle.std.specs.List.{list_all}
 use Rattle.hm_base.specs.Pages.{Pages}
 use Rattle.hm_base.specs.Program.{Program}
 use Rattle.hm_base.specs.declared.ops.Version.{Version}
 use Rattle.hm_base.specs.declared.ops.Rights.{Rights}
 use Rattle.hm_base.specs.declared.ops.Op.{Op}
-use Rattle.hm_history.specs.Kernel.Run.{turns, is_entry, actors_of}
+use Rattle.hm_history.specs.Kernel.Run.{turns, run, is_entry, actors_of}
 use Rattle.hm_history.specs.declared.Entry.{Entry}
 use Rattle.hm_race_laws.specs.Outcomes.{ended_in}
 use Rattle.hm_flaws.specs.declared.flaws.Flaw.{Flaw}
@@ -44,6 +44,38 @@ pub record FlawSticks (l : Flaw) (c : Program) (n : ℕ) (actors : List ℕ) : T
   pub unbroken : (comes_to all_parts l c n actors).broken ≡ None
   pub stuck : is_stuck l c (comes_to all_parts l c n actors).flawed ≡ true
   pub right : is_stuck Flaw.NoFlaw c (comes_to all_parts Flaw.NoFlaw c n actors).flawed ≡ false
+
+-- what a driver comes to in turns: the part of legality that it breaks, if it breaks one, after how many entries, and
+-- whether nobody can go on then
+pub record ComesTo : Type 0 where
+  pub part : Option Part
+  pub entries : ℕ
+  pub stuck : Bool
+
+-- it breaks this part
+abbrev pub broke : Part → ℕ → ComesTo
+broke part n = record { part = Some part; entries = n; stuck = false }
+
+-- it breaks none, and somebody can go on, or all has ended
+abbrev pub did_not : ℕ → ComesTo
+did_not n = record { part = None; entries = n; stuck = false }
+
+-- it breaks none, and nobody can go on, though some operation has not ended
+abbrev pub sticks : ℕ → ComesTo
+sticks n = record { part = None; entries = n; stuck = true }
+
+-- what is so after turns that are judged to come to this
+abbrev pub outcome_in : Flaw → Program → Judged → ComesTo
+outcome_in l c x =
+    record {
+      part = part_in x.broken;
+      entries = length x.entries;
+      stuck = is_none (part_in x.broken) && is_stuck l c x.flawed;
+    }
+
+-- what a driver with this flaw comes to in turns after the run of a script's schedule
+abbrev pub outcome_by : Program → List ℕ → Flaw → ComesTo
+outcome_by c actors l = outcome_in l c (judged all_parts l c (run c) actors)
 
 -- ---- scripts
 

@@ -4,6 +4,7 @@
 
 ghost use Rattle.hm_flaws.specs.Laws.{RightIsDue, RightKeepsItsOwn, RightBreaksNone, JudgedBreaks, ClosedBreaksNone};
 ghost use Rattle.hm_flaws.specs.Laws.{UncomparedIsStale, OwnIgnoredLosesStore, LostHeldSticks};
+ghost use Rattle.hm_flaws.specs.Told.{ToldApart};
 
 mod flaws;
 mod parts;
@@ -52,4 +53,10 @@ pub fn own_ignored_loses_store()
 /// for ever: a race, by computation.
 pub fn lost_held_sticks()
     ensures { LostHeldSticks }
+{}
+
+/// What drivers come to in short races, as far as it tells each of them from the right one and from all others: by
+/// computation. Of two drivers no short race is known (`SoleAnyway`, `UnnamedHeld`).
+pub fn drivers_are_told_apart()
+    ensures { ToldApart }
 {}
