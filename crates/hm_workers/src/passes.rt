@@ -55,7 +55,7 @@ impl Passes {
     }
 
     /// Takes the last pass out.
-    pub(crate) fn pop(&mut self) -> Option<Pass>
+    pub fn pop(&mut self) -> Option<Pass>
         ensures some { IfSome result (λ p. self.old ≡ self.new ++ p ∷ []) }
         ensures none { IfNone result ((self.old ≡ []) × (self.new ≡ [])) }
     {
