@@ -11,6 +11,7 @@ use hm_turns::Turn;
 use std::alloc::Global;
 use std::sync::Wait;
 use std::sync::atomic::{AtomicU64, Ordering};
+use std::thread;
 
 /// How often an actor that waits looks whether it may go, before it sleeps.
 const LOOKS: u64 = 1 << 16;
@@ -44,7 +45,8 @@ fn place_of_holder(why: &Why) -> u64 {
 }
 
 /// Lets one actor go at a time, for as many entries as is drawn: 1 to 32, and half as often if it is twice as many.
-/// Then another goes, if any waits. No actor goes before all have come, or one was long in coming.
+/// Then another goes, if any waits. No actor goes before all have come. If one is long in coming, as it is where no thread
+/// can be started, nobody is held.
 #[derive(Drop)]
 pub struct Mixing<'a, R> {
     rt: &'a R,
@@ -239,11 +241,8 @@ impl<'a, R> Mixing<'a, R> {
         }
     }
 
-    // Comes to the meeting. The first that sees all there draws who goes first, and who looks.
-    fn come(&self, bit: u64) {
-        self.places.fetch_or(bit, Ordering::SeqCst);
-        let looks = self.meeting.attend(bit);
-        self.burst.add_chance(looks);
+    // Draws who goes first, and who looks, if that was not done.
+    fn set_off(&self) {
         let places = self.places();
         if places.goes == 0 {
             let number = self.burst.draw();
@@ -252,9 +251,28 @@ impl<'a, R> Mixing<'a, R> {
             self.hand_on(0, 0, bit_at(looker), to, number);
         }
     }
+
+    // Notes a try of an actor that nobody let go: a schedule did, or nobody is held.
+    fn tried_freely(&self, bit: u64, turn: &Turn) {
+        match turn {
+            Turn::Did(Progress::Did(_)) => (),
+            Turn::Busy | Turn::Did(Progress::Waiting(_)) => thread::yield_now(),
+            Turn::Did(Progress::Idle) | Turn::Stopped(_) | Turn::Halted => self.meeting.count(bit),
+        }
+    }
 }
 
 impl<R: Wait> Mixing<'_, R> {
+    // Comes to the meeting. The first that sees all there lets one go. If one is missed nobody goes, and nobody is held.
+    fn come(&self, bit: u64) {
+        self.places.fetch_or(bit, Ordering::SeqCst);
+        let looks = self.meeting.attend(self.rt, bit).unwrap_or(0);
+        if !self.meeting.was_missed() {
+            self.burst.add_chance(looks);
+            self.set_off();
+        }
+    }
+
     // Waits until it goes.
     fn wait(&self, actor: Actor, bit: u64) {
         let Some(waiter) = self.waiters.get(actor.number() as usize) else {
@@ -289,6 +307,9 @@ impl<R: Wait> Gate for Mixing<'_, R> {
         if !self.meeting.has(bit) {
             self.come(bit);
         }
+        if self.meeting.was_missed() {
+            return true;
+        }
         if let Some(waiter) = self.waiters.get(actor.number() as usize) {
             waiter.added.store(added, Ordering::SeqCst);
         }
@@ -298,10 +319,14 @@ impl<R: Wait> Gate for Mixing<'_, R> {
 
     fn tried(&self, actor: Actor, turn: &Turn) {
         let (place, bit) = (place_of(actor), bit_of(actor));
+        let places = self.places();
+        if places.goes != place {
+            return self.tried_freely(bit, turn);
+        }
         match turn {
             Turn::Busy => (),
             Turn::Did(Progress::Did(entry)) => {
-                if self.places().held != 0 {
+                if places.held != 0 {
                     self.places.fetch_and(all_but_held(), Ordering::SeqCst);
                 }
                 if self.burst.is_over() {
@@ -310,7 +335,6 @@ impl<R: Wait> Gate for Mixing<'_, R> {
             }
             Turn::Did(Progress::Waiting(why)) => self.is_held(place, bit, place_of_holder(why)),
             Turn::Did(Progress::Idle) | Turn::Stopped(_) | Turn::Halted => {
-                self.meeting.count(bit);
                 let number = self.burst.draw();
                 self.hand_on(place, 0, 0, 0, number);
             }

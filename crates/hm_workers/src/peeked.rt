@@ -33,7 +33,7 @@ fn run_and_tell<R: Threads + Wait + Sync, S: Stepped + Send, G: Gate + Sync>(
     let Some(passes) = passes.take() else {
         unreachable!();
     };
-    signs.meeting.attend(2);
+    signs.meeting.attend(rt, 2);
     let done = run_actors(rt, alloc, turns, passes, &Watched::new(gate, signs));
     signs.end();
     done

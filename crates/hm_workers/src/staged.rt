@@ -106,7 +106,7 @@ impl<R: Wait, G: Gate> Gate for Staged<'_, R, G> {
 
     fn admits(&self, actor: Actor, added: u64) -> bool {
         if !self.meeting.has(1 << actor.number()) {
-            self.meeting.attend(1 << actor.number());
+            self.meeting.attend(self.rt, 1 << actor.number());
         }
         for _ in self.rt.forever() {
             let at = self.at.load(Ordering::SeqCst);

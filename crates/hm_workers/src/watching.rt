@@ -249,7 +249,8 @@ fn pause<R: Wait>(rt: &R, tries: u32, signs: &Signs, peeks: &PeekList) {
 }
 
 /// Takes copies and checks them until it is told that the work has ended, or the value is halted, or there are enough
-/// peeks, or enough tries were made. A copy is checked at once, and as long as it holds again.
+/// peeks, or enough tries were made. A copy is checked at once, and as long as it holds again. If it waits in vain for
+/// those who run the actors, it takes none.
 pub(crate) fn watch<R: Wait, S: Looks>(
     rt: &R,
     alloc: Global,
@@ -264,8 +265,10 @@ pub(crate) fn watch<R: Wait, S: Looks>(
     ensures few { IfOk result (λ peeks. length peeks ≤ MOST_PEEKS) }
     ensures pass { HasWatched MOST_TRIES pass.old pass.new }
 {
-    signs.meeting.attend(1);
     let mut peeks = PeekList::new(alloc);
+    if signs.meeting.attend(rt, 1).is_none() {
+        return Ok(peeks);
+    }
     let mut copy = None;
     for tries in 0..MOST_TRIES {
         if signs.ended.load(Ordering::SeqCst) || peeks.len() >= MOST_PEEKS {
