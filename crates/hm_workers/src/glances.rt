@@ -2,7 +2,8 @@
 use crate::gate::{Gate, is_entry};
 use crate::watching::Signs;
 use hm_base::Actor;
-use hm_turns::Turn;
+use hm_turns::{Pass, Turn};
+use std::snapshot::Snapshot;
 use std::sync::atomic::{AtomicU64, Ordering};
 use std::thread;
 
@@ -52,8 +53,8 @@ impl<G: Gate> Gate for Watched<'_, G> {
         self.gate.begins(actors);
     }
 
-    fn admits(&self, actor: Actor, added: u64) -> bool {
-        self.gate.admits(actor, added)
+    fn admits(&self, actor: Actor, added: u64, first: &Snapshot<Pass>, pass: &Pass) -> bool {
+        self.gate.admits(actor, added, first, pass)
     }
 
     fn tried(&self, actor: Actor, turn: &Turn) {

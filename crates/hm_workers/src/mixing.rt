@@ -7,8 +7,9 @@ use crate::places::{
 };
 use hm_base::{Actor, MOST_ACTORS, NoMemory};
 use hm_history::{Kind, Progress, Why};
-use hm_turns::Turn;
+use hm_turns::{Pass, Turn};
 use std::alloc::Global;
+use std::snapshot::Snapshot;
 use std::sync::Wait;
 use std::sync::atomic::{AtomicU64, Ordering};
 use std::thread;
@@ -299,7 +300,7 @@ impl<R: Wait> Gate for Mixing<'_, R> {
         self.meeting.begin(actors);
     }
 
-    fn admits(&self, actor: Actor, added: u64) -> bool {
+    fn admits(&self, actor: Actor, added: u64, _first: &Snapshot<Pass>, _pass: &Pass) -> bool {
         if self.goes(place_of(actor)) {
             return true;
         }

@@ -56,7 +56,7 @@ fn try_once<S: Stepped, G: Gate>(
     ensures tries { Tries S.due worker.0 pass.old result pass.new }
 {
     let (actor, added) = worker;
-    if gate.admits(actor, added) {
+    if gate.admits(actor, added, first, pass) {
         let turn = turns.try_turn(pass, actor);
         gate.tried(actor, &turn);
         next_of(turn)

@@ -1,6 +1,8 @@
 // Gates that tests hold actors with.
 use hm_base::Actor;
+use hm_turns::Pass;
 use hm_workers::Gate;
+use std::snapshot::Snapshot;
 use std::sync::atomic::{AtomicU64, Ordering};
 use std::thread;
 
@@ -11,7 +13,7 @@ const LOOKS: u64 = 50_000_000;
 pub struct Open;
 
 impl Gate for Open {
-    fn admits(&self, _actor: Actor, _added: u64) -> bool {
+    fn admits(&self, _actor: Actor, _added: u64, _first: &Snapshot<Pass>, _pass: &Pass) -> bool {
         true
     }
 }
@@ -53,7 +55,7 @@ impl Meets {
 }
 
 impl Gate for Meets {
-    fn admits(&self, actor: Actor, added: u64) -> bool {
+    fn admits(&self, actor: Actor, added: u64, _first: &Snapshot<Pass>, _pass: &Pass) -> bool {
         if actor.number() == 0 && added == self.at {
             self.first_is_there.store(1, Ordering::SeqCst);
             self.look_for(&self.second_has_added);

@@ -1,8 +1,9 @@
 // A value that counts how often it is looked at, and a gate that holds its actor until it was.
 use hm_base::{Actor, Proc};
 use hm_history::{Progress, StepError};
-use hm_turns::{Looked, Looks, Stepped};
+use hm_turns::{Looked, Looks, Pass, Stepped};
 use hm_workers::Gate;
+use std::snapshot::Snapshot;
 use std::sync::atomic::{AtomicU64, Ordering};
 use std::thread;
 
@@ -83,7 +84,7 @@ impl<'a> Held<'a> {
 }
 
 impl Gate for Held<'_> {
-    fn admits(&self, _actor: Actor, added: u64) -> bool {
+    fn admits(&self, _actor: Actor, added: u64, _first: &Snapshot<Pass>, _pass: &Pass) -> bool {
         if added < self.from || self.held_at.swap(added, Ordering::SeqCst) == added {
             return true;
         }

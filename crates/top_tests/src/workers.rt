@@ -11,6 +11,7 @@ use hm_turns::{Pass, Stepped, Turn, Turns};
 use hm_workers::{Gate, Mixing, Staged, run_all};
 use std::alloc::Global;
 use std::process::Abort;
+use std::snapshot::Snapshot;
 use std::sync::Wait;
 use std::sync::atomic::{AtomicU64, Ordering};
 use std::thread::{self, Threads};
@@ -27,7 +28,7 @@ struct Meeting {
 }
 
 impl Gate for Meeting {
-    fn admits(&self, actor: Actor, added: u64) -> bool {
+    fn admits(&self, actor: Actor, added: u64, _first: &Snapshot<Pass>, _pass: &Pass) -> bool {
         if added > 0 {
             return true;
         }
@@ -54,7 +55,7 @@ struct InTurn {
 }
 
 impl Gate for InTurn {
-    fn admits(&self, actor: Actor, added: u64) -> bool {
+    fn admits(&self, actor: Actor, added: u64, _first: &Snapshot<Pass>, _pass: &Pass) -> bool {
         let is_first = actor.number() == 0;
         let (own, other) = if is_first {
             (&self.first, &self.second)
