@@ -3,3 +3,4 @@ pub mod Deals
 pub mod Tries
 pub mod Watched
 pub mod Recorded
+pub mod Sets

@@ -74,7 +74,7 @@ impl<'a, R> Mixing<'a, R> {
     }
 
     fn goes(&self, place: u64) -> bool {
-        self.places().goes == place
+        self.places().lets(place)
     }
 
     // Changes the places. Gives them as they were and as they are, if they change.
@@ -231,7 +231,7 @@ impl<'a, R> Mixing<'a, R> {
         }
         self.burst.learn(false);
         let before = self.places.fetch_and(!look_bit(bit), Ordering::SeqCst);
-        Places::of(before).goes == place
+        Places::of(before).lets(place)
     }
 
     // Whether it is to look. It comes if it was called.
@@ -321,7 +321,7 @@ impl<R: Wait> Gate for Mixing<'_, R> {
     fn tried(&self, actor: Actor, turn: &Turn) {
         let (place, bit) = (place_of(actor), bit_of(actor));
         let places = self.places();
-        if places.goes != place {
+        if !places.lets(place) {
             return self.tried_freely(bit, turn);
         }
         match turn {

@@ -1,4 +1,8 @@
 // Who goes and who waits, in one word.
+ghost use Rattle.std.specs.Prelude.{◌≡◌, ◌<◌, ◌↔◌, ℕ, IfNone, IfSome, IsTrue};
+ghost use Rattle.hm_workers.specs.Gates as spec;
+ghost use Rattle.hm_workers.specs.Gates.{Changes, HasCome, IsCalled, IsHanded, IsIn, IsNotMade};
+
 use hm_base::{Actor, MOST_ACTORS};
 
 /// A bit for each actor.
@@ -39,14 +43,27 @@ impl Places {
             | self.called << 53
     }
 
+    /// Whether the actor in this place goes.
+    pub(crate) fn lets(self, place: u64) -> bool
+        ensures { IsTrue result ↔ self.goes ≡ place }
+    {
+        self.goes == place
+    }
+
     /// Those that wait and may go: that are not held, or all if all are.
-    pub(crate) fn free(self) -> u64 {
+    pub(crate) fn free(self) -> u64
+        ensures same { result ≡ spec.free self }
+        ensures wait { (place : ℕ) → IsIn result place → IsIn self.waiting place }
+        ensures some { 0 < self.waiting → 0 < result }
+    {
         let free = self.waiting & !self.held;
         if free == 0 { self.waiting } else { free }
     }
 
     /// Those of them that look.
-    pub(crate) fn ready(self) -> u64 {
+    pub(crate) fn ready(self) -> u64
+        ensures { (place : ℕ) → IsIn result place → IsIn self.waiting place }
+    {
         self.free() & self.looking
     }
 
@@ -57,13 +74,15 @@ impl Places {
 
     // Who goes next where that is not said: one that looks, the one that was called, the one in the place `least`, or
     // any.
-    fn next(self, least: u64, number: u64) -> u64 {
+    fn next(self, least: u64, number: u64) -> u64
+        ensures { 0 < self.waiting → IsIn self.waiting result }
+    {
         let (free, ready) = (self.free(), self.ready());
         if ready != 0 {
             pick(ready, number)
-        } else if free & bit_at(self.called) != 0 {
+        } else if has(free, self.called) {
             self.called
-        } else if free & bit_at(least) != 0 {
+        } else if has(free, least) {
             least
         } else {
             pick(free, number)
@@ -71,14 +90,17 @@ impl Places {
     }
 
     // Once one lets another go, if any waits.
-    fn handed(self, hand: Hand) -> Option<Places> {
+    fn handed(self, hand: Hand) -> Option<Places>
+        ensures some { IfSome result (λ p. IsHanded self hand p) }
+        ensures none { IfNone result (IsNotMade self (Change.Hand hand)) }
+    {
         if self.goes != hand.from || (self.waiting == 0 && hand.stays != 0) {
             return None;
         }
-        let goes = if self.waiting & bit_at(hand.to) == 0 {
-            self.next(hand.least, hand.number)
-        } else {
+        let goes = if has(self.waiting, hand.to) {
             hand.to
+        } else {
+            self.next(hand.least, hand.number)
         };
         let waiting = (self.waiting | hand.stays) & !bit_at(goes);
         let looking = self.looking & waiting;
@@ -96,16 +118,22 @@ impl Places {
     }
 
     // Once one is called to look, if it waits and is not called.
-    fn with_call(self, place: u64) -> Option<Places> {
-        if self.called == place || self.waiting & bit_at(place) == 0 {
+    fn with_call(self, place: u64) -> Option<Places>
+        ensures some { IfSome result (λ p. IsCalled self place p) }
+        ensures none { IfNone result (IsNotMade self (Change.Call place)) }
+    {
+        if self.called == place || !has(self.waiting, place) {
             return None;
         }
         Some(self.with(self.looking, place))
     }
 
     // Once one that was called has come. It looks if no other does.
-    fn with_come(self, place: u64) -> Option<Places> {
-        if self.called != place || self.goes == place {
+    fn with_come(self, place: u64) -> Option<Places>
+        ensures some { IfSome result (λ p. HasCome self place p) }
+        ensures none { IfNone result (IsNotMade self (Change.Come place)) }
+    {
+        if self.called != place || self.lets(place) {
             return None;
         }
         let looking = if self.looking == 0 {
@@ -116,7 +144,9 @@ impl Places {
         Some(self.with(looking, 0))
     }
 
-    fn with(self, looking: u64, called: u64) -> Places {
+    fn with(self, looking: u64, called: u64) -> Places
+        ensures { result ≡ record self { looking = looking; called = called } }
+    {
         Places {
             waiting: self.waiting,
             looking,
@@ -127,7 +157,10 @@ impl Places {
     }
 
     /// The places after a change; none if nothing changes.
-    pub(crate) fn after(self, change: Change) -> Option<Places> {
+    pub(crate) fn after(self, change: Change) -> Option<Places>
+        ensures some { IfSome result (λ p. Changes self change p) }
+        ensures none { IfNone result (IsNotMade self change) }
+    {
         match change {
             Change::Hand(hand) => self.handed(hand),
             Change::Call(place) => self.with_call(place),
@@ -200,15 +233,41 @@ pub(crate) fn bit_at(place: u64) -> u64 {
     }
 }
 
-/// The place of an actor of the set, drawn by the number; 0 if the set is empty.
-pub(crate) fn pick(set: u64, number: u64) -> u64 {
-    let count = u64::from(set.count_ones());
-    let at = number.checked_rem(count).unwrap_or(0);
+/// Whether the set has the bit of the actor in this place.
+pub(crate) fn has(set: u64, place: u64) -> bool
+    ensures { IsTrue result ↔ IsIn set place }
+{
+    place > 0 && place <= 64 && set >> (place - 1) & 1 == 1
+}
+
+// The place of the first actor of the set; 0 if the set is empty.
+fn first(set: u64) -> u64
+    ensures some { 0 < set → IsIn set result }
+    ensures none { set ≡ 0 → result ≡ 0 }
+{
+    if set == 0 {
+        return 0;
+    }
+    u64::from(set.trailing_zeros()) + 1
+}
+
+// The place after that of so many actors of the set; 0 if there are no more.
+fn place_after(set: u64, count: u64) -> u64 {
     let found = (0..u64::from(MOST_ACTORS))
         .filter(|number| (set >> number) & 1 == 1)
-        .nth(at as usize);
+        .nth(count as usize);
     match found {
         Some(number) => number.saturating_add(1),
         None => 0,
     }
+}
+
+/// The place of an actor of the set, drawn by the number; 0 if the set is empty.
+pub(crate) fn pick(set: u64, number: u64) -> u64
+    ensures some { 0 < set → IsIn set result }
+    ensures none { set ≡ 0 → result ≡ 0 }
+{
+    let count = u64::from(set.count_ones());
+    let place = place_after(set, number.checked_rem(count).unwrap_or(0));
+    if has(set, place) { place } else { first(set) }
 }
