@@ -17,7 +17,8 @@ EMPTY = b'hmm 1\nframes 0\n'
 EMPTY_REPORT = EMPTY + b'history\nend 0\n'
 SCRIPT_BYTES = 4_194_304
 REPORT_BYTES = 268_435_456
-RUN_USAGE = ('usage: hmmrun replay | threads | generate N | trial N | upgrade | check | peek P ADDR LEN | advise | why')
+RUN_USAGE = ('usage: hmmrun replay | threads | race | generate N | trial N | upgrade | check | peek P ADDR LEN | '
+             'advise | why')
 RACE_USAGE = 'usage: hmmraces [[--most] MOST] [--table | --script N | --expect CONDITION ..]'
 VIEW_USAGE = 'usage: hmmview [FROM TO]'
 JUDGE_USAGE = 'usage: hmmjudge [--standing | --all]'

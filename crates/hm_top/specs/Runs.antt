@@ -1,5 +1,5 @@
 -- What the program hmmrun does with the words after its name.
-use Rattle.std.specs.Prelude.{◌≡◌, ◌↔◌, ℕ, List, None, codes}
+use Rattle.std.specs.Prelude.{◌≡◌, ◌↔◌, ℕ, List, ◌++◌, None, codes}
 use Rattle.hm_edge.specs.Traffic.{Traffic}
 use Rattle.hm_edge.specs.declared.status.Status.{Status}
 use Rattle.hm_top.specs.Commands.{command_of}
@@ -12,7 +12,9 @@ name = codes "hmmrun"
 
 -- what it says if its words are none of the forms
 abbrev pub usage : List ℕ
-usage = codes "usage: hmmrun replay | threads | generate N | trial N | upgrade | check | peek P ADDR LEN | advise | why"
+usage =
+    codes "usage: hmmrun replay | threads | race | generate N | trial N | upgrade | check | "
+    ++ codes "peek P ADDR LEN | advise | why"
 
 -- A call was made, which ended with this status.
 pub record Runs (words : List (List ℕ)) (io : Traffic) (status : Status) : Type 0 where

@@ -23,7 +23,8 @@ pub const NAME: &str = "hmmrun";
 
 /// What it says if its words are none of the forms.
 pub const USAGE: &str =
-    "usage: hmmrun replay | threads | generate N | trial N | upgrade | check | peek P ADDR LEN | advise | why";
+    "usage: hmmrun replay | threads | race | generate N | trial N | upgrade | check | \
+    peek P ADDR LEN | advise | why";
 
 /// How a call ended that was the last of its process. What it ran is not walked over once more to be given back, since
 /// the process ends, and its memory with it.

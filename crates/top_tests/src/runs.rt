@@ -2,7 +2,7 @@
 use crate::cases::{Case, EMPTY, EMPTY_REPORT, Program, all_come_to, expected, refuses_too_long};
 
 const USAGE: &str =
-    "hmmrun: usage: hmmrun replay | threads | generate N | trial N | upgrade | check | \
+    "hmmrun: usage: hmmrun replay | threads | race | generate N | trial N | upgrade | check | \
     peek P ADDR LEN | advise | why\n";
 
 const BAD_HEADER: &str = "hmmrun: script line 1: bad header\n";
