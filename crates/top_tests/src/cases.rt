@@ -1,6 +1,6 @@
 // What a program is run on, and what it has to come to.
 use crate::calls::words_in;
-use hm_io::{MemorySink, MemorySource, SureSink};
+use hm_io::{MemorySink, MemorySource, SureSink, SureSource};
 use std::alloc::Global;
 use std::env::Args;
 use std::io;
@@ -134,6 +134,20 @@ pub fn all_come_to<R: Abort + Threads + Wait + Sync>(
         }
     }
     true
+}
+
+/// Whether hmmrun with these words reads this text and ends with 0. What it writes is then in the sink.
+pub fn hmmrun_writes<R: Abort + Threads + Wait + Sync>(
+    rt: &R,
+    alloc: Global,
+    words: &str,
+    text: &str,
+    sink: &mut SureSink,
+) -> bool {
+    let mut source = SureSource::new(alloc, text.as_bytes()).expect(rt, "memory");
+    let mut errors = SureSink::new(alloc);
+    let args = Ok(words_in(rt, alloc, words).into_iter());
+    hm_top::program(rt, alloc, args, &mut source, sink, &mut errors, 7) == 0
 }
 
 /// So many bytes of a text that is no script.

@@ -23,6 +23,8 @@ mod masks;
 #[cfg(test)]
 mod meeting;
 #[cfg(test)]
+mod orders;
+#[cfg(test)]
 mod pieces;
 #[cfg(test)]
 mod races;
