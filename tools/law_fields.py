@@ -15,7 +15,7 @@ import words
 TOP = os.path.dirname(os.path.dirname(os.path.abspath(__file__)))
 # the crates whose records are those of a program's call, and the proofs of the laws
 CRATES = ['hm_edge', 'hm_top', 'hm_race_top', 'hm_flaw_top', 'hm_judge', 'hm_view']
-PROOFS = {'hm_edge': 'Telling', 'hm_top': 'Told', 'hm_race_top': 'Told', 'hm_flaw_top': 'Told', 'hm_judge': 'Users',
+PROOFS = {'hm_edge': 'Telling', 'hm_top': 'Users', 'hm_race_top': 'Users', 'hm_flaw_top': 'Users', 'hm_judge': 'Users',
           'hm_view': 'Users'}
 # where the record of each program's call stands
 ROOTS = {'hm_edge': ['Exits'], 'hm_top': ['Runs'], 'hm_race_top': ['Races'], 'hm_flaw_top': ['Withouts'],

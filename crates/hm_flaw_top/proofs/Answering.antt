@@ -13,8 +13,8 @@ use Rattle.hm_flaws.specs.declared.flaws.Flaw.{Flaw}
 use Rattle.hm_flaws.specs.declared.parts.Part.{Part}
 use Rattle.hm_flaws.specs.Judged.{judged}
 use Rattle.hm_flaws.specs.Races.{is_stuck}
-use Rattle.hm_search.specs.Goals.{AreMissed, Reaches}
-use Rattle.hm_search.specs.Known.{KnownValue, AreKnown, AreRising, HaveFewer, HaveForms, IsCut, IsKnown, forms}
+use Rattle.hm_search.specs.Goals.{AreMissed, IsSoon, Reaches}
+use Rattle.hm_search.specs.Known.{KnownValue, AreKnown, AreRising, HaveFewer, HaveForms, IsCut, IsKnown, IsNear, forms}
 use Rattle.hm_search.specs.declared.search.End.{End}
 use Rattle.hm_search.proofs.Exploring.{reaches}
 use Rattle.hm_flaw_parts.specs.Races.Races.{FlawPoint, flaw_system, is_found}
@@ -47,6 +47,8 @@ pub record Searched (parts : List Part) (l : Flaw) (c : Program) (h : List Entry
   pub few : end ≡ End.Whole → length known ≤ most
   pub cut : end ≡ End.Cut → IsCut (length c.actors) most (length known)
   pub reached : end ≡ End.Reached → Reaches breaks_at known
+  pub soon : end ≡ End.Reached → IsSoon (length c.actors) breaks_at known
+  pub near : end ≡ End.Reached → IsNear (length c.actors) most (length known)
   pub missed : (end ≡ End.Reached → ⊥) → AreMissed breaks_at known
 
 whole≢reached : End.Whole ≡ End.Reached → ⊥
@@ -54,6 +56,12 @@ whole≢reached e = cc
 
 cut≢reached : End.Cut ≡ End.Reached → ⊥
 cut≢reached e = cc
+
+broken≢nothing : (es : List Entry) (e : Entry) (part : Part) → Found.Broken es e part ≡ Found.Nothing → ⊥
+broken≢nothing es e part is = cc
+
+stuck≢nothing : (es : List Entry) → Found.Stuck es ≡ Found.Nothing → ⊥
+stuck≢nothing es is = cc
 
 module _ (law : Laws) (parts : List Part) (l : Flaw) (c : Program) (sc : IsScript c) (h : List Entry) (d : DueFrom c [] h) (few : length h ≤ 2000000) (most : ℕ) (known : List (KnownValue FlawPoint)) (n : ℕ) (count : n ≡ length known) where
   -- ---- known states
@@ -75,9 +83,9 @@ module _ (law : Laws) (parts : List Part) (l : Flaw) (c : Program) (sc : IsScrip
   -- ---- answers
 
   answer : (end : End) (f : Found) → Searched parts l c h most known end → IsFound parts l c h f → length h + race_length f ≤ 2000000
-      → (end ≡ End.Whole → f ≡ Found.Nothing → NeverSticks parts l c h) → ((end ≡ End.Reached) ↔ (is_broken f ≡ true)) → (l ≡ Flaw.NoFlaw → f ≡ Found.Nothing)
+      → (end ≡ End.Whole → f ≡ Found.Nothing → NeverSticks parts l c h) → (f ≡ Found.Nothing → AreMissed (sticks_at l c) known) → ((end ≡ End.Reached) ↔ (is_broken f ≡ true)) → (l ≡ Flaw.NoFlaw → f ≡ Found.Nothing)
       → IsAnswer parts l c h most (record { found = f; states = n; end = end })
-  answer end f s found long never reached right = record {
+  answer end f s found long never seen reached right = record {
     known = known;
     states = count;
     searched = s.each;
@@ -91,6 +99,9 @@ module _ (law : Laws) (parts : List Part) (l : Flaw) (c : Program) (sc : IsScrip
     };
     never = never;
     cut = s.cut;
+    stopped = λ e. record { came = s.reached e; soon = s.soon e; near = s.near e };
+    missed = s.missed;
+    seen = seen;
     reached = reached;
     right = right;
   }
@@ -108,7 +119,7 @@ module _ (law : Laws) (parts : List Part) (l : Flaw) (c : Program) (sc : IsScrip
       let is : f ≡ Found.Broken es b.entry b.part = same ∙ (ap (λ (turns : List ℕ). found_by (judged parts l c h turns)) z.turns ∙ ap (found_with es) b.broken) in
       subst (λ (g : Found). IsAnswer parts l c h most (record { found = g; states = n; end = End.Reached })) (sym is)
       (answer End.Reached (Found.Broken es b.entry b.part) s (b.breaks, subst (BreakLater parts l c h) (sym b.long) b.later) (omega (arith, room z.state k, b.long))
-      (λ e u. absurd (whole≢reached (sym e))) (λ e. refl, λ e. refl)
+      (λ e u. absurd (whole≢reached (sym e))) (λ u. absurd (broken≢nothing es b.entry b.part u)) (λ e. refl, λ e. refl)
       (λ right. absurd (not_right z.state k (or_left (is_some z.state.form.broken) (is_stuck l c z.state.form.flawed) z.first.reached) right)))
 
   unbroken_answer : (end : End) → (end ≡ End.Reached → ⊥) → (f : Found) → Searched parts l c h most known end → (place : Option ℕ) → IsFirstTrue (map (reaches (sticks_at l c)) known) place → f ≡ found_at parts l c h known place
@@ -116,7 +127,7 @@ module _ (law : Laws) (parts : List Part) (l : Flaw) (c : Program) (sc : IsScrip
   unbroken_answer end other f s None first same =
       subst (λ (g : Found). IsAnswer parts l c h most (record { found = g; states = n; end = end })) (sym same)
       (answer end Found.Nothing s tt (omega (arith, few)) (λ e u. law.whole_sticks parts l c h known s.each (s.all e) (none_known (sticks_at l c) known first))
-      (λ e. absurd (other e), λ e. absurd (false≢true e)) (λ right. refl))
+      (λ u. none_known (sticks_at l c) known first) (λ e. absurd (other e), λ e. absurd (false≢true e)) (λ right. refl))
   unbroken_answer end other f s (Some at) first same =
       let z = first_known (sticks_at l c) known at first in
       let b = law.first_sticks parts l c h known s.each s.fewer s.rising z.state z.first in
@@ -126,11 +137,8 @@ module _ (law : Laws) (parts : List Part) (l : Flaw) (c : Program) (sc : IsScrip
       let stuck = (and_parts (is_none z.state.form.broken) (is_stuck l c z.state.form.flawed) z.first.reached).1 in
       subst (λ (g : Found). IsAnswer parts l c h most (record { found = g; states = n; end = end })) (sym is)
       (answer end (Found.Stuck es) s (b.sticks, subst (StickLater parts l c h) (sym b.long) b.later) (omega (arith, room z.state k, b.long))
-      (λ e u. absurd (not_nothing es u)) (λ e. absurd (other e), λ e. absurd (false≢true e))
+      (λ e u. absurd (stuck≢nothing es u)) (λ u. absurd (stuck≢nothing es u)) (λ e. absurd (other e), λ e. absurd (false≢true e))
       (λ right. absurd (not_right z.state k (or_right (is_some z.state.form.broken) (is_stuck l c z.state.form.flawed) stuck) right)))
-    where
-      not_nothing : (es : List Entry) → Found.Stuck es ≡ Found.Nothing → ⊥
-      not_nothing es e = cc
 
   pub answered : (end : End) (f : Found) → Searched parts l c h most known end → IsFoundFirst parts l c h known (map (reaches (goal_of l c end)) known) f → IsAnswer parts l c h most (record { found = f; states = n; end = end })
   answered End.Reached f s z = broken_answer f s z.place z.first z.same

@@ -7,3 +7,4 @@ mod Waiting
 mod Playing
 mod Firsts
 mod Answering
+mod Users

@@ -4,3 +4,4 @@ pub mod Endings
 pub mod Told
 pub mod Withouts
 pub mod Runs
+pub mod Theorem

@@ -4,10 +4,12 @@
 
 mod call;
 mod ending;
+mod laws;
 mod process;
 mod search;
 mod text;
 mod told;
 
 pub use call::without;
+pub use laws::users_are_told;
 pub use process::{NAME, USAGE, program};

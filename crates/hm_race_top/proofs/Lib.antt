@@ -29,4 +29,4 @@ pub mod Turning
 mod Systems
 mod Outcomes
 mod Turns
-mod Told
+mod Users

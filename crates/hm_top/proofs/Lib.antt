@@ -13,4 +13,4 @@ pub mod Used
 mod SentParts
 mod SentTree
 pub mod Sent
-pub mod Told
+mod Users

@@ -6,10 +6,11 @@ use Rattle.hm_race_laws.specs.Closed.{AreDistinct}
 use Rattle.hm_flaws.specs.declared.flaws.Flaw.{Flaw}
 use Rattle.hm_flaws.specs.declared.parts.Part.{Part}
 use Rattle.hm_flaws.specs.Judged.{Breaks, BreaksNone}
-use Rattle.hm_search.specs.Known.{KnownValue, AreKnown, HaveForms, IsCut, forms}
+use Rattle.hm_search.specs.Goals.{AreMissed, IsSoon, Reaches}
+use Rattle.hm_search.specs.Known.{KnownValue, AreKnown, HaveForms, IsCut, IsNear, forms}
 use Rattle.hm_search.specs.declared.search.End.{End}
 use Rattle.hm_flaw_parts.specs.Races.Races.{FlawPoint, flaw_system}
-use Rattle.hm_flaw_parts.specs.Races.Judging.{NeverSticks, Sticks}
+use Rattle.hm_flaw_parts.specs.Races.Judging.{NeverSticks, Sticks, breaks_at, sticks_at}
 use Rattle.hm_flaw_parts.specs.Races.Shortest.{BreakLater, StickLater}
 use Rattle.hm_flaw_top.specs.Text.Answers.{race_length}
 use Rattle.hm_flaw_top.specs.declared.text.answer.Answer.{Answer}
@@ -38,6 +39,13 @@ pub record IsWhole (parts : List Part) (l : Flaw) (c : Program) (h : List Entry)
   pub none : BreaksNone parts l c h
   pub few : length known ≤ most
 
+-- the search stopped after the step in which it came to a state at which a part is broken: one of the known states is
+-- such a state, only the last of them can be, and they are not many more than were asked for
+pub record HasCome (c : Program) (most : ℕ) (known : List (KnownValue FlawPoint)) : Type 0 where
+  pub came : Reaches breaks_at known
+  pub soon : IsSoon (length c.actors) breaks_at known
+  pub near : IsNear (length c.actors) most (length known)
+
 -- what an answer says of the race of a script after the set-up h, if the driver has this flaw and is judged by these
 -- parts, and the search was to stop at this many states
 pub record IsAnswer (parts : List Part) (l : Flaw) (c : Program) (h : List Entry) (most : ℕ) (a : Answer)
@@ -51,5 +59,8 @@ pub record IsAnswer (parts : List Part) (l : Flaw) (c : Program) (h : List Entry
   pub whole : a.end ≡ End.Whole → IsWhole parts l c h most known
   pub never : a.end ≡ End.Whole → a.found ≡ Found.Nothing → NeverSticks parts l c h
   pub cut : a.end ≡ End.Cut → IsCut (length c.actors) most (length known)
+  pub stopped : a.end ≡ End.Reached → HasCome c most known
+  pub missed : ¬ (a.end ≡ End.Reached) → AreMissed breaks_at known
+  pub seen : a.found ≡ Found.Nothing → AreMissed (sticks_at l c) known
   pub reached : (a.end ≡ End.Reached) ↔ (is_broken a.found ≡ true)
   pub right : l ≡ Flaw.NoFlaw → a.found ≡ Found.Nothing

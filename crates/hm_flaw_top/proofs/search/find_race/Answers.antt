@@ -1,6 +1,6 @@
 use Rattle.std.proofs.Common.{◌≡◌, ◌≤◌, ℕ, Bool, List, length, map, ap, sym, ◌∙◌, subst}
 use Rattle.hm_flaw_parts.specs.Judged.{judged_parts}
-use Rattle.hm_search.specs.Known.{IsCut}
+use Rattle.hm_search.specs.Known.{IsCut, IsNear}
 use Rattle.hm_search.specs.Values.{all_known, at_goal}
 use Rattle.hm_search.specs.declared.known.Known.{Known}
 use Rattle.hm_search.proofs.Exploring.{known_length}
@@ -38,6 +38,8 @@ returns-in-Ok-clause-answer g c =
       few = λ e. subst (λ (n : ℕ). n ≤ c.args.most) many (found.few e);
       cut = λ e. subst (IsCut (length s.actors) c.args.most) many (found.cut e);
       reached = found.reached;
+      soon = found.soon;
+      near = λ e. subst (IsNear (length s.actors) c.args.most) many (found.near e);
       missed = found.missed;
     } in
     answered law parts l s c.facts.ensures h c.requires.due c.requires.few c.args.most known c.len.result (c.len.ensures ∙ (sym c.deref.ensures.len ∙ (ap (λ (xs : List (Known FlawKey)). length xs) c.deref.ensures.value ∙ many))) end c.in-Ok.found searched

@@ -1,4 +1,4 @@
-use Rattle.hm_race_top.proofs.Told.{theorem}
+use Rattle.hm_race_top.proofs.Users.{theorem}
 use Rattle.hm_race_top.proofs.laws.users_are_told.Goals as goal
 
 pub returns : goal.returns

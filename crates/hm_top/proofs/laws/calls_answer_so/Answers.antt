@@ -1,4 +1,4 @@
-use Rattle.hm_top.proofs.Told.{answers}
+use Rattle.hm_top.proofs.Users.{answers}
 use Rattle.hm_top.proofs.laws.calls_answer_so.Goals as goal
 
 pub returns : goal.returns
