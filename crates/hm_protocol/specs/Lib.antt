@@ -5,3 +5,5 @@ pub mod Tests
 pub mod Callbacks
 pub mod Rules
 pub mod Projection
+pub mod Verdicts
+pub mod Races

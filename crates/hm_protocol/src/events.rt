@@ -244,6 +244,7 @@ pub struct Recorded {
     pub set: bool,
     pub erase: bool,
     pub uses: bool,
+    pub take: bool,
     pub free: bool,
     /// It is a trace of the model, which has two rules of its own.
     pub model: bool,
