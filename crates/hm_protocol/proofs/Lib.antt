@@ -1,0 +1,3 @@
+mod RightRacesCome
+mod ShortRacesCome
+mod LongRacesCome

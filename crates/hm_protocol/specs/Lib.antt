@@ -7,3 +7,7 @@ pub mod Rules
 pub mod Projection
 pub mod Verdicts
 pub mod Races
+pub mod RightRaces
+pub mod ShortRaces
+pub mod LongRaces
+pub mod Laws

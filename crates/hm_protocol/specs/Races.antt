@@ -1,7 +1,10 @@
 -- Races by their turns: the entries that are due, of a right driver, and of one with a flaw after a set-up; and what the
 -- rules say of their events.
 use Rattle.std.specs.Prelude.{ℕ, ◌+◌, is_some, List, [], ◌∷◌, ◌++◌, fold, filter, filter_map, option_map, length}
+use Rattle.std.specs.Prelude.{◌≡◌, map, flat_map, replicate}
 use Rattle.hm_base.specs.Program.{Program}
+use Rattle.hm_base.specs.declared.ops.Op.{Op}
+use Rattle.hm_base.specs.declared.ops.Version.{Version}
 use Rattle.hm_history.specs.declared.Entry.{Entry}
 use Rattle.hm_history.specs.declared.Progress.{Progress}
 use Rattle.hm_history.specs.Kernel.Due.{due_in}
@@ -54,11 +57,35 @@ blame n es = record {
   joint = blamed_jointly all_joint es;
 }
 
--- of the right driver's turns
-abbrev pub of_right : Program → List ℕ → Blame
-of_right c actors = let h = right_race c actors in blame (length h) (project c h)
-
--- of turns of a right driver, and then of one with a flaw
-abbrev pub of_flawed : Flaw → Program → List ℕ → List ℕ → Blame
-of_flawed l c before actors = let h = right_race c before in let es = flawed_race l c h actors in
+-- of turns of the right driver, and then of one with a flaw
+abbrev pub blame_of : Flaw → Program → List ℕ → List ℕ → Blame
+blame_of l c before actors = let h = right_race c before in let es = flawed_race l c h actors in
     blame (length h + length es) (project_by l c h es)
+
+-- ---- many races
+
+-- turns: n of an actor, and so on
+abbrev pub turns : List (ℕ × ℕ) → List ℕ
+turns xs = flat_map (λ x. replicate x.0 x.1) xs
+
+-- a script without a schedule
+abbrev pub script : Version → ℕ → List ℕ → ℕ → List (List Op) → Program
+script version frames devices skip actors = record {
+  version = version;
+  frames = frames;
+  devices = devices;
+  skip = skip;
+  actors = actors;
+  schedule = [];
+}
+
+-- a race of a script: the set-up and the turns, each as numbers of turns of an actor, and what it comes to
+pub record Race : Type 0 where
+  pub flaw : Flaw
+  pub before : List (ℕ × ℕ)
+  pub turns : List (ℕ × ℕ)
+  pub blame : Blame
+
+-- each race of a script comes to what it says
+abbrev pub AllComeTo : Program → List Race → Type 0
+AllComeTo c xs = map (λ x. blame_of x.flaw c (turns x.before) (turns x.turns)) xs ≡ map (λ x. x.blame) xs

@@ -1,0 +1,61 @@
+-- What computation tells of the races of RightRaces.
+use Rattle.std.proofs.Common.{refl}
+use Rattle.hm_protocol.specs.Races.{AllComeTo}
+use Rattle.hm_protocol.specs.RightRaces as races
+
+retry_come : AllComeTo races.right_retry races.right_retry_races
+retry_come = refl
+
+first_come : AllComeTo races.right_first races.right_first_races
+first_come = refl
+
+attach_during_invalidation_come : AllComeTo races.right_attach_during_invalidation races.right_attach_during_invalidation_races
+attach_during_invalidation_come = refl
+
+detach_during_invalidation_come : AllComeTo races.right_detach_during_invalidation races.right_detach_during_invalidation_races
+detach_during_invalidation_come = refl
+
+entry_outlives_unmap_come : AllComeTo races.right_entry_outlives_unmap races.right_entry_outlives_unmap_races
+entry_outlives_unmap_come = refl
+
+eviction_against_fault_come : AllComeTo races.right_eviction_against_fault races.right_eviction_against_fault_races
+eviction_against_fault_come = refl
+
+eviction_against_fork_come : AllComeTo races.right_eviction_against_fork races.right_eviction_against_fork_races
+eviction_against_fork_come = refl
+
+eviction_against_unmap_come : AllComeTo races.right_eviction_against_unmap races.right_eviction_against_unmap_races
+eviction_against_unmap_come = refl
+
+exclusive_against_store_come : AllComeTo races.right_exclusive_against_store races.right_exclusive_against_store_races
+exclusive_against_store_come = refl
+
+fork_during_migration_come : AllComeTo races.right_fork_during_migration races.right_fork_during_migration_races
+fork_during_migration_come = refl
+
+fork_of_device_page_come : AllComeTo races.right_fork_of_device_page races.right_fork_of_device_page_races
+fork_of_device_page_come = refl
+
+fresh_page_lost_come : AllComeTo races.right_fresh_page_lost races.right_fresh_page_lost_races
+fresh_page_lost_come = refl
+
+look_up_must_retry_come : AllComeTo races.right_look_up_must_retry races.right_look_up_must_retry_races
+look_up_must_retry_come = refl
+
+migration_of_shared_page_come : AllComeTo races.right_migration_of_shared_page races.right_migration_of_shared_page_races
+migration_of_shared_page_come = refl
+
+protect_during_look_up_come : AllComeTo races.right_protect_during_look_up races.right_protect_during_look_up_races
+protect_during_look_up_come = refl
+
+removal_without_frame_come : AllComeTo races.right_removal_without_frame races.right_removal_without_frame_races
+removal_without_frame_come = refl
+
+two_devices_one_page_come : AllComeTo races.right_two_devices_one_page races.right_two_devices_one_page_races
+two_devices_one_page_come = refl
+
+two_faults_one_page_come : AllComeTo races.right_two_faults_one_page races.right_two_faults_one_page_races
+two_faults_one_page_come = refl
+
+pub all_come : races.RightRacesAreUnblamed
+all_come = (retry_come, first_come, attach_during_invalidation_come, detach_during_invalidation_come, entry_outlives_unmap_come, eviction_against_fault_come, eviction_against_fork_come, eviction_against_unmap_come, exclusive_against_store_come, fork_during_migration_come, fork_of_device_page_come, fresh_page_lost_come, look_up_must_retry_come, migration_of_shared_page_come, protect_during_look_up_come, removal_without_frame_come, two_devices_one_page_come, two_faults_one_page_come)
