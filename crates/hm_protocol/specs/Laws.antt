@@ -1,12 +1,12 @@
 -- The laws, as statements.
 use Rattle.std.specs.Prelude.{◌≡◌, None, List}
-use Rattle.hm_base.specs.Program.{Program}
+use Rattle.hm_base.specs.Program.{Program, IsScript}
 use Rattle.hm_history.specs.declared.Entry.{Entry}
 use Rattle.hm_history.specs.Kernel.Legal.{Legal}
 use Rattle.hm_protocol.specs.declared.rules.Rule.{Rule}
 use Rattle.hm_protocol.specs.Rules.{broken}
 use Rattle.hm_protocol.specs.Projection.{project}
 
--- no legal history breaks the rule
+-- no legal history of a script breaks the rule
 abbrev pub IsKept : Rule → Type 0
-IsKept r = (c : Program) (h : List Entry) → Legal c h → broken r (project c h) ≡ None
+IsKept r = (c : Program) → IsScript c → (h : List Entry) → Legal c h → broken r (project c h) ≡ None
