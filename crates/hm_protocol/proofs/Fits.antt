@@ -93,7 +93,7 @@ comes_ok b j s o xs top k = choice b j (is_migration o) (project.set_up s o xs t
 home_ok : (b : Bool) (j : Kind) → (s : After) (o : Op) (stack : List Phase) (f : Frame) (k : Kind) → AllFit b j (project.home_set_up s o stack f k)
 home_ok b j s o stack f k = choice b j (project.is_start k || not (project.is_home o)) [] _ tt (tt, (tt, (tt, tt)))
 
-over_ok : (b : Bool) (j : Kind) → (s : After) (o : Op) (top : Phase) → AllFit b j (project.home_over s o top)
+pub over_ok : (b : Bool) (j : Kind) → (s : After) (o : Op) (top : Phase) → AllFit b j (project.home_over s o top)
 over_ok b j s o (Phase.Settle g) = choice b j (project.is_home o) (Event.Finalize (touch_proc s o) ∷ []) [] (tt, tt) tt
 over_ok b j s o (Phase.Finish f None) = choice b j (project.is_home o) (Event.Finalize (touch_proc s o) ∷ []) [] (tt, tt) tt
 over_ok b j s o top = tt

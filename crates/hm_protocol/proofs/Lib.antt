@@ -3,6 +3,7 @@ mod Steps
 mod Fields
 mod MmapLock
 mod Devices
+mod Frames
 mod RightRacesCome
 mod ShortRacesCome
 mod LongRacesCome

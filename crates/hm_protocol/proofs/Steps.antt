@@ -1,7 +1,8 @@
 -- A legal history, step by step: what holds of what is known and of the state, as long as each entry's events keep it.
 use Rattle.std.proofs.Common.{refl, ap, sym, subst, ◌∙◌, append_assoc}
+use Rattle.std.proofs.lemmas.Bool.{true≢false}
 use Rattle.std.proofs.lemmas.List.Sums.{fold-append}
-use Rattle.std.specs.Prelude.{◌≡◌, ℕ, Bool, true, false, Option, Some, None, is_some, ⊤, IsTrue, List, [], ◌∷◌, ◌++◌, fold, map}
+use Rattle.std.specs.Prelude.{◌≡◌, ℕ, Bool, true, false, ◌||◌, Option, Some, None, is_some, ⊤, IsTrue, List, [], ◌∷◌, ◌++◌, fold, map}
 use Rattle.hm_base.specs.Program.{Program, IsScript}
 use Rattle.hm_base.specs.declared.ops.Op.{Op}
 use Rattle.hm_history.specs.Memory.Plain.{mirror_owner}
@@ -49,6 +50,25 @@ never test k [] h = refl
 never test k (s ∷ ss) h =
     ap (λ b. elim b as (λ b. Option ℕ) [ true ↦ Some k.at | false ↦ first_wrong test (known_next k s) ss ]) h.0
     ∙ never test (known_next k s) ss h.1
+
+or_left : (b d : Bool) → (b || d) ≡ false → b ≡ false
+or_left false d h = refl
+or_left true d h = h
+
+or_right : (b d : Bool) → (b || d) ≡ false → d ≡ false
+or_right false d h = h
+or_right true d h = absurd (true≢false h)
+
+-- events that fail none of two tests
+pub calm_left : (test also : Known → Traced → Bool) (k : Known) (ss : List Traced) → Calm (λ k s. test k s || also k s) k ss
+    → Calm test k ss
+calm_left test also k [] h = tt
+calm_left test also k (s ∷ ss) h = (or_left (test k s) (also k s) h.0, calm_left test also (known_next k s) ss h.1)
+
+pub calm_right : (test also : Known → Traced → Bool) (k : Known) (ss : List Traced) → Calm (λ k s. test k s || also k s) k ss
+    → Calm also k ss
+calm_right test also k [] h = tt
+calm_right test also k (s ∷ ss) h = (or_right (test k s) (also k s) h.0, calm_right test also (known_next k s) ss h.1)
 
 pub and_then : (test : Known → Traced → Bool) (R Q : Known → Type 0) (k : Known) (xs ys : List Traced) → GoBy test k xs R
     → ((l : Known) → R l → GoBy test l ys Q) → GoBy test k (xs ++ ys) Q
