@@ -4,6 +4,7 @@ mod Fields
 mod MmapLock
 mod Devices
 mod Frames
+mod Tellings
 mod RightRacesCome
 mod ShortRacesCome
 mod LongRacesCome
