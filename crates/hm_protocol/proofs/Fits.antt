@@ -74,7 +74,7 @@ if_there b j (Some d) x h = (h, tt)
 pub erased_ok : (b : Bool) (j : Kind) → (s u : After) (m : ℕ) → AllFit b j (project.erased s u m)
 erased_ok b j s u m = each b j (λ v. Event.Erase m v) (λ v. tt) _
 
-all_erased_ok : (b : Bool) (j : Kind) → (s u : After) → AllFit b j (project.all_erased s u)
+pub all_erased_ok : (b : Bool) (j : Kind) → (s u : After) → AllFit b j (project.all_erased s u)
 all_erased_ok b j s u = flat b j (project.erased s u) (erased_ok b j s u) (numbers 0 32)
 
 set_up_ok : (b : Bool) (j : Kind) → (s : After) (o : Op) (xs : List Migrating) (top : Phase) (k : Kind) → AllFit b j (project.set_up s o xs top k)

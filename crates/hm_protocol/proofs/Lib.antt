@@ -5,6 +5,10 @@ mod MmapLock
 mod Devices
 mod Frames
 mod Tellings
+mod Calls
+mod Guarding
+mod Guarded
+mod Invalidations
 mod RightRacesCome
 mod ShortRacesCome
 mod LongRacesCome

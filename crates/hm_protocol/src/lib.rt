@@ -2,9 +2,11 @@
 // rules, and the events of a history. Each law is the contract of a function with an empty body.
 #![tactic(auto)]
 
+ghost use Rattle.hm_protocol.specs.Laws.{IsKept};
 ghost use Rattle.hm_protocol.specs.LongRaces.{LongRacesAreBlamed};
 ghost use Rattle.hm_protocol.specs.RightRaces.{RightRacesAreUnblamed};
 ghost use Rattle.hm_protocol.specs.ShortRaces.{ShortRacesAreBlamed};
+ghost use Rattle.hm_protocol.specs.declared.rules.Rule as rule;
 
 mod events;
 mod rules;
@@ -26,4 +28,20 @@ pub fn short_races_are_blamed()
 /// The same in 21 longer ones, of rules that the short ones do not decide.
 pub fn long_races_are_blamed()
     ensures { LongRacesAreBlamed }
+{}
+
+/// No legal history breaks these rules: the events of a right driver are never blamed for them.
+pub fn no_legal_history_is_blamed()
+    ensures mmap_lock { IsKept rule.Rule.MmapLock }
+    ensures own_device { IsKept rule.Rule.OwnDevice }
+    ensures take_from_there { IsKept rule.Rule.TakeFromThere }
+    ensures withdraw_first { IsKept rule.Rule.WithdrawFirst }
+    ensures evict_first { IsKept rule.Rule.EvictFirst }
+    ensures wait_for_locked { IsKept rule.Rule.WaitForLocked }
+    ensures detach_waits { IsKept rule.Rule.DetachWaits }
+    ensures exclusive_waits { IsKept rule.Rule.ExclusiveWaits }
+    ensures set_unless_invalidated { IsKept rule.Rule.SetUnlessInvalidated }
+    ensures begin_waits { IsKept rule.Rule.BeginWaits }
+    ensures compare { IsKept rule.Rule.Compare }
+    ensures set_sequence { IsKept rule.Rule.SetSequence }
 {}

@@ -1,0 +1,41 @@
+use Rattle.hm_protocol.proofs.MmapLock.{mmap_lock_kept}
+use Rattle.hm_protocol.proofs.Devices.{own_device_kept}
+use Rattle.hm_protocol.proofs.Frames.{take_from_there_kept, withdraw_first_kept, evict_first_kept, wait_for_locked_kept}
+use Rattle.hm_protocol.proofs.Invalidations.{detach_waits_kept, exclusive_waits_kept, set_unless_invalidated_kept, begin_waits_kept, compare_kept, set_sequence_kept}
+use Rattle.hm_protocol.proofs.no_legal_history_is_blamed.Goals as goal
+
+pub returns-clause-mmap_lock : goal.returns-clause-mmap_lock
+returns-clause-mmap_lock c = mmap_lock_kept
+
+pub returns-clause-own_device : goal.returns-clause-own_device
+returns-clause-own_device c = own_device_kept
+
+pub returns-clause-take_from_there : goal.returns-clause-take_from_there
+returns-clause-take_from_there c = take_from_there_kept
+
+pub returns-clause-withdraw_first : goal.returns-clause-withdraw_first
+returns-clause-withdraw_first c = withdraw_first_kept
+
+pub returns-clause-evict_first : goal.returns-clause-evict_first
+returns-clause-evict_first c = evict_first_kept
+
+pub returns-clause-wait_for_locked : goal.returns-clause-wait_for_locked
+returns-clause-wait_for_locked c = wait_for_locked_kept
+
+pub returns-clause-detach_waits : goal.returns-clause-detach_waits
+returns-clause-detach_waits c = detach_waits_kept
+
+pub returns-clause-exclusive_waits : goal.returns-clause-exclusive_waits
+returns-clause-exclusive_waits c = exclusive_waits_kept
+
+pub returns-clause-set_unless_invalidated : goal.returns-clause-set_unless_invalidated
+returns-clause-set_unless_invalidated c = set_unless_invalidated_kept
+
+pub returns-clause-begin_waits : goal.returns-clause-begin_waits
+returns-clause-begin_waits c = begin_waits_kept
+
+pub returns-clause-compare : goal.returns-clause-compare
+returns-clause-compare c = compare_kept
+
+pub returns-clause-set_sequence : goal.returns-clause-set_sequence
+returns-clause-set_sequence c = set_sequence_kept
