@@ -50,7 +50,7 @@ abbrev pub AllFit : Bool → Kind → List Event → Type 0
 AllFit b k [] = ⊤
 AllFit b k (x ∷ xs) = Fits b k x × AllFit b k xs
 
-both : (b : Bool) (j : Kind) → (xs ys : List Event) → AllFit b j xs → AllFit b j ys → AllFit b j (xs ++ ys)
+pub both : (b : Bool) (j : Kind) → (xs ys : List Event) → AllFit b j xs → AllFit b j ys → AllFit b j (xs ++ ys)
 both b j [] ys h g = g
 both b j (x ∷ xs) ys h g = (h.0, both b j xs ys h.1 g)
 
@@ -129,7 +129,7 @@ not_walked_ok b j o (Phase.Decide (Touch.Walk k since q)) = (tt, tt)
 not_walked_ok b j o (Phase.GiveUp (Some (Touch.Walk k since q))) = (tt, tt)
 not_walked_ok b j o top = tt
 
-removal_ok : (b : Bool) (j : Kind) → (top : Phase) (m : ℕ) → AllFit b j (project.begins_removal top m)
+pub removal_ok : (b : Bool) (j : Kind) → (top : Phase) (m : ℕ) → AllFit b j (project.begins_removal top m)
 removal_ok b j (Phase.Detaching q) m = tt
 removal_ok b j top m = (tt, tt)
 

@@ -29,6 +29,7 @@ use Rattle.hm_protocol.specs.Known.{Inside, Call, Early, Move, Known, is_current
 use Rattle.hm_protocol.specs.Noted.{noted, known_next, inside, call, returned, after_end, over, migrates_for}
 use Rattle.hm_protocol.specs.Projection.{events_in, comes_to, top_of, erased, all_erased, reason_of, body_at, walk_of}
 use Rattle.hm_protocol.proofs.Fits.{AllFit, in_fits, comes_ok, erased_ok, all_erased_ok}
+use Rattle.hm_protocol.proofs.Fields.{itself}
 use Rattle.hm_protocol.proofs.Steps.{GoBy, by, by_thread, and_more}
 use Rattle.hm_protocol.proofs.Tellings.{Tells, tells_kept, told_now, told_seq, is_end}
 use Rattle.hm_protocol.proofs.Calls.{Core, core, cores, cores_keep, core_goes, Going, CallOk, AllCalls, GuardKnown, AllPast, Knows, KnowsCalls}
@@ -115,9 +116,6 @@ all_ended : (s u : Sequences) (f g : ℕ → List Inside) (i j : ℕ) → ((c : 
     → AllCalls s f cs → AllCalls u g (map (core_end i j) cs)
 all_ended s u f g i j h [] l = tt
 all_ended s u f g i j h (c ∷ cs) l = (h c l.0, all_ended s u f g i j h cs l.1)
-
-itself : (n : ℕ) → (n == n) ≡ true
-itself n = grind (arith, nat_tests)
 
 found_one : (y : Inside) (p : ℕ) (r : Pages) → y.proc ≡ p → y.span ≡ r
     → ((y.proc == p) && ((y.span.first == r.first) && (y.span.count == r.count))) ≡ true

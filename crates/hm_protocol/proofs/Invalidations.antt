@@ -4,6 +4,7 @@ use Rattle.std.proofs.lemmas.Bool.{true≢false, false≢true, and_parts, eqb-tr
 use Rattle.std.proofs.lemmas.Bool.Decides.{nat_tests}
 use Rattle.std.specs.Prelude.{◌≡◌, ℕ, ◌<◌, ◌≤◌, Bool, true, false, not, ◌&&◌, ◌||◌, ◌==◌, if◌then◌else◌, Option, Some, None}
 use Rattle.std.specs.Prelude.{is_some, is_none, option_map, cond, ⊤, IsTrue, List, [], ◌∷◌, ◌++◌, map, filter, find, fold}
+use Rattle.std.specs.List.{list_any}
 use Rattle.hm_base.specs.Program.{Program, IsScript}
 use Rattle.hm_base.specs.Pages.{Pages, covers, one_page}
 use Rattle.hm_base.specs.declared.Frame.{Frame}
@@ -37,7 +38,7 @@ use Rattle.hm_protocol.specs.Words.{is_it, is_other, is_empty}
 use Rattle.hm_protocol.specs.Known.{Inside, Call, Early, Known, known_start, leaves_seq, is_own}
 use Rattle.hm_protocol.specs.Noted.{known_next, known}
 use Rattle.hm_protocol.specs.Tests.{detach_waits, exclusive_waits, set_unless_invalidated}
-use Rattle.hm_protocol.specs.Callbacks.{set_sequence, own_sequence_left}
+use Rattle.hm_protocol.specs.Callbacks.{set_sequence, own_sequence_left, own_events, own_sequence, is_stale, is_copied}
 use Rattle.hm_protocol.specs.Rules.{first_call, first_commit, compare, begin_waits}
 use Rattle.hm_protocol.specs.Projection.{project, events_in, comes_to, top_of, walk_of, walk, piece_and_seq, erased, all_erased, reason_of, body_at, window_of}
 use Rattle.hm_protocol.specs.Laws.{IsKept}
@@ -273,3 +274,34 @@ pub set_sequence_kept : IsKept Rule.SetSequence
 set_sequence_kept c sc h legal = let x : (u : State) × KnowsCalls u.after.sequences (known (project c h)) = (all_known c sc h legal).1 in
     ap (option_map (λ (x : Call). x.at))
     (none_leaves x.0.after.sequences (known (project c h)).under (known (project c h)) (known (project c h)).calls x.1.calls)
+
+leaves_none : (k : Known) (x : Call) → x.after ≡ Some x.seq → own_sequence_left k x ≡ false
+leaves_none k x h = ap (λ b. is_own k x && (b && (is_empty x.had || not (is_empty x.left)))) (ap (λ o. is_other o x.seq) h ∙ not_other x.seq)
+    ∙ no_way (is_own k x)
+  where
+    not_other : (n : ℕ) → not (n == n) ≡ false
+    not_other n = grind (arith, nat_tests)
+    no_way : (b : Bool) → (b && false) ≡ false
+    no_way true = refl
+    no_way false = refl
+
+-- a rule that asks that a callback leaves the sequence of its own migration is kept
+none_own : (s : Sequences) (under : ℕ → List Inside) (k : Known) (f : Call → Bool)
+    → ((x : Call) → own_sequence_left k x ≡ false → f x ≡ false) → (xs : List Call) → AllCalls s under (map core xs)
+    → find f xs ≡ None
+none_own s under k f h [] l = refl
+none_own s under k f h (x ∷ xs) l = ap (λ b. cond b (Some x) (find f xs)) (h x (leaves_none k x l.0.0)) ∙ none_own s under k f h xs l.1
+
+-- no legal history breaks `own-events`
+pub own_events_kept : IsKept Rule.OwnEvents
+own_events_kept c sc h legal = let x : (u : State) × KnowsCalls u.after.sequences (known (project c h)) = (all_known c sc h legal).1 in
+    let k : Known = known (project c h) in ap (option_map (λ (x : Call). x.at))
+    (none_own x.0.after.sequences k.under k (own_events k)
+    (λ y e. ap (λ b. (b && not (list_any (set_sequence k) k.calls)) && is_stale y) e) k.calls x.1.calls)
+
+-- no legal history breaks `own-sequence`
+pub own_sequence_kept : IsKept Rule.OwnSequence
+own_sequence_kept c sc h legal = let x : (u : State) × KnowsCalls u.after.sequences (known (project c h)) = (all_known c sc h legal).1 in
+    let k : Known = known (project c h) in ap (option_map (λ (x : Call). x.at))
+    (none_own x.0.after.sequences k.under k (own_sequence k)
+    (λ y e. ap (λ b. (b && not (list_any (set_sequence k) k.calls)) && (is_copied true y && not (list_any (own_events k) k.calls))) e) k.calls x.1.calls)

@@ -2,6 +2,7 @@ mod Fits
 mod Steps
 mod Fields
 mod MmapLock
+mod Detached
 mod Devices
 mod Frames
 mod Tellings
@@ -9,6 +10,8 @@ mod Calls
 mod Guarding
 mod Guarded
 mod Invalidations
+mod Slots
+mod Erasing
 mod RightRacesCome
 mod ShortRacesCome
 mod LongRacesCome

@@ -44,4 +44,7 @@ pub fn no_legal_history_is_blamed()
     ensures begin_waits { IsKept rule.Rule.BeginWaits }
     ensures compare { IsKept rule.Rule.Compare }
     ensures set_sequence { IsKept rule.Rule.SetSequence }
+    ensures own_events { IsKept rule.Rule.OwnEvents }
+    ensures own_sequence { IsKept rule.Rule.OwnSequence }
+    ensures stop_at_detach { IsKept rule.Rule.StopAtDetach }
 {}

@@ -1,7 +1,8 @@
 use Rattle.hm_protocol.proofs.MmapLock.{mmap_lock_kept}
 use Rattle.hm_protocol.proofs.Devices.{own_device_kept}
 use Rattle.hm_protocol.proofs.Frames.{take_from_there_kept, withdraw_first_kept, evict_first_kept, wait_for_locked_kept}
-use Rattle.hm_protocol.proofs.Invalidations.{detach_waits_kept, exclusive_waits_kept, set_unless_invalidated_kept, begin_waits_kept, compare_kept, set_sequence_kept}
+use Rattle.hm_protocol.proofs.Invalidations.{detach_waits_kept, exclusive_waits_kept, set_unless_invalidated_kept, begin_waits_kept, compare_kept, set_sequence_kept, own_events_kept, own_sequence_kept}
+use Rattle.hm_protocol.proofs.Detached.{stop_at_detach_kept}
 use Rattle.hm_protocol.proofs.no_legal_history_is_blamed.Goals as goal
 
 pub returns-clause-mmap_lock : goal.returns-clause-mmap_lock
@@ -39,3 +40,12 @@ returns-clause-compare c = compare_kept
 
 pub returns-clause-set_sequence : goal.returns-clause-set_sequence
 returns-clause-set_sequence c = set_sequence_kept
+
+pub returns-clause-own_events : goal.returns-clause-own_events
+returns-clause-own_events c = own_events_kept
+
+pub returns-clause-own_sequence : goal.returns-clause-own_sequence
+returns-clause-own_sequence c = own_sequence_kept
+
+pub returns-clause-stop_at_detach : goal.returns-clause-stop_at_detach
+returns-clause-stop_at_detach c = stop_at_detach_kept
