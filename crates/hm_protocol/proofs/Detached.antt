@@ -155,7 +155,7 @@ entry t u a (Kind.Detached m) (Some o) k up on there h kn = let g = t.going a in
     (begins_removal (top_of g.stack) m ++ erased t.after u.after m) (Event.Removed m ∷ [])
     (still s a (begins_removal (top_of g.stack) m ++ erased t.after u.after m)
     (both false (Kind.Evicted 0) (begins_removal (top_of g.stack) m) (erased t.after u.after m)
-    (removal_ok false (Kind.Evicted 0) (top_of g.stack) m) (erased_ok false (Kind.Evicted 0) t.after u.after m)) l n)
+    (removal_ok false (Kind.Evicted 0) (top_of g.stack) m) (erased_ok false (Kind.Evicted 0) refl t.after u.after m)) l n)
     (λ i n. ((refl, tt), λ v e. ap is_out (up v) ∙ detached_now s i a m (there m refl) n v e)))
 entry t u a j (Some o) k up on there h kn = let s : ℕ → Option MirrorState = t.after.plain.mirrors in
     let all : GoBy stop_at_detach k (by_thread a (events_in t u a j (Some o))) (KnowsGone s) =
@@ -176,7 +176,7 @@ has_table c s t m v test so h = by_bool (mirror_passes is_attached_state (s.plai
     by_bool true e = attached_is_in (s.plain.mirrors m) e
     by_bool false e = absurd (false≢true (sym (ap (entry_passes test) (so.tables.unattached m v e)) ∙ h))
 
-owned_is : (o : Option ℕ) (f : ℕ → Bool) → IsTrue (owned o f) → (p : ℕ) × (f p ≡ true)
+pub owned_is : (o : Option ℕ) (f : ℕ → Bool) → IsTrue (owned o f) → (p : ℕ) × (f p ≡ true)
 owned_is None f h = absurd (false≢true h)
 owned_is (Some p) f h = (p, h)
 

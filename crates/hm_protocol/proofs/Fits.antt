@@ -25,6 +25,16 @@ use Rattle.hm_protocol.specs.declared.events.Event.{Event}
 use Rattle.hm_protocol.specs.Projection as project
 use Rattle.hm_protocol.specs.Projection.{events_in, events_by, comes_to, entry_frame, in_trace}
 
+-- an entry that may erase entries of a table; of `Evicted`, which stands for any entry, nothing is asked
+abbrev pub is_erasing : Kind → Bool
+is_erasing (Kind.Told m r q) = true
+is_erasing (Kind.Detaching m q) = true
+is_erasing (Kind.Detached m) = true
+is_erasing (Kind.End p r q) = true
+is_erasing (Kind.Copied f g part) = true
+is_erasing (Kind.Evicted n) = true
+is_erasing k = false
+
 -- which entry says an event: a walk, that its actor has the lock or not, as b tells
 abbrev pub Fits : Bool → Kind → Event → Type 0
 Fits b k (Event.Insert m p r d) = (e : ℕ) × ((d ≡ Some e) × ((q : ℕ) × (k ≡ Kind.Attached m e p r q)))
@@ -36,6 +46,7 @@ Fits b k (Event.Told m q done) = (r : Pages) × ((p : ℕ) × (k ≡ Kind.Told m
 Fits b k (Event.Begin m q) = k ≡ Kind.Begin m q
 Fits b k (Event.Walk m r q locked d) = (locked ≡ b) × ((p : ℕ) × (k ≡ Kind.Rlock p))
 Fits b k (Event.Set m v g w) = (f : Option Frame) × ((g ≡ entry_frame f) × ((from : ℕ) × (k ≡ Kind.Set m v f w from)))
+Fits b k (Event.Erase m v) = is_erasing k ≡ true
 Fits b k (Event.Use m r false) = (at : ℕ) × ((bs : List ℕ) × ((r ≡ one_page (page_of at)) × (k ≡ Kind.Loaded (Who.Mirror m) at bs)))
 Fits b k (Event.Use m r true) = (at : ℕ) × ((bs : List ℕ) × ((r ≡ one_page (page_of at)) × (k ≡ Kind.Stored (Who.Mirror m) at bs)))
 Fits b k (Event.Add m v) = (at : ℕ) × ((was : ℕ) × ((now : ℕ) × ((v ≡ page_of at) × (k ≡ Kind.Added m at was now))))
@@ -71,11 +82,11 @@ if_there : (b : Bool) (j : Kind) → (o : Option ℕ) (x : Event) → Fits b j x
 if_there b j None x h = tt
 if_there b j (Some d) x h = (h, tt)
 
-pub erased_ok : (b : Bool) (j : Kind) → (s u : After) (m : ℕ) → AllFit b j (project.erased s u m)
-erased_ok b j s u m = each b j (λ v. Event.Erase m v) (λ v. tt) _
+pub erased_ok : (b : Bool) (j : Kind) → is_erasing j ≡ true → (s u : After) (m : ℕ) → AllFit b j (project.erased s u m)
+erased_ok b j h s u m = each b j (λ v. Event.Erase m v) (λ v. h) _
 
-pub all_erased_ok : (b : Bool) (j : Kind) → (s u : After) → AllFit b j (project.all_erased s u)
-all_erased_ok b j s u = flat b j (project.erased s u) (erased_ok b j s u) (numbers 0 32)
+pub all_erased_ok : (b : Bool) (j : Kind) → is_erasing j ≡ true → (s u : After) → AllFit b j (project.all_erased s u)
+all_erased_ok b j h s u = flat b j (project.erased s u) (erased_ok b j h s u) (numbers 0 32)
 
 set_up_ok : (b : Bool) (j : Kind) → (s : After) (o : Op) (xs : List Migrating) (top : Phase) (k : Kind) → AllFit b j (project.set_up s o xs top k)
 set_up_ok b j s o xs (Phase.Moves MoveStep.FreezeOthers v) k =
@@ -158,18 +169,18 @@ walk_ok b j s locked o top h r = tt
 pub events_fit : (b : Bool) (s u : After) (a : ℕ) (o : Op) (xs : List Migrating) (stack : List Phase) (after : Phase)
     (k : Kind) → is_some (u.locks.map a) ≡ b → AllFit b k (events_by s u a o xs stack after k)
 events_fit b s u a o xs stack after (Kind.Attached m d p r q) h = ((d, (refl, (q, refl))), (tt, tt))
-events_fit b s u a o xs stack after (Kind.Detaching m q) h = (tt, erased_ok b (Kind.Detaching m q) s u m)
+events_fit b s u a o xs stack after (Kind.Detaching m q) h = (tt, erased_ok b (Kind.Detaching m q) refl s u m)
 events_fit b s u a o xs stack after (Kind.Detached m) h = both b (Kind.Detached m)
     (project.begins_removal (project.top_of stack) m ++ project.erased s u m) (Event.Removed m ∷ [])
     (both b (Kind.Detached m) (project.begins_removal (project.top_of stack) m) (project.erased s u m)
-    (removal_ok b (Kind.Detached m) (project.top_of stack) m) (erased_ok b (Kind.Detached m) s u m)) (refl, tt)
+    (removal_ok b (Kind.Detached m) (project.top_of stack) m) (erased_ok b (Kind.Detached m) refl s u m)) (refl, tt)
 events_fit b s u a o xs stack after (Kind.Start p r q) h = ((q, refl), tt)
 events_fit b s u a o xs stack after (Kind.Told m r q) h = (
   refl,
   both b (Kind.Told m r q) (project.erased s u m)
-      (Event.Told m (interval_seq u.sequences m) true ∷ []) (erased_ok b (Kind.Told m r q) s u m) ((r, (q, refl)), tt),
+      (Event.Told m (interval_seq u.sequences m) true ∷ []) (erased_ok b (Kind.Told m r q) refl s u m) ((r, (q, refl)), tt),
 )
-events_fit b s u a o xs stack after (Kind.End p r q) h = ((q, refl), all_erased_ok b (Kind.End p r q) s u)
+events_fit b s u a o xs stack after (Kind.End p r q) h = ((q, refl), all_erased_ok b (Kind.End p r q) refl s u)
 events_fit b s u a o xs stack after (Kind.Begin m q) h = (refl, tt)
 events_fit b s u a o xs stack after (Kind.Rlock p) h = walk_ok b (Kind.Rlock p) s (is_some (u.locks.map a)) o (project.top_of stack) h (p, refl)
 events_fit b s u a o xs stack after (Kind.Runlock p) h = walked_ok b (Kind.Runlock p) s o (project.top_of stack)
@@ -184,7 +195,7 @@ events_fit b s u a o xs stack after (Kind.Take g) h = taken_ok b (Kind.Take g) s
 events_fit b s u a o xs stack after (Kind.Drop f) h = both b (Kind.Drop f) (project.if_device f (Event.Free (in_trace f))) _
     (if_there b (Kind.Drop f) (project.owner_of f) (Event.Free (in_trace f)) (f, (refl, refl))) (over_ok b (Kind.Drop f) s o (project.top_of stack))
 events_fit b s u a o xs stack after (Kind.Done f) h = over_ok b (Kind.Done f) s o (project.top_of stack)
-events_fit b s u a o xs stack after (Kind.Copied f g part) h = all_erased_ok b (Kind.Copied f g part) s u
+events_fit b s u a o xs stack after (Kind.Copied f g part) h = all_erased_ok b (Kind.Copied f g part) refl s u
 events_fit b s u a o xs stack after (Kind.Committed f g) h =
     moved_ok b (Kind.Committed f g) s o stack (project.record_at (coming s o xs (project.top_of stack))) g
 events_fit b s u a o xs stack after (Kind.Place p v x) h = placed_ok b (Kind.Place p v x) (project.top_of stack) v x

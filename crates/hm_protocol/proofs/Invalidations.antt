@@ -174,7 +174,7 @@ entry c t u p a (Kind.End q r z) (Some o) k up so ok acc walks h kn = let g = t.
         → GoBy told_wrong l (by_thread a (Event.End q r ∷ all_erased t.after u.after)) (KnowsCalls u.after.sequences)
     and_erased l n = let more : GoBy told_wrong (known_next l (by a (Event.End q r))) (by_thread a (all_erased t.after u.after)) (KnowsCalls u.after.sequences) =
         quiet u.after.sequences false (Kind.Evicted 0) (no_asks u.after.sequences) a (all_erased t.after u.after)
-        (all_erased_ok false (Kind.Evicted 0) t.after u.after) (known_next l (by a (Event.End q r))) n in
+        (all_erased_ok false (Kind.Evicted 0) refl t.after u.after) (known_next l (by a (Event.End q r))) n in
         ((refl, more.0), more.1)
 entry c t u p a (Kind.Told m r q) (Some o) k up so ok acc walks h kn = let g = t.going a in let s : Sequences = t.after.sequences in
     let x : Tells (sequences_next s a (Kind.Told m r q)) a m q = told_now s a m r q acc (told_seq s a m r q acc) in

@@ -12,6 +12,7 @@ mod Guarded
 mod Invalidations
 mod Slots
 mod Erasing
+mod Tables
 mod RightRacesCome
 mod ShortRacesCome
 mod LongRacesCome
