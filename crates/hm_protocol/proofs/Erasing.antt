@@ -4,7 +4,7 @@ use Rattle.std.proofs.lemmas.Bool.{true≢false, false≢true, and_parts, cases_
 use Rattle.std.proofs.lemmas.Bool.Decides.{nat_tests}
 use Rattle.std.proofs.lemmas.Option.{none-some}
 use Rattle.std.specs.Prelude.{◌≡◌, ℕ, ◌+◌, Bool, true, false, not, ◌&&◌, ◌||◌, ◌==◌, ◌⊎◌, nat_lt, if◌then◌else◌, Option, Some, None}
-use Rattle.std.specs.Prelude.{is_some, is_none, ⊤, List, [], ◌∷◌, ◌++◌, map, filter, find}
+use Rattle.std.specs.Prelude.{is_some, is_none, ⊤, List, [], ◌∷◌, ◌++◌, map, filter, find, fold}
 use Rattle.std.specs.List.{list_any}
 use Rattle.hm_base.specs.Pages.{Pages, covers}
 use Rattle.hm_base.specs.declared.Frame.{Frame}
@@ -13,7 +13,7 @@ use Rattle.hm_history.specs.declared.TableRight.{TableRight}
 use Rattle.hm_protocol.specs.declared.events.TraceFrame.{TraceFrame}
 use Rattle.hm_protocol.specs.declared.events.Event.{Event}
 use Rattle.hm_protocol.specs.Words.{drop_if, is_sole}
-use Rattle.hm_protocol.specs.Known.{Slot, Call, Known, is_slot, in_span}
+use Rattle.hm_protocol.specs.Known.{Slot, Call, Known, is_slot, in_span, is_own}
 use Rattle.hm_protocol.specs.Noted.{noted, known_next, call, after_erase, lost_one, after_set}
 use Rattle.hm_protocol.proofs.Fields.{itself, set_keeps}
 use Rattle.hm_protocol.proofs.Steps.{GoBy, by, by_thread}
@@ -80,36 +80,145 @@ all_gone f g m gone (x ∷ xs) h l none = (here (h x.mirror x.page l.0.0 l.0.1.0
 abbrev pub ErasingKnown : (ℕ → ℕ → Option TableEntry) → (ℕ → ℕ → Option TableEntry) → ℕ → (ℕ → Bool) → Known → Type 0
 ErasingKnown f g m gone k = Erasing f g m gone k.slots × AllClean k.calls
 
-pub erase_all : (f g : ℕ → ℕ → Option TableEntry) (m a : ℕ) (test : ℕ → Bool) → ((v : ℕ) → test v ≡ true → g m v ≡ None)
-    → (ws : List ℕ) (gone : ℕ → Bool) (k : Known) → ErasingKnown f g m gone k
-    → GoBy table_wrong k (by_thread a (map (λ v. Event.Erase m v) (filter test ws))) (ErasingKnown f g m (λ u. gone u || among u (filter test ws)))
-erase_all f g m a test h [] gone k x = (tt, (record { slots = x.0.slots; sole = x.0.sole; none_there = λ v q. x.0.none_there v (or_false (gone v) q) }, x.1))
+-- it goes by page after page, for anything that each page keeps
+pub erase_all : (m a : ℕ) (test : ℕ → Bool) (Q : (ℕ → Bool) → Known → Type 0)
+    → ((gone : ℕ → Bool) (k : Known) (v : ℕ) → test v ≡ true → Q gone k → Q (λ u. (v == u) || gone u) (known_next k (by a (Event.Erase m v))))
+    → ((i j : ℕ → Bool) (k : Known) → ((u : ℕ) → j u ≡ true → i u ≡ true) → Q i k → Q j k) → (ws : List ℕ) (gone : ℕ → Bool) (k : Known)
+    → Q gone k → GoBy table_wrong k (by_thread a (map (λ v. Event.Erase m v) (filter test ws))) (Q (λ u. gone u || among u (filter test ws)))
+erase_all m a test Q step fewer [] gone k x = (tt, fewer gone (λ u. gone u || false) k (λ v q. or_false (gone v) q) x)
   where
     or_false : (b : Bool) → (b || false) ≡ true → b ≡ true
     or_false true q = refl
     or_false false q = q
-erase_all f g m a test h (w ∷ ws) gone k x = by_bool (test w) refl (λ i l y. erase_all f g m a test h ws i l y)
+erase_all m a test Q step fewer (w ∷ ws) gone k x = by_bool (test w) refl (λ i l y. erase_all m a test Q step fewer ws i l y)
   where
-    shift : (i : ℕ → Bool) (b : Bool) (us : List ℕ) (v : ℕ) → (i v || (b || among v us)) ≡ true → ((b || i v) || among v us) ≡ true
-    shift i b us v q = turned (i v) b (among v us) q
+    shift : (v : ℕ) → (gone v || ((w == v) || among v (filter test ws))) ≡ true → (((w == v) || gone v) || among v (filter test ws)) ≡ true
+    shift v q = turned (gone v) (w == v) (among v (filter test ws)) q
       where
         turned : (c d e : Bool) → (c || (d || e)) ≡ true → ((d || c) || e) ≡ true
         turned c d e q = grind arith
     by_bool : (b : Bool) → test w ≡ b
-        → ((i : ℕ → Bool) (l : Known) → ErasingKnown f g m i l
-        → GoBy table_wrong l (by_thread a (map (λ v. Event.Erase m v) (filter test ws))) (ErasingKnown f g m (λ u. i u || among u (filter test ws))))
+        → ((i : ℕ → Bool) (l : Known) → Q i l
+        → GoBy table_wrong l (by_thread a (map (λ v. Event.Erase m v) (filter test ws))) (Q (λ u. i u || among u (filter test ws))))
         → GoBy table_wrong k (by_thread a (map (λ v. Event.Erase m v) (cond b (w ∷ filter test ws) (filter test ws))))
-        (ErasingKnown f g m (λ u. gone u || among u (cond b (w ∷ filter test ws) (filter test ws))))
+        (Q (λ u. gone u || among u (cond b (w ∷ filter test ws) (filter test ws))))
     by_bool false e go = go gone k x
     by_bool true e go =
         let l : Known = known_next k (by a (Event.Erase m w)) in
-        let more : GoBy table_wrong l (by_thread a (map (λ v. Event.Erase m v) (filter test ws))) (ErasingKnown f g m (λ u. ((w == u) || gone u) || among u (filter test ws))) =
-        go (λ u. (w == u) || gone u) l (one_erased f g m w gone k.slots (h w e) x.0, each_clean (after_erase k a m w) (erase_clean k a m w) k.calls x.1) in
-        ((refl, more.0), (record {
-          slots = more.1.0.slots;
-          sole = more.1.0.sole;
-          none_there = λ v q. more.1.0.none_there v (shift gone (w == v) (filter test ws) v q);
-        }, more.1.1))
+        let more : GoBy table_wrong l (by_thread a (map (λ v. Event.Erase m v) (filter test ws))) (Q (λ u. ((w == u) || gone u) || among u (filter test ws))) =
+        go (λ u. (w == u) || gone u) l (step gone k w e x) in
+        ((refl, more.0), fewer (λ u. ((w == u) || gone u) || among u (filter test ws))
+        (λ u. gone u || ((w == u) || among u (filter test ws))) (fold known_next l (by_thread a (map (λ v. Event.Erase m v) (filter test ws)))) shift more.1)
+
+pub erasing_step : (f g : ℕ → ℕ → Option TableEntry) (m a : ℕ) (gone : ℕ → Bool) (k : Known) (v : ℕ) → g m v ≡ None → ErasingKnown f g m gone k
+    → ErasingKnown f g m (λ u. (v == u) || gone u) (known_next k (by a (Event.Erase m v)))
+erasing_step f g m a gone k v h x = (one_erased f g m v gone k.slots h x.0, each_clean (after_erase k a m v) (erase_clean k a m v) k.calls x.1)
+
+pub erasing_fewer : (f g : ℕ → ℕ → Option TableEntry) (m : ℕ) (i j : ℕ → Bool) (k : Known) → ((u : ℕ) → j u ≡ true → i u ≡ true)
+    → ErasingKnown f g m i k → ErasingKnown f g m j k
+erasing_fewer f g m i j k h x =
+    (record { slots = x.0.slots; sole = x.0.sole; none_there = λ v q. x.0.none_there v (h v q) }, x.1)
+
+-- ---- erasing in a callback
+
+-- each slot lies in the mirror's span
+abbrev pub AllIn : ℕ → Pages → List Slot → Type 0
+AllIn m r [] = ⊤
+AllIn m r (x ∷ xs) = (in_span m r x ≡ true) × AllIn m r xs
+
+-- the last callback is under way
+pub record Telling (f g : ℕ → ℕ → Option TableEntry) (m : ℕ) (r : Pages) (gone : ℕ → Bool) (ss : List Slot) (cs : List Call) : Type 0 where
+  pub erasing : Erasing f g m gone ss
+  pub before : List Call
+  pub last : Call
+  pub is : cs ≡ before ++ last ∷ []
+  pub clean : AllClean before
+  pub after : last.after ≡ None
+  pub left : last.left ≡ []
+  pub copied : last.copied ≡ 0
+  pub here : AllSlots f last.here
+  pub span : AllIn m r last.here
+  pub none_there : (v : ℕ) → gone v ≡ true → list_any (is_slot m v) last.here ≡ false
+
+in_left : (m : ℕ) (r : Pages) (test : Slot → Bool) (xs : List Slot) → AllIn m r xs → AllIn m r (drop_if test xs)
+in_left m r test [] h = tt
+in_left m r test (x ∷ xs) h = by_bool (test x) (in_left m r test xs h.1)
+  where
+    by_bool : (b : Bool) → AllIn m r (drop_if test xs) → AllIn m r (cond (not b) (x ∷ drop_if test xs) (drop_if test xs))
+    by_bool true g = g
+    by_bool false g = (h.0, g)
+
+map_last : (f : Call → Call) (xs : List Call) (x : Call) → map f (xs ++ x ∷ []) ≡ map f xs ++ f x ∷ []
+map_last f [] x = refl
+map_last f (y ∷ xs) x = ap (λ ys. f y ∷ ys) (map_last f xs x)
+
+pub telling_step : (f g : ℕ → ℕ → Option TableEntry) (m a : ℕ) (r : Pages) (gone : ℕ → Bool) (k : Known) (v : ℕ) → g m v ≡ None
+    → Telling f g m r gone k.slots k.calls
+    → Telling f g m r (λ u. (v == u) || gone u) (drop_if (is_slot m v) k.slots) (map (after_erase k a m v) k.calls)
+telling_step f g m a r gone k v h x = by_bool (list_any (is_slot m v) x.last.here) refl
+  where
+    old : Call
+    old = x.last
+    calls_are : (y : Call) → after_erase k a m v x.last ≡ y → map (after_erase k a m v) k.calls ≡ map (after_erase k a m v) x.before ++ y ∷ []
+    calls_are y e = ap (map (after_erase k a m v)) x.is ∙ (map_last (after_erase k a m v) x.before x.last ∙ ap (λ y. map (after_erase k a m v) x.before ++ y ∷ []) e)
+    made : (y : Call) → after_erase k a m v x.last ≡ y → y.after ≡ None → y.left ≡ [] → y.copied ≡ 0 → AllSlots f y.here → AllIn m r y.here
+        → ((u : ℕ) → ((v == u) || gone u) ≡ true → list_any (is_slot m u) y.here ≡ false)
+        → Telling f g m r (λ u. (v == u) || gone u) (drop_if (is_slot m v) k.slots) (map (after_erase k a m v) k.calls)
+    made y e p l c s i n = record {
+      erasing = one_erased f g m v gone k.slots h x.erasing;
+      before = map (after_erase k a m v) x.before;
+      last = y;
+      is = calls_are y e;
+      clean = each_clean (after_erase k a m v) (erase_clean k a m v) x.before x.clean;
+      after = p;
+      left = l;
+      copied = c;
+      here = s;
+      span = i;
+      none_there = n;
+    }
+    dropped : Call
+    dropped = record x.last { here = drop_if (is_slot m v) x.last.here }
+    or_cases : (u : ℕ) (b : Bool) (ss : List Slot) → (v == u) ≡ b → (b || gone u) ≡ true → list_any (is_slot m v) ss ≡ false
+        → (gone u ≡ true → list_any (is_slot m u) ss ≡ false) → list_any (is_slot m u) ss ≡ false
+    or_cases u true ss e q n o = subst (λ u. list_any (is_slot m u) ss ≡ false) (eqb-true v u e) n
+    or_cases u false ss e q n o = o q
+    by_bool : (b : Bool) → list_any (is_slot m v) x.last.here ≡ b
+        → Telling f g m r (λ u. (v == u) || gone u) (drop_if (is_slot m v) k.slots) (map (after_erase k a m v) k.calls)
+    by_bool false q = made x.last (ap (λ b. if b then lost_one k a (record x.last { here = drop_if (is_slot m v) x.last.here }) else x.last) q)
+        x.after x.left x.copied x.here x.span (λ u i. or_cases u (v == u) x.last.here refl i q (x.none_there u))
+    by_bool true q = made (record x.last { here = drop_if (is_slot m v) x.last.here; erased = x.last.erased || (x.last.thread == a) })
+        (ap (λ b. if b then lost_one k a (record x.last { here = drop_if (is_slot m v) x.last.here }) else x.last) q
+        ∙ lost_now (record x.last { here = drop_if (is_slot m v) x.last.here }) x.after)
+        x.after x.left x.copied (slots_left f (is_slot m v) x.last.here x.here) (in_left m r (is_slot m v) x.last.here x.span)
+        (λ u i. or_cases u (v == u) (drop_if (is_slot m v) x.last.here) refl i (none_any (is_slot m v) x.last.here)
+        (λ o. still_none (is_slot m u) (is_slot m v) x.last.here (x.none_there u o)))
+      where
+        lost_now : (y : Call) → y.after ≡ None → lost_one k a y ≡ record y { erased = y.erased || (y.thread == a) }
+        lost_now y e = ap (λ b. if b then record y { erased = y.erased || (y.thread == a) } else rest y) (ap is_none e)
+          where
+            rest : Call → Call
+            rest y = if list_any (λ z. (z.thread == a) && is_none z.after) k.calls then y
+                else if not (is_own k y) then record y { late = y.late + 1 }
+                else if is_some y.stale || not (y.thread == a) then y
+                else if list_any (λ z. nat_lt y.at z.at) (k.moves a) then record y { copied = y.copied + 1 }
+                else record y { late = y.late + 1 }
+
+pub telling_fewer : (f g : ℕ → ℕ → Option TableEntry) (m : ℕ) (r : Pages) (i j : ℕ → Bool) (ss : List Slot) (cs : List Call)
+    → ((u : ℕ) → j u ≡ true → i u ≡ true) → Telling f g m r i ss cs → Telling f g m r j ss cs
+telling_fewer f g m r i j ss cs h x = record {
+  erasing = record { slots = x.erasing.slots; sole = x.erasing.sole; none_there = λ v q. x.erasing.none_there v (h v q) };
+  before = x.before;
+  last = x.last;
+  is = x.is;
+  clean = x.clean;
+  after = x.after;
+  left = x.left;
+  copied = x.copied;
+  here = x.here;
+  span = x.span;
+  none_there = λ v q. x.none_there v (h v q);
+}
 
 -- ---- an entry is set
 

@@ -42,7 +42,8 @@ use Rattle.hm_protocol.proofs.Steps.{Calm, GoBy, Keeps, Step, by, by_thread, nev
 use Rattle.hm_protocol.proofs.Detached.{owned_is}
 use Rattle.hm_protocol.proofs.Slots.{table_wrong, AllSlots, sole_slot, SoleSlots, slots_left, still_any, Clean, AllClean, each_clean}
 use Rattle.hm_protocol.proofs.Slots.{erase_clean, set_clean, Tables, KnowsTables, changes, tables_kept}
-use Rattle.hm_protocol.proofs.Erasing.{among, Erasing, ErasingKnown, one_erased, all_gone, erase_all, set_tables}
+use Rattle.hm_protocol.proofs.Erasing.{among, Erasing, ErasingKnown, erasing_step, erasing_fewer, Telling, telling_step, telling_fewer, AllIn}
+use Rattle.hm_protocol.proofs.Erasing.{all_gone, erase_all, set_tables}
 
 -- ---- uses
 
@@ -133,3 +134,156 @@ quiet c proc s b j pl a acc xs fits k kn = through table_wrong (KnowsTables s.ta
 still : (c : Program) (s : Places) (a : ℕ) (xs : List Event) → AllFit false (Kind.Migrated 0) xs → (k : Known)
     → KnowsTables s.table k → GoBy table_wrong k (by_thread a xs) (KnowsTables s.table)
 still c s a xs fits k kn = quiet c (λ m. None) s false (Kind.Migrated 0) refl a refl xs fits k kn
+
+-- ---- what an entry erases
+
+-- the entries of a mirror lie in its window
+in_window_of : (c : Program) (s : After) (t : Past) (m v : ℕ) (e : TableEntry) → Sound c s t → s.places.table m v ≡ Some e
+    → among v (window_of s m) ≡ true
+in_window_of c s t m v e so h = by_mirror (s.plain.mirrors m) refl
+  where
+    in_numbers_of : (first count v : ℕ) → covers (record { first = first; count = count }) v ≡ true → among v (numbers first count) ≡ true
+    in_numbers_of first count v k = let p : (nat_le first v ≡ true) × (nat_lt v (first + count) ≡ true) = and_parts (nat_le first v) (nat_lt v (first + count)) k in
+        in_numbers v first count (below first v p.0) (above v (first + count) p.1)
+      where
+        below : (n k : ℕ) → nat_le n k ≡ true → n ≤ k
+        below n k h = grind (arith, nat_tests)
+        above : (n k : ℕ) → nat_lt n k ≡ true → n < k
+        above n k h = grind (arith, nat_tests)
+    by_mirror : (x : Option MirrorState) → s.plain.mirrors m ≡ x
+        → among v (elim x [ None ↦ [] | Some y ↦ numbers y.window.first y.window.count ]) ≡ true
+    by_mirror None q = absurd (none-some e (sym (so.tables.unattached m v (ap (mirror_passes is_attached_state) q)) ∙ h))
+    by_mirror (Some y) q = in_numbers_of y.window.first y.window.count v (so.tables.entered m v e y h q).in_window
+
+erased_sub : (f : ℕ → ℕ → Option TableEntry) (m : ℕ) (test : ℕ → Bool) (n v : ℕ) (e : TableEntry) → erased_table f m test n v ≡ Some e → f n v ≡ Some e
+erased_sub f m test n v e = by_bool ((n == m) && test v)
+  where
+    by_bool : (b : Bool) → (if b then None else f n v) ≡ Some e → f n v ≡ Some e
+    by_bool true h = absurd (none-some e h)
+    by_bool false h = h
+
+-- what is erased of a mirror is said
+all_said : (c : Program) (s : After) (t : Past) (g : ℕ → ℕ → Option TableEntry) (m : ℕ) (test : ℕ → Bool) → Sound c s t
+    → ((n v : ℕ) → g n v ≡ erased_table s.places.table m test n v) → (n v : ℕ) (e : TableEntry) → s.places.table n v ≡ Some e
+    → (g n v ≡ s.places.table n v) ⊎ ((n ≡ m) × ((false || among v (filter (λ v. is_some (s.places.table m v) && is_none (g m v)) (window_of s m))) ≡ true))
+all_said c s t g m test so pw n v e h = by_bool ((n == m) && test v) refl
+  where
+    by_bool : (b : Bool) → ((n == m) && test v) ≡ b
+        → (g n v ≡ s.places.table n v) ⊎ ((n ≡ m) × (among v (filter (λ v. is_some (s.places.table m v) && is_none (g m v)) (window_of s m)) ≡ true))
+    by_bool false q = inl (pw n v ∙ ap (λ b. if b then None else s.places.table n v) q)
+    by_bool true q = let same : (n ≡ m) = eqb-true n m (and_parts (n == m) (test v) q).0 in
+        let mine : (s.places.table m v ≡ Some e) = ap (λ i. s.places.table i v) (sym same) ∙ h in
+        let none : (g m v ≡ None) = ap (λ i. g i v) (sym same) ∙ (pw n v ∙ ap (λ b. if b then None else s.places.table n v) q) in
+        inr (same, in_filter (λ v. is_some (s.places.table m v) && is_none (g m v)) v (window_of s m)
+        (ap (λ o. is_some o && is_none (g m v)) mine ∙ ap is_none none) (in_window_of c s t m v e so mine))
+
+none_passes : (o p : Option TableEntry) → (is_some o && is_none p) ≡ true → p ≡ None
+none_passes None p h = absurd (false≢true h)
+none_passes (Some x) None h = refl
+none_passes (Some x) (Some y) h = absurd (false≢true h)
+
+-- a mirror's entries are erased by an entry that is no callback
+erased_events : (c : Program) (s : After) (t : Past) (g : ℕ → ℕ → Option TableEntry) (a m : ℕ) (test : ℕ → Bool) → Sound c s t
+    → ((n v : ℕ) → g n v ≡ erased_table s.places.table m test n v) → (k : Known) → KnowsTables s.places.table k
+    → GoBy table_wrong k (by_thread a (map (λ v. Event.Erase m v) (filter (λ v. is_some (s.places.table m v) && is_none (g m v)) (window_of s m)))) (KnowsTables g)
+erased_events c s t g a m test so pw k kn =
+    let test2 : ℕ → Bool = λ v. is_some (s.places.table m v) && is_none (g m v) in
+    let all : GoBy table_wrong k (by_thread a (map (λ v. Event.Erase m v) (filter test2 (window_of s m)))) (ErasingKnown s.places.table g m (λ u. false || among u (filter test2 (window_of s m)))) =
+    erase_all m a test2 (ErasingKnown s.places.table g m)
+    (λ gone k v h x. erasing_step s.places.table g m a gone k v (none_passes (s.places.table m v) (g m v) h) x)
+    (erasing_fewer s.places.table g m) (window_of s m) (λ u. false) k
+    (record {
+      slots = kn.slots;
+      sole = λ n v e q i. kn.sole n v e (erased_sub s.places.table m test n v e (sym (pw n v) ∙ q)) i;
+      none_there = λ v q. absurd (false≢true q);
+    }, kn.clean) in
+    (all.0, record {
+      slots = all_gone s.places.table g m (λ u. false || among u (filter test2 (window_of s m))) _ (all_said c s t g m test so pw) all.1.0.slots all.1.0.none_there;
+      sole = all.1.0.sole;
+      clean = all.1.1;
+    })
+
+-- a callback erases all of its span
+nothing_here : (f : ℕ → ℕ → Option TableEntry) (m : ℕ) (r : Pages) (gone : ℕ → Bool) (xs : List Slot)
+    → ((v : ℕ) (e : TableEntry) → f m v ≡ Some e → covers r v ≡ true → gone v ≡ true) → AllSlots f xs → AllIn m r xs
+    → ((v : ℕ) → gone v ≡ true → list_any (is_slot m v) xs ≡ false) → xs ≡ []
+nothing_here f m r gone [] h l i n = refl
+nothing_here f m r gone (x ∷ xs) h l i n =
+    let p : ((x.mirror == m) ≡ true) × (covers r x.page ≡ true) = and_parts (x.mirror == m) (covers r x.page) i.0 in
+    absurd (true≢false (sym (first_there (ap (λ b. b && (x.page == x.page)) p.0 ∙ itself x.page))
+    ∙ n x.page (h x.page l.0.0 (ap (λ i. f i x.page) (sym (eqb-true x.mirror m p.0)) ∙ l.0.1.0) p.1)))
+  where
+    first_there : is_slot m x.page x ≡ true → (is_slot m x.page x || list_any (is_slot m x.page) xs) ≡ true
+    first_there e = ap (λ b. b || list_any (is_slot m x.page) xs) e
+
+slots_in : (f : ℕ → ℕ → Option TableEntry) (m : ℕ) (r : Pages) (xs : List Slot) → AllSlots f xs → AllSlots f (filter (in_span m r) xs) × AllIn m r (filter (in_span m r) xs)
+slots_in f m r [] l = (tt, tt)
+slots_in f m r (x ∷ xs) l = by_bool (in_span m r x) refl (slots_in f m r xs l.1)
+  where
+    by_bool : (b : Bool) → in_span m r x ≡ b → AllSlots f (filter (in_span m r) xs) × AllIn m r (filter (in_span m r) xs)
+        → AllSlots f (cond b (x ∷ filter (in_span m r) xs) (filter (in_span m r) xs)) × AllIn m r (cond b (x ∷ filter (in_span m r) xs) (filter (in_span m r) xs))
+    by_bool true e g = ((l.0, g.0), (e, g.1))
+    by_bool false e g = g
+
+clean_more : (xs : List Call) (x : Call) → AllClean xs → Clean x → AllClean (xs ++ x ∷ [])
+clean_more [] x l h = (h, tt)
+clean_more (y ∷ xs) x l h = (l.0, clean_more xs x l.1 h)
+
+told_events : (c : Program) (s : After) (t : Past) (g : ℕ → ℕ → Option TableEntry) (a m q n : ℕ) (r : Pages) → Sound c s t
+    → ((n v : ℕ) → g n v ≡ erased_table s.places.table m (covers r) n v) → (k : Known) → KnowsTables s.places.table k
+    → GoBy table_wrong k (by_thread a (Event.Tell m r q ∷ (map (λ v. Event.Erase m v) (filter (λ v. is_some (s.places.table m v) && is_none (g m v)) (window_of s m)) ++ Event.Told m n true ∷ []))) (KnowsTables g)
+told_events c s t g a m q n r so pw k kn = ((refl, rest.0), rest.1)
+  where
+    f : ℕ → ℕ → Option TableEntry
+    f = s.places.table
+    test : ℕ → Bool
+    test = λ v. is_some (s.places.table m v) && is_none (g m v)
+    vs : List ℕ
+    vs = filter (λ v. is_some (s.places.table m v) && is_none (g m v)) (window_of s m)
+    here : AllSlots s.places.table (filter (in_span m r) k.slots) × AllIn m r (filter (in_span m r) k.slots)
+    here = slots_in s.places.table m r k.slots kn.slots
+    start : Telling s.places.table g m r (λ u. false) k.slots (k.calls ++ call k a m r q ∷ [])
+    start = record {
+      erasing = record {
+        slots = kn.slots;
+        sole = λ n v e q i. kn.sole n v e (erased_sub s.places.table m (covers r) n v e (sym (pw n v) ∙ q)) i;
+        none_there = λ v q. absurd (false≢true q);
+      };
+      before = k.calls;
+      last = call k a m r q;
+      is = refl;
+      clean = kn.clean;
+      after = refl;
+      left = refl;
+      copied = refl;
+      here = here.0;
+      span = here.1;
+      none_there = λ v q. absurd (false≢true q);
+    }
+    gone_in : (v : ℕ) (e : TableEntry) → s.places.table m v ≡ Some e → covers r v ≡ true
+        → (false || among v (filter (λ v. is_some (s.places.table m v) && is_none (g m v)) (window_of s m))) ≡ true
+    gone_in v e h k = by_case (all_said c s t g m (covers r) so pw m v e h)
+      where
+        none : g m v ≡ None
+        none = pw m v ∙ ap (λ b. if b && covers r v then None else s.places.table m v) (itself m) ∙ ap (λ b. if b then None else s.places.table m v) k
+        by_case : (g m v ≡ s.places.table m v) ⊎ ((m ≡ m) × ((false || among v (filter (λ v. is_some (s.places.table m v) && is_none (g m v)) (window_of s m))) ≡ true))
+            → (false || among v (filter (λ v. is_some (s.places.table m v) && is_none (g m v)) (window_of s m))) ≡ true
+        by_case (inl x) = absurd (none-some e (sym none ∙ (x ∙ h)))
+        by_case (inr x) = x.1
+    last : (l : Known) → Telling s.places.table g m r (λ u. false || among u (filter (λ v. is_some (s.places.table m v) && is_none (g m v)) (window_of s m))) l.slots l.calls
+        → KnowsTables g l
+    last l x = record {
+      slots = all_gone s.places.table g m _ l.slots (all_said c s t g m (covers r) so pw) x.erasing.slots x.erasing.none_there;
+      sole = x.erasing.sole;
+      clean = subst AllClean (sym x.is) (clean_more x.before x.last x.clean (nothing_here s.places.table m r _ x.last.here gone_in x.here x.span x.none_there, (x.left, x.copied)));
+    }
+    rest : GoBy table_wrong (known_next k (by a (Event.Tell m r q)))
+        (by_thread a (map (λ v. Event.Erase m v) (filter (λ v. is_some (s.places.table m v) && is_none (g m v)) (window_of s m)) ++ Event.Told m n true ∷ [])) (KnowsTables g)
+    rest = and_more table_wrong
+        (λ l. Telling s.places.table g m r (λ u. false || among u (filter (λ v. is_some (s.places.table m v) && is_none (g m v)) (window_of s m))) l.slots l.calls)
+        (KnowsTables g) (known_next k (by a (Event.Tell m r q))) a
+        (map (λ v. Event.Erase m v) (filter (λ v. is_some (s.places.table m v) && is_none (g m v)) (window_of s m))) (Event.Told m n true ∷ [])
+        (erase_all m a (λ v. is_some (s.places.table m v) && is_none (g m v)) (λ i l. Telling s.places.table g m r i l.slots l.calls)
+        (λ gone k v h x. telling_step s.places.table g m a r gone k v (none_passes (s.places.table m v) (g m v) h) x)
+        (λ i j l h x. telling_fewer s.places.table g m r i j l.slots l.calls h x) (window_of s m) (λ u. false) (known_next k (by a (Event.Tell m r q))) start)
+        (λ l x. ((refl, tt), tables_kept g l a (Event.Told m n true) refl (last l x)))
