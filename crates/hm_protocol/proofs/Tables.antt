@@ -4,7 +4,7 @@ use Rattle.std.proofs.lemmas.Bool.{true≢false, false≢true, and_parts, cases_
 use Rattle.std.proofs.lemmas.Bool.Decides.{nat_tests}
 use Rattle.std.proofs.lemmas.Option.{none-some}
 use Rattle.std.specs.Prelude.{◌≡◌, ℕ, ◌+◌, ◌<◌, ◌≤◌, Bool, true, false, not, ◌&&◌, ◌||◌, ◌==◌, ◌⊎◌, nat_lt, nat_le, if◌then◌else◌, Option}
-use Rattle.std.specs.Prelude.{Some, None, is_some, is_none, IsTrue, ⊤, List, [], ◌∷◌, ◌++◌, map, filter, find, flat_map, option_map}
+use Rattle.std.specs.Prelude.{Some, None, is_some, is_none, IsTrue, ⊤, List, [], ◌∷◌, ◌++◌, map, filter, find, flat_map, option_map, fold, length}
 use Rattle.std.specs.List.{list_any}
 use Rattle.hm_base.specs.Program.{Program, IsScript}
 use Rattle.hm_base.specs.Pages.{Pages, covers, one_page}
@@ -13,8 +13,9 @@ use Rattle.hm_base.specs.declared.ops.Op.{Op}
 use Rattle.hm_history.specs.Memory.Words.{numbers, page_of}
 use Rattle.hm_history.specs.Memory.Plain.{MirrorState, mirror_owner, mirror_passes, is_attached_state, owned}
 use Rattle.hm_history.specs.Memory.Places as places
-use Rattle.hm_history.specs.Memory.Places.{Places, TableEntry, places_next, places_accept, erased_table, table_reads, table_writes}
+use Rattle.hm_history.specs.Memory.Places.{Places, TableEntry, places_next, places_accept, with_entry, erased_table, table_reads, table_writes}
 use Rattle.hm_history.specs.Memory.Places.{table_sole, entry_passes, may_write}
+use Rattle.hm_history.specs.Memory.Sequences.{interval_seq}
 use Rattle.hm_history.specs.Memory.After.{After}
 use Rattle.hm_history.specs.Kernel.Going.{State, op_at, state_start, state_next}
 use Rattle.hm_history.specs.Kernel.Legal.{Legal}
@@ -31,9 +32,12 @@ use Rattle.hm_protocol.specs.declared.events.Event.{Event}
 use Rattle.hm_protocol.specs.declared.events.Traced.{Traced}
 use Rattle.hm_protocol.specs.declared.rules.Rule.{Rule}
 use Rattle.hm_protocol.specs.Words.{drop_if, is_sole, is_read, is_empty}
-use Rattle.hm_protocol.specs.Known.{Slot, Call, Known, known_start, is_slot, in_span}
+use Rattle.hm_protocol.specs.Known.{Slot, Call, Known, known_start, is_slot, in_span, is_own, leaves_seq}
 use Rattle.hm_protocol.specs.Noted.{noted, known_next, known, call, after_erase, lost_one, after_set, set_by}
 use Rattle.hm_protocol.specs.Tests.{write_entry, look_again}
+use Rattle.hm_protocol.specs.Callbacks as callbacks
+use Rattle.hm_protocol.specs.Callbacks.{entries_left, is_late, is_stale, is_copied, leaves, left_first, erases, erase, erase_in_time, own_entries}
+use Rattle.hm_protocol.specs.Rules.{first_call}
 use Rattle.hm_protocol.specs.Projection.{project, events_in, comes_to, top_of, erased, all_erased, window_of, begins_removal, entry_frame}
 use Rattle.hm_protocol.specs.Laws.{IsKept}
 use Rattle.hm_protocol.proofs.Fits.{Fits, AllFit, in_fits, comes_ok, is_erasing, removal_ok}
@@ -287,3 +291,201 @@ told_events c s t g a m q n r so pw k kn = ((refl, rest.0), rest.1)
         (λ gone k v h x. telling_step s.places.table g m a r gone k v (none_passes (s.places.table m v) (g m v) h) x)
         (λ i j l h x. telling_fewer s.places.table g m r i j l.slots l.calls h x) (window_of s m) (λ u. false) (known_next k (by a (Event.Tell m r q))) start)
         (λ l x. ((refl, tt), tables_kept g l a (Event.Told m n true) refl (last l x)))
+
+-- ---- the events of an entry
+
+tables_of : (g : ℕ → ℕ → Option TableEntry) (l : Known) (ss : List Slot) (xs : List Call) → l.slots ≡ ss → l.calls ≡ xs → Tables g ss xs
+    → KnowsTables g l
+tables_of g l ss xs p q kn = record {
+  slots = subst (AllSlots g) (sym p) kn.slots;
+  sole = subst (SoleSlots g) (sym p) kn.sole;
+  clean = subst AllClean (sym q) kn.clean;
+}
+
+as_table : (f g : ℕ → ℕ → Option TableEntry) (k : Known) → f ≡ g → KnowsTables f k → KnowsTables g k
+as_table f g k e kn = subst (λ f. KnowsTables f k) e kn
+
+set_event : (f : ℕ → ℕ → Option TableEntry) (l : Known) (a m v : ℕ) (fr : Option Frame) (w : TableRight) (from : ℕ) → KnowsTables f l
+    → KnowsTables (with_entry f m v (record { target = fr; right = w; from = from })) (known_next l (by a (Event.Set m v (entry_frame fr) w)))
+set_event f l a m v fr w from kn =
+    let n : Known = record l {
+      slots = record { mirror = m; page = v; right = w; at = l.at } ∷ drop_if (is_slot m v) l.slots;
+      calls = map (after_set m v) l.calls;
+    } in
+    tables_of (with_entry f m v (record { target = fr; right = w; from = from })) (known_next l (by a (Event.Set m v (entry_frame fr) w)))
+    (record { mirror = m; page = v; right = w; at = l.at } ∷ drop_if (is_slot m v) l.slots) (map (after_set m v) l.calls)
+    (set_keeps (λ k. k.slots) (λ k t m. refl) (λ k t f. refl) n a m v w) (set_keeps (λ k. k.calls) (λ k t m. refl) (λ k t f. refl) n a m v w)
+    (set_tables f m v l.at (record { target = fr; right = w; from = from }) l.slots l.calls kn)
+
+-- a mirror that is inserted has no entries
+insert_event : (f : ℕ → ℕ → Option TableEntry) (l : Known) (a m p d q : ℕ) (r : Pages) → ((v : ℕ) → f m v ≡ None) → KnowsTables f l
+    → KnowsTables f (known_next (known_next l (by a (Event.Insert m p r (Some d)))) (by a (Event.Inserted m q true)))
+insert_event f l a m p d q r none kn = record {
+  slots = slots_left f (λ x. x.mirror == m) l.slots kn.slots;
+  sole = λ n v e h i. still_any (sole_slot n v) (λ x. x.mirror == m) (λ x t s. other n v e h x t s) l.slots (kn.sole n v e h i);
+  clean = kn.clean;
+}
+  where
+    other : (n v : ℕ) (e : TableEntry) → f n v ≡ Some e → (x : Slot) → sole_slot n v x ≡ true → (x.mirror == m) ≡ true → ⊥
+    other n v e h x t s = none-some e (sym (none v) ∙ (ap (λ i. f i v) (sym (eqb-true x.mirror m s)
+        ∙ eqb-true x.mirror n (and_parts (x.mirror == n) _ (and_parts (is_slot n v x) _ t).0).0) ∙ h))
+
+-- nothing is said to be erased if nothing is
+none_erased : (s u : After) (m : ℕ) → s.places.table ≡ u.places.table → erased s u m ≡ []
+none_erased s u m e = ap (map (λ v. Event.Erase m v)) (none_left (window_of s m))
+  where
+    no_test : (o p : Option TableEntry) → o ≡ p → (is_some o && is_none p) ≡ false
+    no_test None p h = refl
+    no_test (Some x) None h = absurd (none-some x (sym h))
+    no_test (Some x) (Some y) h = refl
+    none_left : (vs : List ℕ) → filter (λ v. is_some (s.places.table m v) && is_none (u.places.table m v)) vs ≡ []
+    none_left [] = refl
+    none_left (v ∷ vs) = ap (λ b. cond b (v ∷ filter (λ v. is_some (s.places.table m v) && is_none (u.places.table m v)) vs)
+        (filter (λ v. is_some (s.places.table m v) && is_none (u.places.table m v)) vs)) (no_test (s.places.table m v) (u.places.table m v) (ap (λ f. f m v) e))
+        ∙ none_left vs
+
+none_erased_all : (s u : After) (ms : List ℕ) → s.places.table ≡ u.places.table → flat_map (erased s u) ms ≡ []
+none_erased_all s u [] e = refl
+none_erased_all s u (m ∷ ms) e = ap (λ xs. xs ++ flat_map (erased s u) ms) (none_erased s u m e) ∙ none_erased_all s u ms e
+
+-- the events before the entry's own, and then those
+from_still : (c : Program) (t : State) (a : ℕ) (j : Kind) (o : Op) (k : Known) (g : ℕ → ℕ → Option TableEntry) (ys : List Event)
+    → KnowsTables t.after.places.table k
+    → ((l : Known) → KnowsTables t.after.places.table l → GoBy table_wrong l (by_thread a ys) (KnowsTables g))
+    → GoBy table_wrong k (by_thread a (comes_to t.after o (t.going a).pages (top_of (t.going a).stack) j ++ ys)) (KnowsTables g)
+from_still c t a j o k g ys kn h = and_more table_wrong (KnowsTables t.after.places.table) (KnowsTables g) k a
+    (comes_to t.after o (t.going a).pages (top_of (t.going a).stack) j) ys
+    (still c t.after.places a (comes_to t.after o (t.going a).pages (top_of (t.going a).stack) j)
+    (comes_ok false (Kind.Migrated 0) t.after o (t.going a).pages (top_of (t.going a).stack) j) k kn) h
+
+-- what an entry makes of tables
+entry : (c : Program) (t u : State) (p : Past) (a : ℕ) (j : Kind) (o : Option Op) (k : Known)
+    → (places_next t.after.places j).table ≡ u.after.places.table → Sound c t.after p
+    → IsTrue (places_accept c (mirror_owner t.after.plain) t.after.places a j)
+    → ((m d q z : ℕ) (r : Pages) → j ≡ Kind.Attached m d q r z → (v : ℕ) → t.after.places.table m v ≡ None) → is_some o ≡ true
+    → KnowsTables t.after.places.table k
+    → GoBy table_wrong k (by_thread a (events_in t u a j o)) (KnowsTables u.after.places.table)
+entry c t u p a j None k up so acc fresh h kn = absurd (false≢true h)
+entry c t u p a (Kind.Set m v f w from) (Some o) k up so acc fresh h kn =
+    from_still c t a (Kind.Set m v f w from) o k u.after.places.table (Event.Set m v (entry_frame f) w ∷ []) kn
+    (λ l n. ((refl, tt), as_table _ u.after.places.table (known_next l (by a (Event.Set m v (entry_frame f) w))) up
+    (set_event t.after.places.table l a m v f w from n)))
+entry c t u p a (Kind.Attached m d q r z) (Some o) k up so acc fresh h kn =
+    from_still c t a (Kind.Attached m d q r z) o k u.after.places.table (Event.Insert m q r (Some d) ∷ Event.Inserted m z true ∷ []) kn
+    (λ l n. ((refl, (refl, tt)), as_table t.after.places.table u.after.places.table
+    (known_next (known_next l (by a (Event.Insert m q r (Some d)))) (by a (Event.Inserted m z true))) up
+    (insert_event t.after.places.table l a m q d z r (fresh m d q z r refl) n)))
+entry c t u p a (Kind.Told m r q) (Some o) k up so acc fresh h kn =
+    from_still c t a (Kind.Told m r q) o k u.after.places.table _ kn
+    (λ l n. told_events c t.after p u.after.places.table a m q (interval_seq u.after.sequences m) r so (λ n v. ap (λ f. f n v) (sym up)) l n)
+entry c t u p a (Kind.Detaching m q) (Some o) k up so acc fresh h kn =
+    from_still c t a (Kind.Detaching m q) o k u.after.places.table (Event.Remove m ∷ erased t.after u.after m) kn
+    (λ l n. let more : GoBy table_wrong (known_next l (by a (Event.Remove m))) (by_thread a (erased t.after u.after m)) (KnowsTables u.after.places.table) =
+    erased_events c t.after p u.after.places.table a m (λ v. true) so (λ n v. ap (λ f. f n v) (sym up)) (known_next l (by a (Event.Remove m)))
+    (tables_kept t.after.places.table l a (Event.Remove m) refl n) in ((refl, more.0), more.1))
+entry c t u p a (Kind.Detached m) (Some o) k up so acc fresh h kn =
+    from_still c t a (Kind.Detached m) o k u.after.places.table
+    (begins_removal (top_of (t.going a).stack) m ++ erased t.after u.after m ++ Event.Removed m ∷ []) kn
+    (λ l n. and_more table_wrong (KnowsTables u.after.places.table) (KnowsTables u.after.places.table) l a
+    (begins_removal (top_of (t.going a).stack) m ++ erased t.after u.after m) (Event.Removed m ∷ [])
+    (and_more table_wrong (KnowsTables t.after.places.table) (KnowsTables u.after.places.table) l a
+    (begins_removal (top_of (t.going a).stack) m) (erased t.after u.after m)
+    (still c t.after.places a (begins_removal (top_of (t.going a).stack) m) (removal_ok false (Kind.Migrated 0) (top_of (t.going a).stack) m) l n)
+    (λ i n. erased_events c t.after p u.after.places.table a m (λ v. true) so (λ n v. ap (λ f. f n v) (sym up)) i n))
+    (λ i n. ((refl, tt), tables_kept u.after.places.table i a (Event.Removed m) refl n)))
+entry c t u p a (Kind.End q r z) (Some o) k up so acc fresh h kn =
+    from_still c t a (Kind.End q r z) o k u.after.places.table (Event.End q r ∷ all_erased t.after u.after) kn
+    (λ l n. subst (λ xs. GoBy table_wrong l (by_thread a (Event.End q r ∷ xs)) (KnowsTables u.after.places.table))
+    (sym (none_erased_all t.after u.after (numbers 0 32) up))
+    ((refl, tt), as_table t.after.places.table u.after.places.table (known_next l (by a (Event.End q r))) up
+    (tables_kept t.after.places.table l a (Event.End q r) refl n)))
+entry c t u p a (Kind.Copied f g part) (Some o) k up so acc fresh h kn =
+    from_still c t a (Kind.Copied f g part) o k u.after.places.table (all_erased t.after u.after) kn
+    (λ l n. subst (λ xs. GoBy table_wrong l (by_thread a xs) (KnowsTables u.after.places.table))
+    (sym (none_erased_all t.after u.after (numbers 0 32) up)) (tt, as_table t.after.places.table u.after.places.table l up n))
+entry c t u p a (Kind.Evicted i) (Some o) k up so acc fresh h kn =
+    from_still c t a (Kind.Evicted i) o k u.after.places.table [] kn (λ l n. (tt, as_table t.after.places.table u.after.places.table l up n))
+entry c t u p a j (Some o) k up so acc fresh h kn =
+    let all : GoBy table_wrong k (by_thread a (events_in t u a j (Some o))) (KnowsTables t.after.places.table) =
+    quiet c (mirror_owner t.after.plain) t.after.places (is_some (u.after.locks.map a)) j refl a acc (events_in t u a j (Some o)) (in_fits t u a j (Some o)) k kn in
+    (all.0, as_table t.after.places.table u.after.places.table (fold known_next k (by_thread a (events_in t u a j (Some o)))) up all.1)
+
+no_mirror : (x : Option MirrorState) → is_none x ≡ true → mirror_passes is_attached_state x ≡ false
+no_mirror None h = refl
+no_mirror (Some x) h = absurd (false≢true h)
+
+keeps : (c : Program) → Keeps c table_wrong (λ k t. KnowsTables t.after.places.table k)
+keeps c t e k s kn = entry c t (state_next c t e) s.past e.actor e.kind (op_at c e.actor (t.going e.actor).index) k refl
+    s.now.sound s.places (λ m d q z r i v. s.now.sound.tables.unattached m v (no_mirror (t.after.plain.mirrors m)
+    (and_parts (t.after.plain.there q) (is_none (t.after.plain.mirrors m)) (subst (Allowed c t.after s.past e.actor) i s.turn.allowed).1).1))
+    (ap is_some s.turn.is_op) kn
+
+-- what is known of tables after a legal history
+tables_known : (c : Program) → IsScript c → (h : List Entry) → Legal c h
+    → GoBy table_wrong known_start (project c h) (λ l. (u : State) × KnowsTables u.after.places.table l)
+tables_known c sc h legal = watched c table_wrong (λ k t. KnowsTables t.after.places.table k) sc (keeps c)
+    (record { slots = tt; sole = λ m v e q. absurd (none-some e q); clean = tt }) h legal
+
+-- no legal history breaks `write-entry`
+pub write_entry_kept : IsKept Rule.WriteEntry
+write_entry_kept c sc h legal = never write_entry known_start (project c h)
+    (calm_left write_entry look_again known_start (project c h) (tables_known c sc h legal).0)
+
+-- no legal history breaks `look-again`
+pub look_again_kept : IsKept Rule.LookAgain
+look_again_kept c sc h legal = never look_again known_start (project c h)
+    (calm_right write_entry look_again known_start (project c h) (tables_known c sc h legal).0)
+
+-- ---- callbacks that left nothing
+
+none_of_calls : (f : Call → Bool) → ((x : Call) → Clean x → f x ≡ false) → (xs : List Call) → AllClean xs → find f xs ≡ None
+none_of_calls f h [] l = refl
+none_of_calls f h (x ∷ xs) l = ap (λ b. cond b (Some x) (find f xs)) (h x l.0) ∙ none_of_calls f h xs l.1
+
+none_left_behind : (k : Known) (x : Call) → Clean x → entries_left k x ≡ false
+none_left_behind k x c = ap (λ ys. is_some x.after && (not (is_empty ys) && (not (is_own k x) || not (leaves_seq x)))) c.1.0
+    ∙ no_way (is_some x.after)
+  where
+    no_way : (b : Bool) → (b && false) ≡ false
+    no_way true = refl
+    no_way false = refl
+
+leaves_none : (k : Known) (x : Call) → Clean x → leaves k x ≡ false
+leaves_none k x c = ap (λ b. b && (not (is_late x) && (not (is_own k x) || (x.alone && is_stale x)))) (none_left_behind k x c)
+
+not_copied : (x : Call) → x.copied ≡ 0 → is_copied false x ≡ false
+not_copied x h = by_stale x.stale
+  where
+    by_stale : (o : Option (List Slot × Bool)) → elim o as (λ o. Bool) [ None ↦ false | Some y ↦ nat_lt 0 x.copied && (is_empty y.0 && (true || y.1)) ] ≡ false
+    by_stale None = refl
+    by_stale (Some y) = ap (λ n. nat_lt 0 n && (is_empty y.0 && (true || y.1))) h
+
+kept_by : (f : Known → Call → Bool) → ((k : Known) (x : Call) → Clean x → f k x ≡ false) → (c : Program) → IsScript c → (h : List Entry)
+    → Legal c h → first_call f (known (project c h)) ≡ None
+kept_by f g c sc h legal = ap (option_map (λ (x : Call). x.at))
+    (none_of_calls (f (known (project c h))) (g (known (project c h))) (known (project c h)).calls (tables_known c sc h legal).1.1.clean)
+
+-- no legal history breaks `erase`
+pub erase_kept : IsKept Rule.Erase
+erase_kept c sc h legal = kept_by erase (λ k x l. ap (λ b. b && (not x.erased && ((is_own k x || (is_some x.ended && left_first k x))
+    && not (list_any is_late k.calls)))) (leaves_none k x l)) c sc h legal
+
+-- no legal history breaks `erase-all`
+pub erase_all_kept : IsKept Rule.EraseAll
+erase_all_kept c sc h legal = kept_by callbacks.erase_all (λ k x l. ap (λ b. b && (x.erased
+    || (not (is_own k x) && (is_some x.ended && (not (left_first k x) && erases k x.mirror))))) (leaves_none k x l)) c sc h legal
+
+-- no legal history breaks `erase-in-time`
+pub erase_in_time_kept : IsKept Rule.EraseInTime
+erase_in_time_kept c sc h legal = kept_by erase_in_time (λ k x l. ap (λ ys. not (is_empty ys) && (x.late == length ys)) l.1.0) c sc h legal
+
+-- no legal history breaks `own-entries`
+pub own_entries_kept : IsKept Rule.OwnEntries
+own_entries_kept c sc h legal = kept_by own_entries (λ k x l. ap (λ b. is_own k x && (not (leaves_seq x) && (x.alone && b))) (not_copied x l.1.1)
+    ∙ no_way (is_own k x) (not (leaves_seq x)) x.alone) c sc h legal
+  where
+    no_way : (b d e : Bool) → (b && (d && (e && false))) ≡ false
+    no_way false d e = refl
+    no_way true false e = refl
+    no_way true true false = refl
+    no_way true true true = refl

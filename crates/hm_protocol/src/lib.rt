@@ -47,4 +47,10 @@ pub fn no_legal_history_is_blamed()
     ensures own_events { IsKept rule.Rule.OwnEvents }
     ensures own_sequence { IsKept rule.Rule.OwnSequence }
     ensures stop_at_detach { IsKept rule.Rule.StopAtDetach }
+    ensures write_entry { IsKept rule.Rule.WriteEntry }
+    ensures look_again { IsKept rule.Rule.LookAgain }
+    ensures erase { IsKept rule.Rule.Erase }
+    ensures erase_all { IsKept rule.Rule.EraseAll }
+    ensures erase_in_time { IsKept rule.Rule.EraseInTime }
+    ensures own_entries { IsKept rule.Rule.OwnEntries }
 {}

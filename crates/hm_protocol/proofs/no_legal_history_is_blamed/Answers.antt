@@ -3,6 +3,7 @@ use Rattle.hm_protocol.proofs.Devices.{own_device_kept}
 use Rattle.hm_protocol.proofs.Frames.{take_from_there_kept, withdraw_first_kept, evict_first_kept, wait_for_locked_kept}
 use Rattle.hm_protocol.proofs.Invalidations.{detach_waits_kept, exclusive_waits_kept, set_unless_invalidated_kept, begin_waits_kept, compare_kept, set_sequence_kept, own_events_kept, own_sequence_kept}
 use Rattle.hm_protocol.proofs.Detached.{stop_at_detach_kept}
+use Rattle.hm_protocol.proofs.Tables.{write_entry_kept, look_again_kept, erase_kept, erase_all_kept, erase_in_time_kept, own_entries_kept}
 use Rattle.hm_protocol.proofs.no_legal_history_is_blamed.Goals as goal
 
 pub returns-clause-mmap_lock : goal.returns-clause-mmap_lock
@@ -49,3 +50,21 @@ returns-clause-own_sequence c = own_sequence_kept
 
 pub returns-clause-stop_at_detach : goal.returns-clause-stop_at_detach
 returns-clause-stop_at_detach c = stop_at_detach_kept
+
+pub returns-clause-write_entry : goal.returns-clause-write_entry
+returns-clause-write_entry c = write_entry_kept
+
+pub returns-clause-look_again : goal.returns-clause-look_again
+returns-clause-look_again c = look_again_kept
+
+pub returns-clause-erase : goal.returns-clause-erase
+returns-clause-erase c = erase_kept
+
+pub returns-clause-erase_all : goal.returns-clause-erase_all
+returns-clause-erase_all c = erase_all_kept
+
+pub returns-clause-erase_in_time : goal.returns-clause-erase_in_time
+returns-clause-erase_in_time c = erase_in_time_kept
+
+pub returns-clause-own_entries : goal.returns-clause-own_entries
+returns-clause-own_entries c = own_entries_kept
