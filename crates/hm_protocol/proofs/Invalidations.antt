@@ -34,6 +34,7 @@ use Rattle.hm_protocol.specs.declared.events.Event.{Event}
 use Rattle.hm_protocol.specs.declared.events.Reason.{Reason}
 use Rattle.hm_protocol.specs.declared.events.Traced.{Traced}
 use Rattle.hm_protocol.specs.declared.rules.Rule.{Rule}
+use Rattle.hm_protocol.specs.declared.rules.Joint.{Joint}
 use Rattle.hm_protocol.specs.Words.{is_it, is_other, is_empty}
 use Rattle.hm_protocol.specs.Known.{Inside, Call, Early, Known, known_start, leaves_seq, is_own}
 use Rattle.hm_protocol.specs.Noted.{known_next, known}
@@ -41,7 +42,7 @@ use Rattle.hm_protocol.specs.Tests.{detach_waits, exclusive_waits, set_unless_in
 use Rattle.hm_protocol.specs.Callbacks.{set_sequence, own_sequence_left, own_events, own_sequence, is_stale, is_copied}
 use Rattle.hm_protocol.specs.Rules.{first_call, first_commit, compare, begin_waits}
 use Rattle.hm_protocol.specs.Projection.{project, events_in, comes_to, top_of, walk_of, walk, piece_and_seq, erased, all_erased, reason_of, body_at, window_of}
-use Rattle.hm_protocol.specs.Laws.{IsKept}
+use Rattle.hm_protocol.specs.Laws.{IsKept, IsJointKept}
 use Rattle.hm_protocol.proofs.Fits.{AllFit, in_fits, comes_ok, erased_ok, all_erased_ok}
 use Rattle.hm_protocol.proofs.Steps.{Calm, GoBy, Keeps, Step, by, by_thread, never, and_more, watched, calm_left, calm_right}
 use Rattle.hm_protocol.proofs.Tellings.{Tells, tells_kept, told_now, told_seq, not_detached, is_process, is_interval, is_end}
@@ -305,3 +306,9 @@ own_sequence_kept c sc h legal = let x : (u : State) × KnowsCalls u.after.seque
     let k : Known = known (project c h) in ap (option_map (λ (x : Call). x.at))
     (none_own x.0.after.sequences k.under k (own_sequence k)
     (λ y e. ap (λ b. (b && not (list_any (set_sequence k) k.calls)) && (is_copied true y && not (list_any (own_events k) k.calls))) e) k.calls x.1.calls)
+
+-- no legal history breaks the joint rule of own migrations
+pub own_sequence_left_kept : IsJointKept Joint.OwnSequenceLeft
+own_sequence_left_kept c sc h legal = let x : (u : State) × KnowsCalls u.after.sequences (known (project c h)) = (all_known c sc h legal).1 in
+    let k : Known = known (project c h) in ap (option_map (λ (x : Call). x.at))
+    (none_own x.0.after.sequences k.under k (own_sequence_left k) (λ y e. e) k.calls x.1.calls)

@@ -31,6 +31,7 @@ use Rattle.hm_laws.proofs.State.TableEntries.{entry_of}
 use Rattle.hm_protocol.specs.declared.events.Event.{Event}
 use Rattle.hm_protocol.specs.declared.events.Traced.{Traced}
 use Rattle.hm_protocol.specs.declared.rules.Rule.{Rule}
+use Rattle.hm_protocol.specs.declared.rules.Joint.{Joint}
 use Rattle.hm_protocol.specs.Words.{drop_if, is_sole, is_read, is_empty}
 use Rattle.hm_protocol.specs.Known.{Slot, Call, Known, known_start, is_slot, in_span, is_own, leaves_seq}
 use Rattle.hm_protocol.specs.Noted.{noted, known_next, known, call, after_erase, lost_one, after_set, set_by}
@@ -39,7 +40,7 @@ use Rattle.hm_protocol.specs.Callbacks as callbacks
 use Rattle.hm_protocol.specs.Callbacks.{entries_left, is_late, is_stale, is_copied, leaves, left_first, erases, erase, erase_in_time, own_entries}
 use Rattle.hm_protocol.specs.Rules.{first_call}
 use Rattle.hm_protocol.specs.Projection.{project, events_in, comes_to, top_of, erased, all_erased, window_of, begins_removal, entry_frame}
-use Rattle.hm_protocol.specs.Laws.{IsKept}
+use Rattle.hm_protocol.specs.Laws.{IsKept, IsJointKept}
 use Rattle.hm_protocol.proofs.Fits.{Fits, AllFit, in_fits, comes_ok, is_erasing, removal_ok}
 use Rattle.hm_protocol.proofs.Fields.{itself, set_keeps}
 use Rattle.hm_protocol.proofs.Steps.{Calm, GoBy, Keeps, Step, by, by_thread, never, through, and_more, watched, calm_left, calm_right}
@@ -489,3 +490,7 @@ own_entries_kept c sc h legal = kept_by own_entries (λ k x l. ap (λ b. is_own 
     no_way true false e = refl
     no_way true true false = refl
     no_way true true true = refl
+
+-- no legal history breaks the joint rule of erasing
+pub entries_left_kept : IsJointKept Joint.EntriesLeft
+entries_left_kept c sc h legal = kept_by entries_left none_left_behind c sc h legal

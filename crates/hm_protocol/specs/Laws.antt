@@ -4,9 +4,14 @@ use Rattle.hm_base.specs.Program.{Program, IsScript}
 use Rattle.hm_history.specs.declared.Entry.{Entry}
 use Rattle.hm_history.specs.Kernel.Legal.{Legal}
 use Rattle.hm_protocol.specs.declared.rules.Rule.{Rule}
-use Rattle.hm_protocol.specs.Rules.{broken}
+use Rattle.hm_protocol.specs.declared.rules.Joint.{Joint}
+use Rattle.hm_protocol.specs.Rules.{broken, fails, joint_test}
 use Rattle.hm_protocol.specs.Projection.{project}
 
 -- no legal history of a script breaks the rule
 abbrev pub IsKept : Rule → Type 0
 IsKept r = (c : Program) → IsScript c → (h : List Entry) → Legal c h → broken r (project c h) ≡ None
+
+-- none breaks the joint rule
+abbrev pub IsJointKept : Joint → Type 0
+IsJointKept r = (c : Program) → IsScript c → (h : List Entry) → Legal c h → fails (joint_test r) (project c h) ≡ None

@@ -2,10 +2,11 @@
 // rules, and the events of a history. Each law is the contract of a function with an empty body.
 #![tactic(auto)]
 
-ghost use Rattle.hm_protocol.specs.Laws.{IsKept};
+ghost use Rattle.hm_protocol.specs.Laws.{IsKept, IsJointKept};
 ghost use Rattle.hm_protocol.specs.LongRaces.{LongRacesAreBlamed};
 ghost use Rattle.hm_protocol.specs.RightRaces.{RightRacesAreUnblamed};
 ghost use Rattle.hm_protocol.specs.ShortRaces.{ShortRacesAreBlamed};
+ghost use Rattle.hm_protocol.specs.declared.rules.Joint as joint;
 ghost use Rattle.hm_protocol.specs.declared.rules.Rule as rule;
 
 mod events;
@@ -53,4 +54,10 @@ pub fn no_legal_history_is_blamed()
     ensures erase_all { IsKept rule.Rule.EraseAll }
     ensures erase_in_time { IsKept rule.Rule.EraseInTime }
     ensures own_entries { IsKept rule.Rule.OwnEntries }
+{}
+
+/// Nor a joint rule: callbacks of a right driver leave no entries, and set the sequence also for its own migrations.
+pub fn no_legal_history_is_blamed_jointly()
+    ensures entries_left { IsJointKept joint.Joint.EntriesLeft }
+    ensures own_sequence_left { IsJointKept joint.Joint.OwnSequenceLeft }
 {}
