@@ -22,6 +22,7 @@ use Rattle.hm_history.proofs.Tests.{no_test}
 use Rattle.hm_laws.specs.Past.{Past}
 use Rattle.hm_laws.specs.Sound.{Sound}
 use Rattle.hm_laws.specs.Allowed.{Allowed, SetOk}
+use Rattle.hm_laws.proofs.Migration.Setup.{at_itself}
 use Rattle.hm_protocol.specs.declared.events.TraceFrame.{TraceFrame}
 use Rattle.hm_protocol.specs.declared.events.Event.{Event}
 use Rattle.hm_protocol.specs.declared.events.Traced.{Traced}
@@ -33,7 +34,7 @@ use Rattle.hm_protocol.specs.Tests.{stop_at_detach}
 use Rattle.hm_protocol.specs.Projection.{project, events_in, comes_to, top_of, begins_removal, erased}
 use Rattle.hm_protocol.specs.Laws.{IsKept}
 use Rattle.hm_protocol.proofs.Fits.{Fits, AllFit, in_fits, comes_ok, removal_ok, erased_ok, both}
-use Rattle.hm_protocol.proofs.Fields.{itself, at_set, at_end, at_refused, held_keeps, pass_keeps}
+use Rattle.hm_protocol.proofs.Fields.{at_set, at_end, at_refused, held_keeps, pass_keeps}
 use Rattle.hm_protocol.proofs.Steps.{GoBy, Keeps, Step, by, by_thread, never, through, and_more, watched}
 
 -- a mirror is there and not attached
@@ -44,7 +45,6 @@ is_out (Some x) = not (is_attached_state x)
 -- a removed mirror is so
 abbrev KnowsGone : (ℕ → Option MirrorState) → Known → Type 0
 KnowsGone s k = (m : ℕ) → k.gone m ≡ true → is_out (s m) ≡ true
-
 
 -- the entry attaches or detaches a mirror
 abbrev is_moving : Kind → Bool
@@ -73,14 +73,15 @@ each : (s : ℕ → Option MirrorState) (b : Bool) (j : Kind) → is_moving j �
 each s b j mv on k a (Event.Insert m p r d) fits kn = absurd (false≢true (sym mv ∙ ap is_moving fits.1.1.1))
 each s b j mv on k a (Event.Removed m) fits kn = absurd (false≢true (sym mv ∙ ap is_moving fits))
 each s b j mv on k a (Event.Use m r false) fits kn =
-    (not_gone s k m (on m (ap (λ j. touches j m) fits.1.1.1 ∙ itself m)) kn, kn)
+    (not_gone s k m (on m (ap (λ j. touches j m) fits.1.1.1 ∙ at_itself m)) kn, kn)
 each s b j mv on k a (Event.Use m r true) fits kn =
-    (not_gone s k m (on m (ap (λ j. touches j m) fits.1.1.1 ∙ itself m)) kn, kn)
+    (not_gone s k m (on m (ap (λ j. touches j m) fits.1.1.1 ∙ at_itself m)) kn, kn)
 each s b j mv on k a (Event.Add m v) fits kn =
-    (not_gone s k m (on m (ap (λ j. touches j m) fits.1.1.1.1 ∙ itself m)) kn, kn)
-each s b j mv on k a (Event.Set m v g w) fits kn =
-    (not_gone s k m (on m (ap (λ j. touches j m) fits.1.1.1 ∙ itself m)) kn,
-    λ n e. kn n (sym (at_set (λ k. k.gone n) (λ k t m. refl) (λ k t f. refl) (λ k ss xs. refl) k a m v g w) ∙ e))
+    (not_gone s k m (on m (ap (λ j. touches j m) fits.1.1.1.1 ∙ at_itself m)) kn, kn)
+each s b j mv on k a (Event.Set m v g w) fits kn = (
+  not_gone s k m (on m (ap (λ j. touches j m) fits.1.1.1 ∙ at_itself m)) kn,
+  λ n e. kn n (sym (at_set (λ k. k.gone n) (λ k t m. refl) (λ k t f. refl) (λ k ss xs. refl) k a m v g w) ∙ e),
+)
 each s b j mv on k a (Event.End p r) fits kn = (refl, λ n e. kn n (sym (at_end (λ k. k.gone n) (λ k us xs. refl) k a p r) ∙ e))
 each s b j mv on k a (Event.Told m q true) fits kn = (refl, kn)
 each s b j mv on k a (Event.Told m q false) fits kn = (refl, λ n e. kn n (sym (at_refused (λ k. k.gone n) (λ k us xs. refl) k a m q) ∙ e))
@@ -104,6 +105,7 @@ out_kept s (Kind.Detaching n q) h m e = by_number (cases_eq m n)
     gone_now : (x : Option MirrorState) → is_out x ≡ true → is_out (with_attachment Attachment.Detaching x) ≡ true
     gone_now None e = e
     gone_now (Some x) e = refl
+
     by_number : (m ≡ n) ⊎ (m ≡ n → ⊥) → is_out (with_at s.mirrors n (with_attachment Attachment.Detaching (s.mirrors n)) m) ≡ true
     by_number (inl q) = ap (λ m. is_out (with_at s.mirrors n (with_attachment Attachment.Detaching (s.mirrors n)) m)) q
         ∙ (ap is_out (here_at s.mirrors n (with_attachment Attachment.Detaching (s.mirrors n)))
@@ -128,6 +130,7 @@ detached_now s k a m h kn n = by_bool (n == m)
     gone_now : (x : Option MirrorState) → is_some x ≡ true → is_out (with_attachment Attachment.Gone x) ≡ true
     gone_now None e = absurd (false≢true e)
     gone_now (Some x) e = refl
+
     by_bool : (b : Bool) → (if b then true else k.gone n) ≡ true → is_out (if b then with_attachment Attachment.Gone (s m) else s n) ≡ true
     by_bool true e = gone_now (s m) h
     by_bool false e = kn n e

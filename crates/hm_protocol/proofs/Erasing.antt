@@ -10,12 +10,13 @@ use Rattle.hm_base.specs.Pages.{Pages, covers}
 use Rattle.hm_base.specs.declared.Frame.{Frame}
 use Rattle.hm_history.specs.Memory.Places.{TableEntry, with_entry, erased_table}
 use Rattle.hm_history.specs.declared.TableRight.{TableRight}
+use Rattle.hm_laws.proofs.Migration.Setup.{at_itself}
 use Rattle.hm_protocol.specs.declared.events.TraceFrame.{TraceFrame}
 use Rattle.hm_protocol.specs.declared.events.Event.{Event}
 use Rattle.hm_protocol.specs.Words.{drop_if, is_sole}
 use Rattle.hm_protocol.specs.Known.{Slot, Call, Known, is_slot, in_span, is_own}
 use Rattle.hm_protocol.specs.Noted.{noted, known_next, call, after_erase, lost_one, after_set}
-use Rattle.hm_protocol.proofs.Fields.{itself, set_keeps}
+use Rattle.hm_protocol.proofs.Fields.{set_keeps}
 use Rattle.hm_protocol.proofs.Steps.{GoBy, by, by_thread}
 use Rattle.hm_protocol.proofs.Slots.{table_wrong, AllSlots, sole_slot, SoleSlots, slots_left, still_any, none_any, still_none}
 use Rattle.hm_protocol.proofs.Slots.{Clean, AllClean, each_clean, erase_clean, set_clean, Tables, KnowsTables}
@@ -58,17 +59,22 @@ pub all_gone : (f g : ℕ → ℕ → Option TableEntry) (m : ℕ) (gone : ℕ �
     → ((n v : ℕ) (e : TableEntry) → f n v ≡ Some e → (g n v ≡ f n v) ⊎ ((n ≡ m) × (gone v ≡ true)))
     → AllSlots f ss → ((v : ℕ) → gone v ≡ true → list_any (is_slot m v) ss ≡ false) → AllSlots g ss
 all_gone f g m gone [] h l none = tt
-all_gone f g m gone (x ∷ xs) h l none = (here (h x.mirror x.page l.0.0 l.0.1.0),
-    all_gone f g m gone xs h l.1 (λ v q. right (is_slot m v x) (list_any (is_slot m v) xs) (none v q)))
+all_gone f g m gone (x ∷ xs) h l none = (
+  here (h x.mirror x.page l.0.0 l.0.1.0),
+  all_gone f g m gone xs h l.1 (λ v q. right (is_slot m v x) (list_any (is_slot m v) xs) (none v q)),
+)
   where
     right : (b d : Bool) → (b || d) ≡ false → d ≡ false
     right false d q = q
     right true d q = absurd (true≢false q)
+
     left : (b d : Bool) → (b || d) ≡ false → b ≡ false
     left false d q = refl
     left true d q = absurd (true≢false q)
+
     it_is : x.mirror ≡ m → is_slot m x.page x ≡ true
-    it_is q = ap (λ n. (n == m) && (x.page == x.page)) q ∙ (ap (λ b. b && (x.page == x.page)) (itself m) ∙ itself x.page)
+    it_is q = ap (λ n. (n == m) && (x.page == x.page)) q ∙ (ap (λ b. b && (x.page == x.page)) (at_itself m) ∙ at_itself x.page)
+
     here : (g x.mirror x.page ≡ f x.mirror x.page) ⊎ ((x.mirror ≡ m) × (gone x.page ≡ true))
         → (e : TableEntry) × ((g x.mirror x.page ≡ Some e) × (e.right ≡ x.right))
     here (inl q) = (l.0.0, (q ∙ l.0.1.0, l.0.1.1))
@@ -97,6 +103,7 @@ erase_all m a test Q step fewer (w ∷ ws) gone k x = by_bool (test w) refl (λ 
       where
         turned : (c d e : Bool) → (c || (d || e)) ≡ true → ((d || c) || e) ≡ true
         turned c d e q = grind arith
+
     by_bool : (b : Bool) → test w ≡ b
         → ((i : ℕ → Bool) (l : Known) → Q i l
         → GoBy table_wrong l (by_thread a (map (λ v. Event.Erase m v) (filter test ws))) (Q (λ u. i u || among u (filter test ws))))
@@ -106,9 +113,11 @@ erase_all m a test Q step fewer (w ∷ ws) gone k x = by_bool (test w) refl (λ 
     by_bool true e go =
         let l : Known = known_next k (by a (Event.Erase m w)) in
         let more : GoBy table_wrong l (by_thread a (map (λ v. Event.Erase m v) (filter test ws))) (Q (λ u. ((w == u) || gone u) || among u (filter test ws))) =
-        go (λ u. (w == u) || gone u) l (step gone k w e x) in
-        ((refl, more.0), fewer (λ u. ((w == u) || gone u) || among u (filter test ws))
-        (λ u. gone u || ((w == u) || among u (filter test ws))) (fold known_next l (by_thread a (map (λ v. Event.Erase m v) (filter test ws)))) shift more.1)
+        go (λ u. (w == u) || gone u) l (step gone k w e x) in (
+          (refl, more.0),
+          fewer (λ u. ((w == u) || gone u) || among u (filter test ws))
+              (λ u. gone u || ((w == u) || among u (filter test ws))) (fold known_next l (by_thread a (map (λ v. Event.Erase m v) (filter test ws)))) shift more.1,
+        )
 
 pub erasing_step : (f g : ℕ → ℕ → Option TableEntry) (m a : ℕ) (gone : ℕ → Bool) (k : Known) (v : ℕ) → g m v ≡ None → ErasingKnown f g m gone k
     → ErasingKnown f g m (λ u. (v == u) || gone u) (known_next k (by a (Event.Erase m v)))
@@ -159,8 +168,10 @@ telling_step f g m a r gone k v h x = by_bool (list_any (is_slot m v) x.last.her
   where
     old : Call
     old = x.last
+
     calls_are : (y : Call) → after_erase k a m v x.last ≡ y → map (after_erase k a m v) k.calls ≡ map (after_erase k a m v) x.before ++ y ∷ []
     calls_are y e = ap (map (after_erase k a m v)) x.is ∙ (map_last (after_erase k a m v) x.before x.last ∙ ap (λ y. map (after_erase k a m v) x.before ++ y ∷ []) e)
+
     made : (y : Call) → after_erase k a m v x.last ≡ y → y.after ≡ None → y.left ≡ [] → y.copied ≡ 0 → AllSlots f y.here → AllIn m r y.here
         → ((u : ℕ) → ((v == u) || gone u) ≡ true → list_any (is_slot m u) y.here ≡ false)
         → Telling f g m r (λ u. (v == u) || gone u) (drop_if (is_slot m v) k.slots) (map (after_erase k a m v) k.calls)
@@ -177,12 +188,15 @@ telling_step f g m a r gone k v h x = by_bool (list_any (is_slot m v) x.last.her
       span = i;
       none_there = n;
     }
+
     dropped : Call
     dropped = record x.last { here = drop_if (is_slot m v) x.last.here }
+
     or_cases : (u : ℕ) (b : Bool) (ss : List Slot) → (v == u) ≡ b → (b || gone u) ≡ true → list_any (is_slot m v) ss ≡ false
         → (gone u ≡ true → list_any (is_slot m u) ss ≡ false) → list_any (is_slot m u) ss ≡ false
     or_cases u true ss e q n o = subst (λ u. list_any (is_slot m u) ss ≡ false) (eqb-true v u e) n
     or_cases u false ss e q n o = o q
+
     by_bool : (b : Bool) → list_any (is_slot m v) x.last.here ≡ b
         → Telling f g m r (λ u. (v == u) || gone u) (drop_if (is_slot m v) k.slots) (map (after_erase k a m v) k.calls)
     by_bool false q = made x.last (ap (λ b. if b then lost_one k a (record x.last { here = drop_if (is_slot m v) x.last.here }) else x.last) q)
@@ -236,15 +250,17 @@ slots_set f m v e (x ∷ xs) l = by_bool (is_slot m v x) refl (slots_set f m v e
 pub set_tables : (f : ℕ → ℕ → Option TableEntry) (m v i : ℕ) (e : TableEntry) (ss : List Slot) (xs : List Call) → Tables f ss xs
     → Tables (with_entry f m v e) (record { mirror = m; page = v; right = e.right; at = i } ∷ drop_if (is_slot m v) ss) (map (after_set m v) xs)
 set_tables f m v i e ss xs kn = record {
-  slots = ((e, (ap (λ b. if b then Some e else f m v) (ap (λ b. b && (v == v)) (itself m) ∙ itself v), refl)), slots_set f m v e ss kn.slots);
+  slots = ((e, (ap (λ b. if b then Some e else f m v) (ap (λ b. b && (v == v)) (at_itself m) ∙ at_itself v), refl)), slots_set f m v e ss kn.slots);
   sole = λ n w d q h. by_bool n w d ((n == m) && (w == v)) refl q h;
   clean = each_clean (after_set m v) (set_clean m v) xs kn.clean;
 }
   where
     new : Slot
     new = record { mirror = m; page = v; right = e.right; at = i }
+
     same_entry : (d : TableEntry) → Some e ≡ Some d → e ≡ d
     same_entry d q = cc
+
     by_bool : (n w : ℕ) (d : TableEntry) (b : Bool) → ((n == m) && (w == v)) ≡ b → (if b then Some e else f n w) ≡ Some d → is_sole d.right ≡ true
         → (sole_slot n w (record { mirror = m; page = v; right = e.right; at = i }) || list_any (sole_slot n w) (drop_if (is_slot m v) ss)) ≡ true
     by_bool n w d true r q h = ap (λ b. b || list_any (sole_slot n w) (drop_if (is_slot m v) ss))
@@ -258,5 +274,6 @@ set_tables f m v i e ss xs kn = record {
         either : (b : Bool) {d : Bool} → d ≡ true → (b || d) ≡ true
         either true h = refl
         either false h = h
+
         other : (n w : ℕ) {x y : ℕ} → ((n == m) && (w == v)) ≡ false → (x ≡ n) × (y ≡ w) → (x ≡ m) × (y ≡ v) → ⊥
         other n w r p q = grind (arith, nat_tests, p.0, p.1, q.0, q.1)

@@ -1,6 +1,5 @@
 -- What an event leaves as it is, of what is known: by the functions that have cases.
-use Rattle.std.proofs.Common.{refl, ◌∙◌, arith}
-use Rattle.std.proofs.lemmas.Bool.Decides.{nat_tests}
+use Rattle.std.proofs.Common.{refl, ◌∙◌}
 use Rattle.std.specs.Prelude.{◌≡◌, ℕ, Bool, true, false, not, ◌&&◌, if◌then◌else◌, Option, Some, None, List, ◌∷◌, ◌==◌, map, find, option_map}
 use Rattle.hm_base.specs.Pages.{Pages}
 use Rattle.hm_history.specs.Memory.Words.{with_at}
@@ -10,10 +9,6 @@ use Rattle.hm_protocol.specs.declared.events.Event.{Event}
 use Rattle.hm_protocol.specs.Words.{is_sole, drop_if}
 use Rattle.hm_protocol.specs.Known.{Slot, Inside, Call, Move, Known, is_look_up, is_slot, is_current}
 use Rattle.hm_protocol.specs.Noted.{noted, over, commit, moving, set_by, held_more, pass_over, after_set, began}
-
--- a number is itself
-pub itself : (n : ℕ) → (n == n) ≡ true
-itself n = grind (arith, nat_tests)
 
 one_of : {X : Type 0} (F : Known → X) (b d : Bool) (x y z k : Known) → F x ≡ F k → F y ≡ F k → F z ≡ F k
     → F (if b then x else if d then y else z) ≡ F k

@@ -114,14 +114,15 @@ each : (c : Program) (s : Places) (h : Frame → Bool) (b : Bool) (j : Kind)
     → (frames_wrong k (by a x) ≡ false) × KnowsFrames s.withdrawn h (known_next k (by a x))
 each c s h b j takes goes nd nw k a (Event.Take g) fits kn = let f : Frame = fits.0 in
     subst (λ g. (frames_wrong k (by a (Event.Take g)) ≡ false) × KnowsFrames s.withdrawn h (known_next k (by a (Event.Take g))))
-    (sym fits.1.0)
-    (ap (λ b. b || (false || (false || false))) (not_withdrawn c s.withdrawn k s f.pool f.number kn.0 (takes f fits.1.1).1),
-    taken s.withdrawn h k f.pool f.number (takes f fits.1.1).0 kn)
+    (sym fits.1.0) (
+      ap (λ b. b || (false || (false || false))) (not_withdrawn c s.withdrawn k s f.pool f.number kn.0 (takes f fits.1.1).1),
+      taken s.withdrawn h k f.pool f.number (takes f fits.1.1).0 kn,
+    )
 each c s h b j takes goes nd nw k a (Event.Gone d) fits kn = (
   ap (λ b. not b || ((not (k.passed d) && (b && list_any (λ f. is_it (device_of f) d) k.held)) || (k.passed d && (b && list_any (λ f. is_it (device_of f) d) k.held))))
-  (kn.0 d ∙ (goes d fits).0)
-  ∙ ap (λ b. (not (k.passed d) && b) || (k.passed d && b)) (none_of h d (goes d fits).1 k.held kn.1)
-  ∙ both_ways (k.passed d),
+      (kn.0 d ∙ (goes d fits).0)
+      ∙ ap (λ b. (not (k.passed d) && b) || (k.passed d && b)) (none_of h d (goes d fits).1 k.held kn.1)
+      ∙ both_ways (k.passed d),
   kn,
 )
   where
@@ -130,16 +131,28 @@ each c s h b j takes goes nd nw k a (Event.Gone d) fits kn = (
     both_ways false = refl
 each c s h b j takes goes nd nw k a (Event.Free g) fits kn = absurd (false≢true (sym nd ∙ ap is_drop fits.1.1))
 each c s h b j takes goes nd nw k a (Event.Withdraw d) fits kn = absurd (false≢true (sym nw ∙ ap is_withdrawal fits))
-each c s h b j takes goes nd nw k a (Event.Set m v f w) fits kn = (refl, frames_kept s.withdrawn h k (noted k a (Event.Set m v f w))
-    (λ d. at_set (λ k. k.withdrawn d) (λ k t m. refl) (λ k t f. refl) (λ k ss xs. refl) k a m v f w)
-    (at_set (λ k. k.held) (λ k t m. refl) (λ k t f. refl) (λ k ss xs. refl) k a m v f w) kn)
-each c s h b j takes goes nd nw k a (Event.End p r) fits kn = (refl, frames_kept s.withdrawn h k (noted k a (Event.End p r))
-    (λ d. at_end (λ k. k.withdrawn d) (λ k us xs. refl) k a p r) (at_end (λ k. k.held) (λ k us xs. refl) k a p r) kn)
+each c s h b j takes goes nd nw k a (Event.Set m v f w) fits kn = (
+  refl,
+  frames_kept s.withdrawn h k (noted k a (Event.Set m v f w))
+      (λ d. at_set (λ k. k.withdrawn d) (λ k t m. refl) (λ k t f. refl) (λ k ss xs. refl) k a m v f w)
+      (at_set (λ k. k.held) (λ k t m. refl) (λ k t f. refl) (λ k ss xs. refl) k a m v f w) kn,
+)
+each c s h b j takes goes nd nw k a (Event.End p r) fits kn = (
+  refl,
+  frames_kept s.withdrawn h k (noted k a (Event.End p r))
+      (λ d. at_end (λ k. k.withdrawn d) (λ k us xs. refl) k a p r) (at_end (λ k. k.held) (λ k us xs. refl) k a p r) kn,
+)
 each c s h b j takes goes nd nw k a (Event.Told m q true) fits kn = (refl, kn)
-each c s h b j takes goes nd nw k a (Event.Told m q false) fits kn = (refl, frames_kept s.withdrawn h k (noted k a (Event.Told m q false))
-    (λ d. at_refused (λ k. k.withdrawn d) (λ k us xs. refl) k a m q) (at_refused (λ k. k.held) (λ k us xs. refl) k a m q) kn)
-each c s h b j takes goes nd nw k a (Event.Pass f) fits kn = (refl, frames_kept s.withdrawn h k (noted k a (Event.Pass f))
-    (λ d. pass_keeps (λ k. k.withdrawn d) (λ k p. refl) k (device_of f)) (pass_keeps (λ k. k.held) (λ k p. refl) k (device_of f)) kn)
+each c s h b j takes goes nd nw k a (Event.Told m q false) fits kn = (
+  refl,
+  frames_kept s.withdrawn h k (noted k a (Event.Told m q false))
+      (λ d. at_refused (λ k. k.withdrawn d) (λ k us xs. refl) k a m q) (at_refused (λ k. k.held) (λ k us xs. refl) k a m q) kn,
+)
+each c s h b j takes goes nd nw k a (Event.Pass f) fits kn = (
+  refl,
+  frames_kept s.withdrawn h k (noted k a (Event.Pass f))
+      (λ d. pass_keeps (λ k. k.withdrawn d) (λ k p. refl) k (device_of f)) (pass_keeps (λ k. k.held) (λ k p. refl) k (device_of f)) kn,
+)
 each c s h b j takes goes nd nw k a x fits kn = (refl, kn)
 
 -- events that neither free a frame nor withdraw a device
@@ -170,6 +183,7 @@ drop_one h d n (x ∷ xs) l = subst (λ x. AllHeld g (drop_if (is_same (TraceFra
   where
     g : Frame → Bool
     g = with_frame h (dev_frame d n) false
+
     by_bool : (b : Bool) → ((d == l.0.0) && (n == l.0.1.0)) ≡ b → AllHeld g (drop_if (is_same (TraceFrame.Private d n)) xs)
         → AllHeld (with_frame h (dev_frame d n) false) (cond (not b) (TraceFrame.Private l.0.0 l.0.1.0 ∷ drop_if (is_same (TraceFrame.Private d n)) xs) (drop_if (is_same (TraceFrame.Private d n)) xs))
     by_bool true q r = r
@@ -216,8 +230,13 @@ entry c t u a (Kind.Withdrawn d) (Some o) k up held takes goes h kn = let g = t.
     (comes_to t.after o g.pages (top_of g.stack) (Kind.Withdrawn d)) (Event.Withdraw d ∷ [])
     (still c s s.held a (comes_to t.after o g.pages (top_of g.stack) (Kind.Withdrawn d))
     (comes_ok false (Kind.Evicted 0) t.after o g.pages (top_of g.stack) (Kind.Withdrawn d)) k kn)
-    (λ l n. ((refl, tt), ((λ e. ap (λ b. if e == d then true else b) (n.0 e) ∙ sym (up e)),
-    all_kept s.held u.after.places.held (λ e m q. held (dev_frame e m) ∙ q) l.held n.1)))
+    (λ l n. (
+      (refl, tt),
+      (
+        (λ e. ap (λ b. if e == d then true else b) (n.0 e) ∙ sym (up e)),
+        all_kept s.held u.after.places.held (λ e m q. held (dev_frame e m) ∙ q) l.held n.1,
+      ),
+    ))
 entry c t u a (Kind.Drop f) (Some o) k up held takes goes h kn = let g = t.going a in let s : Places = t.after.places in
     let more : ((k : Known) → KnowsFrames s.withdrawn (with_frame s.held f false) k
     → GoBy frames_wrong k (by_thread a (home_over t.after o (top_of g.stack))) (KnowsFrames s.withdrawn (with_frame s.held f false))) =

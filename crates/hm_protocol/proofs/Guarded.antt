@@ -21,6 +21,7 @@ use Rattle.hm_history.proofs.Updates.{here_at, other_at}
 use Rattle.hm_history.proofs.Tests.{no_test}
 use Rattle.hm_laws.specs.Sound.{SequenceRules, has_met}
 use Rattle.hm_laws.proofs.State.Invalidations.{ToldTo, start_says, end_says, told_says}
+use Rattle.hm_laws.proofs.Migration.Setup.{at_itself}
 use Rattle.hm_protocol.specs.declared.events.Event.{Event}
 use Rattle.hm_protocol.specs.declared.events.Reason.{Reason}
 use Rattle.hm_protocol.specs.declared.events.Traced.{Traced}
@@ -29,7 +30,6 @@ use Rattle.hm_protocol.specs.Known.{Inside, Call, Early, Move, Known, is_current
 use Rattle.hm_protocol.specs.Noted.{noted, known_next, inside, call, returned, after_end, over, migrates_for}
 use Rattle.hm_protocol.specs.Projection.{events_in, comes_to, top_of, erased, all_erased, reason_of, body_at, walk_of}
 use Rattle.hm_protocol.proofs.Fits.{AllFit, in_fits, comes_ok, erased_ok, all_erased_ok}
-use Rattle.hm_protocol.proofs.Fields.{itself}
 use Rattle.hm_protocol.proofs.Steps.{GoBy, by, by_thread, and_more}
 use Rattle.hm_protocol.proofs.Tellings.{Tells, tells_kept, told_now, told_seq, is_end}
 use Rattle.hm_protocol.proofs.Calls.{Core, core, cores, cores_keep, core_goes, Going, CallOk, AllCalls, GuardKnown, AllPast, Knows, KnowsCalls}
@@ -43,12 +43,15 @@ pub advance : (s u : Sequences) (k : Known) → ((t : ℕ) → GuardKnown (s.gua
     → ((t m q : ℕ) → Tells s t m q → Tells u t m q) → KnowsCalls s k → KnowsCalls u k
 advance s u k g h kn = record {
   guards = λ t. g t (kn.guards t);
-  calls = all_calls s u k.under k.under (λ c ok. (ok.0, λ e. let y : Going s k.under c = ok.1 e in record {
-    tells = h c.thread c.mirror c.seq y.tells;
-    inside = y.inside;
-    is_inside = y.is_inside;
-    is_of = y.is_of;
-  })) (cores k) kn.calls;
+  calls = all_calls s u k.under k.under (λ c ok. (
+    ok.0,
+    λ e. let y : Going s k.under c = ok.1 e in record {
+      tells = h c.thread c.mirror c.seq y.tells;
+      inside = y.inside;
+      is_inside = y.is_inside;
+      is_of = y.is_of;
+    },
+  )) (cores k) kn.calls;
   none_early = kn.none_early;
   past = kn.past;
 }
@@ -67,12 +70,16 @@ started s k a p z r why d free h kn = record {
   where
     u : Sequences
     u = sequences_next s a (Kind.Start p r z)
+
     new : Inside
     new = record { at = k.at; proc = p; span = r; owner = migrates_for why d }
+
     under : ℕ → List Inside
     under = with_at k.under a (new ∷ k.under a)
+
     was_none : k.under a ≡ []
     was_none = subst (λ o. GuardKnown o (k.under a)) free (kn.guards a)
+
     given : Guarded
     given = record { proc = p; span = r; met = overlapping s p r; told = [] }
 
@@ -121,7 +128,7 @@ found_one : (y : Inside) (p : ℕ) (r : Pages) → y.proc ≡ p → y.span ≡ r
     → ((y.proc == p) && ((y.span.first == r.first) && (y.span.count == r.count))) ≡ true
 found_one y p r e g = ap (λ n. (n == p) && ((y.span.first == r.first) && (y.span.count == r.count))) e
     ∙ (ap (λ t. (p == p) && ((t.first == r.first) && (t.count == r.count))) g
-    ∙ all_three (p == p) (r.first == r.first) (r.count == r.count) (itself p) (itself r.first) (itself r.count))
+    ∙ all_three (p == p) (r.first == r.first) (r.count == r.count) (at_itself p) (at_itself r.first) (at_itself r.count))
   where
     all_three : (b c d : Bool) → b ≡ true → c ≡ true → d ≡ true → (b && (c && d)) ≡ true
     all_three b c d h i j = cc
@@ -145,9 +152,10 @@ ended s k a p z r acc h kn = by_guard (end_says s a p r z acc)
       where
         under : ℕ → List Inside
         under = with_at k.under a (drop_if (λ u. u.at == y.at) (k.under a))
+
         none_now : with_at k.under a (drop_if (λ u. u.at == y.at) (k.under a)) a ≡ []
         none_now = here_at k.under a (drop_if (λ u. u.at == y.at) (k.under a))
-            ∙ (ap (drop_if (λ u. u.at == y.at)) is ∙ ap (λ b. cond (not b) (y ∷ []) []) (itself y.at))
+            ∙ (ap (drop_if (λ u. u.at == y.at)) is ∙ ap (λ b. cond (not b) (y ∷ []) []) (at_itself y.at))
 
         guard : (t : ℕ) → (t ≡ a) ⊎ (t ≡ a → ⊥) → GuardKnown (with_at s.guard a None t) (with_at k.under a (drop_if (λ u. u.at == y.at) (k.under a)) t)
         guard t (inl e) = subst (λ t. GuardKnown (with_at s.guard a None t) (with_at k.under a (drop_if (λ u. u.at == y.at) (k.under a)) t)) (sym e)
@@ -165,8 +173,9 @@ ended s k a p z r acc h kn = by_guard (end_says s a p r z acc)
           where
             same_one : x.inside ∷ [] ≡ y ∷ [] → x.inside ≡ y
             same_one q = cc
+
             other : c.thread ≡ a → ⊥
-            other q = absurd (true≢false (sym (itself y.at) ∙ (ap (λ (i : Inside). i.at == y.at) (sym (same_one (sym x.is_inside ∙ (ap k.under q ∙ is))))
+            other q = absurd (true≢false (sym (at_itself y.at) ∙ (ap (λ (i : Inside). i.at == y.at) (sym (same_one (sym x.is_inside ∙ (ap k.under q ∙ is))))
                 ∙ (ap (λ o. is_it o y.at) (sym x.is_of) ∙ e))))
 
         one : (c : Core) → CallOk s k.under c → CallOk (sequences_next s a (Kind.End p r z)) (with_at k.under a (drop_if (λ u. u.at == y.at) (k.under a))) (core_end y.at k.at c)
@@ -205,12 +214,12 @@ returned_core : (k : Known) (a m n : ℕ) (x : Call) → core (returned k a m n 
 returned_core k a m n x = by_bool (is_current a m x)
   where
     by_bool : (b : Bool) → core (if b then record x {
-          at = k.at;
-          after = Some n;
-          left = x.here;
-          alone = count_by (λ y. (y.mirror == m) && (y.seq == x.seq)) k.calls == 1;
-          stale = if list_any (λ y. not y.paged && overlap y.span x.span) (k.moves a) then Some ([], false) else None;
-        } else x) ≡ (if b then record (core x) { at = k.at; after = Some n } else core x)
+      at = k.at;
+      after = Some n;
+      left = x.here;
+      alone = count_by (λ y. (y.mirror == m) && (y.seq == x.seq)) k.calls == 1;
+      stale = if list_any (λ y. not y.paged && overlap y.span x.span) (k.moves a) then Some ([], false) else None;
+    } else x) ≡ (if b then record (core x) { at = k.at; after = Some n } else core x)
     by_bool true = refl
     by_bool false = refl
 
@@ -238,12 +247,15 @@ all_returned : (s u : Sequences) (under : ℕ → List Inside) (a m n i : ℕ) (
     → AllCalls u under (map (core_return a m n i) (cs ++ d ∷ []))
 all_returned s u under a m n i d h g [] l = (g, tt)
 all_returned s u under a m n i d h g (c ∷ cs) l = (
-  subst (CallOk u under) (sym (no_return a m n i c l.0.0)) (l.0.0, λ e. let y : Going s under c = l.0.1 e in record {
-    tells = h c.thread c.mirror c.seq y.tells;
-    inside = y.inside;
-    is_inside = y.is_inside;
-    is_of = y.is_of;
-  }),
+  subst (CallOk u under) (sym (no_return a m n i c l.0.0)) (
+    l.0.0,
+    λ e. let y : Going s under c = l.0.1 e in record {
+      tells = h c.thread c.mirror c.seq y.tells;
+      inside = y.inside;
+      is_inside = y.is_inside;
+      is_of = y.is_of;
+    },
+  ),
   all_returned s u under a m n i d h g cs l.1,
 )
 
@@ -271,7 +283,7 @@ told_call s u k a m q r i (Some gu) e h (y, (is, (yp, ys))) x =
     (refl, λ goes. record { tells = x; inside = y; is_inside = is; is_of = ap (λ us. option_map (λ (y : Inside). y.at) (inside us)) is })
   where
     both : ((a == a) && ((m == m) && true)) ≡ true
-    both = ap (λ b. b && ((m == m) && true)) (itself a) ∙ ap (λ b. b && true) (itself m)
+    both = ap (λ b. b && ((m == m) && true)) (at_itself a) ∙ ap (λ b. b && true) (at_itself m)
 
 guard_there : (s : Sequences) (a m q : ℕ) (r : Pages) → sequences_accept s a (Kind.Told m r q) ≡ true → is_some (s.guard a) ≡ true
 guard_there s a m q r acc = let x : (g : Guarded) × (s.guard a ≡ Some g) × ToldTo s m r g = told_says s a m r q acc in ap is_some x.1
@@ -286,6 +298,7 @@ told_entry s n a m q r vs acc e x h k kn = ((refl, rest.0), rest.1)
   where
     u : Sequences
     u = sequences_next s a (Kind.Told m r q)
+
     l : Known
     l = known_next k (by a (Event.Tell m r q))
 

@@ -127,12 +127,15 @@ none_more k t m q b xs e h = ap (λ ys. ys ++ too_early k t m q b) e
 pub walk_known : (s : Sequences) (k : Known) (a m q : ℕ) (r : Pages) (locked : Bool) (d : Option ℕ)
     → ((t z : ℕ) → Tells s t m z → z ≡ q → ⊥) → KnowsCalls s k
     → (told_wrong k (by a (Event.Walk m r q locked d)) ≡ false) × KnowsCalls s (known_next k (by a (Event.Walk m r q locked d)))
-walk_known s k a m q r locked d un kn = (refl, record {
-  guards = kn.guards;
-  calls = kn.calls;
-  none_early = none_more k a m q true k.early kn.none_early (not_early s k m q un kn);
-  past = kn.past;
-})
+walk_known s k a m q r locked d un kn = (
+  refl,
+  record {
+    guards = kn.guards;
+    calls = kn.calls;
+    none_early = none_more k a m q true k.early kn.none_early (not_early s k m q un kn);
+    past = kn.past;
+  },
+)
 
 begin_known : (s : Sequences) (k : Known) (a m q : ℕ) → ((t z : ℕ) → Tells s t m z → z ≡ q → ⊥) → KnowsCalls s k
     → KnowsCalls s (known_next k (by a (Event.Begin m q)))
@@ -178,25 +181,39 @@ each s b j asks k a (Event.Tell m r q) fits kn = absurd (false≢true (sym asks.
 each s b j asks k a (Event.Told m q done) fits kn = absurd (false≢true (sym asks.plain ∙ ap is_special fits.1.1))
 each s b j asks k a (Event.Walk m r q locked d) fits kn = absurd (false≢true (sym asks.plain ∙ ap is_special fits.1.1))
 each s b j asks k a (Event.Begin m q) fits kn = (refl, begin_known s k a m q (asks.begins m q fits) kn)
-each s b j asks k a (Event.Removed m) fits kn =
-    (ap (λ b. b || (false || false)) (none_telling s k m (asks.detaches m fits) kn),
-    record { guards = kn.guards; calls = kn.calls; none_early = kn.none_early; past = kn.past })
-each s b j asks k a (Event.Set m v g w) fits kn = let un : Untold s m = asks.sets m v fits.0 w fits.1.1.0 fits.1.1.1 in
-    (not_invalidated (is_invalidated k m) (is_migrated_set (k.moves a) (λ y. true) v w) (is_sole w) (none_invalidated s k m un kn),
-    set_known s (record k {
-      slots = record { mirror = m; page = v; right = w; at = k.at } ∷ drop_if (is_slot m v) k.slots;
-      calls = map (after_set m v) k.calls;
-    }) a m v w un (table_set s k m v w kn))
-each s b j asks k a (Event.Erase m v) fits kn = (refl, knows_same s k (noted k a (Event.Erase m v)) refl
-    (cores_keep k a (Event.Erase m v) refl) refl refl kn)
-each s b j asks k a (Event.Paged p) fits kn = (refl, knows_same s k (noted k a (Event.Paged p)) refl
-    (cores_keep k a (Event.Paged p) refl) refl refl kn)
-each s b j asks k a (Event.Take f) fits kn = (refl, knows_same s k (noted k a (Event.Take f)) (under_keeps k a (Event.Take f) refl)
-    (cores_keep k a (Event.Take f) refl) (held_keeps (λ k. k.early) (λ k fs. refl) k f (device_of f))
-    (held_keeps (λ k. k.stale) (λ k fs. refl) k f (device_of f)) kn)
-each s b j asks k a (Event.Pass f) fits kn = (refl, knows_same s k (noted k a (Event.Pass f)) (under_keeps k a (Event.Pass f) refl)
-    (cores_keep k a (Event.Pass f) refl) (pass_keeps (λ k. k.early) (λ k p. refl) k (device_of f))
-    (pass_keeps (λ k. k.stale) (λ k p. refl) k (device_of f)) kn)
+each s b j asks k a (Event.Removed m) fits kn = (
+  ap (λ b. b || (false || false)) (none_telling s k m (asks.detaches m fits) kn),
+  record { guards = kn.guards; calls = kn.calls; none_early = kn.none_early; past = kn.past },
+)
+each s b j asks k a (Event.Set m v g w) fits kn = let un : Untold s m = asks.sets m v fits.0 w fits.1.1.0 fits.1.1.1 in (
+  not_invalidated (is_invalidated k m) (is_migrated_set (k.moves a) (λ y. true) v w) (is_sole w) (none_invalidated s k m un kn),
+  set_known s (record k {
+    slots = record { mirror = m; page = v; right = w; at = k.at } ∷ drop_if (is_slot m v) k.slots;
+    calls = map (after_set m v) k.calls;
+  }) a m v w un (table_set s k m v w kn),
+)
+each s b j asks k a (Event.Erase m v) fits kn = (
+  refl,
+  knows_same s k (noted k a (Event.Erase m v)) refl
+      (cores_keep k a (Event.Erase m v) refl) refl refl kn,
+)
+each s b j asks k a (Event.Paged p) fits kn = (
+  refl,
+  knows_same s k (noted k a (Event.Paged p)) refl
+      (cores_keep k a (Event.Paged p) refl) refl refl kn,
+)
+each s b j asks k a (Event.Take f) fits kn = (
+  refl,
+  knows_same s k (noted k a (Event.Take f)) (under_keeps k a (Event.Take f) refl)
+      (cores_keep k a (Event.Take f) refl) (held_keeps (λ k. k.early) (λ k fs. refl) k f (device_of f))
+      (held_keeps (λ k. k.stale) (λ k fs. refl) k f (device_of f)) kn,
+)
+each s b j asks k a (Event.Pass f) fits kn = (
+  refl,
+  knows_same s k (noted k a (Event.Pass f)) (under_keeps k a (Event.Pass f) refl)
+      (cores_keep k a (Event.Pass f) refl) (pass_keeps (λ k. k.early) (λ k p. refl) k (device_of f))
+      (pass_keeps (λ k. k.stale) (λ k p. refl) k (device_of f)) kn,
+)
 each s b j asks k a x fits kn = (refl, kn)
 
 -- events of such an entry

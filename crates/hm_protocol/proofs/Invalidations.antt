@@ -74,6 +74,7 @@ set_untold c s t a m v f w from so ok u q x = below_itself (interval_seq s.seque
     y : (y : Interval) × ((s.sequences.interval m ≡ Some y) × Pairing ok.mirror y (s.places.device m))
     y = let z : (y : Interval) × (s.sequences.interval m ≡ Some y) × Pairing ok.mirror y (s.places.device m) =
         interval_of s.plain.mirrors s.sequences.interval s.places.device so.mirrors m ok.mirror ok.is in (z.0, (z.1, z.2))
+
     proc : s.sequences.seq ok.mirror.proc ≡ q
     proc = ap s.sequences.seq (sym y.1.1.proc ∙ sym (ap (λ (o : Option Interval). elim o as (λ o. ℕ) [ None ↦ 0 | Some y ↦ y.proc ]) y.1.0))
         ∙ is_process s.sequences u m q x
@@ -159,9 +160,12 @@ entry c t u p a (Kind.Start q r z) (Some o) k up so ok acc walks h kn = let g = 
     (comes_to t.after o g.pages (top_of g.stack) (Kind.Start q r z)) (Event.Start q r x.0 x.1 ∷ [])
     (quiet s false (Kind.Evicted 0) (no_asks s) a (comes_to t.after o g.pages (top_of g.stack) (Kind.Start q r z))
     (comes_ok false (Kind.Evicted 0) t.after o g.pages (top_of g.stack) (Kind.Start q r z)) k kn)
-    (λ l n. ((refl, tt), subst (λ w. KnowsCalls w (known_next l (by a (Event.Start q r x.0 x.1)))) up
-    (started s l a q z r x.0 x.1 (start_says s a q r z acc)
-    (λ b m v y. tells_kept s a (Kind.Start q r z) b m v so.sequences acc (λ n d p r z e. no_test (ap is_start (sym e))) (λ e. absurd (false≢true e)) y) n)))
+    (λ l n. (
+      (refl, tt),
+      subst (λ w. KnowsCalls w (known_next l (by a (Event.Start q r x.0 x.1)))) up
+          (started s l a q z r x.0 x.1 (start_says s a q r z acc)
+          (λ b m v y. tells_kept s a (Kind.Start q r z) b m v so.sequences acc (λ n d p r z e. no_test (ap is_start (sym e))) (λ e. absurd (false≢true e)) y) n),
+    ))
 entry c t u p a (Kind.End q r z) (Some o) k up so ok acc walks h kn = let g = t.going a in let s : Sequences = t.after.sequences in
     and_more told_wrong (KnowsCalls s) (KnowsCalls u.after.sequences) k a
     (comes_to t.after o g.pages (top_of g.stack) (Kind.End q r z)) (Event.End q r ∷ all_erased t.after u.after)
@@ -201,10 +205,12 @@ entry c t u p a j (Some o) k up so ok acc walks h kn = let s : Sequences = t.aft
     let all : GoBy told_wrong k (by_thread a (events_in t u a j (Some o))) (KnowsCalls s) =
     quiet s (is_some (u.after.locks.map a)) j (asks_of c t.after p a j so ok acc refl) a (events_in t u a j (Some o))
     (in_fits t u a j (Some o)) k kn in
-    let l : Known = fold known_next k (by_thread a (events_in t u a j (Some o))) in
-    (all.0, subst (λ w. KnowsCalls w l) up (advance s (sequences_next s a j) l (λ t g. g)
-    (λ b m v y. tells_kept s a j b m v so.sequences acc
-    (λ n d p' r z e. free_number c t.after p a n d p' r z so (subst (Allowed c t.after p a) e ok)) (λ e. absurd (false≢true e)) y) all.1))
+    let l : Known = fold known_next k (by_thread a (events_in t u a j (Some o))) in (
+      all.0,
+      subst (λ w. KnowsCalls w l) up (advance s (sequences_next s a j) l (λ t g. g)
+          (λ b m v y. tells_kept s a j b m v so.sequences acc
+          (λ n d p' r z e. free_number c t.after p a n d p' r z so (subst (Allowed c t.after p a) e ok)) (λ e. absurd (false≢true e)) y) all.1),
+    )
 
 keeps : (c : Program) → Keeps c told_wrong (λ k t. KnowsCalls t.after.sequences k)
 keeps c t e k s kn = entry c t (state_next c t e) s.past e.actor e.kind (op_at c e.actor (t.going e.actor).index) k refl
@@ -282,6 +288,7 @@ leaves_none k x h = ap (λ b. is_own k x && (b && (is_empty x.had || not (is_emp
   where
     not_other : (n : ℕ) → not (n == n) ≡ false
     not_other n = grind (arith, nat_tests)
+
     no_way : (b : Bool) → (b && false) ≡ false
     no_way true = refl
     no_way false = refl

@@ -9,6 +9,7 @@ use Rattle.std.specs.List.{list_any}
 use Rattle.hm_base.specs.Pages.{Pages, overlap}
 use Rattle.hm_history.specs.Memory.Places.{TableEntry}
 use Rattle.hm_history.specs.declared.TableRight.{TableRight}
+use Rattle.hm_laws.proofs.Migration.Setup.{at_itself}
 use Rattle.hm_protocol.specs.declared.events.TraceFrame.{TraceFrame}
 use Rattle.hm_protocol.specs.declared.events.Event.{Event}
 use Rattle.hm_protocol.specs.declared.events.Traced.{Traced}
@@ -16,7 +17,7 @@ use Rattle.hm_protocol.specs.Words.{device_of, drop_if, is_it, is_sole, is_read}
 use Rattle.hm_protocol.specs.Known.{Slot, Inside, Call, Move, Known, is_slot, in_span, is_own, is_current}
 use Rattle.hm_protocol.specs.Noted.{noted, known_next, call, returned, after_erase, lost_one, after_set, after_paged, paged, after_end, over, began}
 use Rattle.hm_protocol.specs.Tests.{write_entry, look_again}
-use Rattle.hm_protocol.proofs.Fields.{itself, at_end, at_refused, set_keeps, held_keeps, pass_keeps}
+use Rattle.hm_protocol.proofs.Fields.{at_end, at_refused, set_keeps, held_keeps, pass_keeps}
 use Rattle.hm_protocol.proofs.Steps.{GoBy, by, by_thread}
 
 -- an event goes through the table against its right

@@ -28,6 +28,7 @@ use Rattle.hm_laws.specs.Sound.{Sound, TableRules}
 use Rattle.hm_laws.specs.Allowed.{Allowed}
 use Rattle.hm_laws.proofs.State.Invalidations.{in_filter, in_numbers}
 use Rattle.hm_laws.proofs.State.TableEntries.{entry_of}
+use Rattle.hm_laws.proofs.Migration.Setup.{at_itself}
 use Rattle.hm_protocol.specs.declared.events.Event.{Event}
 use Rattle.hm_protocol.specs.declared.events.Traced.{Traced}
 use Rattle.hm_protocol.specs.declared.rules.Rule.{Rule}
@@ -42,7 +43,7 @@ use Rattle.hm_protocol.specs.Rules.{first_call}
 use Rattle.hm_protocol.specs.Projection.{project, events_in, comes_to, top_of, erased, all_erased, window_of, begins_removal, entry_frame}
 use Rattle.hm_protocol.specs.Laws.{IsKept, IsJointKept}
 use Rattle.hm_protocol.proofs.Fits.{Fits, AllFit, in_fits, comes_ok, is_erasing, removal_ok}
-use Rattle.hm_protocol.proofs.Fields.{itself, set_keeps}
+use Rattle.hm_protocol.proofs.Fields.{set_keeps}
 use Rattle.hm_protocol.proofs.Steps.{Calm, GoBy, Keeps, Step, by, by_thread, never, through, and_more, watched, calm_left, calm_right}
 use Rattle.hm_protocol.proofs.Detached.{owned_is}
 use Rattle.hm_protocol.proofs.Slots.{table_wrong, AllSlots, sole_slot, SoleSlots, slots_left, still_any, Clean, AllClean, each_clean}
@@ -84,6 +85,7 @@ writes_rightly s k m p v h kn = let x : (e : TableEntry) × (s.table m v ≡ Som
   where
     same_entry : (d e : TableEntry) → Some d ≡ Some e → d ≡ e
     same_entry d e q = cc
+
     wrong : (d : TableEntry) → s.table m v ≡ Some d → may_write d.right ≡ true → (y : Slot) (e : TableEntry)
         → s.table y.mirror y.page ≡ Some e → e.right ≡ y.right → (in_span m (one_page v) y && is_read y.right) ≡ true → ⊥
     wrong d q w y e i r t = let b : (in_span m (one_page v) y ≡ true) × (is_read y.right ≡ true) = and_parts (in_span m (one_page v) y) (is_read y.right) t in
@@ -121,14 +123,18 @@ each c proc s i b j pl acc k a (Event.Erase m v) fits kn = absurd (false≢true 
 each c proc s i b j pl acc k a (Event.Use m r false) fits kn = (refl, tables_kept s.table k a (Event.Use m r false) refl kn)
 each c proc s i b j pl acc k a (Event.Use m r true) fits kn =
     let x : (p : ℕ) × (table_writes s m p (page_of fits.0) ≡ true) =
-    owned_is (proc m) (λ p. table_writes s m p (page_of fits.0)) (subst (λ j. IsTrue (places_accept c proc s i j)) fits.1.1.1 acc) in
-    (ap (λ b. b || false) (ap (λ r. list_any (λ x. in_span m r x && is_read x.right) k.slots) fits.1.1.0
-    ∙ writes_rightly s k m x.0 (page_of fits.0) x.1 kn), tables_kept s.table k a (Event.Use m r true) refl kn)
+    owned_is (proc m) (λ p. table_writes s m p (page_of fits.0)) (subst (λ j. IsTrue (places_accept c proc s i j)) fits.1.1.1 acc) in (
+      ap (λ b. b || false) (ap (λ r. list_any (λ x. in_span m r x && is_read x.right) k.slots) fits.1.1.0
+          ∙ writes_rightly s k m x.0 (page_of fits.0) x.1 kn),
+      tables_kept s.table k a (Event.Use m r true) refl kn,
+    )
 each c proc s i b j pl acc k a (Event.Add m v) fits kn =
     let x : (p : ℕ) × (table_sole s i m p (page_of fits.0) ≡ true) =
-    owned_is (proc m) (λ p. table_sole s i m p (page_of fits.0)) (subst (λ j. IsTrue (places_accept c proc s i j)) fits.1.1.1.1 acc) in
-    (ap (λ b. false || not b) (ap (λ v. list_any (sole_slot m v) k.slots) fits.1.1.1.0
-    ∙ adds_rightly s k i m x.0 (page_of fits.0) x.1 kn), tables_kept s.table k a (Event.Add m v) refl kn)
+    owned_is (proc m) (λ p. table_sole s i m p (page_of fits.0)) (subst (λ j. IsTrue (places_accept c proc s i j)) fits.1.1.1.1 acc) in (
+      ap (λ b. false || not b) (ap (λ v. list_any (sole_slot m v) k.slots) fits.1.1.1.0
+          ∙ adds_rightly s k i m x.0 (page_of fits.0) x.1 kn),
+      tables_kept s.table k a (Event.Add m v) refl kn,
+    )
 each c proc s i b j pl acc k a x fits kn = (refl, tables_kept s.table k a x refl kn)
 
 quiet : (c : Program) (proc : ℕ → Option ℕ) (s : Places) (b : Bool) (j : Kind) → is_special j ≡ false → (a : ℕ)
@@ -153,8 +159,10 @@ in_window_of c s t m v e so h = by_mirror (s.plain.mirrors m) refl
       where
         below : (n k : ℕ) → nat_le n k ≡ true → n ≤ k
         below n k h = grind (arith, nat_tests)
+
         above : (n k : ℕ) → nat_lt n k ≡ true → n < k
         above n k h = grind (arith, nat_tests)
+
     by_mirror : (x : Option MirrorState) → s.plain.mirrors m ≡ x
         → among v (elim x [ None ↦ [] | Some y ↦ numbers y.window.first y.window.count ]) ≡ true
     by_mirror None q = absurd (none-some e (sym (so.tables.unattached m v (ap (mirror_passes is_attached_state) q)) ∙ h))
@@ -179,8 +187,11 @@ all_said c s t g m test so pw n v e h = by_bool ((n == m) && test v) refl
     by_bool true q = let same : (n ≡ m) = eqb-true n m (and_parts (n == m) (test v) q).0 in
         let mine : (s.places.table m v ≡ Some e) = ap (λ i. s.places.table i v) (sym same) ∙ h in
         let none : (g m v ≡ None) = ap (λ i. g i v) (sym same) ∙ (pw n v ∙ ap (λ b. if b then None else s.places.table n v) q) in
-        inr (same, in_filter (λ v. is_some (s.places.table m v) && is_none (g m v)) v (window_of s m)
-        (ap (λ o. is_some o && is_none (g m v)) mine ∙ ap is_none none) (in_window_of c s t m v e so mine))
+        inr (
+          same,
+          in_filter (λ v. is_some (s.places.table m v) && is_none (g m v)) v (window_of s m)
+              (ap (λ o. is_some o && is_none (g m v)) mine ∙ ap is_none none) (in_window_of c s t m v e so mine),
+        )
 
 none_passes : (o p : Option TableEntry) → (is_some o && is_none p) ≡ true → p ≡ None
 none_passes None p h = absurd (false≢true h)
@@ -196,17 +207,21 @@ erased_events c s t g a m test so pw k kn =
     let all : GoBy table_wrong k (by_thread a (map (λ v. Event.Erase m v) (filter test2 (window_of s m)))) (ErasingKnown s.places.table g m (λ u. false || among u (filter test2 (window_of s m)))) =
     erase_all m a test2 (ErasingKnown s.places.table g m)
     (λ gone k v h x. erasing_step s.places.table g m a gone k v (none_passes (s.places.table m v) (g m v) h) x)
-    (erasing_fewer s.places.table g m) (window_of s m) (λ u. false) k
-    (record {
-      slots = kn.slots;
-      sole = λ n v e q i. kn.sole n v e (erased_sub s.places.table m test n v e (sym (pw n v) ∙ q)) i;
-      none_there = λ v q. absurd (false≢true q);
-    }, kn.clean) in
-    (all.0, record {
-      slots = all_gone s.places.table g m (λ u. false || among u (filter test2 (window_of s m))) _ (all_said c s t g m test so pw) all.1.0.slots all.1.0.none_there;
-      sole = all.1.0.sole;
-      clean = all.1.1;
-    })
+    (erasing_fewer s.places.table g m) (window_of s m) (λ u. false) k (
+      record {
+        slots = kn.slots;
+        sole = λ n v e q i. kn.sole n v e (erased_sub s.places.table m test n v e (sym (pw n v) ∙ q)) i;
+        none_there = λ v q. absurd (false≢true q);
+      },
+      kn.clean,
+    ) in (
+      all.0,
+      record {
+        slots = all_gone s.places.table g m (λ u. false || among u (filter test2 (window_of s m))) _ (all_said c s t g m test so pw) all.1.0.slots all.1.0.none_there;
+        sole = all.1.0.sole;
+        clean = all.1.1;
+      },
+    )
 
 -- a callback erases all of its span
 nothing_here : (f : ℕ → ℕ → Option TableEntry) (m : ℕ) (r : Pages) (gone : ℕ → Bool) (xs : List Slot)
@@ -215,7 +230,7 @@ nothing_here : (f : ℕ → ℕ → Option TableEntry) (m : ℕ) (r : Pages) (go
 nothing_here f m r gone [] h l i n = refl
 nothing_here f m r gone (x ∷ xs) h l i n =
     let p : ((x.mirror == m) ≡ true) × (covers r x.page ≡ true) = and_parts (x.mirror == m) (covers r x.page) i.0 in
-    absurd (true≢false (sym (first_there (ap (λ b. b && (x.page == x.page)) p.0 ∙ itself x.page))
+    absurd (true≢false (sym (first_there (ap (λ b. b && (x.page == x.page)) p.0 ∙ at_itself x.page))
     ∙ n x.page (h x.page l.0.0 (ap (λ i. f i x.page) (sym (eqb-true x.mirror m p.0)) ∙ l.0.1.0) p.1)))
   where
     first_there : is_slot m x.page x ≡ true → (is_slot m x.page x || list_any (is_slot m x.page) xs) ≡ true
@@ -241,12 +256,16 @@ told_events c s t g a m q n r so pw k kn = ((refl, rest.0), rest.1)
   where
     f : ℕ → ℕ → Option TableEntry
     f = s.places.table
+
     test : ℕ → Bool
     test = λ v. is_some (s.places.table m v) && is_none (g m v)
+
     vs : List ℕ
     vs = filter (λ v. is_some (s.places.table m v) && is_none (g m v)) (window_of s m)
+
     here : AllSlots s.places.table (filter (in_span m r) k.slots) × AllIn m r (filter (in_span m r) k.slots)
     here = slots_in s.places.table m r k.slots kn.slots
+
     start : Telling s.places.table g m r (λ u. false) k.slots (k.calls ++ call k a m r q ∷ [])
     start = record {
       erasing = record {
@@ -265,16 +284,19 @@ told_events c s t g a m q n r so pw k kn = ((refl, rest.0), rest.1)
       span = here.1;
       none_there = λ v q. absurd (false≢true q);
     }
+
     gone_in : (v : ℕ) (e : TableEntry) → s.places.table m v ≡ Some e → covers r v ≡ true
         → (false || among v (filter (λ v. is_some (s.places.table m v) && is_none (g m v)) (window_of s m))) ≡ true
     gone_in v e h k = by_case (all_said c s t g m (covers r) so pw m v e h)
       where
         none : g m v ≡ None
-        none = pw m v ∙ ap (λ b. if b && covers r v then None else s.places.table m v) (itself m) ∙ ap (λ b. if b then None else s.places.table m v) k
+        none = pw m v ∙ ap (λ b. if b && covers r v then None else s.places.table m v) (at_itself m) ∙ ap (λ b. if b then None else s.places.table m v) k
+
         by_case : (g m v ≡ s.places.table m v) ⊎ ((m ≡ m) × ((false || among v (filter (λ v. is_some (s.places.table m v) && is_none (g m v)) (window_of s m))) ≡ true))
             → (false || among v (filter (λ v. is_some (s.places.table m v) && is_none (g m v)) (window_of s m))) ≡ true
         by_case (inl x) = absurd (none-some e (sym none ∙ (x ∙ h)))
         by_case (inr x) = x.1
+
     last : (l : Known) → Telling s.places.table g m r (λ u. false || among u (filter (λ v. is_some (s.places.table m v) && is_none (g m v)) (window_of s m))) l.slots l.calls
         → KnowsTables g l
     last l x = record {
@@ -282,6 +304,7 @@ told_events c s t g a m q n r so pw k kn = ((refl, rest.0), rest.1)
       sole = x.erasing.sole;
       clean = subst AllClean (sym x.is) (clean_more x.before x.last x.clean (nothing_here s.places.table m r _ x.last.here gone_in x.here x.span x.none_there, (x.left, x.copied)));
     }
+
     rest : GoBy table_wrong (known_next k (by a (Event.Tell m r q)))
         (by_thread a (map (λ v. Event.Erase m v) (filter (λ v. is_some (s.places.table m v) && is_none (g m v)) (window_of s m)) ++ Event.Told m n true ∷ [])) (KnowsTables g)
     rest = and_more table_wrong
@@ -339,6 +362,7 @@ none_erased s u m e = ap (map (λ v. Event.Erase m v)) (none_left (window_of s m
     no_test None p h = refl
     no_test (Some x) None h = absurd (none-some x (sym h))
     no_test (Some x) (Some y) h = refl
+
     none_left : (vs : List ℕ) → filter (λ v. is_some (s.places.table m v) && is_none (u.places.table m v)) vs ≡ []
     none_left [] = refl
     none_left (v ∷ vs) = ap (λ b. cond b (v ∷ filter (λ v. is_some (s.places.table m v) && is_none (u.places.table m v)) vs)
@@ -369,13 +393,19 @@ entry : (c : Program) (t u : State) (p : Past) (a : ℕ) (j : Kind) (o : Option 
 entry c t u p a j None k up so acc fresh h kn = absurd (false≢true h)
 entry c t u p a (Kind.Set m v f w from) (Some o) k up so acc fresh h kn =
     from_still c t a (Kind.Set m v f w from) o k u.after.places.table (Event.Set m v (entry_frame f) w ∷ []) kn
-    (λ l n. ((refl, tt), as_table _ u.after.places.table (known_next l (by a (Event.Set m v (entry_frame f) w))) up
-    (set_event t.after.places.table l a m v f w from n)))
+    (λ l n. (
+      (refl, tt),
+      as_table _ u.after.places.table (known_next l (by a (Event.Set m v (entry_frame f) w))) up
+          (set_event t.after.places.table l a m v f w from n),
+    ))
 entry c t u p a (Kind.Attached m d q r z) (Some o) k up so acc fresh h kn =
     from_still c t a (Kind.Attached m d q r z) o k u.after.places.table (Event.Insert m q r (Some d) ∷ Event.Inserted m z true ∷ []) kn
-    (λ l n. ((refl, (refl, tt)), as_table t.after.places.table u.after.places.table
-    (known_next (known_next l (by a (Event.Insert m q r (Some d)))) (by a (Event.Inserted m z true))) up
-    (insert_event t.after.places.table l a m q d z r (fresh m d q z r refl) n)))
+    (λ l n. (
+      (refl, (refl, tt)),
+      as_table t.after.places.table u.after.places.table
+          (known_next (known_next l (by a (Event.Insert m q r (Some d)))) (by a (Event.Inserted m z true))) up
+          (insert_event t.after.places.table l a m q d z r (fresh m d q z r refl) n),
+    ))
 entry c t u p a (Kind.Told m r q) (Some o) k up so acc fresh h kn =
     from_still c t a (Kind.Told m r q) o k u.after.places.table _ kn
     (λ l n. told_events c t.after p u.after.places.table a m q (interval_seq u.after.sequences m) r so (λ n v. ap (λ f. f n v) (sym up)) l n)
@@ -397,9 +427,11 @@ entry c t u p a (Kind.Detached m) (Some o) k up so acc fresh h kn =
 entry c t u p a (Kind.End q r z) (Some o) k up so acc fresh h kn =
     from_still c t a (Kind.End q r z) o k u.after.places.table (Event.End q r ∷ all_erased t.after u.after) kn
     (λ l n. subst (λ xs. GoBy table_wrong l (by_thread a (Event.End q r ∷ xs)) (KnowsTables u.after.places.table))
-    (sym (none_erased_all t.after u.after (numbers 0 32) up))
-    ((refl, tt), as_table t.after.places.table u.after.places.table (known_next l (by a (Event.End q r))) up
-    (tables_kept t.after.places.table l a (Event.End q r) refl n)))
+    (sym (none_erased_all t.after u.after (numbers 0 32) up)) (
+      (refl, tt),
+      as_table t.after.places.table u.after.places.table (known_next l (by a (Event.End q r))) up
+          (tables_kept t.after.places.table l a (Event.End q r) refl n),
+    ))
 entry c t u p a (Kind.Copied f g part) (Some o) k up so acc fresh h kn =
     from_still c t a (Kind.Copied f g part) o k u.after.places.table (all_erased t.after u.after) kn
     (λ l n. subst (λ xs. GoBy table_wrong l (by_thread a xs) (KnowsTables u.after.places.table))

@@ -111,16 +111,24 @@ told_kept : (s : Sequences) (a n : ℕ) (r : Pages) (z t m q : ℕ) → Tells s 
 told_kept s a n r z t m q x = by (guard_is (cases_eq t a)) (interval_is (cases_eq m n))
   where
     guard_is : (t ≡ a) ⊎ (t ≡ a → ⊥) → (g : Guarded) × (with_at s.guard a (with_told n (s.guard a)) t ≡ Some g) × (g.proc ≡ x.guard.proc) × (has_met g ≡ true)
-    guard_is (inl e) = (record x.guard { told = x.guard.told ++ n ∷ [] },
-        ap (with_at s.guard a (with_told n (s.guard a))) e ∙ (here_at s.guard a (with_told n (s.guard a)) ∙ ap (with_told n) (ap s.guard (sym e) ∙ x.is)), refl, x.met)
+    guard_is (inl e) = (
+      record x.guard { told = x.guard.told ++ n ∷ [] },
+      ap (with_at s.guard a (with_told n (s.guard a))) e ∙ (here_at s.guard a (with_told n (s.guard a)) ∙ ap (with_told n) (ap s.guard (sym e) ∙ x.is)),
+      refl,
+      x.met,
+    )
     guard_is (inr ne) = (x.guard, other_at s.guard a t (with_told n (s.guard a)) ne ∙ x.is, refl, x.met)
 
     interval_is : (m ≡ n) ⊎ (m ≡ n → ⊥) → (y : Interval) × (with_at s.interval n (with_seq (s.seq (interval_proc s n)) (s.interval n)) m ≡ Some y)
         × (in_tree_state y.stage ≡ true) × (y.proc ≡ x.guard.proc) × (y.seq ≡ q)
-    interval_is (inl e) = (record x.interval { seq = s.seq x.interval.proc },
-        ap (with_at s.interval n (with_seq (s.seq (interval_proc s n)) (s.interval n))) e
-        ∙ (here_at s.interval n (with_seq (s.seq (interval_proc s n)) (s.interval n)) ∙ given_seq s n x.interval (ap s.interval (sym e) ∙ x.there)),
-        x.tree, x.proc, ap s.seq x.proc ∙ x.seq)
+    interval_is (inl e) = (
+      record x.interval { seq = s.seq x.interval.proc },
+      ap (with_at s.interval n (with_seq (s.seq (interval_proc s n)) (s.interval n))) e
+          ∙ (here_at s.interval n (with_seq (s.seq (interval_proc s n)) (s.interval n)) ∙ given_seq s n x.interval (ap s.interval (sym e) ∙ x.there)),
+      x.tree,
+      x.proc,
+      ap s.seq x.proc ∙ x.seq,
+    )
     interval_is (inr ne) = (x.interval, other_at s.interval n m (with_seq (s.seq (interval_proc s n)) (s.interval n)) ne ∙ x.there, x.tree, x.proc, x.same)
 
     by : (g : Guarded) × (with_at s.guard a (with_told n (s.guard a)) t ≡ Some g) × (g.proc ≡ x.guard.proc) × (has_met g ≡ true)
@@ -148,6 +156,7 @@ end_kept s a p r z t m q h acc ne x = by (end_says s a p r z acc)
       where
         apart : (x.interval.proc == p) ≡ false
         apart = grind (arith, nat_tests, n, x.proc)
+
         by_bool : (b : Bool) → (if b then applied p (s.interval m) else s.interval m) ≡ s.interval m
         by_bool false = refl
         by_bool true = ap (applied p) x.there
@@ -185,9 +194,11 @@ not_detached s a t m q h acc x = by_stage x.interval.stage x.tree
   where
     odd : is_odd (s.seq x.interval.proc) ≡ true
     odd = ap (λ p. is_odd (s.seq p)) x.proc ∙ odd_now s t m q h x
+
     no_way : (b : Bool) → b ≡ true → (not b || false) ≡ true → ⊥
     no_way true e k = absurd (false≢true k)
     no_way false e k = absurd (false≢true e)
+
     by_stage : (g : Stage) → in_tree_state g ≡ true
         → (deferred_state g || ((in_tree_state g && not (is_odd (s.seq x.interval.proc))) || removed_state g)) ≡ true → ⊥
     by_stage Stage.InTree i k = no_way (is_odd (s.seq x.interval.proc)) odd k

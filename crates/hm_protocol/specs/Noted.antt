@@ -11,7 +11,8 @@ use Rattle.hm_protocol.specs.declared.events.Reason.{Reason}
 use Rattle.hm_protocol.specs.declared.events.TraceFrame.{TraceFrame}
 use Rattle.hm_protocol.specs.declared.events.Traced.{Traced}
 use Rattle.hm_protocol.specs.Words.{device_of, is_same, is_it, is_before, is_empty, is_sole, drop_if}
-use Rattle.hm_protocol.specs.Known.{Slot, Inside, Call, Stage, Look, Move, Early, Known, no_look, known_start, is_slot, in_span}
+use Rattle.hm_protocol.specs.Known.{Slot, Inside, Call, Stage, Look, Move, Early, Known, no_look, known_start}
+use Rattle.hm_protocol.specs.Known.{is_slot, in_span}
 use Rattle.hm_protocol.specs.Known.{is_current, goes_on, is_telling, is_own, is_early, meets, is_migrated, is_look_up}
 
 -- ---- callbacks
@@ -91,7 +92,8 @@ after_set m v x = record x { here = drop_if (is_slot m v) x.here }
 
 -- its own migration knows what moved
 abbrev pub after_paged : Known → ℕ → Move → Call → Call
-after_paged k t y x = if (x.thread == t) && (is_own k x && (is_none x.stale && (nat_lt x.at y.at && overlap y.span x.span)))
+after_paged k t y x = if (x.thread == t) && (is_own k x
+    && (is_none x.stale && (nat_lt x.at y.at && overlap y.span x.span)))
     then record x { stale = Some (filter (λ s. list_any (λ u. u.0 == s.page) y.source) x.here, y.to_device) } else x
 
 -- ---- look-ups

@@ -12,7 +12,8 @@ use Rattle.hm_history.specs.Memory.Plain.{rights_of, is_read_write, mirror_proc,
 use Rattle.hm_history.specs.Memory.Sequences.{interval_seq}
 use Rattle.hm_history.specs.Memory.After.{After}
 use Rattle.hm_history.specs.Kernel.Operation.{op_piece, op_mirror, is_to_device, is_migration, is_evicting}
-use Rattle.hm_history.specs.Kernel.Going.{State, op_at, state_start, state_next, state_of, coming, touch_page, touch_proc}
+use Rattle.hm_history.specs.Kernel.Going.{State, op_at, state_start, state_next, state_of, coming, touch_page}
+use Rattle.hm_history.specs.Kernel.Going.{touch_proc}
 use Rattle.hm_history.specs.declared.Who.{Who}
 use Rattle.hm_history.specs.declared.KeptAt.{KeptAt}
 use Rattle.hm_history.specs.declared.KeptWhy.{KeptWhy}
@@ -49,7 +50,10 @@ all_erased s u = flat_map (erased s u) (numbers 0 32)
 
 -- the model's frames in a trace: those of a device are its private memory
 abbrev pub in_trace : Frame → TraceFrame
-in_trace f = elim f.pool [ PoolId.System ↦ TraceFrame.System f.number | PoolId.Device d ↦ TraceFrame.Private d f.number ]
+in_trace f = elim f.pool [
+  | PoolId.System ↦ TraceFrame.System f.number
+  | PoolId.Device d ↦ TraceFrame.Private d f.number
+]
 
 -- a frame, or none
 abbrev pub frame_in_trace : Option Frame → TraceFrame

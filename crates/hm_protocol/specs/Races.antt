@@ -1,4 +1,4 @@
--- Races by their turns: the entries that are due, of a right driver, and of one with a flaw after a set-up; and what the
+-- Races by their turns: the entries that are due, of a right driver, and of one with a flaw after a set-up; what the
 -- rules say of their events.
 use Rattle.std.specs.Prelude.{ℕ, ◌+◌, is_some, List, [], ◌∷◌, ◌++◌, fold, filter, filter_map, option_map, length}
 use Rattle.std.specs.Prelude.{◌≡◌, map, flat_map, replicate}

@@ -1,6 +1,6 @@
 -- What is said of each rule after a trace.
-use Rattle.std.specs.Prelude.{ℕ, ◌+◌, Bool, true, false, not, ◌&&◌, ◌||◌, nat_lt, ◌==◌, if◌then◌else◌, Option, Some, None}
-use Rattle.std.specs.Prelude.{is_some, is_none, List, [], ◌∷◌, length, count_by}
+use Rattle.std.specs.Prelude.{ℕ, ◌+◌, Bool, true, false, not, ◌&&◌, ◌||◌, nat_lt, ◌==◌, if◌then◌else◌, Option}
+use Rattle.std.specs.Prelude.{Some, None, is_some, is_none, List, [], ◌∷◌, length, count_by}
 use Rattle.std.specs.List.{list_any, list_all}
 use Rattle.hm_history.specs.declared.TableRight.{TableRight}
 use Rattle.hm_protocol.specs.declared.events.Event.{Event}
@@ -9,7 +9,8 @@ use Rattle.hm_protocol.specs.declared.events.Recorded.{Recorded}
 use Rattle.hm_protocol.specs.declared.rules.Rule.{Rule}
 use Rattle.hm_protocol.specs.declared.rules.Verdict.{Verdict}
 use Rattle.hm_protocol.specs.Words.{private_to, is_after, is_empty, is_read, is_sole}
-use Rattle.hm_protocol.specs.Known.{Stage, Call, Move, Known, known_start, in_span, is_noted, leaves_seq, is_own, is_look_up}
+use Rattle.hm_protocol.specs.Known.{Stage, Call, Move, Known, known_start, in_span, is_noted, leaves_seq, is_own}
+use Rattle.hm_protocol.specs.Known.{is_look_up}
 use Rattle.hm_protocol.specs.Noted.{known_next, known}
 use Rattle.hm_protocol.specs.Tests.{is_migrated_set, is_kept_back}
 use Rattle.hm_protocol.specs.Callbacks.{entries_left, own_sequence_left, left_first}
@@ -101,7 +102,8 @@ is_own_kept k x = is_some x.after && (is_own k x && (not (leaves_seq x) && (is_e
 -- a callback has set the sequence, which no other was given
 abbrev pub sets_sequence : Known → Call → Bool
 sets_sequence k x =
-    is_some x.after && (x.alone && (not (leaves_seq x) && not (is_own k x && (is_empty x.had || not (is_empty x.left)))))
+    is_some x.after
+    && (x.alone && (not (leaves_seq x) && not (is_own k x && (is_empty x.had || not (is_empty x.left)))))
 
 -- how often a rule was kept that is not broken
 abbrev pub kept : Rule → List Traced → ℕ
