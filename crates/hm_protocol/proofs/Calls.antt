@@ -1,17 +1,15 @@
 -- What is known of callbacks, and which events leave it.
-use Rattle.std.proofs.Common.{refl, ap, sym, subst, ◌∙◌, cond}
-use Rattle.std.proofs.lemmas.Bool.{true≢false, false≢true, and_parts, eqb-true}
+use Rattle.std.proofs.Common.{refl, ap, subst, ◌∙◌, cond}
+use Rattle.std.proofs.lemmas.Bool.{true≢false, and_parts, eqb-true}
 use Rattle.std.specs.Prelude.{◌≡◌, ℕ, ◌+◌, Bool, true, false, not, ◌&&◌, ◌||◌, ◌==◌, nat_lt, if◌then◌else◌, Option, Some, None, is_some}
 use Rattle.std.specs.Prelude.{is_none, ⊤, List, [], ◌∷◌, ◌++◌, map, filter}
 use Rattle.std.specs.List.{list_any}
-use Rattle.hm_base.specs.Pages.{Pages, overlap}
+use Rattle.hm_base.specs.Pages.{overlap}
 use Rattle.hm_history.specs.Memory.Sequences.{Sequences, Guarded}
-use Rattle.hm_history.specs.declared.TableRight.{TableRight}
-use Rattle.hm_protocol.specs.declared.events.TraceFrame.{TraceFrame}
 use Rattle.hm_protocol.specs.declared.events.Event.{Event}
-use Rattle.hm_protocol.specs.Words.{device_of, drop_if, is_it, is_other}
-use Rattle.hm_protocol.specs.Known.{Slot, Inside, Call, Look, Move, Early, Known, goes_on, is_telling, is_own, is_slot, meets}
-use Rattle.hm_protocol.specs.Noted.{noted, after_erase, lost_one, after_set, after_paged, paged, after_end}
+use Rattle.hm_protocol.specs.Words.{device_of, drop_if}
+use Rattle.hm_protocol.specs.Known.{Inside, Call, Move, Early, Known, goes_on, is_telling, is_own, is_slot}
+use Rattle.hm_protocol.specs.Noted.{noted, after_erase, lost_one, after_set, after_paged, paged}
 use Rattle.hm_protocol.proofs.Fields.{set_keeps, held_keeps, pass_keeps}
 use Rattle.hm_protocol.proofs.Tellings.{Tells}
 

@@ -1,41 +1,35 @@
 -- No legal history breaks `stop-at-detach`: a mirror that was removed is not attached, and has no table.
 use Rattle.std.proofs.Common.{refl, ap, sym, subst, ◌∙◌, inl, inr}
 use Rattle.std.proofs.lemmas.Bool.{true≢false, false≢true, and_parts, cases_eq, eqb-true}
-use Rattle.std.specs.Prelude.{◌≡◌, ℕ, Bool, true, false, not, ◌&&◌, ◌||◌, ◌==◌, ◌⊎◌, if◌then◌else◌, Option, Some, None, is_some}
-use Rattle.std.specs.Prelude.{is_none, IsTrue, ⊤, List, [], ◌∷◌, ◌++◌}
+use Rattle.std.specs.Prelude.{◌≡◌, ℕ, Bool, true, false, not, ◌||◌, ◌==◌, ◌⊎◌, if◌then◌else◌, Option, Some, None, is_some}
+use Rattle.std.specs.Prelude.{IsTrue, List, [], ◌∷◌, ◌++◌}
 use Rattle.hm_base.specs.Program.{Program}
 use Rattle.hm_base.specs.Pages.{Pages}
-use Rattle.hm_base.specs.declared.Frame.{Frame}
 use Rattle.hm_base.specs.declared.ops.Op.{Op}
 use Rattle.hm_history.specs.Memory.Words.{with_at, page_of}
 use Rattle.hm_history.specs.Memory.Plain.{Plain, MirrorState, mirror_owner, mirror_passes, is_attached_state, is_detaching_state, owned, plain_next}
 use Rattle.hm_history.specs.Memory.Plain.{Attachment, with_attachment}
-use Rattle.hm_history.specs.Memory.Places.{Places, TableEntry, places_accept, table_reads, table_writes, table_sole, entry_passes}
+use Rattle.hm_history.specs.Memory.Places.{TableEntry, places_accept, table_reads, table_writes, table_sole, entry_passes}
 use Rattle.hm_history.specs.Memory.After.{After}
-use Rattle.hm_history.specs.Kernel.Going.{State, op_at, state_start, state_next}
+use Rattle.hm_history.specs.Kernel.Going.{State, op_at, state_next}
 use Rattle.hm_history.specs.declared.Who.{Who}
-use Rattle.hm_history.specs.declared.TableRight.{TableRight}
 use Rattle.hm_history.specs.declared.Kind.{Kind}
-use Rattle.hm_history.specs.declared.Entry.{Entry}
 use Rattle.hm_history.proofs.Updates.{here_at, other_at}
-use Rattle.hm_history.proofs.Tests.{no_test}
 use Rattle.hm_laws.specs.Past.{Past}
 use Rattle.hm_laws.specs.Sound.{Sound}
-use Rattle.hm_laws.specs.Allowed.{Allowed, SetOk}
+use Rattle.hm_laws.specs.Allowed.{Allowed}
 use Rattle.hm_laws.proofs.Migration.Setup.{at_itself}
-use Rattle.hm_protocol.specs.declared.events.TraceFrame.{TraceFrame}
 use Rattle.hm_protocol.specs.declared.events.Event.{Event}
-use Rattle.hm_protocol.specs.declared.events.Traced.{Traced}
 use Rattle.hm_protocol.specs.declared.rules.Rule.{Rule}
 use Rattle.hm_protocol.specs.Words.{device_of}
 use Rattle.hm_protocol.specs.Known.{Known, known_start}
-use Rattle.hm_protocol.specs.Noted.{noted, known_next}
+use Rattle.hm_protocol.specs.Noted.{known_next}
 use Rattle.hm_protocol.specs.Tests.{stop_at_detach}
 use Rattle.hm_protocol.specs.Projection.{project, events_in, comes_to, top_of, begins_removal, erased}
 use Rattle.hm_protocol.specs.Laws.{IsKept}
 use Rattle.hm_protocol.proofs.Fits.{Fits, AllFit, in_fits, comes_ok, removal_ok, erased_ok, both}
 use Rattle.hm_protocol.proofs.Fields.{at_set, at_end, at_refused, held_keeps, pass_keeps}
-use Rattle.hm_protocol.proofs.Steps.{GoBy, Keeps, Step, by, by_thread, never, through, and_more, watched}
+use Rattle.hm_protocol.proofs.Steps.{GoBy, Keeps, by, by_thread, never, through, and_more, watched}
 
 -- a mirror is there and not attached
 abbrev is_out : Option MirrorState → Bool

@@ -2,8 +2,8 @@
 use Rattle.std.proofs.Common.{refl, ap, sym, subst, ◌∙◌}
 use Rattle.std.proofs.lemmas.Bool.{true≢false, false≢true, not_from_true, eqb-true}
 use Rattle.std.proofs.lemmas.Option.{none-some}
-use Rattle.std.specs.Prelude.{◌≡◌, ℕ, Bool, true, false, not, ◌&&◌, ◌==◌, if◌then◌else◌, Option, Some, None, is_some, IsTrue}
-use Rattle.std.specs.Prelude.{List, [], ◌∷◌, ◌++◌}
+use Rattle.std.specs.Prelude.{◌≡◌, ℕ, Bool, true, false, ◌==◌, if◌then◌else◌, Option, Some, None, is_some, IsTrue}
+use Rattle.std.specs.Prelude.{List, [], ◌∷◌}
 use Rattle.hm_base.specs.Pages.{Pages}
 use Rattle.hm_base.specs.Program.{Program}
 use Rattle.hm_base.specs.declared.Frame.{Frame}
@@ -12,21 +12,19 @@ use Rattle.hm_base.specs.declared.ops.Op.{Op}
 use Rattle.hm_history.specs.Memory.Words.{with_at}
 use Rattle.hm_history.specs.Memory.Plain.{owned, mirror_owner}
 use Rattle.hm_history.specs.Memory.Places.{Places, places_next, places_accept, is_for_device}
-use Rattle.hm_history.specs.Kernel.Going.{State, op_at, state_start, state_next}
+use Rattle.hm_history.specs.Kernel.Going.{State, op_at, state_next}
 use Rattle.hm_history.specs.declared.Kind.{Kind}
-use Rattle.hm_history.specs.declared.Entry.{Entry}
 use Rattle.hm_protocol.specs.declared.events.Event.{Event}
-use Rattle.hm_protocol.specs.declared.events.Traced.{Traced}
 use Rattle.hm_protocol.specs.declared.rules.Rule.{Rule}
 use Rattle.hm_protocol.specs.Words.{device_of, private_to, is_other}
-use Rattle.hm_protocol.specs.Known.{Known, known_start, is_current}
-use Rattle.hm_protocol.specs.Noted.{noted, known_next, began}
+use Rattle.hm_protocol.specs.Known.{Known, known_start}
+use Rattle.hm_protocol.specs.Noted.{noted, known_next}
 use Rattle.hm_protocol.specs.Tests.{own_device}
 use Rattle.hm_protocol.specs.Projection.{project, events_in, comes_to, entry_frame, in_trace, top_of}
 use Rattle.hm_protocol.specs.Laws.{IsKept}
 use Rattle.hm_protocol.proofs.Fits.{Fits, AllFit, in_fits, comes_ok}
 use Rattle.hm_protocol.proofs.Fields.{at_set, at_end, at_refused, held_keeps, pass_keeps}
-use Rattle.hm_protocol.proofs.Steps.{GoBy, Keeps, Step, by, by_thread, never, through, and_more, watched}
+use Rattle.hm_protocol.proofs.Steps.{GoBy, Keeps, by, by_thread, never, through, and_more, watched}
 
 -- the entry attaches a mirror
 abbrev is_attach : Kind → Bool

@@ -1,25 +1,21 @@
 -- What is known of tables while a mirror's entries are erased, and when one is set.
 use Rattle.std.proofs.Common.{refl, ap, sym, subst, ◌∙◌, cond, arith, inl, inr}
-use Rattle.std.proofs.lemmas.Bool.{true≢false, false≢true, and_parts, cases_eq, eqb-true}
+use Rattle.std.proofs.lemmas.Bool.{true≢false, and_parts, eqb-true}
 use Rattle.std.proofs.lemmas.Bool.Decides.{nat_tests}
 use Rattle.std.proofs.lemmas.Option.{none-some}
 use Rattle.std.specs.Prelude.{◌≡◌, ℕ, ◌+◌, Bool, true, false, not, ◌&&◌, ◌||◌, ◌==◌, ◌⊎◌, nat_lt, if◌then◌else◌, Option, Some, None}
-use Rattle.std.specs.Prelude.{is_some, is_none, ⊤, List, [], ◌∷◌, ◌++◌, map, filter, find, fold}
+use Rattle.std.specs.Prelude.{is_some, is_none, ⊤, List, [], ◌∷◌, ◌++◌, map, filter, fold}
 use Rattle.std.specs.List.{list_any}
-use Rattle.hm_base.specs.Pages.{Pages, covers}
-use Rattle.hm_base.specs.declared.Frame.{Frame}
-use Rattle.hm_history.specs.Memory.Places.{TableEntry, with_entry, erased_table}
-use Rattle.hm_history.specs.declared.TableRight.{TableRight}
+use Rattle.hm_base.specs.Pages.{Pages}
+use Rattle.hm_history.specs.Memory.Places.{TableEntry, with_entry}
 use Rattle.hm_laws.proofs.Migration.Setup.{at_itself}
-use Rattle.hm_protocol.specs.declared.events.TraceFrame.{TraceFrame}
 use Rattle.hm_protocol.specs.declared.events.Event.{Event}
 use Rattle.hm_protocol.specs.Words.{drop_if, is_sole}
 use Rattle.hm_protocol.specs.Known.{Slot, Call, Known, is_slot, in_span, is_own}
-use Rattle.hm_protocol.specs.Noted.{noted, known_next, call, after_erase, lost_one, after_set}
-use Rattle.hm_protocol.proofs.Fields.{set_keeps}
+use Rattle.hm_protocol.specs.Noted.{known_next, after_erase, lost_one, after_set}
 use Rattle.hm_protocol.proofs.Steps.{GoBy, by, by_thread}
 use Rattle.hm_protocol.proofs.Slots.{table_wrong, AllSlots, sole_slot, SoleSlots, slots_left, still_any, none_any, still_none}
-use Rattle.hm_protocol.proofs.Slots.{Clean, AllClean, each_clean, erase_clean, set_clean, Tables, KnowsTables}
+use Rattle.hm_protocol.proofs.Slots.{AllClean, each_clean, erase_clean, set_clean, Tables}
 
 -- the page is in the list
 abbrev pub among : ℕ → List ℕ → Bool

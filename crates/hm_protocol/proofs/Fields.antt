@@ -1,6 +1,6 @@
 -- What an event leaves as it is, of what is known: by the functions that have cases.
 use Rattle.std.proofs.Common.{refl, ◌∙◌}
-use Rattle.std.specs.Prelude.{◌≡◌, ℕ, Bool, true, false, not, ◌&&◌, if◌then◌else◌, Option, Some, None, List, ◌∷◌, ◌==◌, map, find, option_map}
+use Rattle.std.specs.Prelude.{◌≡◌, ℕ, Bool, true, false, ◌&&◌, if◌then◌else◌, Option, Some, None, List, ◌∷◌, ◌==◌, map, find, option_map}
 use Rattle.hm_base.specs.Pages.{Pages}
 use Rattle.hm_history.specs.Memory.Words.{with_at}
 use Rattle.hm_history.specs.declared.TableRight.{TableRight}

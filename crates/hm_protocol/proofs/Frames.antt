@@ -4,15 +4,15 @@ use Rattle.std.proofs.Common.{refl, cond, arith, ap, sym, subst, ◌∙◌}
 use Rattle.std.proofs.lemmas.Bool.{true≢false, false≢true, eqb-true}
 use Rattle.std.proofs.lemmas.Bool.Decides.{nat_tests}
 use Rattle.std.specs.Prelude.{◌≡◌, ℕ, Bool, true, false, not, ◌&&◌, ◌||◌, ◌==◌, if◌then◌else◌, Option, Some, None, is_some}
-use Rattle.std.specs.Prelude.{IsTrue, ⊤, List, [], ◌∷◌, ◌++◌}
+use Rattle.std.specs.Prelude.{⊤, List, [], ◌∷◌, ◌++◌}
 use Rattle.std.specs.List.{list_any}
 use Rattle.hm_base.specs.Program.{Program, IsScript}
 use Rattle.hm_base.specs.declared.Frame.{Frame}
 use Rattle.hm_base.specs.declared.PoolId.{PoolId}
 use Rattle.hm_base.specs.declared.ops.Op.{Op}
-use Rattle.hm_history.specs.Memory.Words.{with_at, with_frame, dev_frame, same_frame}
+use Rattle.hm_history.specs.Memory.Words.{with_frame, dev_frame, same_frame}
 use Rattle.hm_history.specs.Memory.Places.{Places, places_next, is_withdrawn}
-use Rattle.hm_history.specs.Kernel.Going.{State, op_at, state_start, state_next}
+use Rattle.hm_history.specs.Kernel.Going.{State, op_at, state_next}
 use Rattle.hm_history.specs.Kernel.Legal.{Legal}
 use Rattle.hm_history.specs.declared.Kind.{Kind}
 use Rattle.hm_history.specs.declared.Entry.{Entry}
@@ -28,12 +28,12 @@ use Rattle.hm_protocol.specs.declared.rules.Rule.{Rule}
 use Rattle.hm_protocol.specs.Words.{device_of, is_it, is_same, drop_if}
 use Rattle.hm_protocol.specs.Known.{Known, known_start}
 use Rattle.hm_protocol.specs.Noted.{noted, known_next, held_more}
-use Rattle.hm_protocol.specs.Tests.{take_from_there, goes_held, evict_first, wait_for_locked, withdraw_first}
-use Rattle.hm_protocol.specs.Projection.{project, events_in, comes_to, in_trace, top_of, owner_of, if_device, home_over}
+use Rattle.hm_protocol.specs.Tests.{take_from_there, evict_first, wait_for_locked, withdraw_first}
+use Rattle.hm_protocol.specs.Projection.{project, events_in, comes_to, in_trace, top_of, if_device, home_over}
 use Rattle.hm_protocol.specs.Laws.{IsKept}
 use Rattle.hm_protocol.proofs.Fits.{Fits, AllFit, in_fits, comes_ok, over_ok}
-use Rattle.hm_protocol.proofs.Fields.{at_set, at_end, at_refused, held_keeps, pass_keeps}
-use Rattle.hm_protocol.proofs.Steps.{Calm, GoBy, Keeps, Step, by, by_thread, never, through, and_more, watched, calm_left, calm_right}
+use Rattle.hm_protocol.proofs.Fields.{at_set, at_end, at_refused, pass_keeps}
+use Rattle.hm_protocol.proofs.Steps.{Calm, GoBy, Keeps, by, by_thread, never, through, and_more, watched, calm_left, calm_right}
 
 -- one of the rules of frames is broken
 abbrev frames_wrong : Known → Traced → Bool

@@ -1,40 +1,27 @@
 -- No legal history breaks a rule of invalidations: each entry keeps what is known of callbacks.
-use Rattle.std.proofs.Common.{refl, ap, sym, subst, ◌∙◌, cond, arith, inl, inr}
-use Rattle.std.proofs.lemmas.Bool.{true≢false, false≢true, and_parts, eqb-true, cases_eq, not_from_true}
-use Rattle.std.proofs.lemmas.Bool.Decides.{nat_tests}
-use Rattle.std.specs.Prelude.{◌≡◌, ℕ, ◌+◌, ◌<◌, ◌≤◌, ◌⊎◌, Bool, true, false, not, ◌&&◌, ◌||◌, ◌==◌, if◌then◌else◌, Option, Some, None}
-use Rattle.std.specs.Prelude.{is_some, is_none, ⊤, IsTrue, List, [], ◌∷◌, ◌++◌, map, filter, find, fold, option_map, count_by}
+use Rattle.std.proofs.Common.{refl, ap, sym, subst, ◌∙◌, cond, inl, inr}
+use Rattle.std.proofs.lemmas.Bool.{true≢false, false≢true, cases_eq}
+use Rattle.std.specs.Prelude.{◌≡◌, ℕ, ◌⊎◌, Bool, true, false, not, ◌&&◌, ◌==◌, if◌then◌else◌, Option, Some, None}
+use Rattle.std.specs.Prelude.{is_some, is_none, List, [], ◌∷◌, ◌++◌, map, find, option_map, count_by}
 use Rattle.std.specs.List.{list_any}
-use Rattle.hm_base.specs.Program.{Program, IsScript}
 use Rattle.hm_base.specs.Pages.{Pages, overlap}
-use Rattle.hm_base.specs.declared.Frame.{Frame}
-use Rattle.hm_base.specs.declared.ops.Op.{Op}
 use Rattle.hm_history.specs.Memory.Words.{with_at}
-use Rattle.hm_history.specs.Memory.Sequences.{Sequences, Guarded, Interval, sequences_next, sequences_accept, interval_seq, interval_proc}
-use Rattle.hm_history.specs.Memory.Sequences.{overlapping, same_span, with_told, all_told}
-use Rattle.hm_history.specs.Memory.After.{After}
-use Rattle.hm_history.specs.Kernel.Going.{State, op_at, state_next}
-use Rattle.hm_history.specs.declared.TableRight.{TableRight}
+use Rattle.hm_history.specs.Memory.Sequences.{Sequences, Guarded, sequences_next, sequences_accept}
+use Rattle.hm_history.specs.Memory.Sequences.{overlapping, with_told, all_told}
 use Rattle.hm_history.specs.declared.Kind.{Kind}
-use Rattle.hm_history.specs.declared.Entry.{Entry}
 use Rattle.hm_history.proofs.Updates.{here_at, other_at}
-use Rattle.hm_history.proofs.Tests.{no_test}
-use Rattle.hm_laws.specs.Sound.{SequenceRules, has_met}
-use Rattle.hm_laws.proofs.State.Invalidations.{ToldTo, start_says, end_says, told_says}
+use Rattle.hm_laws.proofs.State.Invalidations.{ToldTo, end_says, told_says}
 use Rattle.hm_laws.proofs.Migration.Setup.{at_itself}
 use Rattle.hm_protocol.specs.declared.events.Event.{Event}
 use Rattle.hm_protocol.specs.declared.events.Reason.{Reason}
-use Rattle.hm_protocol.specs.declared.events.Traced.{Traced}
 use Rattle.hm_protocol.specs.Words.{drop_if, is_it}
-use Rattle.hm_protocol.specs.Known.{Inside, Call, Early, Move, Known, is_current, in_span}
-use Rattle.hm_protocol.specs.Noted.{noted, known_next, inside, call, returned, after_end, over, migrates_for}
-use Rattle.hm_protocol.specs.Projection.{events_in, comes_to, top_of, erased, all_erased, reason_of, body_at, walk_of}
-use Rattle.hm_protocol.proofs.Fits.{AllFit, in_fits, comes_ok, erased_ok, all_erased_ok}
+use Rattle.hm_protocol.specs.Known.{Inside, Call, Known, is_current}
+use Rattle.hm_protocol.specs.Noted.{known_next, inside, call, returned, after_end, over, migrates_for}
 use Rattle.hm_protocol.proofs.Steps.{GoBy, by, by_thread, and_more}
-use Rattle.hm_protocol.proofs.Tellings.{Tells, tells_kept, told_now, told_seq, is_end}
-use Rattle.hm_protocol.proofs.Calls.{Core, core, cores, cores_keep, core_goes, Going, CallOk, AllCalls, GuardKnown, AllPast, Knows, KnowsCalls}
+use Rattle.hm_protocol.proofs.Tellings.{Tells}
+use Rattle.hm_protocol.proofs.Calls.{Core, core, cores, cores_keep, Going, CallOk, AllCalls, GuardKnown, AllPast, KnowsCalls}
 use Rattle.hm_protocol.proofs.Calls.{all_calls}
-use Rattle.hm_protocol.proofs.Guarding.{told_wrong, Asks, no_asks, quiet, knows_same}
+use Rattle.hm_protocol.proofs.Guarding.{told_wrong}
 
 -- ---- the state goes on
 

@@ -1,37 +1,28 @@
 -- What is known of callbacks holds of the state after each entry, and no event breaks a rule of invalidations.
-use Rattle.std.proofs.Common.{refl, ap, sym, subst, ◌∙◌, cond, arith}
+use Rattle.std.proofs.Common.{refl, ap, sym, subst, ◌∙◌}
 use Rattle.std.proofs.lemmas.Bool.{true≢false, false≢true, and_parts, eqb-true}
-use Rattle.std.proofs.lemmas.Bool.Decides.{nat_tests}
-use Rattle.std.proofs.lemmas.List.Sums.{fold-append}
-use Rattle.std.specs.Prelude.{◌≡◌, ℕ, ◌+◌, ◌<◌, Bool, true, false, not, ◌&&◌, ◌||◌, ◌==◌, if◌then◌else◌, Option, Some, None, is_some}
-use Rattle.std.specs.Prelude.{is_none, ⊤, List, [], ◌∷◌, ◌++◌, map, filter, find, fold, option_map}
+use Rattle.std.specs.Prelude.{◌≡◌, ℕ, Bool, true, false, ◌&&◌, ◌||◌, ◌==◌, if◌then◌else◌, Option}
+use Rattle.std.specs.Prelude.{List, [], ◌∷◌, ◌++◌, map, filter}
 use Rattle.std.specs.List.{list_any}
-use Rattle.hm_base.specs.Program.{Program}
 use Rattle.hm_base.specs.Pages.{Pages}
 use Rattle.hm_base.specs.declared.Frame.{Frame}
-use Rattle.hm_base.specs.declared.ops.Op.{Op}
-use Rattle.hm_history.specs.Memory.Words.{with_at}
-use Rattle.hm_history.specs.Memory.Sequences.{Sequences, Guarded, sequences_next, sequences_accept, interval_seq, interval_proc}
-use Rattle.hm_history.specs.Memory.After.{After}
-use Rattle.hm_history.specs.Kernel.Going.{State}
+use Rattle.hm_history.specs.Memory.Sequences.{Sequences}
 use Rattle.hm_history.specs.declared.TableRight.{TableRight}
 use Rattle.hm_history.specs.declared.Kind.{Kind}
-use Rattle.hm_history.proofs.Updates.{here_at, other_at}
 use Rattle.hm_history.proofs.Tests.{no_test}
-use Rattle.hm_protocol.specs.declared.events.TraceFrame.{TraceFrame}
 use Rattle.hm_protocol.specs.declared.events.Event.{Event}
 use Rattle.hm_protocol.specs.declared.events.Traced.{Traced}
 use Rattle.hm_protocol.specs.Words.{device_of, drop_if, is_it, is_empty, is_sole}
-use Rattle.hm_protocol.specs.Known.{Slot, Inside, Call, Look, Move, Early, Known, goes_on, is_telling, is_early, is_invalidated}
+use Rattle.hm_protocol.specs.Known.{Call, Look, Early, Known, goes_on, is_telling, is_early, is_invalidated}
 use Rattle.hm_protocol.specs.Known.{is_slot, meets, is_look_up}
 use Rattle.hm_protocol.specs.Noted.{noted, known_next, after_set, set_by, commit, moving, too_early, begun_last, is_walked, is_last}
 use Rattle.hm_protocol.specs.Tests.{detach_waits, exclusive_waits, set_unless_invalidated, is_migrated_set}
 use Rattle.hm_protocol.proofs.Fits.{Fits, AllFit}
-use Rattle.hm_protocol.proofs.Fields.{set_keeps, held_keeps, pass_keeps}
+use Rattle.hm_protocol.proofs.Fields.{held_keeps, pass_keeps}
 use Rattle.hm_protocol.proofs.Steps.{GoBy, by, by_thread, through}
 use Rattle.hm_protocol.proofs.Tellings.{Tells}
-use Rattle.hm_protocol.proofs.Calls.{Core, core, cores, cores_keep, under_keeps, mapped, tells, core_goes, Going, CallOk, AllCalls}
-use Rattle.hm_protocol.proofs.Calls.{GuardKnown, AllPast, Knows, KnowsCalls, all_calls, none_such, none_left, telling_says, all_past}
+use Rattle.hm_protocol.proofs.Calls.{core, cores, cores_keep, under_keeps, mapped, CallOk, AllCalls}
+use Rattle.hm_protocol.proofs.Calls.{GuardKnown, AllPast, KnowsCalls, none_such, none_left, telling_says, all_past}
 
 -- an event breaks a rule of invalidations
 abbrev pub told_wrong : Known → Traced → Bool

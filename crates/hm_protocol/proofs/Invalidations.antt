@@ -1,20 +1,20 @@
 -- No legal history breaks the rules of invalidations: what is known of callbacks is kept by each entry.
-use Rattle.std.proofs.Common.{refl, ap, sym, subst, ◌∙◌, arith, inl, inr}
-use Rattle.std.proofs.lemmas.Bool.{true≢false, false≢true, and_parts, eqb-true, not_from_true}
+use Rattle.std.proofs.Common.{refl, ap, sym, subst, ◌∙◌, arith}
+use Rattle.std.proofs.lemmas.Bool.{false≢true, and_parts}
 use Rattle.std.proofs.lemmas.Bool.Decides.{nat_tests}
-use Rattle.std.specs.Prelude.{◌≡◌, ℕ, ◌<◌, ◌≤◌, Bool, true, false, not, ◌&&◌, ◌||◌, ◌==◌, if◌then◌else◌, Option, Some, None}
-use Rattle.std.specs.Prelude.{is_some, is_none, option_map, cond, ⊤, IsTrue, List, [], ◌∷◌, ◌++◌, map, filter, find, fold}
+use Rattle.std.specs.Prelude.{◌≡◌, ℕ, ◌<◌, ◌≤◌, Bool, true, false, not, ◌&&◌, ◌||◌, ◌==◌, Option, Some, None}
+use Rattle.std.specs.Prelude.{is_some, is_none, option_map, cond, ⊤, List, [], ◌∷◌, ◌++◌, map, filter, find, fold}
 use Rattle.std.specs.List.{list_any}
 use Rattle.hm_base.specs.Program.{Program, IsScript}
 use Rattle.hm_base.specs.Pages.{Pages, covers, one_page}
 use Rattle.hm_base.specs.declared.Frame.{Frame}
 use Rattle.hm_base.specs.declared.ops.Op.{Op}
-use Rattle.hm_history.specs.Memory.Plain.{MirrorState, mirror_proc, mirror_dev, is_attached_state, mirror_passes}
+use Rattle.hm_history.specs.Memory.Plain.{MirrorState, mirror_proc, mirror_dev}
 use Rattle.hm_history.specs.Memory.Sequences.{Sequences, Interval, sequences_next, sequences_accept, interval_seq, interval_proc}
 use Rattle.hm_history.specs.Memory.After.{After}
 use Rattle.hm_history.specs.Memory.Words.{page_of}
 use Rattle.hm_history.specs.Kernel.Operation.{op_mirror, op_piece}
-use Rattle.hm_history.specs.Kernel.Going.{State, op_at, state_start, state_next, touch_page}
+use Rattle.hm_history.specs.Kernel.Going.{State, op_at, state_next, touch_page}
 use Rattle.hm_history.specs.Kernel.Legal.{Legal}
 use Rattle.hm_history.specs.declared.TableRight.{TableRight}
 use Rattle.hm_history.specs.declared.Kind.{Kind}
@@ -25,28 +25,26 @@ use Rattle.hm_history.specs.declared.phases.Phase.{Phase}
 use Rattle.hm_history.proofs.Tests.{no_test}
 use Rattle.hm_laws.specs.Past.{Past}
 use Rattle.hm_laws.specs.Sound.{SequenceRules, Sound, Pairing, Paired}
-use Rattle.hm_laws.specs.Allowed.{Allowed, SetOk}
-use Rattle.hm_laws.specs.Facts.{facts, HoldsAll, Touches}
+use Rattle.hm_laws.specs.Allowed.{Allowed}
+use Rattle.hm_laws.specs.Facts.{facts, HoldsAll}
 use Rattle.hm_laws.proofs.Kept.Mirrors.{interval_of}
 use Rattle.hm_laws.proofs.State.Invalidations.{start_says}
 use Rattle.hm_laws.proofs.State.MirrorInterval.{Mirrored, mirrored, same_proc}
 use Rattle.hm_protocol.specs.declared.events.Event.{Event}
 use Rattle.hm_protocol.specs.declared.events.Reason.{Reason}
-use Rattle.hm_protocol.specs.declared.events.Traced.{Traced}
 use Rattle.hm_protocol.specs.declared.rules.Rule.{Rule}
 use Rattle.hm_protocol.specs.declared.rules.Joint.{Joint}
-use Rattle.hm_protocol.specs.Words.{is_it, is_other, is_empty}
-use Rattle.hm_protocol.specs.Known.{Inside, Call, Early, Known, known_start, leaves_seq, is_own}
+use Rattle.hm_protocol.specs.Words.{is_other, is_empty}
+use Rattle.hm_protocol.specs.Known.{Inside, Call, Early, Known, known_start, is_own}
 use Rattle.hm_protocol.specs.Noted.{known_next, known}
 use Rattle.hm_protocol.specs.Tests.{detach_waits, exclusive_waits, set_unless_invalidated}
 use Rattle.hm_protocol.specs.Callbacks.{set_sequence, own_sequence_left, own_events, own_sequence, is_stale, is_copied}
-use Rattle.hm_protocol.specs.Rules.{first_call, first_commit, compare, begin_waits}
-use Rattle.hm_protocol.specs.Projection.{project, events_in, comes_to, top_of, walk_of, walk, piece_and_seq, erased, all_erased, reason_of, body_at, window_of}
+use Rattle.hm_protocol.specs.Projection.{project, events_in, comes_to, top_of, walk_of, piece_and_seq, erased, all_erased, reason_of, body_at, window_of}
 use Rattle.hm_protocol.specs.Laws.{IsKept, IsJointKept}
-use Rattle.hm_protocol.proofs.Fits.{AllFit, in_fits, comes_ok, erased_ok, all_erased_ok}
-use Rattle.hm_protocol.proofs.Steps.{Calm, GoBy, Keeps, Step, by, by_thread, never, and_more, watched, calm_left, calm_right}
+use Rattle.hm_protocol.proofs.Fits.{in_fits, comes_ok, all_erased_ok}
+use Rattle.hm_protocol.proofs.Steps.{Calm, GoBy, Keeps, by, by_thread, never, and_more, watched, calm_left, calm_right}
 use Rattle.hm_protocol.proofs.Tellings.{Tells, tells_kept, told_now, told_seq, not_detached, is_process, is_interval, is_end}
-use Rattle.hm_protocol.proofs.Calls.{Core, core, cores, CallOk, AllCalls, GuardKnown, AllPast, Knows, KnowsCalls}
+use Rattle.hm_protocol.proofs.Calls.{core, AllCalls, AllPast, KnowsCalls}
 use Rattle.hm_protocol.proofs.Guarding.{told_wrong, Asks, Untold, no_asks, quiet, walk_known, is_special}
 use Rattle.hm_protocol.proofs.Guarded.{advance, started, ended, told_entry}
 

@@ -1,7 +1,6 @@
 -- No legal history breaks `mmap-lock`: a walk begins with the entry that takes the lock.
 use Rattle.std.proofs.Common.{refl, ap, ◌∙◌}
 use Rattle.std.specs.Prelude.{◌≡◌, ℕ, Bool, true, false, not, Some, is_some, ⊤}
-use Rattle.hm_base.specs.Program.{Program}
 use Rattle.hm_history.specs.Memory.After.{After, after_entry}
 use Rattle.hm_history.specs.Memory.Locks.{map_next}
 use Rattle.hm_history.specs.Kernel.Going.{state_next}

@@ -1,24 +1,19 @@
 -- What is known of the mirrors' tables: the entries that are there, and that callbacks leave none.
-use Rattle.std.proofs.Common.{refl, ap, sym, subst, ◌∙◌, cond, arith, inl, inr}
-use Rattle.std.proofs.lemmas.Bool.{true≢false, false≢true, and_parts, cases_eq, eqb-true}
-use Rattle.std.proofs.lemmas.Bool.Decides.{nat_tests}
-use Rattle.std.proofs.lemmas.Option.{none-some}
-use Rattle.std.specs.Prelude.{◌≡◌, ℕ, ◌+◌, Bool, true, false, not, ◌&&◌, ◌||◌, ◌==◌, ◌⊎◌, nat_lt, if◌then◌else◌, Option, Some, None}
-use Rattle.std.specs.Prelude.{is_some, is_none, ⊤, List, [], ◌∷◌, ◌++◌, map, filter, find, count_by}
+use Rattle.std.proofs.Common.{refl, ap, sym, subst, ◌∙◌, cond}
+use Rattle.std.proofs.lemmas.Bool.{true≢false}
+use Rattle.std.specs.Prelude.{◌≡◌, ℕ, Bool, true, false, not, ◌&&◌, ◌||◌, ◌==◌, nat_lt, if◌then◌else◌, Option, Some, None}
+use Rattle.std.specs.Prelude.{is_none, ⊤, List, [], ◌∷◌, map, filter, find, count_by}
 use Rattle.std.specs.List.{list_any}
-use Rattle.hm_base.specs.Pages.{Pages, overlap}
+use Rattle.hm_base.specs.Pages.{overlap}
 use Rattle.hm_history.specs.Memory.Places.{TableEntry}
-use Rattle.hm_history.specs.declared.TableRight.{TableRight}
-use Rattle.hm_laws.proofs.Migration.Setup.{at_itself}
-use Rattle.hm_protocol.specs.declared.events.TraceFrame.{TraceFrame}
 use Rattle.hm_protocol.specs.declared.events.Event.{Event}
 use Rattle.hm_protocol.specs.declared.events.Traced.{Traced}
-use Rattle.hm_protocol.specs.Words.{device_of, drop_if, is_it, is_sole, is_read}
-use Rattle.hm_protocol.specs.Known.{Slot, Inside, Call, Move, Known, is_slot, in_span, is_own, is_current}
-use Rattle.hm_protocol.specs.Noted.{noted, known_next, call, returned, after_erase, lost_one, after_set, after_paged, paged, after_end, over, began}
+use Rattle.hm_protocol.specs.Words.{device_of, drop_if, is_it, is_sole}
+use Rattle.hm_protocol.specs.Known.{Slot, Call, Move, Known, is_slot, is_own, is_current}
+use Rattle.hm_protocol.specs.Noted.{noted, known_next, returned, after_erase, lost_one, after_set, after_paged, paged, after_end, over, began}
 use Rattle.hm_protocol.specs.Tests.{write_entry, look_again}
-use Rattle.hm_protocol.proofs.Fields.{at_end, at_refused, set_keeps, held_keeps, pass_keeps}
-use Rattle.hm_protocol.proofs.Steps.{GoBy, by, by_thread}
+use Rattle.hm_protocol.proofs.Fields.{at_end, at_refused, held_keeps, pass_keeps}
+use Rattle.hm_protocol.proofs.Steps.{by}
 
 -- an event goes through the table against its right
 abbrev pub table_wrong : Known → Traced → Bool

@@ -1,14 +1,13 @@
 -- A legal history, step by step: what holds of what is known and of the state, as long as each entry's events keep it.
 use Rattle.std.proofs.Common.{refl, ap, sym, subst, ◌∙◌, append_assoc}
 use Rattle.std.proofs.lemmas.Bool.{true≢false}
-use Rattle.std.proofs.lemmas.List.Sums.{fold-append}
 use Rattle.std.specs.Prelude.{◌≡◌, ℕ, Bool, true, false, ◌||◌, Option, Some, None, is_some, ⊤, IsTrue, List, [], ◌∷◌, ◌++◌, fold, map}
 use Rattle.hm_base.specs.Program.{Program, IsScript}
 use Rattle.hm_base.specs.declared.ops.Op.{Op}
 use Rattle.hm_history.specs.Memory.Plain.{mirror_owner}
 use Rattle.hm_history.specs.Memory.Places.{places_accept}
 use Rattle.hm_history.specs.Memory.Sequences.{sequences_accept}
-use Rattle.hm_history.specs.Memory.After.{After, after}
+use Rattle.hm_history.specs.Memory.After.{after}
 use Rattle.hm_history.specs.Kernel.Going.{State, op_at, state_start, state_next, state_of, state_of-snoc, going_next}
 use Rattle.hm_history.specs.Kernel.Due.{due_in}
 use Rattle.hm_history.specs.Kernel.Legal.{Legal, LegalFrom, MayFollow}
@@ -21,7 +20,7 @@ use Rattle.hm_laws.proofs.Histories.Sound.{Small, Turn, small, turn, turn_of, at
 use Rattle.hm_protocol.specs.declared.events.Event.{Event}
 use Rattle.hm_protocol.specs.declared.events.Traced.{Traced}
 use Rattle.hm_protocol.specs.Known.{Known, known_start}
-use Rattle.hm_protocol.specs.Noted.{known_next, known}
+use Rattle.hm_protocol.specs.Noted.{known_next}
 use Rattle.hm_protocol.specs.Rules.{first_wrong}
 use Rattle.hm_protocol.specs.Projection.{project, events_of, events_in, traced_next}
 use Rattle.hm_protocol.proofs.Fits.{Fits, AllFit, in_fits}

@@ -1,41 +1,39 @@
 -- No legal history breaks the rules of tables: what is known of tables is kept by each entry.
 use Rattle.std.proofs.Common.{refl, ap, sym, subst, ◌∙◌, cond, arith, inl, inr}
-use Rattle.std.proofs.lemmas.Bool.{true≢false, false≢true, and_parts, cases_eq, eqb-true}
+use Rattle.std.proofs.lemmas.Bool.{true≢false, false≢true, and_parts, eqb-true}
 use Rattle.std.proofs.lemmas.Bool.Decides.{nat_tests}
 use Rattle.std.proofs.lemmas.Option.{none-some}
 use Rattle.std.specs.Prelude.{◌≡◌, ℕ, ◌+◌, ◌<◌, ◌≤◌, Bool, true, false, not, ◌&&◌, ◌||◌, ◌==◌, ◌⊎◌, nat_lt, nat_le, if◌then◌else◌, Option}
-use Rattle.std.specs.Prelude.{Some, None, is_some, is_none, IsTrue, ⊤, List, [], ◌∷◌, ◌++◌, map, filter, find, flat_map, option_map, fold, length}
+use Rattle.std.specs.Prelude.{Some, None, is_some, is_none, IsTrue, List, [], ◌∷◌, ◌++◌, map, filter, find, flat_map, option_map, fold, length}
 use Rattle.std.specs.List.{list_any}
 use Rattle.hm_base.specs.Program.{Program, IsScript}
 use Rattle.hm_base.specs.Pages.{Pages, covers, one_page}
 use Rattle.hm_base.specs.declared.Frame.{Frame}
 use Rattle.hm_base.specs.declared.ops.Op.{Op}
 use Rattle.hm_history.specs.Memory.Words.{numbers, page_of}
-use Rattle.hm_history.specs.Memory.Plain.{MirrorState, mirror_owner, mirror_passes, is_attached_state, owned}
+use Rattle.hm_history.specs.Memory.Plain.{MirrorState, mirror_owner, mirror_passes, is_attached_state}
 use Rattle.hm_history.specs.Memory.Places as places
 use Rattle.hm_history.specs.Memory.Places.{Places, TableEntry, places_next, places_accept, with_entry, erased_table, table_reads, table_writes}
 use Rattle.hm_history.specs.Memory.Places.{table_sole, entry_passes, may_write}
 use Rattle.hm_history.specs.Memory.Sequences.{interval_seq}
 use Rattle.hm_history.specs.Memory.After.{After}
-use Rattle.hm_history.specs.Kernel.Going.{State, op_at, state_start, state_next}
+use Rattle.hm_history.specs.Kernel.Going.{State, op_at, state_next}
 use Rattle.hm_history.specs.Kernel.Legal.{Legal}
-use Rattle.hm_history.specs.declared.Who.{Who}
 use Rattle.hm_history.specs.declared.TableRight.{TableRight}
 use Rattle.hm_history.specs.declared.Kind.{Kind}
 use Rattle.hm_history.specs.declared.Entry.{Entry}
 use Rattle.hm_laws.specs.Past.{Past}
-use Rattle.hm_laws.specs.Sound.{Sound, TableRules}
+use Rattle.hm_laws.specs.Sound.{Sound}
 use Rattle.hm_laws.specs.Allowed.{Allowed}
 use Rattle.hm_laws.proofs.State.Invalidations.{in_filter, in_numbers}
 use Rattle.hm_laws.proofs.State.TableEntries.{entry_of}
 use Rattle.hm_laws.proofs.Migration.Setup.{at_itself}
 use Rattle.hm_protocol.specs.declared.events.Event.{Event}
-use Rattle.hm_protocol.specs.declared.events.Traced.{Traced}
 use Rattle.hm_protocol.specs.declared.rules.Rule.{Rule}
 use Rattle.hm_protocol.specs.declared.rules.Joint.{Joint}
 use Rattle.hm_protocol.specs.Words.{drop_if, is_sole, is_read, is_empty}
 use Rattle.hm_protocol.specs.Known.{Slot, Call, Known, known_start, is_slot, in_span, is_own, leaves_seq}
-use Rattle.hm_protocol.specs.Noted.{noted, known_next, known, call, after_erase, lost_one, after_set, set_by}
+use Rattle.hm_protocol.specs.Noted.{known_next, known, call, after_set}
 use Rattle.hm_protocol.specs.Tests.{write_entry, look_again}
 use Rattle.hm_protocol.specs.Callbacks as callbacks
 use Rattle.hm_protocol.specs.Callbacks.{entries_left, is_late, is_stale, is_copied, leaves, left_first, erases, erase, erase_in_time, own_entries}
@@ -44,11 +42,11 @@ use Rattle.hm_protocol.specs.Projection.{project, events_in, comes_to, top_of, e
 use Rattle.hm_protocol.specs.Laws.{IsKept, IsJointKept}
 use Rattle.hm_protocol.proofs.Fits.{Fits, AllFit, in_fits, comes_ok, is_erasing, removal_ok}
 use Rattle.hm_protocol.proofs.Fields.{set_keeps}
-use Rattle.hm_protocol.proofs.Steps.{Calm, GoBy, Keeps, Step, by, by_thread, never, through, and_more, watched, calm_left, calm_right}
+use Rattle.hm_protocol.proofs.Steps.{GoBy, Keeps, by, by_thread, never, through, and_more, watched, calm_left, calm_right}
 use Rattle.hm_protocol.proofs.Detached.{owned_is}
-use Rattle.hm_protocol.proofs.Slots.{table_wrong, AllSlots, sole_slot, SoleSlots, slots_left, still_any, Clean, AllClean, each_clean}
-use Rattle.hm_protocol.proofs.Slots.{erase_clean, set_clean, Tables, KnowsTables, changes, tables_kept}
-use Rattle.hm_protocol.proofs.Erasing.{among, Erasing, ErasingKnown, erasing_step, erasing_fewer, Telling, telling_step, telling_fewer, AllIn}
+use Rattle.hm_protocol.proofs.Slots.{table_wrong, AllSlots, sole_slot, SoleSlots, slots_left, still_any, Clean, AllClean}
+use Rattle.hm_protocol.proofs.Slots.{Tables, KnowsTables, tables_kept}
+use Rattle.hm_protocol.proofs.Erasing.{among, ErasingKnown, erasing_step, erasing_fewer, Telling, telling_step, telling_fewer, AllIn}
 use Rattle.hm_protocol.proofs.Erasing.{all_gone, erase_all, set_tables}
 
 -- ---- uses

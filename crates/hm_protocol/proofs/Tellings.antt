@@ -1,18 +1,17 @@
 -- A mirror that was told of an invalidation under way: both sequences are what it was told, until the invalidation ends.
-use Rattle.std.proofs.Common.{◌≡◌, ℕ, ◌+◌, ◌<◌, ◌≤◌, ◌⊎◌, inl, inr, Bool, true, false, ◌==◌, ◌&&◌, ◌||◌, not, Option, Some, None, refl, sym, ap, ◌∙◌, subst, arith}
-use Rattle.std.specs.Prelude.{is_none, if◌then◌else◌, [], ◌∷◌, ◌++◌, nat_lt, length}
+use Rattle.std.proofs.Common.{◌≡◌, ℕ, ◌⊎◌, inl, inr, Bool, true, false, ◌==◌, ◌&&◌, ◌||◌, not, Option, Some, None, refl, sym, ap, ◌∙◌, subst, arith}
+use Rattle.std.specs.Prelude.{if◌then◌else◌, [], ◌∷◌, ◌++◌, nat_lt, length}
 use Rattle.std.specs.List.{list_all}
-use Rattle.std.proofs.lemmas.Bool.{cases_eq, true≢false, false≢true, eqb-true, and_parts}
+use Rattle.std.proofs.lemmas.Bool.{cases_eq, false≢true, eqb-true, and_parts}
 use Rattle.std.proofs.lemmas.Bool.Decides.{nat_tests}
 use Rattle.hm_base.specs.Pages.{Pages}
 use Rattle.hm_history.specs.Memory.Words.{with_at}
 use Rattle.hm_history.specs.Memory.Sequences.{Sequences, Interval, Guarded, Stage, is_odd, in_tree_state, deferred_state, removed_state}
-use Rattle.hm_history.specs.Memory.Sequences.{interval_passes, interval_proc, interval_seq, overlaps, seq_started, seq_ended, seq_inserted}
+use Rattle.hm_history.specs.Memory.Sequences.{interval_passes, interval_proc, interval_seq, overlaps}
 use Rattle.hm_history.specs.Memory.Sequences.{is_last_end, all_told, applied, applied_stage, intervals_ended, with_seq, with_stage, with_told, guard_passes}
 use Rattle.hm_history.specs.Memory.Sequences.{same_span, is_next_told, sequences_next, sequences_accept}
 use Rattle.hm_history.specs.declared.Kind.{Kind}
 use Rattle.hm_history.proofs.Updates.{other_at, here_at}
-use Rattle.hm_history.proofs.Tests.{no_test}
 use Rattle.hm_laws.specs.Sound.{has_met, SequenceRules}
 use Rattle.hm_laws.proofs.State.Invalidations.{ToldTo, told_says, Overlapping, overlaps_says, start_says, end_says}
 use Rattle.hm_laws.proofs.Kept.Sequences.{started_rises, inserted_rises, ended_else, not_last}

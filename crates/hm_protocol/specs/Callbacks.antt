@@ -1,9 +1,9 @@
 -- Rules as tests of a callback, after all that is known: whether it breaks the rule.
-use Rattle.std.specs.Prelude.{ℕ, Bool, true, false, not, ◌&&◌, ◌||◌, nat_lt, ◌==◌, if◌then◌else◌, Option, Some, None}
-use Rattle.std.specs.Prelude.{is_some, is_none, List, [], ◌∷◌, length}
+use Rattle.std.specs.Prelude.{ℕ, Bool, true, false, not, ◌&&◌, ◌||◌, nat_lt, ◌==◌, if◌then◌else◌, Some, None}
+use Rattle.std.specs.Prelude.{is_some, length}
 use Rattle.std.specs.List.{list_any}
 use Rattle.hm_protocol.specs.Words.{is_empty}
-use Rattle.hm_protocol.specs.Known.{Slot, Call, Known, leaves_seq, is_own}
+use Rattle.hm_protocol.specs.Known.{Call, Known, leaves_seq, is_own}
 
 -- ---- joint rules
 

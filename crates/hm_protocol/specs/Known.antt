@@ -1,5 +1,5 @@
 -- What is known after some events. A position counts events from 0.
-use Rattle.std.specs.Prelude.{ℕ, Bool, true, false, not, ◌&&◌, ◌||◌, ◌==◌, if◌then◌else◌, Option, Some, None, is_some}
+use Rattle.std.specs.Prelude.{ℕ, Bool, false, not, ◌&&◌, ◌||◌, ◌==◌, if◌then◌else◌, Option, Some, None, is_some}
 use Rattle.std.specs.Prelude.{is_none, List, [], ◌∷◌, find}
 use Rattle.std.specs.List.{list_any}
 use Rattle.hm_base.specs.Pages.{Pages, covers}

@@ -11,9 +11,9 @@ use Rattle.hm_protocol.specs.declared.events.Reason.{Reason}
 use Rattle.hm_protocol.specs.declared.events.TraceFrame.{TraceFrame}
 use Rattle.hm_protocol.specs.declared.events.Traced.{Traced}
 use Rattle.hm_protocol.specs.Words.{device_of, is_same, is_it, is_before, is_empty, is_sole, drop_if}
-use Rattle.hm_protocol.specs.Known.{Slot, Inside, Call, Stage, Look, Move, Early, Known, no_look, known_start}
+use Rattle.hm_protocol.specs.Known.{Inside, Call, Stage, Look, Move, Early, Known, no_look, known_start}
 use Rattle.hm_protocol.specs.Known.{is_slot, in_span}
-use Rattle.hm_protocol.specs.Known.{is_current, goes_on, is_telling, is_own, is_early, meets, is_migrated, is_look_up}
+use Rattle.hm_protocol.specs.Known.{is_current, goes_on, is_telling, is_own, is_early, meets, is_look_up}
 
 -- ---- callbacks
 

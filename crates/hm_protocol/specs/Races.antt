@@ -15,7 +15,7 @@ use Rattle.hm_protocol.specs.declared.events.Traced.{Traced}
 use Rattle.hm_protocol.specs.declared.rules.Rule.{Rule}
 use Rattle.hm_protocol.specs.declared.rules.Joint.{Joint}
 use Rattle.hm_protocol.specs.Rules.{all_rules, all_joint, joint_test, fails, broken}
-use Rattle.hm_protocol.specs.Projection.{project, project_by}
+use Rattle.hm_protocol.specs.Projection.{project_by}
 
 -- a turn of the right driver
 abbrev pub right_turn : Program → State × List Entry → ℕ → State × List Entry

@@ -5,7 +5,7 @@ use Rattle.hm_protocol.specs.declared.events.Traced.{Traced}
 use Rattle.hm_protocol.specs.declared.rules.Rule.{Rule}
 use Rattle.hm_protocol.specs.declared.rules.Joint.{Joint}
 use Rattle.hm_protocol.specs.Words.{is_empty}
-use Rattle.hm_protocol.specs.Known.{Call, Early, Known, known_start}
+use Rattle.hm_protocol.specs.Known.{Call, Known, known_start}
 use Rattle.hm_protocol.specs.Noted.{known_next, known}
 use Rattle.hm_protocol.specs.Tests as tests
 use Rattle.hm_protocol.specs.Callbacks as callbacks

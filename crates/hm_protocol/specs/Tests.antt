@@ -1,12 +1,12 @@
 -- Rules as tests of an event, after what is known: whether it breaks the rule.
-use Rattle.std.specs.Prelude.{ℕ, Bool, true, false, not, ◌&&◌, ◌==◌, Option, Some, None, List, [], ◌∷◌}
+use Rattle.std.specs.Prelude.{ℕ, Bool, true, false, not, ◌&&◌, ◌==◌, Some, None, List, [], ◌∷◌}
 use Rattle.std.specs.List.{list_any}
 use Rattle.hm_history.specs.declared.TableRight.{TableRight}
 use Rattle.hm_protocol.specs.declared.events.TraceFrame.{TraceFrame}
 use Rattle.hm_protocol.specs.declared.events.Event.{Event}
 use Rattle.hm_protocol.specs.declared.events.Traced.{Traced}
 use Rattle.hm_protocol.specs.Words.{device_of, private_to, is_same, is_it, is_other, is_read, is_write, is_sole}
-use Rattle.hm_protocol.specs.Known.{Stage, Look, Move, Known, is_slot, in_span, is_noted, is_telling, is_invalidated}
+use Rattle.hm_protocol.specs.Known.{Move, Known, is_slot, in_span, is_noted, is_telling, is_invalidated}
 use Rattle.hm_protocol.specs.Known.{is_migrated, is_look_up}
 use Rattle.hm_protocol.specs.Noted.{is_begun}
 

@@ -2,7 +2,6 @@
 use Rattle.std.specs.Prelude.{ℕ, ◌+◌, Bool, true, false, not, ◌&&◌, ◌||◌, nat_lt, ◌==◌, if◌then◌else◌, Option}
 use Rattle.std.specs.Prelude.{Some, None, is_some, is_none, List, [], ◌∷◌, length, count_by}
 use Rattle.std.specs.List.{list_any, list_all}
-use Rattle.hm_history.specs.declared.TableRight.{TableRight}
 use Rattle.hm_protocol.specs.declared.events.Event.{Event}
 use Rattle.hm_protocol.specs.declared.events.Traced.{Traced}
 use Rattle.hm_protocol.specs.declared.events.Recorded.{Recorded}
