@@ -39,6 +39,7 @@ use Rattle.hm_protocol.specs.Known.{Inside, Call, Early, Known, known_start, is_
 use Rattle.hm_protocol.specs.Noted.{known_next, known}
 use Rattle.hm_protocol.specs.Tests.{detach_waits, exclusive_waits, set_unless_invalidated}
 use Rattle.hm_protocol.specs.Callbacks.{set_sequence, own_sequence_left, own_events, own_sequence, is_stale, is_copied}
+use Rattle.hm_protocol.specs.Rules.{first_call}
 use Rattle.hm_protocol.specs.Projection.{project, events_in, comes_to, top_of, walk_of, piece_and_seq, erased, all_erased, reason_of, body_at, window_of}
 use Rattle.hm_protocol.specs.Laws.{IsKept, IsJointKept}
 use Rattle.hm_protocol.proofs.Fits.{in_fits, comes_ok, all_erased_ok}
@@ -317,3 +318,10 @@ pub own_sequence_left_kept : IsJointKept Joint.OwnSequenceLeft
 own_sequence_left_kept c sc h legal = let x : (u : State) × KnowsCalls u.after.sequences (known (project c h)) = (all_known c sc h legal).1 in
     let k : Known = known (project c h) in ap (option_map (λ (x : Call). x.at))
     (none_own x.0.after.sequences k.under k (own_sequence_left k) (λ y e. e) k.calls x.1.calls)
+
+-- no callback passes a test that asks that it leaves the sequence of its own migration
+pub own_by : (f : Known → Call → Bool) → ((k : Known) (x : Call) → own_sequence_left k x ≡ false → f k x ≡ false) → (c : Program)
+    → IsScript c → (h : List Entry) → Legal c h → first_call f (known (project c h)) ≡ None
+own_by f g c sc h legal = let x : (u : State) × KnowsCalls u.after.sequences (known (project c h)) = (all_known c sc h legal).1 in
+    let k : Known = known (project c h) in ap (option_map (λ (x : Call). x.at))
+    (none_own x.0.after.sequences k.under k (f k) (g k) k.calls x.1.calls)

@@ -13,6 +13,7 @@ mod Invalidations
 mod Slots
 mod Erasing
 mod Tables
+mod Cleared
 mod RightRacesCome
 mod ShortRacesCome
 mod LongRacesCome

@@ -473,7 +473,7 @@ none_of_calls : (f : Call → Bool) → ((x : Call) → Clean x → f x ≡ fals
 none_of_calls f h [] l = refl
 none_of_calls f h (x ∷ xs) l = ap (λ b. cond b (Some x) (find f xs)) (h x l.0) ∙ none_of_calls f h xs l.1
 
-none_left_behind : (k : Known) (x : Call) → Clean x → entries_left k x ≡ false
+pub none_left_behind : (k : Known) (x : Call) → Clean x → entries_left k x ≡ false
 none_left_behind k x c = ap (λ ys. is_some x.after && (not (is_empty ys) && (not (is_own k x) || not (leaves_seq x)))) c.1.0
     ∙ no_way (is_some x.after)
   where
@@ -491,7 +491,7 @@ not_copied x h = by_stale x.stale
     by_stale None = refl
     by_stale (Some y) = ap (λ n. nat_lt 0 n && (is_empty y.0 && (true || y.1))) h
 
-kept_by : (f : Known → Call → Bool) → ((k : Known) (x : Call) → Clean x → f k x ≡ false) → (c : Program) → IsScript c → (h : List Entry)
+pub kept_by : (f : Known → Call → Bool) → ((k : Known) (x : Call) → Clean x → f k x ≡ false) → (c : Program) → IsScript c → (h : List Entry)
     → Legal c h → first_call f (known (project c h)) ≡ None
 kept_by f g c sc h legal = ap (option_map (λ (x : Call). x.at))
     (none_of_calls (f (known (project c h))) (g (known (project c h))) (known (project c h)).calls (tables_known c sc h legal).1.1.clean)

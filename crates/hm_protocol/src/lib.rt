@@ -2,7 +2,7 @@
 // rules, and the events of a history. Each law is the contract of a function with an empty body.
 #![tactic(auto)]
 
-ghost use Rattle.hm_protocol.specs.Laws.{IsKept, IsJointKept};
+ghost use Rattle.hm_protocol.specs.Laws.{IsCleared, IsKept, IsJointKept};
 ghost use Rattle.hm_protocol.specs.LongRaces.{LongRacesAreBlamed};
 ghost use Rattle.hm_protocol.specs.RightRaces.{RightRacesAreUnblamed};
 ghost use Rattle.hm_protocol.specs.ShortRaces.{ShortRacesAreBlamed};
@@ -60,4 +60,28 @@ pub fn no_legal_history_is_blamed()
 pub fn no_legal_history_is_blamed_jointly()
     ensures entries_left { IsJointKept joint.Joint.EntriesLeft }
     ensures own_sequence_left { IsJointKept joint.Joint.OwnSequenceLeft }
+{}
+
+/// So no verdict on a legal history says that one of these rules is broken, or may be.
+pub fn no_verdict_blames_a_legal_history()
+    ensures mmap_lock { IsCleared rule.Rule.MmapLock }
+    ensures own_device { IsCleared rule.Rule.OwnDevice }
+    ensures take_from_there { IsCleared rule.Rule.TakeFromThere }
+    ensures withdraw_first { IsCleared rule.Rule.WithdrawFirst }
+    ensures evict_first { IsCleared rule.Rule.EvictFirst }
+    ensures wait_for_locked { IsCleared rule.Rule.WaitForLocked }
+    ensures detach_waits { IsCleared rule.Rule.DetachWaits }
+    ensures exclusive_waits { IsCleared rule.Rule.ExclusiveWaits }
+    ensures set_unless_invalidated { IsCleared rule.Rule.SetUnlessInvalidated }
+    ensures begin_waits { IsCleared rule.Rule.BeginWaits }
+    ensures stop_at_detach { IsCleared rule.Rule.StopAtDetach }
+    ensures write_entry { IsCleared rule.Rule.WriteEntry }
+    ensures look_again { IsCleared rule.Rule.LookAgain }
+    ensures set_sequence { IsCleared rule.Rule.SetSequence }
+    ensures own_events { IsCleared rule.Rule.OwnEvents }
+    ensures own_sequence { IsCleared rule.Rule.OwnSequence }
+    ensures erase { IsCleared rule.Rule.Erase }
+    ensures erase_all { IsCleared rule.Rule.EraseAll }
+    ensures erase_in_time { IsCleared rule.Rule.EraseInTime }
+    ensures own_entries { IsCleared rule.Rule.OwnEntries }
 {}
