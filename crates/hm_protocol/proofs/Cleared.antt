@@ -50,14 +50,6 @@ none_suspect r es h = by_bool (none_broken (joined r) es)
 from_kept : (r : Rule) → IsKept r → ((c : Program) → IsScript c → (h : List Entry) → Legal c h → suspect r (project c h) ≡ None) → IsCleared r
 from_kept r k s c sc x h legal = cleared x r (project c h) (k c sc h legal) (none_suspect r (project c h) (s c sc h legal))
 
-left : (f : Known → Call → Bool) → ((k : Known) (x : Call) → Clean x → f k x ≡ false) → (c : Program) → IsScript c → (h : List Entry)
-    → Legal c h → first_call f (known (project c h)) ≡ None
-left f g c sc h legal = kept_by f g c sc h legal
-
-own : (f : Known → Call → Bool) → ((k : Known) (x : Call) → own_sequence_left k x ≡ false → f k x ≡ false) → (c : Program) → IsScript c
-    → (h : List Entry) → Legal c h → first_call f (known (project c h)) ≡ None
-own f g c sc h legal = own_by f g c sc h legal
-
 none_may_leave : (k : Known) (x : Call) → Clean x → may_leave k x ≡ false
 none_may_leave k x l = ap (λ b. b && (not (is_own k x) || (x.alone && is_none x.stale))) (none_left_behind k x l)
 
@@ -102,28 +94,28 @@ look_again_cleared = from_kept Rule.LookAgain look_again_kept (λ c sc h legal. 
 
 pub set_sequence_cleared : IsCleared Rule.SetSequence
 set_sequence_cleared = from_kept Rule.SetSequence set_sequence_kept
-    (own (λ k x. own_sequence_left k x && is_empty x.had) (λ k x q. ap (λ b. b && is_empty x.had) q))
+    (own_by (λ k x. own_sequence_left k x && is_empty x.had) (λ k x q. ap (λ b. b && is_empty x.had) q))
 
 pub own_events_cleared : IsCleared Rule.OwnEvents
 own_events_cleared = from_kept Rule.OwnEvents own_events_kept
-    (own own_sequence_left (λ k x q. q))
+    (own_by own_sequence_left (λ k x q. q))
 
 pub own_sequence_cleared : IsCleared Rule.OwnSequence
 own_sequence_cleared = from_kept Rule.OwnSequence own_sequence_kept
-    (own own_sequence_left (λ k x q. q))
+    (own_by own_sequence_left (λ k x q. q))
 
 pub erase_cleared : IsCleared Rule.Erase
 erase_cleared = from_kept Rule.Erase erase_kept
-    (left may_leave none_may_leave)
+    (kept_by may_leave none_may_leave)
 
 pub erase_all_cleared : IsCleared Rule.EraseAll
 erase_all_cleared = from_kept Rule.EraseAll erase_all_kept
-    (left (λ k x. may_leave k x && (not (is_own k x) && not (left_first k x))) (λ k x l. ap (λ b. b && (not (is_own k x) && not (left_first k x))) (none_may_leave k x l)))
+    (kept_by (λ k x. may_leave k x && (not (is_own k x) && not (left_first k x))) (λ k x l. ap (λ b. b && (not (is_own k x) && not (left_first k x))) (none_may_leave k x l)))
 
 pub erase_in_time_cleared : IsCleared Rule.EraseInTime
 erase_in_time_cleared = from_kept Rule.EraseInTime erase_in_time_kept
-    (left (λ k x. may_leave k x && (is_own k x || is_none x.ended)) (λ k x l. ap (λ b. b && (is_own k x || is_none x.ended)) (none_may_leave k x l)))
+    (kept_by (λ k x. may_leave k x && (is_own k x || is_none x.ended)) (λ k x l. ap (λ b. b && (is_own k x || is_none x.ended)) (none_may_leave k x l)))
 
 pub own_entries_cleared : IsCleared Rule.OwnEntries
 own_entries_cleared = from_kept Rule.OwnEntries own_entries_kept
-    (left (λ k x. may_leave k x && is_own k x) (λ k x l. ap (λ b. b && is_own k x) (none_may_leave k x l)))
+    (kept_by (λ k x. may_leave k x && is_own k x) (λ k x l. ap (λ b. b && is_own k x) (none_may_leave k x l)))
