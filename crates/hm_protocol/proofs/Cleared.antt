@@ -1,6 +1,6 @@
 -- No verdict blames a legal history: a rule that is kept is not broken, and nothing suggests that it may be.
 use Rattle.std.proofs.Common.{refl, ap, ◌∙◌}
-use Rattle.std.specs.Prelude.{◌≡◌, ℕ, Bool, true, false, not, ◌&&◌, ◌||◌, nat_lt, if◌then◌else◌, Option, Some, None, is_none, List}
+use Rattle.std.specs.Prelude.{◌≡◌, ℕ, Bool, true, false, not, ◌&&◌, ◌||◌, nat_lt, if◌then◌else◌, Some, None, is_none, List}
 use Rattle.hm_base.specs.Program.{Program, IsScript}
 use Rattle.hm_history.specs.Kernel.Legal.{Legal}
 use Rattle.hm_history.specs.declared.Entry.{Entry}
@@ -10,9 +10,8 @@ use Rattle.hm_protocol.specs.declared.rules.Rule.{Rule}
 use Rattle.hm_protocol.specs.declared.rules.Verdict.{Verdict}
 use Rattle.hm_protocol.specs.Words.{is_empty}
 use Rattle.hm_protocol.specs.Known.{Call, Known, is_own}
-use Rattle.hm_protocol.specs.Noted.{known}
-use Rattle.hm_protocol.specs.Callbacks.{entries_left, own_sequence_left, left_first}
-use Rattle.hm_protocol.specs.Rules.{broken, first_call}
+use Rattle.hm_protocol.specs.Callbacks.{own_sequence_left, left_first}
+use Rattle.hm_protocol.specs.Rules.{broken}
 use Rattle.hm_protocol.specs.Verdicts.{verdict, unbroken, may_break, suspect, joined, none_broken, if_asked, kept, is_recorded, may_leave}
 use Rattle.hm_protocol.specs.Projection.{project}
 use Rattle.hm_protocol.specs.Laws.{is_blame, IsKept, IsCleared}
