@@ -37,7 +37,7 @@ fn after_set_up<R: SkipRule>(
     for entry in set_up {
         match turn(alloc, script, rule, &state, entry.actor)? {
             Some(turned) => state = turned.state,
-            None => return Err(NoMemory),
+            None => unreachable!(),
         }
     }
     Ok(state)
