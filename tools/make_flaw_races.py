@@ -151,13 +151,14 @@ def text(taken):
         base = os.path.basename(path)[:-4]
         if base not in programs:
             programs.add(base)
-            out.append(f'abbrev pub {base}_script : Program\n{base}_script = {program(path)}\n')
+            out.append(f'-- examples/broken/{base}.hmm\nabbrev pub {base}_script : Program\n'
+                       f'{base}_script = {program(path)}\n')
         flaws = '\n    ∷ '.join([*(f'Flaw.{FLAWS[l]}' for l in drivers), '[]'])
         values = '\n    ∷ '.join([*(said(outs[l]) for l in drivers), '[]'])
-        out.append(f'-- turns after the run of that script, and what some drivers come to in them\nabbrev pub {name}_turns : List ℕ\n'
+        out.append(f'-- turns after the run of that script\nabbrev pub {name}_turns : List ℕ\n'
                    f'{name}_turns = {listed(turns)}\n')
-        out.append(f'abbrev pub {name}_flaws : List Flaw\n{name}_flaws = {flaws}\n')
-        out.append(f'abbrev pub {name}_outcomes : List ComesTo\n{name}_outcomes = {values}\n')
+        out.append(f'-- some drivers\nabbrev pub {name}_flaws : List Flaw\n{name}_flaws = {flaws}\n')
+        out.append(f'-- what they come to in these turns\nabbrev pub {name}_outcomes : List ComesTo\n{name}_outcomes = {values}\n')
         laws.append(f'(map (outcome_by {base}_script {name}_turns) {name}_flaws ≡ {name}_outcomes)')
     law = '\n    × '.join(laws)
     out.append(f'-- what these drivers come to in these races\nabbrev pub ToldApart : Type 0\nToldApart = {law}\n')

@@ -9,6 +9,7 @@ use Rattle.hm_flaws.specs.declared.flaws.Flaw.{Flaw}
 use Rattle.hm_flaws.specs.declared.parts.Part.{Part}
 use Rattle.hm_flaws.specs.Races.{ComesTo, broke, did_not, sticks, outcome_by}
 
+-- examples/broken/busy.hmm
 abbrev pub busy_script : Program
 busy_script = record {
   version = Version.Two;
@@ -26,10 +27,11 @@ busy_script = record {
   schedule = ScheduleLine.Run 0 8 ∷ [];
 }
 
--- turns after the run of that script, and what some drivers come to in them
+-- turns after the run of that script
 abbrev pub busy_2_turns : List ℕ
 busy_2_turns = replicate 4 0 ++ replicate 2 1 ++ replicate 1 0
 
+-- some drivers
 abbrev pub busy_2_flaws : List Flaw
 busy_2_flaws = Flaw.NoFlaw
     ∷ Flaw.SoleAnyway
@@ -37,6 +39,7 @@ busy_2_flaws = Flaw.NoFlaw
     ∷ Flaw.UnnamedHeld
     ∷ []
 
+-- what they come to in these turns
 abbrev pub busy_2_outcomes : List ComesTo
 busy_2_outcomes = (did_not 7)
     ∷ (did_not 7)
@@ -44,6 +47,7 @@ busy_2_outcomes = (did_not 7)
     ∷ (did_not 7)
     ∷ []
 
+-- examples/broken/clear.hmm
 abbrev pub clear_script : Program
 clear_script = record {
   version = Version.Two;
@@ -62,10 +66,11 @@ clear_script = record {
   schedule = ScheduleLine.Run 0 47 ∷ [];
 }
 
--- turns after the run of that script, and what some drivers come to in them
+-- turns after the run of that script
 abbrev pub clear_1_turns : List ℕ
 clear_1_turns = replicate 14 0
 
+-- some drivers
 abbrev pub clear_1_flaws : List Flaw
 clear_1_flaws = Flaw.NoFlaw
     ∷ Flaw.NotCleared
@@ -73,6 +78,7 @@ clear_1_flaws = Flaw.NoFlaw
     ∷ Flaw.UnnamedHeld
     ∷ []
 
+-- what they come to in these turns
 abbrev pub clear_1_outcomes : List ComesTo
 clear_1_outcomes = (did_not 14)
     ∷ (broke Part.Answers 13)
@@ -80,6 +86,7 @@ clear_1_outcomes = (did_not 14)
     ∷ (did_not 14)
     ∷ []
 
+-- examples/broken/detach.hmm
 abbrev pub detach_script : Program
 detach_script = record {
   version = Version.Two;
@@ -98,10 +105,11 @@ detach_script = record {
   schedule = ScheduleLine.Run 0 13 ∷ [];
 }
 
--- turns after the run of that script, and what some drivers come to in them
+-- turns after the run of that script
 abbrev pub detach_1_turns : List ℕ
 detach_1_turns = replicate 1 1 ++ replicate 1 0
 
+-- some drivers
 abbrev pub detach_1_flaws : List Flaw
 detach_1_flaws = Flaw.NoFlaw
     ∷ Flaw.UsedDetached
@@ -109,6 +117,7 @@ detach_1_flaws = Flaw.NoFlaw
     ∷ Flaw.UnnamedHeld
     ∷ []
 
+-- what they come to in these turns
 abbrev pub detach_1_outcomes : List ComesTo
 detach_1_outcomes = (did_not 2)
     ∷ (broke Part.Answers 1)
@@ -116,6 +125,7 @@ detach_1_outcomes = (did_not 2)
     ∷ (did_not 2)
     ∷ []
 
+-- examples/broken/excl.hmm
 abbrev pub excl_script : Program
 excl_script = record {
   version = Version.Two;
@@ -133,10 +143,11 @@ excl_script = record {
   schedule = ScheduleLine.Run 0 8 ∷ [];
 }
 
--- turns after the run of that script, and what some drivers come to in them
+-- turns after the run of that script
 abbrev pub excl_2_turns : List ℕ
 excl_2_turns = replicate 8 0 ++ replicate 3 1 ++ replicate 1 0
 
+-- some drivers
 abbrev pub excl_2_flaws : List Flaw
 excl_2_flaws = Flaw.NoFlaw
     ∷ Flaw.FirstErased
@@ -145,6 +156,7 @@ excl_2_flaws = Flaw.NoFlaw
     ∷ Flaw.UnnamedHeld
     ∷ []
 
+-- what they come to in these turns
 abbrev pub excl_2_outcomes : List ComesTo
 excl_2_outcomes = (did_not 12)
     ∷ (did_not 12)
@@ -153,6 +165,7 @@ excl_2_outcomes = (did_not 12)
     ∷ (did_not 12)
     ∷ []
 
+-- examples/broken/fork.hmm
 abbrev pub fork_script : Program
 fork_script = record {
   version = Version.Two;
@@ -170,10 +183,11 @@ fork_script = record {
   schedule = ScheduleLine.Run 0 7 ∷ [];
 }
 
--- turns after the run of that script, and what some drivers come to in them
+-- turns after the run of that script
 abbrev pub fork_1_turns : List ℕ
 fork_1_turns = replicate 4 0
 
+-- some drivers
 abbrev pub fork_1_flaws : List Flaw
 fork_1_flaws = Flaw.NoFlaw
     ∷ Flaw.SoleAnyway
@@ -181,6 +195,7 @@ fork_1_flaws = Flaw.NoFlaw
     ∷ Flaw.UnnamedHeld
     ∷ []
 
+-- what they come to in these turns
 abbrev pub fork_1_outcomes : List ComesTo
 fork_1_outcomes = (did_not 4)
     ∷ (did_not 4)
@@ -188,6 +203,7 @@ fork_1_outcomes = (did_not 4)
     ∷ (did_not 4)
     ∷ []
 
+-- examples/broken/leak.hmm
 abbrev pub leak_script : Program
 leak_script = record {
   version = Version.Two;
@@ -206,10 +222,11 @@ leak_script = record {
   schedule = ScheduleLine.Run 0 3 ∷ [];
 }
 
--- turns after the run of that script, and what some drivers come to in them
+-- turns after the run of that script
 abbrev pub leak_7_turns : List ℕ
 leak_7_turns = replicate 3 0 ++ replicate 3 1 ++ replicate 2 0 ++ replicate 1 2 ++ replicate 3 0 ++ replicate 1 2
 
+-- some drivers
 abbrev pub leak_7_flaws : List Flaw
 leak_7_flaws = Flaw.NoFlaw
     ∷ Flaw.SoleAnyway
@@ -217,6 +234,7 @@ leak_7_flaws = Flaw.NoFlaw
     ∷ Flaw.UnnamedHeld
     ∷ []
 
+-- what they come to in these turns
 abbrev pub leak_7_outcomes : List ComesTo
 leak_7_outcomes = (did_not 13)
     ∷ (did_not 13)
@@ -224,6 +242,7 @@ leak_7_outcomes = (did_not 13)
     ∷ (did_not 13)
     ∷ []
 
+-- examples/broken/leave.hmm
 abbrev pub leave_script : Program
 leave_script = record {
   version = Version.Two;
@@ -241,10 +260,11 @@ leave_script = record {
   schedule = ScheduleLine.Run 0 8 ∷ [];
 }
 
--- turns after the run of that script, and what some drivers come to in them
+-- turns after the run of that script
 abbrev pub leave_1_turns : List ℕ
 leave_1_turns = replicate 2 0 ++ replicate 1 1
 
+-- some drivers
 abbrev pub leave_1_flaws : List Flaw
 leave_1_flaws = Flaw.NoFlaw
     ∷ Flaw.DetachedAtOnce
@@ -252,6 +272,7 @@ leave_1_flaws = Flaw.NoFlaw
     ∷ Flaw.UnnamedHeld
     ∷ []
 
+-- what they come to in these turns
 abbrev pub leave_1_outcomes : List ComesTo
 leave_1_outcomes = (did_not 3)
     ∷ (broke Part.Sequences 2)
@@ -259,6 +280,7 @@ leave_1_outcomes = (did_not 3)
     ∷ (did_not 3)
     ∷ []
 
+-- examples/broken/locked.hmm
 abbrev pub locked_script : Program
 locked_script = record {
   version = Version.One;
@@ -279,10 +301,11 @@ locked_script = record {
   schedule = ScheduleLine.Run 0 25 ∷ ScheduleLine.Run 1 4 ∷ [];
 }
 
--- turns after the run of that script, and what some drivers come to in them
+-- turns after the run of that script
 abbrev pub locked_2_turns : List ℕ
 locked_2_turns = replicate 4 0 ++ replicate 2 1 ++ replicate 3 0 ++ replicate 8 1 ++ replicate 2 0
 
+-- some drivers
 abbrev pub locked_2_flaws : List Flaw
 locked_2_flaws = Flaw.NoFlaw
     ∷ Flaw.OwnAnyway
@@ -290,6 +313,7 @@ locked_2_flaws = Flaw.NoFlaw
     ∷ Flaw.UnnamedHeld
     ∷ []
 
+-- what they come to in these turns
 abbrev pub locked_2_outcomes : List ComesTo
 locked_2_outcomes = (did_not 19)
     ∷ (did_not 16)
@@ -297,10 +321,11 @@ locked_2_outcomes = (did_not 19)
     ∷ (did_not 19)
     ∷ []
 
--- turns after the run of that script, and what some drivers come to in them
+-- turns after the run of that script
 abbrev pub locked_6_turns : List ℕ
 locked_6_turns = replicate 2 1 ++ replicate 5 0 ++ replicate 5 1 ++ replicate 1 0
 
+-- some drivers
 abbrev pub locked_6_flaws : List Flaw
 locked_6_flaws = Flaw.NoFlaw
     ∷ Flaw.AnyDevice
@@ -308,6 +333,7 @@ locked_6_flaws = Flaw.NoFlaw
     ∷ Flaw.UnnamedHeld
     ∷ []
 
+-- what they come to in these turns
 abbrev pub locked_6_outcomes : List ComesTo
 locked_6_outcomes = (did_not 12)
     ∷ (broke Part.Places 11)
@@ -315,18 +341,21 @@ locked_6_outcomes = (did_not 12)
     ∷ (did_not 12)
     ∷ []
 
--- turns after the run of that script, and what some drivers come to in them
+-- turns after the run of that script
 abbrev pub locked_8_turns : List ℕ
 locked_8_turns = replicate 1 1 ++ replicate 2 0 ++ replicate 13 1
 
+-- some drivers
 abbrev pub locked_8_flaws : List Flaw
 locked_8_flaws = Flaw.LockedTaken
     ∷ []
 
+-- what they come to in these turns
 abbrev pub locked_8_outcomes : List ComesTo
 locked_8_outcomes = (broke Part.Places 15)
     ∷ []
 
+-- examples/broken/lost.hmm
 abbrev pub lost_script : Program
 lost_script = record {
   version = Version.Two;
@@ -344,26 +373,29 @@ lost_script = record {
   schedule = ScheduleLine.Run 0 3 ∷ [];
 }
 
--- turns after the run of that script, and what some drivers come to in them
+-- turns after the run of that script
 abbrev pub lost_5_turns : List ℕ
 lost_5_turns = replicate 6 0 ++ replicate 3 1 ++ replicate 3 0 ++ replicate 3 1
 
+-- some drivers
 abbrev pub lost_5_flaws : List Flaw
 lost_5_flaws = Flaw.LostAsMoved
     ∷ Flaw.LostHeld
     ∷ Flaw.FreshAnyway
     ∷ []
 
+-- what they come to in these turns
 abbrev pub lost_5_outcomes : List ComesTo
 lost_5_outcomes = (broke Part.Answers 14)
     ∷ (did_not 14)
     ∷ (did_not 15)
     ∷ []
 
--- turns after the run of that script, and what some drivers come to in them
+-- turns after the run of that script
 abbrev pub lost_8_turns : List ℕ
 lost_8_turns = replicate 8 0 ++ replicate 5 1 ++ replicate 4 0 ++ replicate 1 1
 
+-- some drivers
 abbrev pub lost_8_flaws : List Flaw
 lost_8_flaws = Flaw.NoFlaw
     ∷ Flaw.SoleAnyway
@@ -371,6 +403,7 @@ lost_8_flaws = Flaw.NoFlaw
     ∷ Flaw.UnnamedHeld
     ∷ []
 
+-- what they come to in these turns
 abbrev pub lost_8_outcomes : List ComesTo
 lost_8_outcomes = (did_not 18)
     ∷ (did_not 18)
@@ -378,6 +411,7 @@ lost_8_outcomes = (did_not 18)
     ∷ (did_not 18)
     ∷ []
 
+-- examples/broken/others.hmm
 abbrev pub others_script : Program
 others_script = record {
   version = Version.Two;
@@ -397,10 +431,11 @@ others_script = record {
   schedule = ScheduleLine.Run 0 15 ∷ [];
 }
 
--- turns after the run of that script, and what some drivers come to in them
+-- turns after the run of that script
 abbrev pub others_4_turns : List ℕ
 others_4_turns = replicate 20 0
 
+-- some drivers
 abbrev pub others_4_flaws : List Flaw
 others_4_flaws = Flaw.NoFlaw
     ∷ Flaw.SoleAnyway
@@ -409,6 +444,7 @@ others_4_flaws = Flaw.NoFlaw
     ∷ Flaw.UnnamedHeld
     ∷ []
 
+-- what they come to in these turns
 abbrev pub others_4_outcomes : List ComesTo
 others_4_outcomes = (did_not 20)
     ∷ (did_not 20)
@@ -417,6 +453,7 @@ others_4_outcomes = (did_not 20)
     ∷ (did_not 20)
     ∷ []
 
+-- examples/broken/own.hmm
 abbrev pub own_script : Program
 own_script = record {
   version = Version.Two;
@@ -436,10 +473,11 @@ own_script = record {
   schedule = ScheduleLine.Run 0 13 ∷ [];
 }
 
--- turns after the run of that script, and what some drivers come to in them
+-- turns after the run of that script
 abbrev pub own_2_turns : List ℕ
 own_2_turns = replicate 3 0 ++ replicate 2 1 ++ replicate 12 0 ++ replicate 3 1
 
+-- some drivers
 abbrev pub own_2_flaws : List Flaw
 own_2_flaws = Flaw.NoFlaw
     ∷ Flaw.OwnTableLeft
@@ -449,6 +487,7 @@ own_2_flaws = Flaw.NoFlaw
     ∷ Flaw.UnnamedHeld
     ∷ []
 
+-- what they come to in these turns
 abbrev pub own_2_outcomes : List ComesTo
 own_2_outcomes = (did_not 17)
     ∷ (broke Part.Places 3)
@@ -458,22 +497,25 @@ own_2_outcomes = (did_not 17)
     ∷ (did_not 17)
     ∷ []
 
--- turns after the run of that script, and what some drivers come to in them
+-- turns after the run of that script
 abbrev pub own_4_turns : List ℕ
 own_4_turns = replicate 15 0 ++ replicate 5 1 ++ replicate 10 0
 
+-- some drivers
 abbrev pub own_4_flaws : List Flaw
 own_4_flaws = Flaw.OwnIgnored
     ∷ Flaw.OwnSequenceLeft
     ∷ Flaw.OwnTableLeft
     ∷ []
 
+-- what they come to in these turns
 abbrev pub own_4_outcomes : List ComesTo
 own_4_outcomes = (broke Part.Places 15)
     ∷ (broke Part.Sequences 15)
     ∷ (did_not 23)
     ∷ []
 
+-- examples/broken/protect.hmm
 abbrev pub protect_script : Program
 protect_script = record {
   version = Version.Two;
@@ -490,10 +532,11 @@ protect_script = record {
   schedule = ScheduleLine.Run 0 3 ∷ [];
 }
 
--- turns after the run of that script, and what some drivers come to in them
+-- turns after the run of that script
 abbrev pub protect_6_turns : List ℕ
 protect_6_turns = replicate 6 0 ++ replicate 3 1 ++ replicate 1 0
 
+-- some drivers
 abbrev pub protect_6_flaws : List Flaw
 protect_6_flaws = Flaw.ErasedAtEnd
     ∷ Flaw.OwnIgnored
@@ -503,6 +546,7 @@ protect_6_flaws = Flaw.ErasedAtEnd
     ∷ Flaw.ToldLast
     ∷ []
 
+-- what they come to in these turns
 abbrev pub protect_6_outcomes : List ComesTo
 protect_6_outcomes = (broke Part.Places 9)
     ∷ (did_not 9)
@@ -512,6 +556,7 @@ protect_6_outcomes = (broke Part.Places 9)
     ∷ (broke Part.Guarded 8)
     ∷ []
 
+-- examples/broken/readonly.hmm
 abbrev pub readonly_script : Program
 readonly_script = record {
   version = Version.Two;
@@ -527,10 +572,11 @@ readonly_script = record {
   schedule = ScheduleLine.Run 0 3 ∷ [];
 }
 
--- turns after the run of that script, and what some drivers come to in them
+-- turns after the run of that script
 abbrev pub readonly_1_turns : List ℕ
 readonly_1_turns = replicate 14 0
 
+-- some drivers
 abbrev pub readonly_1_flaws : List Flaw
 readonly_1_flaws = Flaw.NoFlaw
     ∷ Flaw.OwnForWrites
@@ -539,6 +585,7 @@ readonly_1_flaws = Flaw.NoFlaw
     ∷ Flaw.UnnamedHeld
     ∷ []
 
+-- what they come to in these turns
 abbrev pub readonly_1_outcomes : List ComesTo
 readonly_1_outcomes = (did_not 14)
     ∷ (broke Part.Answers 13)
@@ -547,6 +594,7 @@ readonly_1_outcomes = (did_not 14)
     ∷ (did_not 14)
     ∷ []
 
+-- examples/broken/rem.hmm
 abbrev pub rem_script : Program
 rem_script = record {
   version = Version.Two;
@@ -565,18 +613,21 @@ rem_script = record {
   schedule = ScheduleLine.Run 0 28 ∷ [];
 }
 
--- turns after the run of that script, and what some drivers come to in them
+-- turns after the run of that script
 abbrev pub rem_1_turns : List ℕ
 rem_1_turns = replicate 5 0 ++ replicate 1 1 ++ replicate 1 0
 
+-- some drivers
 abbrev pub rem_1_flaws : List Flaw
 rem_1_flaws = Flaw.WithdrawnTaken
     ∷ []
 
+-- what they come to in these turns
 abbrev pub rem_1_outcomes : List ComesTo
 rem_1_outcomes = (broke Part.Places 6)
     ∷ []
 
+-- examples/broken/rem2.hmm
 abbrev pub rem2_script : Program
 rem2_script = record {
   version = Version.Two;
@@ -595,10 +646,11 @@ rem2_script = record {
   schedule = ScheduleLine.Run 0 28 ∷ [];
 }
 
--- turns after the run of that script, and what some drivers come to in them
+-- turns after the run of that script
 abbrev pub rem2_2_turns : List ℕ
 rem2_2_turns = replicate 4 0 ++ replicate 3 1
 
+-- some drivers
 abbrev pub rem2_2_flaws : List Flaw
 rem2_2_flaws = Flaw.NoFlaw
     ∷ Flaw.RemovedAtOnce
@@ -609,6 +661,7 @@ rem2_2_flaws = Flaw.NoFlaw
     ∷ Flaw.UnnamedHeld
     ∷ []
 
+-- what they come to in these turns
 abbrev pub rem2_2_outcomes : List ComesTo
 rem2_2_outcomes = (did_not 5)
     ∷ (broke Part.Places 5)
@@ -619,6 +672,7 @@ rem2_2_outcomes = (did_not 5)
     ∷ (did_not 5)
     ∷ []
 
+-- examples/broken/shared.hmm
 abbrev pub shared_script : Program
 shared_script = record {
   version = Version.Two;
@@ -638,22 +692,25 @@ shared_script = record {
   schedule = ScheduleLine.Run 0 15 ∷ [];
 }
 
--- turns after the run of that script, and what some drivers come to in them
+-- turns after the run of that script
 abbrev pub shared_1_turns : List ℕ
 shared_1_turns = replicate 6 0
 
+-- some drivers
 abbrev pub shared_1_flaws : List Flaw
 shared_1_flaws = Flaw.ReadsWritten
     ∷ Flaw.OwnForWrites
     ∷ Flaw.FreshForWrites
     ∷ []
 
+-- what they come to in these turns
 abbrev pub shared_1_outcomes : List ComesTo
 shared_1_outcomes = (broke Part.Places 5)
     ∷ (did_not 6)
     ∷ (did_not 6)
     ∷ []
 
+-- examples/broken/stale.hmm
 abbrev pub stale_script : Program
 stale_script = record {
   version = Version.Two;
@@ -672,10 +729,11 @@ stale_script = record {
   schedule = ScheduleLine.Run 0 9 ∷ [];
 }
 
--- turns after the run of that script, and what some drivers come to in them
+-- turns after the run of that script
 abbrev pub stale_1_turns : List ℕ
 stale_1_turns = replicate 4 0 ++ replicate 2 1 ++ replicate 7 0 ++ replicate 2 1 ++ replicate 2 0
 
+-- some drivers
 abbrev pub stale_1_flaws : List Flaw
 stale_1_flaws = Flaw.NotCompared
     ∷ Flaw.ComparedNow
@@ -683,6 +741,7 @@ stale_1_flaws = Flaw.NotCompared
     ∷ Flaw.TableLeft
     ∷ []
 
+-- what they come to in these turns
 abbrev pub stale_1_outcomes : List ComesTo
 stale_1_outcomes = (broke Part.Untold 16)
     ∷ (did_not 16)
@@ -690,18 +749,21 @@ stale_1_outcomes = (broke Part.Untold 16)
     ∷ (broke Part.Answers 10)
     ∷ []
 
--- turns after the run of that script, and what some drivers come to in them
+-- turns after the run of that script
 abbrev pub stale_2_turns : List ℕ
 stale_2_turns = replicate 4 0 ++ replicate 2 1 ++ replicate 7 0 ++ replicate 3 1 ++ replicate 2 0
 
+-- some drivers
 abbrev pub stale_2_flaws : List Flaw
 stale_2_flaws = Flaw.ComparedNow
     ∷ []
 
+-- what they come to in these turns
 abbrev pub stale_2_outcomes : List ComesTo
 stale_2_outcomes = (broke Part.Untold 17)
     ∷ []
 
+-- examples/broken/twice.hmm
 abbrev pub twice_script : Program
 twice_script = record {
   version = Version.Two;
@@ -719,10 +781,11 @@ twice_script = record {
   schedule = ScheduleLine.Run 0 6 ∷ [];
 }
 
--- turns after the run of that script, and what some drivers come to in them
+-- turns after the run of that script
 abbrev pub twice_1_turns : List ℕ
 twice_1_turns = replicate 3 0 ++ replicate 2 1 ++ replicate 4 0 ++ replicate 2 1 ++ replicate 1 0
 
+-- some drivers
 abbrev pub twice_1_flaws : List Flaw
 twice_1_flaws = Flaw.NoFlaw
     ∷ Flaw.SoleAnyway
@@ -730,6 +793,7 @@ twice_1_flaws = Flaw.NoFlaw
     ∷ Flaw.UnnamedHeld
     ∷ []
 
+-- what they come to in these turns
 abbrev pub twice_1_outcomes : List ComesTo
 twice_1_outcomes = (did_not 12)
     ∷ (did_not 12)
@@ -737,6 +801,7 @@ twice_1_outcomes = (did_not 12)
     ∷ (did_not 12)
     ∷ []
 
+-- examples/broken/two.hmm
 abbrev pub two_script : Program
 two_script = record {
   version = Version.Two;
@@ -755,10 +820,11 @@ two_script = record {
   schedule = ScheduleLine.Run 0 13 ∷ [];
 }
 
--- turns after the run of that script, and what some drivers come to in them
+-- turns after the run of that script
 abbrev pub two_1_turns : List ℕ
 two_1_turns = replicate 6 1 ++ replicate 6 0
 
+-- some drivers
 abbrev pub two_1_flaws : List Flaw
 two_1_flaws = Flaw.NoFlaw
     ∷ Flaw.WalksUnlocked
@@ -770,6 +836,7 @@ two_1_flaws = Flaw.NoFlaw
     ∷ Flaw.UnnamedHeld
     ∷ []
 
+-- what they come to in these turns
 abbrev pub two_1_outcomes : List ComesTo
 two_1_outcomes = (did_not 7)
     ∷ (broke Part.Answers 11)
@@ -781,6 +848,7 @@ two_1_outcomes = (did_not 7)
     ∷ (did_not 7)
     ∷ []
 
+-- examples/broken/zero.hmm
 abbrev pub zero_script : Program
 zero_script = record {
   version = Version.Two;
@@ -796,10 +864,11 @@ zero_script = record {
   schedule = ScheduleLine.Run 0 3 ∷ [];
 }
 
--- turns after the run of that script, and what some drivers come to in them
+-- turns after the run of that script
 abbrev pub zero_1_turns : List ℕ
 zero_1_turns = replicate 7 0
 
+-- some drivers
 abbrev pub zero_1_flaws : List Flaw
 zero_1_flaws = Flaw.NoFlaw
     ∷ Flaw.AllForWrites
@@ -808,6 +877,7 @@ zero_1_flaws = Flaw.NoFlaw
     ∷ Flaw.UnnamedHeld
     ∷ []
 
+-- what they come to in these turns
 abbrev pub zero_1_outcomes : List ComesTo
 zero_1_outcomes = (did_not 7)
     ∷ (broke Part.Places 6)

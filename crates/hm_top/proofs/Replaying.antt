@@ -1,6 +1,5 @@
 -- What a call with the word `replay` comes to.
 use Rattle.std.proofs.Common.{◌≡◌, ℕ, inl, inr, Bool, true, false, Some, None, Option, List, refl, sym, ◌∙◌, ap, subst}
-use Rattle.std.specs.Prelude.{IfSome}
 use Rattle.hm_base.specs.Program.{Program, IsScript}
 use Rattle.hm_history.specs.Kernel.Overrun.{overruns}
 use Rattle.hm_history.specs.declared.Entry.{Entry}
@@ -18,6 +17,7 @@ use Rattle.hm_top.specs.declared.ended.Ended.{Ended}
 use Rattle.hm_top.specs.declared.schedule.Ran.{Ran}
 use Rattle.hm_edge.specs.declared.status.Status.{Status}
 use Rattle.hm_edge.proofs.Came.{given}
+use Rattle.hm_edge.proofs.Telling.{known}
 use Rattle.hm_top.proofs.Room.{room_fits}
 
 pub read_shown : (r : Ran) (e : Ended) (b a : SourceState) (status : Status) → ShowsAt r e status → ReadAs 4194304 (IsTextOf r.script) b a → HasRead (IsItsText e.script) b a status
@@ -96,10 +96,6 @@ text_shown tell Own Goes r e k k' Status.ReadFault shows goes w = absurd shows
 abbrev pub OneText : Type 0
 OneText = (s t : Program) → IsScript s → IsScript t → text s ≡ text t → s ≡ t
 
-pub its_text : (Are : List ℕ → Type 0) (left : Option (List ℕ)) (bytes : List ℕ) → left ≡ Some bytes → IfSome left Are → Are bytes
-its_text Are None bytes e x = cc
-its_text Are (Some y) bytes e x = let same : y ≡ bytes = cc in subst Are same x
-
 ends : (io : Traffic) (r : Ran) (e : Ended) (status : Status) (s : Program) → ShowsAt r e status → WriteFaulted io.sink.faults io.sink_after.faults status → NoFault io → s ≡ r.script → overruns s ≡ false → (r.full ≡ true → RanFull r.script r.history.entries) → IsComplete status
 ends io r e Status.Done s shows w none same room over = tt
 ends io r e Status.NoMemory s shows w none same room over = tt
@@ -149,7 +145,7 @@ shown tell one alone io r e read same whole over shows w faults flushed no_recei
   flushed = flushed;
   receipt = receipt_shown r e e.status shows no_receipt;
   complete = λ none. given io.source.left (λ bytes at s is_given room.
-      let mine = its_text (IsTextOf r.script) io.source.left bytes at read.bytes_are in
+      let mine = known (IsTextOf r.script) io.source.left bytes at read.bytes_are in
       let same_script = one s r.script is_given.text_is.in_range mine.in_range (sym is_given.text_is.spells ∙ mine.spells) in
       ends io r e e.status s shows faults none same_script (room_fits alone s is_given.text_is.in_range room) over);
 }
