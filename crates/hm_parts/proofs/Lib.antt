@@ -7,3 +7,4 @@ pub mod PastsOn
 pub mod Recalling
 pub mod Going
 pub mod Steps
+pub mod Legally

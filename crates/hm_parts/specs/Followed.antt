@@ -2,7 +2,7 @@
 use Rattle.std.specs.Prelude.{◌≡◌, ℕ, List}
 use Rattle.hm_base.specs.Program.{Program}
 use Rattle.hm_history.specs.Memory.After.{after}
-use Rattle.hm_history.specs.Memory.Rules.{was_short}
+use Rattle.hm_history.specs.Memory.Rules.{was_short, KeepsRules}
 use Rattle.hm_history.specs.Memory.Places.{places_next}
 use Rattle.hm_history.specs.Memory.Plain.{mirror_owner}
 use Rattle.hm_history.specs.Memory.Sequences.{sequences_next}
@@ -19,6 +19,13 @@ pub record PlacesFollow (c : Program) (h : List Entry) (a : ℕ) (x : PlacesSoFa
   pub owners : (m : ℕ) → owners_of x.state m ≡ mirror_owner (after h).plain m
   pub sequences : sequences_of x.sequences ≡ (after h).sequences
   pub short : x.short ≡ was_short c h a
+
+-- the entry may follow some history that it shows
+pub record MayGoOn (a : ℕ) (x : PlacesSoFar) (e : Entry) : Type 0 where
+  pub script : Program
+  pub history : List Entry
+  pub follows : PlacesFollow script history a x
+  pub rules : KeepsRules script history e
 
 -- what one entry more makes of it
 pub record GoesOn (a : ℕ) (x : PlacesSoFar) (e : Entry) (y : PlacesSoFar) : Type 0 where

@@ -1,5 +1,6 @@
 // Answers by plain bytes.
-ghost use Rattle.std.specs.Prelude.{◌≡◌, IfOk, is_ok, not};
+ghost use Rattle.std.specs.Prelude.{◌≡◌, [], IfOk, is_ok, not};
+ghost use Rattle.hm_history.specs.Laws.{DueFrom};
 ghost use Rattle.hm_history.specs.Memory.Plain.{plain_accepts};
 ghost use Rattle.hm_history.specs.Memory.After.{after};
 ghost use Rattle.hm_folds.specs.Applied.{is_not_legal};
@@ -22,31 +23,35 @@ pub fn has_taken(answer: Result<(), FoldError>) -> Result<bool, NoMemory>
     }
 }
 
-/// The plain state after the entries, of which each has to be legal after those before it.
+/// The plain state after the entries, each of which was due after those before it.
 pub(crate) fn plain_after(
     alloc: Global,
     script: &Script,
     entries: &[Entry],
 ) -> Result<PlainState, NoMemory>
+    requires { DueFrom script.now [] entries.now }
     ensures { IfOk result (λ x. plain_of x ≡ (after entries.now).plain) }
 {
+    script.facts();
     let mut state = PlainState::start(alloc, script)?;
     for entry in entries {
         match state.apply(entry) {
             Ok(()) => (),
-            Err(_) => return Err(NoMemory),
+            Err(FoldError::NoMemory) => return Err(NoMemory),
+            Err(FoldError::NotLegal) => unreachable!(),
         }
     }
     Ok(state)
 }
 
-/// Whether there is a next plain state for the entry after a legal history.
+/// Whether there is a next plain state for the entry after a history of entries that were due.
 pub fn meets_plain(
     alloc: Global,
     script: &Script,
     entries: &[Entry],
     entry: &Entry,
 ) -> Result<bool, NoMemory>
+    requires { DueFrom script.now [] entries.now }
     ensures { IfOk result (λ b. b ≡ plain_accepts (after entries.now).plain entry.now.kind) }
 {
     let mut state = plain_after(alloc, script, entries)?;

@@ -1,6 +1,7 @@
 // All parts of what a legal history asks of its next entry.
-ghost use Rattle.std.specs.Prelude.{◌≡◌, IfOk};
+ghost use Rattle.std.specs.Prelude.{◌≡◌, [], IfOk};
 ghost use Rattle.hm_history.specs.Kernel.Going.{state_of};
+ghost use Rattle.hm_history.specs.Laws.{DueFrom};
 ghost use Rattle.hm_parts.specs.Parts.{AreParts, parts_hold};
 
 use crate::answers::meets_plain;
@@ -47,7 +48,7 @@ impl Parts {
     }
 }
 
-/// Which parts the entry meets after a legal history. The world is that after the history, and the records are those of
+/// Which parts the entry meets after a history of entries that were due. The world is that after the history, and the records are those of
 /// the entry's actor. It goes over the history twice, and once more if the entry uses a mirror's table.
 pub fn parts_of<W: Reads>(
     alloc: Global,
@@ -57,6 +58,7 @@ pub fn parts_of<W: Reads>(
     entry: &Entry,
 ) -> Result<Parts, NoMemory>
     requires state { W.state world.now ≡ state_of (W.program world.now) entries.now }
+    requires due { DueFrom (W.program world.now) [] entries.now }
     requires records { records.now ≡ ((W.state world.now).going entry.now.actor).pages }
     ensures { IfOk result (AreParts (W.program world.now) entries.now entry.now) }
 {

@@ -1,5 +1,5 @@
 // Places, frames, mirror tables and sequences.
-ghost use Rattle.std.specs.Prelude.{◌≡◌, ◌||◌, not, List, IfOk, OnOk};
+ghost use Rattle.std.specs.Prelude.{◌≡◌, ◌||◌, not, List, [], IfOk, OnOk};
 ghost use Rattle.hm_base.specs.Program.{Program};
 ghost use Rattle.hm_history.specs.Memory.Plain.{mirror_owner};
 ghost use Rattle.hm_history.specs.Memory.Places.{places_accept};
@@ -7,10 +7,11 @@ ghost use Rattle.hm_history.specs.Memory.Rules.{fails_rightly};
 ghost use Rattle.hm_history.specs.Memory.Lookups.{is_guarded, loses, narrows_guarded};
 ghost use Rattle.hm_history.specs.Memory.Sequences.{sequences_accept};
 ghost use Rattle.hm_history.specs.Memory.After.{after};
+ghost use Rattle.hm_history.specs.Laws.{DueFrom};
 ghost use Rattle.hm_history.specs.declared.Entry.{Entry as AnyEntry};
 ghost use Rattle.hm_folds.specs.Kept.{sequences_of};
 ghost use Rattle.hm_folds.specs.Places.{ForShown};
-ghost use Rattle.hm_parts.specs.Followed.{PlacesFollow, GoesOn};
+ghost use Rattle.hm_parts.specs.Followed.{PlacesFollow, GoesOn, MayGoOn};
 ghost use Rattle.hm_parts.specs.PlaceParts.{ArePlaceParts};
 
 use crate::answers::has_taken;
@@ -18,7 +19,7 @@ use crate::frames::{is_full, needs_full, short_next};
 use crate::guarded::loses;
 use hm_base::{Actor, NoMemory, Page, Place, Proc, Script};
 use hm_folds::{PlaceState, SeqState};
-use hm_history::{Entry, Kind};
+use hm_history::{Entry, FoldError, Kind};
 use std::alloc::Global;
 
 /// The places and sequences after a history, and whether an actor was short of a frame in it.
@@ -42,29 +43,34 @@ pub struct PlaceParts {
     pub guarded: bool,
 }
 
-/// One entry more, which has to be legal there.
+/// One entry more, which may follow there.
 fn go_on(so_far: &mut PlacesSoFar, actor: Actor, entry: &Entry) -> Result<(), NoMemory>
+    requires { MayGoOn actor so_far.old entry.now }
     ensures { OnOk result (GoesOn actor so_far.old entry.now so_far.new) }
 {
     so_far.short = short_next(&so_far.state, actor, so_far.short, entry);
-    let Ok(()) = so_far.state.apply(entry) else {
-        return Err(NoMemory);
-    };
+    match so_far.state.apply(entry) {
+        Ok(()) => (),
+        Err(FoldError::NoMemory) => return Err(NoMemory),
+        Err(FoldError::NotLegal) => unreachable!(),
+    }
     let Ok(()) = so_far.sequences.apply(entry) else {
-        return Err(NoMemory);
+        unreachable!();
     };
     Ok(())
 }
 
-/// The places and sequences after the entries, of which each has to be legal after those before it.
+/// The places and sequences after the entries, each of which was due after those before it.
 pub(crate) fn places_after(
     alloc: Global,
     script: &Script,
     entries: &[Entry],
     actor: Actor,
 ) -> Result<PlacesSoFar, NoMemory>
+    requires { DueFrom script.now [] entries.now }
     ensures { IfOk result (PlacesFollow script.now entries.now actor) }
 {
+    script.facts();
     let mut so_far = PlacesSoFar {
         sequences: SeqState::start(alloc, script)?,
         state: PlaceState::start(alloc, script)?,
@@ -132,13 +138,14 @@ fn meets_there(so_far: &mut PlacesSoFar, entry: &Entry) -> Result<PlaceParts, No
     })
 }
 
-/// Whether the entry, after a legal history, meets these parts. It goes over the history once.
+/// Whether the entry, after a history of entries that were due, meets these parts. It goes over the history once.
 pub(crate) fn meets_places(
     alloc: Global,
     script: &Script,
     entries: &[Entry],
     entry: &Entry,
 ) -> Result<PlaceParts, NoMemory>
+    requires { DueFrom script.now [] entries.now }
     ensures places { IfOk result
         (λ x. x.places
         ≡ places_accept script.now (mirror_owner (after entries.now).plain) (after entries.now).places

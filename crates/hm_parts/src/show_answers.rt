@@ -1,6 +1,7 @@
 // What shows why an entry is no answer by plain bytes, areas, processes and mirrors.
-ghost use Rattle.std.specs.Prelude.{◌≡◌, IfOk};
+ghost use Rattle.std.specs.Prelude.{◌≡◌, [], IfOk};
 ghost use Rattle.hm_history.specs.Kernel.Going.{state_of};
+ghost use Rattle.hm_history.specs.Laws.{DueFrom};
 ghost use Rattle.hm_history.specs.Memory.Plain as plain;
 ghost use Rattle.hm_history.specs.Memory.Words.{bytes_from};
 ghost use Rattle.hm_folds.specs.Plain.{plain_of};
@@ -116,7 +117,8 @@ fn held_bytes<W: Reads>(
     addr: u64,
     len: u64,
 ) -> Result<Option<Shown>, NoMemory>
-    requires { W.state world.now ≡ state_of (W.program world.now) entries.now }
+    requires state { W.state world.now ≡ state_of (W.program world.now) entries.now }
+    requires due { DueFrom (W.program world.now) [] entries.now }
     ensures { IfOk result (λ x. x ≡ held_bytes (W.state world.now).after.plain who.now addr len) }
 {
     if addr >= 1 << 48 {
@@ -149,7 +151,8 @@ fn read_shown<W: Reads>(
     entries: &[Entry],
     read: &Reading,
 ) -> Result<Option<Shown>, NoMemory>
-    requires { W.state world.now ≡ state_of (W.program world.now) entries.now }
+    requires state { W.state world.now ≡ state_of (W.program world.now) entries.now }
+    requires due { DueFrom (W.program world.now) [] entries.now }
     ensures { IfOk result (λ x. x ≡ read_shown (W.state world.now).after.plain read.now) }
 {
     match against(world, &read.who, read.addr, read.len, read.writes) {
@@ -317,7 +320,8 @@ pub(crate) fn shows_answers<W: Reads>(
     entries: &[Entry],
     kind: &Kind,
 ) -> Result<Option<Shown>, NoMemory>
-    requires { W.state world.now ≡ state_of (W.program world.now) entries.now }
+    requires state { W.state world.now ≡ state_of (W.program world.now) entries.now }
+    requires due { DueFrom (W.program world.now) [] entries.now }
     ensures { IfOk result (λ x. x ≡ shows_answers (W.state world.now).after.plain kind.now) }
 {
     match read_of(kind) {

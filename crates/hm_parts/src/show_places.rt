@@ -1,6 +1,7 @@
 // What shows why places, frames, mirror tables or guards do not allow an entry.
-ghost use Rattle.std.specs.Prelude.{◌≡◌, IfOk, Option, Some};
+ghost use Rattle.std.specs.Prelude.{◌≡◌, [], IfOk, Option, Some};
 ghost use Rattle.hm_folds.specs.Standing.{entry_read};
+ghost use Rattle.hm_history.specs.Laws.{DueFrom};
 ghost use Rattle.hm_history.specs.Memory.After.{after};
 ghost use Rattle.hm_history.specs.Memory.Places.{TableEntry};
 ghost use Rattle.hm_parts.specs.Shown.{dropped, entry_at, entry_of, entry_shown, named_at, named_first, place_at};
@@ -196,6 +197,7 @@ fn table_at(
     mirror: MirrorId,
     addr: u64,
 ) -> Result<Found, NoMemory>
+    requires { DueFrom script.now [] entries.now }
     ensures { IfOk result (λ x. x ≡ entry_read (table_at (after entries.now).places (Some (mirror, addr)))) }
 {
     if addr >= 1 << 48 {
@@ -205,14 +207,15 @@ fn table_at(
     Ok(so_far.state.table(mirror, Page::new(addr / 4096)))
 }
 
-/// What the mirror's table has for the page of an access through it, after the entries, of which each has to be legal
-/// after those before it.
+/// What the mirror's table has for the page of an access through it, after the entries, each of which was due after
+/// those before it.
 pub(crate) fn table_of(
     alloc: Global,
     script: &Script,
     entries: &[Entry],
     kind: &Kind,
 ) -> Result<Found, NoMemory>
+    requires { DueFrom script.now [] entries.now }
     ensures { IfOk result (λ x. x ≡ entry_read (table_of (after entries.now).places kind.now)) }
 {
     match through(kind) {

@@ -1,7 +1,8 @@
 // What shows why a part is broken.
-ghost use Rattle.std.specs.Prelude.{◌≡◌, IfOk};
+ghost use Rattle.std.specs.Prelude.{◌≡◌, [], IfOk};
 ghost use Rattle.hm_base.specs.declared.PoolId as pool;
 ghost use Rattle.hm_history.specs.Kernel.Going.{state_of};
+ghost use Rattle.hm_history.specs.Laws.{DueFrom};
 ghost use Rattle.hm_history.specs.Memory.Places.{lowest_free};
 ghost use Rattle.hm_parts.specs.Shown.{AreShown, or_else, taken};
 
@@ -62,7 +63,7 @@ fn system_taken<W: Reads>(world: &W) -> Option<Shown>
     taken(world.lowest_free(PoolId::System))
 }
 
-/// What bears on each part of the entry, after a legal history. The world is that after the history. It goes over the
+/// What bears on each part of the entry, after a history of entries that were due. The world is that after the history. It goes over the
 /// history once if the entry answers bytes, and once if it goes through a mirror's table.
 pub fn shown_of<W: Reads>(
     alloc: Global,
@@ -70,7 +71,8 @@ pub fn shown_of<W: Reads>(
     entries: &[Entry],
     entry: &Entry,
 ) -> Result<ShownParts, NoMemory>
-    requires { W.state world.now ≡ state_of (W.program world.now) entries.now }
+    requires state { W.state world.now ≡ state_of (W.program world.now) entries.now }
+    requires due { DueFrom (W.program world.now) [] entries.now }
     ensures { IfOk result (AreShown (W.program world.now) entries.now entry.now) }
 {
     let kind = &entry.kind;

@@ -8,4 +8,4 @@ pub returns : goal.returns
 returns g c =
     let lt : nat_lt c.args.addr 281474976710656 ≡ true = grind (arith, nat_tests) in
     held_here (g.W.Reads.program c.args.world.now) c.args.entries.now (g.W.Reads.state c.args.world.now) _ c.args.who.now c.proc_of.result c.args.addr c.args.len c.in_ok-bytes.bytes
-    c.requires c.in_ok-state.ensures c.proc_of.ensures c.in_ok-bytes.ensures lt
+    c.requires.state c.in_ok-state.ensures c.proc_of.ensures c.in_ok-bytes.ensures lt
