@@ -1,0 +1,5 @@
+pub mod Places
+pub mod WordsAgain
+pub mod NamesAgain
+pub mod EventsAgain
+pub mod TextAgain
