@@ -1,5 +1,5 @@
 -- Each event's words are read back, and each is made of bytes of words.
-use Rattle.std.proofs.Common.{◌≡◌, ℕ, true, List, ◌∷◌, Some, Ok, refl}
+use Rattle.std.proofs.Common.{◌≡◌, ℕ, true, Some, Ok, drop, refl}
 use Rattle.std.specs.List.{list_all}
 use Rattle.hm_protocol.specs.declared.events.Event.{Event}
 use Rattle.hm_script.specs.Splitting.{word}
@@ -43,37 +43,37 @@ named-again (Event.Withdraw d) = refl
 named-again (Event.Gone d) = refl
 named-again (Event.Pass f) = refl
 
-pub event-again : (at thread : List ℕ) (e : Event) → FitsEvent e → event_at (event_word e) (at ∷ thread ∷ event_words e) ≡ Ok e
+pub event-again : (e : Event) → FitsEvent e → event_at (event_word e) (drop 1 (event_words e)) ≡ Ok e
 unfolding event_at
-event-again at thread (Event.Found m v f w) h = rw (lettered_again 109 m h.0, numbers.again v h.1, frame_again f h.2, write_again w) refl
-event-again at thread (Event.Use m r w) h = rw (lettered_again 109 m h.0, span_again r h.1, write_again w) refl
-event-again at thread (Event.Set m v f right) h = rw (lettered_again 109 m h.0, numbers.again v h.1, frame_again f h.2, right_again right) refl
-event-again at thread (Event.Erase m v) h = rw (lettered_again 109 m h.0, numbers.again v h.1) refl
-event-again at thread (Event.Start p r why d) h = rw (lettered_again 112 p h.0, span_again r h.1, reason_again why, owner_again d h.2) refl
-event-again at thread (Event.End p r) h = rw (lettered_again 112 p h.0, span_again r h.1) refl
-event-again at thread (Event.Tell m r q) h = rw (lettered_again 109 m h.0, span_again r h.1, numbers.again q h.2) refl
-event-again at thread (Event.Told m q t) h = rw (lettered_again 109 m h.0, numbers.again q h.1, done_again t) refl
-event-again at thread (Event.Begin m q) h = rw (lettered_again 109 m h.0, numbers.again q h.1) refl
-event-again at thread (Event.Walk m r q l d) h = rw (lettered_again 109 m h.0, span_again r h.1, numbers.again q h.2, lock_again l, owner_again d h.3) refl
-event-again at thread (Event.Walked m t) h = rw (lettered_again 109 m h, done_again t) refl
-event-again at thread (Event.From v f w) h = rw (numbers.again v h.0, frame_again f h.1, write_again w) refl
-event-again at thread (Event.Moved v f) h = rw (numbers.again v h.0, frame_again f h.1) refl
-event-again at thread (Event.Stayed v f) h = rw (numbers.again v h.0, frame_again f h.1) refl
-event-again at thread (Event.Setup p r t d) h = rw (lettered_again 112 p h.0, span_again r h.1, way_again t, owner_again d h.2) refl
-event-again at thread (Event.Ready p) h = rw (lettered_again 112 p h) refl
-event-again at thread (Event.Paged p) h = rw (lettered_again 112 p h) refl
-event-again at thread (Event.Finalize p) h = rw (lettered_again 112 p h) refl
-event-again at thread (Event.Take f) h = rw (frame_again f h) refl
-event-again at thread (Event.Free f) h = rw (frame_again f h) refl
-event-again at thread (Event.Insert m p r d) h = rw (lettered_again 109 m h.0, lettered_again 112 p h.1, span_again r h.2, owner_again d h.3) refl
-event-again at thread (Event.Inserted m q t) h = rw (lettered_again 109 m h.0, numbers.again q h.1, done_again t) refl
-event-again at thread (Event.Remove m) h = rw (lettered_again 109 m h) refl
-event-again at thread (Event.Removed m) h = rw (lettered_again 109 m h) refl
-event-again at thread (Event.Fetch m v) h = rw (lettered_again 109 m h.0, numbers.again v h.1) refl
-event-again at thread (Event.Add m v) h = rw (lettered_again 109 m h.0, numbers.again v h.1) refl
-event-again at thread (Event.Withdraw d) h = rw (lettered_again 100 d h) refl
-event-again at thread (Event.Gone d) h = rw (lettered_again 100 d h) refl
-event-again at thread (Event.Pass f) h = rw (frame_again f h) refl
+event-again (Event.Found m v f w) h = rw (lettered_again 109 m h.0, numbers.again v h.1, frame_again f h.2, write_again w) refl
+event-again (Event.Use m r w) h = rw (lettered_again 109 m h.0, span_again r h.1, write_again w) refl
+event-again (Event.Set m v f right) h = rw (lettered_again 109 m h.0, numbers.again v h.1, frame_again f h.2, right_again right) refl
+event-again (Event.Erase m v) h = rw (lettered_again 109 m h.0, numbers.again v h.1) refl
+event-again (Event.Start p r why d) h = rw (lettered_again 112 p h.0, span_again r h.1, reason_again why, owner_again d h.2) refl
+event-again (Event.End p r) h = rw (lettered_again 112 p h.0, span_again r h.1) refl
+event-again (Event.Tell m r q) h = rw (lettered_again 109 m h.0, span_again r h.1, numbers.again q h.2) refl
+event-again (Event.Told m q t) h = rw (lettered_again 109 m h.0, numbers.again q h.1, done_again t) refl
+event-again (Event.Begin m q) h = rw (lettered_again 109 m h.0, numbers.again q h.1) refl
+event-again (Event.Walk m r q l d) h = rw (lettered_again 109 m h.0, span_again r h.1, numbers.again q h.2, lock_again l, owner_again d h.3) refl
+event-again (Event.Walked m t) h = rw (lettered_again 109 m h, done_again t) refl
+event-again (Event.From v f w) h = rw (numbers.again v h.0, frame_again f h.1, write_again w) refl
+event-again (Event.Moved v f) h = rw (numbers.again v h.0, frame_again f h.1) refl
+event-again (Event.Stayed v f) h = rw (numbers.again v h.0, frame_again f h.1) refl
+event-again (Event.Setup p r t d) h = rw (lettered_again 112 p h.0, span_again r h.1, way_again t, owner_again d h.2) refl
+event-again (Event.Ready p) h = rw (lettered_again 112 p h) refl
+event-again (Event.Paged p) h = rw (lettered_again 112 p h) refl
+event-again (Event.Finalize p) h = rw (lettered_again 112 p h) refl
+event-again (Event.Take f) h = rw (frame_again f h) refl
+event-again (Event.Free f) h = rw (frame_again f h) refl
+event-again (Event.Insert m p r d) h = rw (lettered_again 109 m h.0, lettered_again 112 p h.1, span_again r h.2, owner_again d h.3) refl
+event-again (Event.Inserted m q t) h = rw (lettered_again 109 m h.0, numbers.again q h.1, done_again t) refl
+event-again (Event.Remove m) h = rw (lettered_again 109 m h) refl
+event-again (Event.Removed m) h = rw (lettered_again 109 m h) refl
+event-again (Event.Fetch m v) h = rw (lettered_again 109 m h.0, numbers.again v h.1) refl
+event-again (Event.Add m v) h = rw (lettered_again 109 m h.0, numbers.again v h.1) refl
+event-again (Event.Withdraw d) h = rw (lettered_again 100 d h) refl
+event-again (Event.Gone d) h = rw (lettered_again 100 d h) refl
+event-again (Event.Pass f) h = rw (frame_again f h) refl
 
 pub event-words : (e : Event) → FitsEvent e → list_all is_word (event_words e) ≡ true
 event-words (Event.Found m v f w) h = rw (mirror_words m h.0, decimal_words v h.1, frame_words f h.2, write_words w) refl

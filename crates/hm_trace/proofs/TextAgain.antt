@@ -163,7 +163,7 @@ lost_told count missed h k = rw (numbers.again count h, numbers.again missed k) 
 
 event_told : (n : ℕ) (e : Traced) → Fits64 n → FitsTraced e → words_at (decimal n ∷ actor_text e.thread ∷ event_words e.event) ≡ Ok (TraceLine.Event n e)
 unfolding words_at numbered_at
-event_told n e h k = rw (not_numeral n 110 (codes "ames") h refl, not_numeral n 108 (codes "ost") h refl, numbers.again n h, lettered_again 97 e.thread k.thread, named-again e.event, event-again (decimal n) (actor_text e.thread) e.event k.event) refl
+event_told n e h k = rw (not_numeral n 110 (codes "ames") h refl, not_numeral n 108 (codes "ost") h refl, numbers.again n h, lettered_again 97 e.thread k.thread, named-again e.event, event-again e.event k.event) refl
 
 -- the text of what a line tells is read as that
 pub line-again : (x : TraceLine) → FitsLine x → line_at (line_text x) ≡ Ok x

@@ -1,6 +1,6 @@
 -- The lines of a trace: what each tells, and its text.
 use Rattle.std.specs.Prelude.{ℕ, ◌+◌, ◌-◌, Bool, ◌||◌, ◌==◌, if◌then◌else◌, List, [], ◌∷◌, ◌++◌, Result, Ok, Err}
-use Rattle.std.specs.Prelude.{codes, length, slice_index, take}
+use Rattle.std.specs.Prelude.{codes, drop, length, slice_index, take}
 use Rattle.std.specs.Char.{is_ascii_whitespace}
 use Rattle.std.specs.List.{position_or_len, suffix_len}
 use Rattle.std.specs.Option.{ok_or}
@@ -13,7 +13,7 @@ use Rattle.hm_script.specs.declared.reason.Reason.{Reason}
 use Rattle.hm_trace.specs.EventWords.{event_named}
 use Rattle.hm_trace.specs.Events.{event_at}
 use Rattle.hm_trace.specs.Spelling.{event_line, lost_line, names_line}
-use Rattle.hm_trace.specs.Words.{lettered}
+use Rattle.hm_trace.specs.Words.{field, lettered}
 use Rattle.hm_trace.specs.declared.line.TraceLine.{TraceLine}
 
 -- ---- what a line tells
@@ -69,10 +69,10 @@ lost_at ws = do
 -- an event with its number and its thread, by the words of its line
 unfoldable pub numbered_at : List (List ℕ) → Result TraceLine Reason
 numbered_at ws = do
-  n ← number (word 0 ws)
-  a ← lettered (word 1 ws)
-  k ← ok_or (event_named (word 2 ws)) Reason.Word
-  e ← event_at k ws
+  n ← number (field 0 ws)
+  a ← lettered (field 1 ws)
+  k ← ok_or (event_named (field 2 ws)) Reason.Word
+  e ← event_at k (drop 1 (drop 1 (drop 1 ws)))
   Ok (TraceLine.Event n (record { thread = a; event = e }))
 
 -- what the words of a line tell, of which there is one

@@ -1,7 +1,7 @@
 -- What the words of an event's line tell, each by its reader. A letter before a number, and what would make the word
 -- another's, is left to the comparison of the whole line.
-use Rattle.std.specs.Prelude.{ℕ, ◌+◌, Bool, false, ◌==◌, if◌then◌else◌, Option, Some, None, List, [], ◌∷◌, Result, Ok, Err}
-use Rattle.std.specs.Prelude.{drop, take, codes}
+use Rattle.std.specs.Prelude.{ℕ, zero, suc, ◌+◌, Bool, false, ◌==◌, if◌then◌else◌, Option, Some, None, List, [], ◌∷◌}
+use Rattle.std.specs.Prelude.{Result, Ok, Err, drop, take, codes}
 use Rattle.std.specs.List.{find, position_or_len}
 use Rattle.std.specs.Option.{ok_or}
 use Rattle.std.specs.Str.{bytes_eq}
@@ -11,8 +11,14 @@ use Rattle.hm_protocol.specs.declared.events.Reason.{Reason as StartReason}
 use Rattle.hm_protocol.specs.declared.events.TraceFrame.{TraceFrame}
 use Rattle.hm_script.specs.Gives.{◌>>=◌}
 use Rattle.hm_script.specs.Numerals.{number}
+use Rattle.hm_script.specs.Splitting.{word}
 use Rattle.hm_script.specs.declared.reason.Reason.{Reason}
 use Rattle.hm_trace.specs.Spelling.{reason_text}
+
+-- the word at this place of those that are left
+abbrev pub field : ℕ → List (List ℕ) → List ℕ
+field zero ws = word 0 ws
+field (suc k) ws = field k (drop 1 ws)
 
 -- the word begins with this letter
 abbrev pub begins : ℕ → List ℕ → Bool

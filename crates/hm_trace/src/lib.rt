@@ -3,6 +3,7 @@
 
 mod event;
 mod event_word;
+mod fields;
 mod laws;
 mod line;
 mod reader;

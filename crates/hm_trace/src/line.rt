@@ -7,8 +7,9 @@ ghost use Rattle.hm_script.specs.Splitting.{split};
 ghost use Rattle.hm_trace.specs.Lines as spec;
 ghost use Rattle.hm_trace.specs.Spelling.{event_words, recorded_words};
 
-use crate::event::EventLine;
+use crate::event::read_event;
 use crate::event_word::EventWord;
+use crate::fields::Fields;
 use crate::words::{first_or_end, lettered};
 use crate::writing::put_event;
 use hm_protocol::{Recorded, Traced};
@@ -109,13 +110,13 @@ impl AnyLine<'_> {
 
 /// An event with its number and its thread.
 #[tactic(auto, unfolding(crate::specs::Lines::numbered_at))]
-fn numbered(line: &EventLine) -> Result<TraceLine, Reason>
-    ensures { result ≡ spec.numbered_at line.now.words }
+fn numbered(words: &mut Fields) -> Result<TraceLine, Reason>
+    ensures { result ≡ spec.numbered_at words.old }
 {
-    let number = number(line.words.get(0))?;
-    let thread = lettered(line.words.get(1))?;
-    let word = EventWord::named(line.words.get(2)).ok_or(Reason::Word)?;
-    let event = line.read(word)?;
+    let number = number(words.next())?;
+    let thread = lettered(words.next())?;
+    let word = EventWord::named(words.next()).ok_or(Reason::Word)?;
+    let event = read_event(words, word)?;
     let event = Traced { thread, event };
     Ok(TraceLine::Event { number, event })
 }
@@ -135,9 +136,7 @@ fn words_told(text: &[u8]) -> Result<TraceLine, Reason>
     if first == b"lost".as_slice() {
         return line.lost();
     }
-    numbered(&EventLine {
-        words: LineWords::of(text),
-    })
+    numbered(&mut Fields::of(text))
 }
 
 /// What a text tells.

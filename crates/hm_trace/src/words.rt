@@ -50,7 +50,7 @@ pub(crate) fn owner(word: &[u8]) -> Result<Option<u64>, Reason>
 }
 
 /// Where this byte stands first.
-fn find_byte(bytes: &[u8], byte: u8) -> Option<usize>
+pub(crate) fn find_byte(bytes: &[u8], byte: u8) -> Option<usize>
     ensures gives { result ≡ position (λ b. b == byte) bytes.now }
     ensures inside { IfSome result (λ at. at < length bytes.now) }
 {

@@ -4,7 +4,8 @@ ghost use Rattle.std.specs.Fmt.{decimal};
 ghost use Rattle.hm_report.specs.Line.{spaced};
 ghost use Rattle.hm_report.specs.Words.{actor_text, device_text, mirror_text, proc_text, table_right_text, write_text};
 ghost use Rattle.hm_trace.specs.EventWords.{is_of_driver, is_of_frames};
-ghost use Rattle.hm_trace.specs.Spelling.{done_text, event_words, frame_text, lock_text, owner_text, reason_text, way_text};
+ghost use Rattle.hm_trace.specs.Spelling.{done_text, event_words, frame_text, lock_text, owner_text, reason_text};
+ghost use Rattle.hm_trace.specs.Spelling.{way_text};
 
 use hm_history::TableRight;
 use hm_protocol::{Event, Reason as StartReason, TraceFrame, TraceSpan};
