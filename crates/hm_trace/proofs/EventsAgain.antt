@@ -1,5 +1,5 @@
 -- Each event's words are read back, and each is made of bytes of words.
-use Rattle.std.proofs.Common.{◌≡◌, ℕ, true, Some, Ok, drop, refl}
+use Rattle.std.proofs.Common.{◌≡◌, true, Some, Ok, drop, refl}
 use Rattle.std.specs.List.{list_all}
 use Rattle.hm_protocol.specs.declared.events.Event.{Event}
 use Rattle.hm_script.specs.Splitting.{word}

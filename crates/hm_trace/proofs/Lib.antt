@@ -3,3 +3,4 @@ pub mod WordsAgain
 pub mod NamesAgain
 pub mod EventsAgain
 pub mod TextAgain
+pub mod TracesAgain

@@ -1,6 +1,6 @@
 -- A line's text is read back.
-use Rattle.std.proofs.Common.{◌≡◌, ℕ, zero, suc, ◌+◌, ◌-◌, ◌≤◌, ◌<◌, Bool, true, false, not, cond, eqb, ltb, List, [], ◌∷◌, ◌++◌, Result, Ok, Err, length, get_or, take, drop, reverse, refl, sym, ap, subst, ◌∙◌, arith, append_assoc, append-nil, length-append}
-use Rattle.std.specs.Prelude.{◌&&◌, codes}
+use Rattle.std.proofs.Common.{◌≡◌, ℕ, ◌+◌, ◌-◌, Bool, true, false, not, cond, eqb, List, [], ◌∷◌, ◌++◌, Result, Ok, Err, length, get_or, take, reverse, refl, sym, ap, subst, ◌∙◌, arith, append_assoc, append-nil, length-append}
+use Rattle.std.specs.Prelude.{codes}
 use Rattle.std.specs.Char.{is_ascii_whitespace}
 use Rattle.std.specs.List.{list_all, join_with_byte, position_or_len, prefix_len, suffix_len}
 use Rattle.std.specs.Fmt.{decimal}
@@ -11,7 +11,6 @@ use Rattle.std.proofs.lemmas.Bool.Decides.{nat_tests}
 use Rattle.std.proofs.lemmas.List.{get_or_push, reverse-append, take_at}
 use Rattle.std.proofs.lemmas.List.Folds.{list_all-append}
 use Rattle.std.proofs.lemmas.Slice.Eq.{bytes_eq-Decides}
-use Rattle.hm_protocol.specs.declared.events.Recorded.{Recorded}
 use Rattle.hm_protocol.specs.declared.events.Traced.{Traced}
 use Rattle.hm_report.specs.Words.{actor_text}
 use Rattle.hm_script.specs.Spelling.{line}
@@ -21,9 +20,8 @@ use Rattle.hm_script.proofs.Readers.{numbers}
 use Rattle.hm_script.proofs.Steps.{done, is_plain, ok_is}
 use Rattle.hm_script.specs.Gives.{◌>>=◌}
 use Rattle.hm_script.specs.declared.reason.Reason.{Reason}
-use Rattle.hm_trace.specs.EventWords.{event_word}
 use Rattle.hm_trace.specs.Fits.{Fits64, FitsLine, FitsTraced}
-use Rattle.hm_trace.specs.Lines.{before_comment, has_word, is_ended, line_at, line_text, lost_at, numbered_at, recorded_at, text_of, told_by, trimmed, words_at}
+use Rattle.hm_trace.specs.Lines.{before_comment, is_ended, line_at, line_text, lost_at, numbered_at, text_of, told_by, trimmed, words_at}
 use Rattle.hm_trace.specs.Spelling.{event_words, recorded_words}
 use Rattle.hm_trace.specs.declared.line.TraceLine.{TraceLine}
 use Rattle.hm_trace.proofs.EventsAgain.{event-again, event-words, named-again}
@@ -74,7 +72,7 @@ word_ends (b ∷ w) h = bytes_end b w h
 
 -- ---- the words of a line
 
-words_plain : (ws : List (List ℕ)) → list_all is_word ws ≡ true → list_all (list_all is_plain) ws ≡ true
+pub words_plain : (ws : List (List ℕ)) → list_all is_word ws ≡ true → list_all (list_all is_plain) ws ≡ true
 words_plain [] h = refl
 words_plain (w ∷ ws) h =
     let parts = and_parts (is_word w) (list_all is_word ws) h in
@@ -165,12 +163,16 @@ event_told : (n : ℕ) (e : Traced) → Fits64 n → FitsTraced e → words_at (
 unfolding words_at numbered_at
 event_told n e h k = rw (not_numeral n 110 (codes "ames") h refl, not_numeral n 108 (codes "ost") h refl, numbers.again n h, lettered_again 97 e.thread k.thread, named-again e.event, event-again e.event k.event) refl
 
+-- the words of an event's line
+pub event_are : (n : ℕ) (e : Traced) → Fits64 n → FitsTraced e → list_all is_word (decimal n ∷ actor_text e.thread ∷ event_words e.event) ≡ true
+event_are n e h k = rw (decimal_words n h, actor_words e.thread k.thread, event-words e.event k.event) refl
+
 -- the text of what a line tells is read as that
 pub line-again : (x : TraceLine) → FitsLine x → line_at (line_text x) ≡ Ok x
 unfolding line_at text_of
 line-again TraceLine.Blank h = refl
 line-again (TraceLine.Names r) h = of_words (codes "names") (recorded_words r) (TraceLine.Names r) (names_words r) refl (names_told r)
-line-again (TraceLine.Event n e) h = of_words (decimal n) (actor_text e.thread ∷ event_words e.event) (TraceLine.Event n e) (rw (decimal_words n h.0, actor_words e.thread h.1.thread, event-words e.event h.1.event) refl) refl (event_told n e h.0 h.1)
+line-again (TraceLine.Event n e) h = of_words (decimal n) (actor_text e.thread ∷ event_words e.event) (TraceLine.Event n e) (event_are n e h.0 h.1) refl (event_told n e h.0 h.1)
 line-again (TraceLine.Lost count missed) h = of_words (codes "lost") (decimal count ∷ decimal missed ∷ []) (TraceLine.Lost count missed) (rw (decimal_words count h.0, decimal_words missed h.1) refl) refl (lost_told count missed h.0 h.1)
 
 -- what a line tells has the line's text

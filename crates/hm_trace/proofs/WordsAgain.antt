@@ -1,6 +1,6 @@
 -- Each word of an event's line is read back, and is made of bytes that stand in words.
-use Rattle.std.proofs.Common.{◌≡◌, ℕ, ◌+◌, ◌^◌, ◌<◌, Bool, true, false, not, cond, eqb, ltb, leb, List, [], ◌∷◌, ◌++◌, Option, Some, None, Ok, length, take, drop, refl, sym, ap, subst, ◌∙◌, arith, append_assoc, length-append}
-use Rattle.std.specs.Prelude.{◌&&◌, codes}
+use Rattle.std.proofs.Common.{◌≡◌, ℕ, ◌+◌, ◌<◌, Bool, true, false, not, cond, eqb, List, [], ◌∷◌, ◌++◌, Option, Some, None, Ok, length, drop, refl, sym, ap, subst, ◌∙◌, arith, append_assoc, length-append}
+use Rattle.std.specs.Prelude.{◌&&◌}
 use Rattle.std.specs.List.{list_all, position_or_len}
 use Rattle.std.specs.Fmt.{decimal}
 use Rattle.std.specs.Str.{bytes_eq}
@@ -14,7 +14,7 @@ use Rattle.hm_history.specs.declared.TableRight.{TableRight}
 use Rattle.hm_protocol.specs.declared.events.Reason.{Reason}
 use Rattle.hm_protocol.specs.declared.events.TraceFrame.{TraceFrame}
 use Rattle.hm_report.specs.Words.{device_text, mirror_text, proc_text, table_right_text, write_text}
-use Rattle.hm_script.specs.Numerals.{is_low_digit, number}
+use Rattle.hm_script.specs.Numerals.{is_low_digit}
 use Rattle.hm_script.proofs.Numbers.{decimal_numeral}
 use Rattle.hm_script.proofs.Readers.{numbers}
 use Rattle.hm_script.proofs.Steps.{is_plain}

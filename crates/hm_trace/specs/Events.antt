@@ -1,6 +1,6 @@
 -- Reading the words of an event's line. The line is compared with the event's text afterwards, so that a reader may
 -- pass over what it need not know.
-use Rattle.std.specs.Prelude.{ℕ, Option, Some, None, List, Result, Ok, Err}
+use Rattle.std.specs.Prelude.{ℕ, List, Result, Ok}
 use Rattle.hm_protocol.specs.declared.events.Event.{Event}
 use Rattle.hm_script.specs.Gives.{◌>>=◌}
 use Rattle.hm_script.specs.Numerals.{number}

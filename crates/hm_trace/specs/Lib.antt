@@ -5,3 +5,4 @@ pub mod Events
 pub mod Fits
 pub mod Lines
 pub mod Progress
+pub mod Traces

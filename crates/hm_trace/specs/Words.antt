@@ -1,7 +1,7 @@
 -- What the words of an event's line tell, each by its reader. A letter before a number, and what would make the word
 -- another's, is left to the comparison of the whole line.
 use Rattle.std.specs.Prelude.{ℕ, zero, suc, ◌+◌, Bool, false, ◌==◌, if◌then◌else◌, Option, Some, None, List, [], ◌∷◌}
-use Rattle.std.specs.Prelude.{Result, Ok, Err, drop, take, codes}
+use Rattle.std.specs.Prelude.{Result, Ok, drop, take, codes}
 use Rattle.std.specs.List.{find, position_or_len}
 use Rattle.std.specs.Option.{ok_or}
 use Rattle.std.specs.Str.{bytes_eq}
