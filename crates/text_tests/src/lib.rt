@@ -11,3 +11,5 @@ mod reports_read;
 mod scripts;
 #[cfg(test)]
 mod streams;
+#[cfg(test)]
+mod traces_read;
