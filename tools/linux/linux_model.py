@@ -65,6 +65,16 @@ class Model:
             high += 1
         return range(low, high + 1)
 
+    def rows(self, process, span):
+        """The pages of a span that have an area, by the kernel's areas: the driver migrates one after the other."""
+        area, rows = self.areas[process], []
+        for page in span:
+            if page in area and rows and rows[-1][-1] == page - 1 and area[page - 1] == area[page]:
+                rows[-1].append(page)
+            elif page in area:
+                rows.append([page])
+        return rows
+
     def note_own_page(self, process, page):
         self.own_pages[process].update(self.vma(process, page))
 
@@ -309,30 +319,34 @@ class Model:
         return self.migrate(mirror, range(first, first + count), wants, None)
 
     def migrate(self, mirror, span, wants, device):
-        process, moved, fresh = mirror.process, 0, {}
-        kind = 'sys' if device is None else 'own'
-        if process in self.alive:
-            self.invalidate(process, span)
-            for page in span:
+        process, moved = mirror.process, 0
+        for pages in self.rows(process, span) if process in self.alive else []:
+            self.invalidate(process, pages)
+            set_there = {}
+            for page in pages:
                 entry = self.entries[process].get(page)
-                if page not in self.areas[process] or not wants(entry):
-                    continue
-                moved += 1
-                frame = self.frame(entry.frame if entry else None)
-                if entry is None or entry.kind == 'zero':
-                    self.note_own_page(process, page)
-                    self.unshared.add(frame)
-                    self.entries[process][page] = Entry(kind, frame, self.areas[process][page] == 2, False, device)
-                else:
-                    if entry.frame in self.unshared:
-                        self.unshared.add(frame)
-                    for other, at in self.mappings(entry.frame):
-                        self.invalidate(other, [at])
-                        self.entries[other][at] = Entry(kind, frame, self.entries[other][at].writable, False, device)
-                if device is not None:
-                    fresh[page] = (frame, 'w' if self.entries[process][page].writable else 'r')
-            mirror.table.update(fresh)
+                if wants(entry):
+                    moved += 1
+                    frame = self.move(process, page, entry, device)
+                    set_there[page] = (frame, 'w' if self.entries[process][page].writable else 'r')
+            if device is not None:
+                mirror.table.update(set_there)
         return [f'migrated {moved}']
+
+    def move(self, process, page, entry, device):
+        """Moves a page to the device, or home if that is None; gives its new frame."""
+        kind, frame = 'sys' if device is None else 'own', self.frame(entry.frame if entry else None)
+        if entry is None or entry.kind == 'zero':
+            self.note_own_page(process, page)
+            self.unshared.add(frame)
+            self.entries[process][page] = Entry(kind, frame, self.areas[process][page] == 2, False, device)
+            return frame
+        if entry.frame in self.unshared:
+            self.unshared.add(frame)
+        for other, at in self.mappings(entry.frame):
+            self.invalidate(other, [at])
+            self.entries[other][at] = Entry(kind, frame, self.entries[other][at].writable, False, device)
+        return frame
 
     def exclusive(self, mirror, number, page):
         cause = self.make_exclusive(mirror, page)
