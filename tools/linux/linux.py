@@ -14,7 +14,8 @@
                 Without them scripts are run by tools/reference, which gives the same reports, and the outcomes are
                 those that are kept and that the gate compares with hmmraces.
 
-W is the folder that build.sh filled. Ends with status 1 if something failed, was not answered, or has no name.
+W is the folder that build.sh filled. Ends with status 1 if something failed, was not answered, or has no name: also if
+the kernel stopped in a race in which docs/LINUX.md does not say that it may. Status 2: the words or W are wrong.
 """
 import argparse
 import os
@@ -27,6 +28,7 @@ import race_runs
 import sequential
 
 DATA = os.path.join(answers.TOP, 'crates', 'stored_examples', 'data', 'linux')
+BUILT = ('bzImage.stock', 'bzImage.changed', 'base.cpio')
 KEPT_SCRIPTS = 100
 SLOW = 400              # microseconds that a slow device may wait
 
@@ -48,21 +50,34 @@ def scripts(options, first=1, count=2000):
 
 def races(options, runs=2000, seconds=60, *names):
     runs, seconds = int(runs), int(seconds)
-    names = names or race_runs.all_names()
-    paths = []
+    unknown = sorted(set(names) - set(races_to_judge(options)))
+    if unknown:
+        refuse(f'no outcomes are kept of {" ".join(unknown)}; the races of tools/linux/large need --hmmraces')
+    paths, stopped = [], 0
     for number, delay in enumerate((0, SLOW), 1):
-        paths += race_runs.run(options.work, names, runs // 2, seconds // 2, delay, options.seed + number)
-    return judge(options, *paths)
+        told, unnamed = race_runs.run(options.work, names or race_runs.all_names(), runs // 2, seconds // 2, delay,
+                                      options.seed + number)
+        paths, stopped = paths + told, stopped + unnamed
+    return judge(options, *paths) + stopped
+
+
+def races_to_judge(options):
+    """The races whose outcomes are kept, and those that hmmraces is asked for."""
+    large = [name[:-len('.hmm')] for name in os.listdir(race_runs.LARGE)] if options.hmmraces else []
+    return race_runs.all_names() + large
 
 
 def judge(options, *paths):
-    names = race_runs.all_names()
-    if options.hmmraces:
-        names += [name[:-len('.hmm')] for name in os.listdir(race_runs.LARGE)]
+    names = races_to_judge(options)
     judged, unnamed = race_runs.judge(paths, names, options.hmmraces)
     if options.keep:
         race_runs.keep(judged)
     return unnamed
+
+
+def refuse(said):
+    print(f'linux.py: {said}', file=sys.stderr)
+    sys.exit(2)
 
 
 def all_tables(options):
@@ -93,6 +108,9 @@ def main():
     parser.add_argument('--hmmrun', type=str.split)
     parser.add_argument('--hmmraces', type=str.split)
     options = parser.parse_intermixed_args()
+    missing = [name for name in BUILT if not os.path.exists(os.path.join(options.work, name))]
+    if missing and options.what != 'judge':
+        refuse(f'{options.work} has no {missing[0]}: tools/linux/build.sh {options.work} makes it')
     commands = {'all': all_tables, 'selftests': selftests, 'scripts': scripts, 'races': races, 'judge': judge}
     return 1 if commands[options.what](options, *options.rest) else 0
 

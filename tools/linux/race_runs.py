@@ -1,8 +1,8 @@
 """Races in the guest, from real threads: each outcome, how often it was seen, and whether hmmraces lists it.
 
-A race is a script with a set-up, as hmmraces reads it, in crates/stored_examples/data/linux/races: NAME.hmm. NAME.seen has the
-outcomes that hmmraces lists, and those that were seen. Six more, in large, have too many states for the gate: no
-outcomes of theirs are kept, so hmmraces must be asked.
+A race is a script with a set-up, as hmmraces reads it, in crates/stored_examples/data/linux/races: NAME.hmm. NAME.seen
+has the outcomes that hmmraces lists, and those that were seen. Six more, in large, have too many states for the gate:
+no outcomes of theirs are kept, so hmmraces must be asked.
 """
 import os
 import re
@@ -23,12 +23,16 @@ SPECIAL = {'lost_store': ('stock', 1), 'lost_store_take_all_0': ('changed', 0), 
 
 OTHER_WORDS = [
     (r'^(a\d+) migrated \d+ e9$', r'\1 refused 4'),                # a closed file
-    (r'^(a\d+ migrated \d+) e\d+$', r'\1'),                        # migrate-answer: an error number besides
+    (r'^(a\d+ migrated \d+) e(?:2|22)$', r'\1'),                   # migrate-answer: an error number besides
     (r'^(a\d+ failed .*) e9$', r'\1 4'),
     (r'^(a\d+ seen m\d+ \d+) (ff|e22)$', r'\1 00'),                # no-area-code
     (r'^(a\d+ excluded m\d+ \d+) e2$', r'\1')]                     # it was had and lost again
 ADDS_WORDS = [(r'(a\d+ failed m\d+ 0x[0-9a-f]+ 1) e16', r'\1 2')]     # exclusive-errno, of a `dadd`
 STOCK_WORDS = [(r'^(a\d+ migrated) \d+$', r'\1 *')]                # the number is not given
+
+# Operations that may hold a page for a moment, as `held-page` of docs/LINUX.md has them.
+HOLDERS = set('load store dload dstore dadd unmap exit todev tosys exclusive evict remove detach'.split())
+EVICTS, ZAPS = {'evict', 'remove', 'detach'}, {'unmap', 'exit'}
 
 
 class Race:
@@ -38,7 +42,8 @@ class Race:
             self.text = file.read()
         self.kernel, self.take_all = SPECIAL.get(name, ('changed', 1))
         self.setup, self.actors = self.parts()
-        self.has_adds = any(op.startswith('dadd') for ops in self.actors for op in ops)
+        self.words = [{op.split()[0] for op in ops} for ops in self.actors]
+        self.has_adds = any('dadd' in words for words in self.words)
         self.other_words = OTHER_WORDS + (STOCK_WORDS if self.kernel == 'stock' else [])
 
     def parts(self):
@@ -56,6 +61,26 @@ class Race:
         done = machine.ended[0]
         setup, actors[0] = actors[0][:done], actors[0][done:]
         return [op for op in setup if not op.startswith('evict')], [without_evicts(ops) for ops in actors]
+
+    def others_do(self, actor, words):
+        """Whether another actor has one of these operations."""
+        return any(of & words for number, of in enumerate(self.words) if number != actor)
+
+    def may_stop_the_kernel(self):
+        """Whether an eviction may meet an unmap or exit of another actor: `freed-anon-vma`."""
+        return any(of & EVICTS and self.others_do(actor, ZAPS) for actor, of in enumerate(self.words))
+
+    def may_lose_a_store(self):
+        return self.name in SPECIAL and (self.kernel == 'stock' or not self.take_all)
+
+    def answered(self, outcome):
+        """Of each actor its operations, each with its answers in the outcome."""
+        told = [[] for _ in self.actors]
+        for answer in outcome.split('|'):
+            who, said = answer.split(' ', 1)
+            if said != 'evicted *':             # of a `detach`, see without_evicts
+                told[int(who[1:])].append(said)
+        return [list(zip(ops, answers.by_op(ops, said)[0])) for ops, said in zip(self.actors, told)]
 
     def guest_input(self, runs, seconds):
         lines = [f'race {self.name} {runs} {WAIT} {seconds}', *self.setup]
@@ -103,18 +128,39 @@ def is_like(listed, seen):
 
 
 def name_of(outcome, race, listed):
-    """The name of the difference by which an outcome is not listed, or None."""
-    if race.name.startswith('lost_store') and 'loaded p0 0x10000 41' in outcome:
+    """The name of the difference by which an outcome is not listed, or None. Only races and operations of which the row
+    of docs/LINUX.md speaks have its name."""
+    if race.may_lose_a_store() and 'loaded p0 0x10000 41' in outcome:
         return 'lost-store'
-    if re.search(r'a\d+ refused e16', outcome):
+    pairs = [pair for actor in race.answered(outcome) for pair in actor]
+    for op, said in pairs:
+        for answer in said:
+            name = name_of_answer(op.split()[0], answer, race)
+            if name:
+                return name
+    return 'held-page' if is_held(outcome, race, listed) else None
+
+
+def name_of_answer(word, answer, race):
+    """The name of the difference that this operation's answer shows by itself, or None."""
+    if word == 'exclusive' and answer == 'refused e16' or word == 'dadd' and re.fullmatch(r'failed .* e16', answer):
         return 'exclusive-busy'
-    if re.search(r'a\d+ failed m\d+ 0x[0-9a-f]+ \d+ e16', outcome):
-        return 'exclusive-busy' if race.has_adds else 'no-time-out'
-    if re.search(r'failed m\d+ 0x[0-9a-f]+ 1 1', outcome) and any('todev' in op for op in race.setup):
+    if word in ('dload', 'dstore') and re.fullmatch(r'failed .* e16', answer):
+        return 'no-time-out'
+    if (word == 'dstore' and re.fullmatch(r'failed m\d+ 0x[0-9a-f]+ \d+ 1', answer)
+            and any(op.startswith('todev') for op in race.setup)):
         return 'own-read-only'
-    if 'migrated 0' in outcome and any(is_like(one, outcome.replace('migrated 0', 'migrated 1')) for one in listed):
-        return 'held-page'
     return None
+
+
+def is_held(outcome, race, listed):
+    """Whether each migration that moved no page is of an actor beside which another one may hold the page, and the
+    outcome is listed with these pages moved."""
+    kept = {number for number, pairs in enumerate(race.answered(outcome))
+            if any('migrated 0' in said for _, said in pairs)}
+    moved = outcome.replace('migrated 0', 'migrated 1')
+    return (bool(kept) and all(race.others_do(actor, HOLDERS) for actor in kept)
+            and any(is_like(one, moved) for one in listed))
 
 
 def read_outcomes(path):
@@ -163,9 +209,9 @@ def outcomes_of(text):
 
 
 def run(work, names, runs, seconds, delay, seed):
-    """Lets the guest run these races; gives the paths of what it wrote. If the kernel stops in a race, that one is left
-    out, and said, and the guest is booted again for those after it."""
-    told, races = [], [Race(name) for name in names]
+    """Lets the guest run these races; gives the paths of what it wrote, and in how many races the kernel stopped that
+    may not stop it. A race in which it stops is left out, and said; the guest is booted again for those after it."""
+    told, races, unnamed = [], [Race(name) for name in names], 0
     for setting in sorted({(race.kernel, race.take_all) for race in races}):
         left = [race for race in races if (race.kernel, race.take_all) == setting]
         kernel, take_all = setting
@@ -178,8 +224,11 @@ def run(work, names, runs, seconds, delay, seed):
             done = read_outcomes(path)[0]
             left = [race for race in left if race.name not in done]
             if left:
-                print(f'!! the kernel stopped in {left.pop(0).name}: see {path}.console')
-    return told
+                race = left.pop(0)
+                name = 'freed-anon-vma' if race.may_stop_the_kernel() else 'NOT NAMED'
+                unnamed += not race.may_stop_the_kernel()
+                print(f'!! the kernel stopped in {race.name}, {name}: see {path}.console')
+    return told, unnamed
 
 
 class Judged:
