@@ -2,6 +2,8 @@
 # boot.sh W KERNEL IN OUT [SECONDS]: boots W/bzImage.KERNEL (stock or changed) in qemu, gives the guest the file IN, and
 # writes what it answers to OUT and the console to OUT.console. Gives up after SECONDS (600).
 #
+# If it is told to end, qemu ends with it.
+#
 # In the environment: ACCEL (tcg, which works without /dev/kvm; kvm is faster where it works), CPU (max; host with
 # kvm), CPUS (2), MEM (768), APPEND (more words for the kernel).
 set -eu
@@ -11,7 +13,9 @@ in=${3:?the file that the guest reads}
 out=${4:?the file for its answers}
 most=${5:-600}
 folder=$(mktemp -d)
+qemu=
 trap 'rm -r "$folder"' EXIT
+trap '[ -z "$qemu" ] || kill "$qemu"; exit 1' INT TERM
 cp "$in" "$folder/in"
 (cd "$folder" && echo in | cpio -o -H newc --quiet > in.cpio)
 cat "$work/base.cpio" "$folder/in.cpio" > "$folder/initrd"
@@ -20,8 +24,11 @@ case ${ACCEL:-tcg} in
     *) accel=$ACCEL ;;
 esac
 words="console=ttyS0 earlyprintk=ttyS0 quiet panic=-1 no_timer_check rdinit=/runner random.trust_cpu=on"
-timeout "$most" qemu-system-x86_64 -accel "$accel" -cpu "${CPU:-max}" -smp "${CPUS:-2}" -m "${MEM:-768}" \
+timeout --kill-after=10 "$most" qemu-system-x86_64 -accel "$accel" \
+    -cpu "${CPU:-max}" -smp "${CPUS:-2}" -m "${MEM:-768}" \
     -nodefaults -no-user-config -display none -no-reboot -kernel "$kernel" -initrd "$folder/initrd" \
     -serial "file:$out.console" -serial "file:$out" \
     -append "$words ${APPEND:-}" \
-    < /dev/null || echo "boot.sh: qemu ended with status $?" >&2
+    < /dev/null &
+qemu=$!
+wait "$qemu" || echo "boot.sh: qemu ended with status $?" >&2

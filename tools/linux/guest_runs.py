@@ -16,7 +16,8 @@ def boot(work, kernel, text, name, seconds, cpus=2):
     if os.path.exists(told):
         os.remove(told)
     environment = dict(os.environ, CPUS=os.environ.get('CPUS', str(cpus)))
-    command = [os.path.join(HERE, 'boot.sh'), work, kernel, given, told, str(seconds)]
+    command = ['setpriv', '--pdeathsig', 'TERM',    # if this program is killed, boot.sh is told to end
+               os.path.join(HERE, 'boot.sh'), work, kernel, given, told, str(seconds)]
     for _ in range(BOOTS):
         subprocess.run(command, env=environment, check=True)
         if os.path.exists(told) and os.path.getsize(told):
