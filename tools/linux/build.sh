@@ -7,7 +7,8 @@
 #
 # Needs Debian 12 and these packages (as root):
 #   apt-get install linux-source-6.1 build-essential flex bison bc libelf-dev cpio lz4 qemu-system-x86 python3
-# What is there already is not made again; to make all again, remove W.
+# What is there already is not made again; but the changed kernel is, if edit_driver.py is not the one that it was built
+# with. To make all again, remove W. The compiler warns of large frames in test_hmm.c; that is no error.
 set -eu
 here=$(cd "$(dirname "$0")" && pwd)
 work=${1:?a folder to build in}
@@ -16,21 +17,53 @@ mkdir -p "$work"
 work=$(cd "$work" && pwd)
 cd "$work"
 source=$work/linux-source-6.1
-[ -d "$source" ] || tar xf /usr/src/linux-source-6.1.tar.xz
+if [ ! -d "$source" ]; then
+    echo "unpacking the source, a minute or two"
+    rm -rf unpacked
+    mkdir unpacked
+    tar xf /usr/src/linux-source-6.1.tar.xz -C unpacked
+    mv unpacked/linux-source-6.1 .
+    rmdir unpacked
+fi
 mkdir -p build
 
+# The driver as it came: kept in W/driver, and put back into the source.
+driver_as_it_came() {
+    if [ ! -d driver ]; then
+        if grep -q race_delay "$source/lib/test_hmm.c"; then
+            echo "build.sh: the driver in $source is changed, and there is no copy of it as it came: remove $work" >&2
+            exit 2
+        fi
+        rm -rf driver.part
+        mkdir driver.part
+        cp "$source/lib/test_hmm.c" "$source/lib/test_hmm_uapi.h" driver.part
+        mv driver.part driver
+    fi
+    cp driver/test_hmm.c driver/test_hmm_uapi.h "$source/lib"
+}
+
+# build NAME: the kernel of the source as it is now, as bzImage.NAME.
+build() {
+    make -C build -j"$jobs" bzImage
+    cp build/arch/x86/boot/bzImage bzImage.part
+    mv bzImage.part "bzImage.$1"
+}
+
 if [ ! -e bzImage.stock ]; then
+    driver_as_it_came
     make -s -C "$source" O="$work/build" tinyconfig
     (cd build && bash "$source/scripts/kconfig/merge_config.sh" -m -O . .config "$here/hmm.config")
     make -s -C build olddefconfig
-    make -C build -j"$jobs" bzImage
-    cp build/arch/x86/boot/bzImage bzImage.stock
+    build stock
 fi
-if [ ! -e bzImage.changed ]; then
+edits=$(cksum < "$here/edit_driver.py")
+if [ ! -e bzImage.changed ] || [ "$(cat edits 2> /dev/null)" != "$edits" ]; then
+    driver_as_it_came
     python3 "$here/edit_driver.py" "$source"
-    make -C build -j"$jobs" bzImage
-    cp build/arch/x86/boot/bzImage bzImage.changed
+    build changed
+    echo "$edits" > edits
 fi
+python3 "$here/edit_driver.py" "$source"     # the guest needs its header; a changed driver stays as it is
 
 tests=$source/tools/testing/selftests
 gcc -O2 -static -Wall -pthread -I"$source/lib" -o runner "$here/guest.c"
