@@ -14,7 +14,11 @@ docs/KERNEL.md are read. A citation is one of these:
     hmm.c:164, mmap.c:803-807               no words: the lines are there
 
 A file without a folder is looked for in the folder that a row of the page names for it, such as
-| `drivers/xen/` | `gntdev.c`, `grant-table.c` |; then in mm/ and lib/; and then it must be the only file of that name.
+
+    | `drivers/xen/` | `gntdev.c`, `grant-table.c` |
+
+then in mm/, lib/ and kernel/; and then it must be the only file of that name.
+
 For each citation that is wrong there is a line, and then the status is 1. The last line counts all citations.
 """
 import os, re, sys
@@ -24,6 +28,7 @@ sys.path.insert(0, os.path.join(TOP, 'tools'))
 import words
 
 PAGES = ('docs/DRIVERS.md', 'docs/LINUX.md', 'docs/BROKEN.md', 'docs/KERNEL.md')
+FOLDERS = ('mm/', 'lib/', 'kernel/')
 NEAR = 2        # how many lines from the cited ones the words may be
 NUMBERS = r'(\d+(?:-\d+)?(?:, \d+(?:-\d+)?)*)'
 FILE = r'([\w./-]+\.(?:c|h|rst)|MAINTAINERS|Kconfig):' + NUMBERS
@@ -76,7 +81,7 @@ class Source:
         return found[0]
 
     def path(self, name, folders):
-        for path in (folders.get(name, name), 'mm/' + name, 'lib/' + name):
+        for path in [folders.get(name, name), *(folder + name for folder in FOLDERS)]:
             if os.path.isfile(os.path.join(self.folder, path)):
                 return path
         return self.only_one(name)
