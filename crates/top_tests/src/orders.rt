@@ -63,13 +63,13 @@ fn actor_of(line: &str) -> &str {
 /// How many lines of the report are the second actor's after one of the first.
 fn changes(report: &str) -> u64 {
     let mut changes = 0u64;
-    let mut last = "";
+    let mut after_first = false;
     for line in report.lines() {
         let actor = actor_of(line);
-        if actor == "a1" && last == "a0" {
+        if actor == "a1" && after_first {
             changes = changes.saturating_add(1);
         }
-        last = actor;
+        after_first = actor == "a0";
     }
     changes
 }
