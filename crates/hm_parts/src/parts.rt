@@ -48,8 +48,9 @@ impl Parts {
     }
 }
 
-/// Which parts the entry meets after a history of entries that were due. The world is that after the history, and the records are those of
-/// the entry's actor. It goes over the history twice, and once more if the entry uses a mirror's table.
+/// Which parts the entry meets after a history of entries that were due. The world is that after the history, and the
+/// records are those of the entry's actor. It goes over the history twice, and once more if the entry uses a mirror's
+/// table.
 pub fn parts_of<W: Reads>(
     alloc: Global,
     world: &W,

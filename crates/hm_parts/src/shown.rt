@@ -63,8 +63,8 @@ fn system_taken<W: Reads>(world: &W) -> Option<Shown>
     taken(world.lowest_free(PoolId::System))
 }
 
-/// What bears on each part of the entry, after a history of entries that were due. The world is that after the history. It goes over the
-/// history once if the entry answers bytes, and once if it goes through a mirror's table.
+/// What bears on each part of the entry, after a history of entries that were due. The world is that after the
+/// history. It goes over the history once if the entry answers bytes, and once if it goes through a mirror's table.
 pub fn shown_of<W: Reads>(
     alloc: Global,
     world: &W,

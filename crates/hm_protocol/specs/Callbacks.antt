@@ -17,8 +17,8 @@ own_sequence_left k x = is_own k x && (leaves_seq x && (is_empty x.had || not (i
 
 -- ---- the sequence
 
--- `set-sequence`: the interval has another sequence than the callback was given. After a migration by its own device this
--- rule is meant only if it has erased all that it had
+-- `set-sequence`: the interval has another sequence than the callback was given. After a migration by its own device
+-- this rule is meant only if it has erased all that it had
 abbrev pub set_sequence : Known → Call → Bool
 set_sequence k x = leaves_seq x && not (own_sequence_left k x)
 

@@ -72,7 +72,8 @@ pub enum Reason {
     Exclusive,
 }
 
-/// An event. Threads, processes, mirrors and devices are numbers; a mirror's is another interval after its next `Insert`.
+/// An event. Threads, processes, mirrors and devices are numbers; a mirror's is another interval after its next
+/// `Insert`.
 #[derive(Clone, Copy, PartialEq, Eq)]
 pub enum Event {
     /// An interval is about to be inserted; its driver's device, if that is known.

@@ -45,8 +45,8 @@ pub record AreRight (most : ℕ) (c : Program) (qs : List Question) (known : Lis
   -- What is said of each condition is right of the race.
   pub right : (q : Question) → IsListed qs q
       → IsRuled c q.condition (ruling_of q.condition (lines_of (blocks_known c known)) (is_whole end))
-  -- Each state that is counted is what its turns lead to, and none is counted twice; at `whole` all are counted, and they
-  -- are no more than were asked for.
+  -- Each state that is counted is what its turns lead to, and none is counted twice; at `whole` all are counted, and
+  -- they are no more than were asked for.
   pub states : (n : KnownValue) → IsListed known n → IsKnown c (run c) n
   pub states_once : AreDistinct (forms known)
   pub all_states : end ≡ End.Whole → (x : Point) → Reached c (run c) x → IsListed (forms known) (form_of c x)

@@ -46,8 +46,8 @@ fn place_of_holder(why: &Why) -> u64 {
 }
 
 /// Lets one actor go at a time, for as many entries as is drawn: 1 to 32, and half as often if it is twice as many.
-/// Then another goes, if any waits. No actor goes before all have come. If one is long in coming, as it is where no thread
-/// can be started, nobody is held.
+/// Then another goes, if any waits. No actor goes before all have come. If one is long in coming, as it is where no
+/// thread can be started, nobody is held.
 #[derive(Drop)]
 pub struct Mixing<'a, R> {
     rt: &'a R,
@@ -264,7 +264,8 @@ impl<'a, R> Mixing<'a, R> {
 }
 
 impl<R: Wait> Mixing<'_, R> {
-    // Comes to the meeting. The first that sees all there lets one go. If one is missed nobody goes, and nobody is held.
+    // Comes to the meeting. The first that sees all there lets one go. If one is missed nobody goes, and nobody is
+    // held.
     fn come(&self, bit: u64) {
         self.places.fetch_or(bit, Ordering::SeqCst);
         let looks = self.meeting.attend(self.rt, bit).unwrap_or(0);
