@@ -59,7 +59,7 @@ pub record IsRight (parts : List Part) (l : Flaw) (c : Program) (h : List Entry)
   -- A race in which a part is broken is told if and only if the search stopped at it. The histories are no longer than
   -- any.
   pub reached :
-    (a.end ≡ End.Reached) ↔ ((es : List Entry) × (e : Entry) × (part : Part) × (a.found ≡ Found.Broken es e part))
+      (a.end ≡ End.Reached) ↔ ((es : List Entry) × (e : Entry) × (part : Part) × (a.found ≡ Found.Broken es e part))
   pub long : length h + race_length a.found ≤ 2000000
   -- The number of states is that of states that are known, each of which is what its turns lead to, and none of which
   -- is counted twice.
