@@ -1,4 +1,9 @@
 mod Fits
+mod Doing
+mod DueKinds
+mod DueFaults
+mod Looks
+mod BeginFirst
 mod Steps
 mod Fields
 mod MmapLock
