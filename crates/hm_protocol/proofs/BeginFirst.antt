@@ -1,14 +1,16 @@
 -- No legal history breaks `begin-first`: a look-up that has begun and has not walked is under way.
 use Rattle.std.proofs.Common.{refl, ap, sym, subst, ◌∙◌, inl, inr}
 use Rattle.std.proofs.lemmas.Bool.{false≢true, and_parts, and_right, cases_eq, eqb-true}
-use Rattle.std.specs.Prelude.{◌≡◌, ℕ, Bool, true, false, ◌&&◌, ◌==◌, ◌⊎◌, if◌then◌else◌, Option, Some, None, List, [], ◌∷◌, ◌++◌, fold}
+use Rattle.std.specs.Prelude.{◌≡◌, ℕ, Bool, true, false, ◌&&◌, ◌==◌, ◌⊎◌, if◌then◌else◌, Option, Some, None, List, []}
+use Rattle.std.specs.Prelude.{◌∷◌, ◌++◌, fold}
 use Rattle.hm_base.specs.Program.{Program}
 use Rattle.hm_base.specs.declared.Frame.{Frame}
 use Rattle.hm_base.specs.declared.ops.Op.{Op}
 use Rattle.hm_history.specs.Memory.After.{After}
 use Rattle.hm_history.specs.Kernel.Operation.{op_mirror, is_exclusive_op, is_migration}
 use Rattle.hm_history.specs.Kernel.Stacks.{stack_after}
-use Rattle.hm_history.specs.Kernel.Going.{State, Going, op_at, state_next, going_on, going_next, going_top, recorded, seen_at, touch_page, touch_proc}
+use Rattle.hm_history.specs.Kernel.Going.{State, Going, op_at, state_next, going_on, going_next, going_top, recorded}
+use Rattle.hm_history.specs.Kernel.Going.{seen_at, touch_page, touch_proc}
 use Rattle.hm_history.specs.Kernel.Due.{due_phase}
 use Rattle.hm_history.specs.declared.TableRight.{TableRight}
 use Rattle.hm_history.specs.declared.Kind.{Kind}
@@ -44,14 +46,17 @@ device_refuses_not o h = absurd (false≢true h)
 -- a walk is that of an access through a mirror
 pub walk_is_device : (s : After) (t : Past) (a : ℕ) (o : Op) (xs : List Migrating) (top : Phase) (below : List Phase)
     → HoldsAll s t a (facts o xs (top ∷ below)) → is_at_walk top ≡ true → is_device_access o ≡ true
-walk_is_device s t a o xs (Phase.Decide (Touch.Walk k since q)) [] h e = (and_parts (is_device_access o) (has_piece o k) h.0.0).0
+walk_is_device s t a o xs (Phase.Decide (Touch.Walk k since q)) [] h e =
+    (and_parts (is_device_access o) (has_piece o k) h.0.0).0
 walk_is_device s t a o xs (Phase.Decide (Touch.Walk k since q)) (y ∷ ys) h e = absurd h.0
-walk_is_device s t a o xs (Phase.GiveUp (Some (Touch.Walk k since q))) [] h e = (and_parts (is_device_access o) (has_piece o k) h.1.1.0.0).0
+walk_is_device s t a o xs (Phase.GiveUp (Some (Touch.Walk k since q))) [] h e =
+    (and_parts (is_device_access o) (has_piece o k) h.1.1.0.0).0
 walk_is_device s t a o xs (Phase.GiveUp (Some (Touch.Walk k since q))) (y ∷ ys) h e = absurd h.0
 walk_is_device s t a o xs top below h e = absurd (false≢true e)
 
 -- an entry that is due may be due
-pub turn_may : (c : Program) (s : After) (t : Past) (a : ℕ) (o : Op) (xs : List Migrating) (top : Phase) (below : List Phase)
+pub turn_may : (c : Program) (s : After) (t : Past) (a : ℕ) (o : Op) (xs : List Migrating) (top : Phase)
+    (below : List Phase)
     (j : Kind) → HoldsAll s t a (facts o xs (top ∷ below)) → due_phase c s a o xs top ≡ Do j → may o top j ≡ true
 turn_may c s t a o xs top below j h d = sym (ap (next_passes (may o top)) d)
     ∙ due_may c s a o xs top (λ e. device_refuses_not o (walk_is_device s t a o xs top below h e))
@@ -68,21 +73,11 @@ pub going_is : (c : Program) (s : After) (a : ℕ) (g : Going) (j : Kind) (o : O
     → op_at c a g.index ≡ Some o → g.stack ≡ top ∷ below
     → going_next c s a g j ≡ going_on c a g.index (stack_after o (top ∷ below) j (seen_at s o g.pages top j))
     (recorded top (seen_at s o g.pages top j).page g.pages j)
-going_is c s a g j o top below io is = ap (λ x. elim x as (λ x. Going) [ None ↦ g | Some o ↦ going_top c s a g o g.stack j ]) io
-    ∙ by_stack g.stack is
-  where
-    by_stack : (st : List Phase) → st ≡ top ∷ below → going_top c s a g o st j
-        ≡ going_on c a g.index (stack_after o (top ∷ below) j (seen_at s o g.pages top j))
-        (recorded top (seen_at s o g.pages top j).page g.pages j)
-    by_stack st e = subst (λ y. going_top c s a g o y j
-        ≡ going_on c a g.index (stack_after o (top ∷ below) j (seen_at s o g.pages top j))
-        (recorded top (seen_at s o g.pages top j).page g.pages j)) (sym e) (stack_is g.stack is)
-      where
-        stack_is : (st : List Phase) → st ≡ top ∷ below → going_top c s a g o (top ∷ below) j
-            ≡ going_on c a g.index (stack_after o (top ∷ below) j (seen_at s o g.pages top j))
-            (recorded top (seen_at s o g.pages top j).page g.pages j)
-        stack_is st e = ap (λ y. going_on c a g.index (stack_after o y j (seen_at s o g.pages top j))
-            (recorded top (seen_at s o g.pages top j).page g.pages j)) is
+going_is c s a g j o top below io is =
+    ap (λ x. elim x as (λ x. Going) [ None ↦ g | Some o ↦ going_top c s a g o g.stack j ]) io
+    ∙ (ap (λ st. going_top c s a g o st j) is
+    ∙ ap (λ st. going_on c a g.index (stack_after o st j (seen_at s o g.pages top j))
+    (recorded top (seen_at s o g.pages top j).page g.pages j)) is)
 
 -- a look-up under way is that of the operation in whose mirror it is
 abbrev pub WalksIn : Program → ℕ → Going → ℕ → Type 0
@@ -99,46 +94,42 @@ AllBegun X k = (b m : ℕ) → is_begun (k.looks b m).stage ≡ true → X b m
 
 -- ---- an entry
 
--- its events, if it ends a walk
-walk_ends : (s u : After) (a : ℕ) (o : Op) (xs : List Migrating) (top : Phase) (below : List Phase) (after : Phase) (j : Kind)
-    → ends_walk top j ≡ true → (ys : List Event) × ((d : Bool)
-    × ((comes_to s o xs top j ++ events_by s u a o xs (top ∷ below) after j) ≡ ys ++ Event.Walked (op_mirror o) d ∷ []))
-walk_ends s u a o xs (Phase.Decide (Touch.Walk n since q)) below after (Kind.Failed x at len why) h =
-    ([], (false, by_migration (is_migration o)))
+walk_moves_not : (s : After) (o : Op) (xs : List Migrating) (top : Phase) (j : Kind) → ends_walk top j ≡ true
+    → (ys : List Event) → comes_to s o xs top j ++ ys ≡ ys
+walk_moves_not s o xs (Phase.Decide (Touch.Walk n since q)) j h ys = by_migration (is_migration o)
   where
-    by_migration : (b : Bool) → ((if b then [] else []) ++ Event.Walked (op_mirror o) false ∷ []) ≡ Event.Walked (op_mirror o) false ∷ []
+    by_migration : (b : Bool) → (if b then [] else []) ++ ys ≡ ys
     by_migration true = refl
     by_migration false = refl
-walk_ends s u a o xs (Phase.Decide (Touch.Walk n since q)) below after (Kind.Retry m) h =
-    ([], (false, by_migration (is_migration o)))
+walk_moves_not s o xs (Phase.GiveUp (Some (Touch.Walk n since q))) j h ys = by_migration (is_migration o)
   where
-    by_migration : (b : Bool) → ((if b then [] else []) ++ Event.Walked (op_mirror o) false ∷ []) ≡ Event.Walked (op_mirror o) false ∷ []
+    by_migration : (b : Bool) → (if b then [] else []) ++ ys ≡ ys
     by_migration true = refl
     by_migration false = refl
+walk_moves_not s o xs top j h ys = absurd (false≢true h)
+
+-- its own events, if it ends a walk
+walk_ends : (s u : After) (a : ℕ) (o : Op) (xs : List Migrating) (top : Phase) (below : List Phase) (after : Phase)
+    (j : Kind) → ends_walk top j ≡ true → (ys : List Event)
+    × ((d : Bool) × (events_by s u a o xs (top ∷ below) after j ≡ ys ++ Event.Walked (op_mirror o) d ∷ []))
+walk_ends s u a o xs (Phase.Decide (Touch.Walk n since q)) below after (Kind.Failed x at len why) h = ([], (false, refl))
+walk_ends s u a o xs (Phase.Decide (Touch.Walk n since q)) below after (Kind.Retry m) h = ([], (false, refl))
 walk_ends s u a o xs (Phase.Decide (Touch.Walk n since q)) below after (Kind.Runlock p) h =
     let v : ℕ = touch_page o (Touch.Walk n since q) in
-    let ys : List Event = found_at (op_mirror o) v (s.places.place (touch_proc s o) v) in
-    (ys, (true, by_migration (is_migration o) ys))
-  where
-    by_migration : (b : Bool) (ys : List Event) → ((if b then [] else []) ++ (ys ++ Event.Walked (op_mirror o) true ∷ []))
-        ≡ ys ++ Event.Walked (op_mirror o) true ∷ []
-    by_migration true ys = refl
-    by_migration false ys = refl
+    (found_at (op_mirror o) v (s.places.place (touch_proc s o) v), (true, refl))
 walk_ends s u a o xs (Phase.GiveUp (Some (Touch.Walk n since q))) below after (Kind.Failed x at len why) h =
-    ([], (false, by_migration (is_migration o)))
-  where
-    by_migration : (b : Bool) → ((if b then [] else []) ++ Event.Walked (op_mirror o) false ∷ []) ≡ Event.Walked (op_mirror o) false ∷ []
-    by_migration true = refl
-    by_migration false = refl
+    ([], (false, refl))
 walk_ends s u a o xs top below after j h = absurd (false≢true h)
 
 -- no event breaks the rule, and each keeps what is known
 each : (X : ℕ → ℕ → Type 0) (a : ℕ) (b : Bool) (j : Kind)
     → ((m v from : ℕ) (f : Option Frame) (w : TableRight) → j ≡ Kind.Set m v f w from → X a m → ⊥)
-    → ((m q : ℕ) → j ≡ Kind.Begin m q → (i n : ℕ) → (i ≡ a) → (n ≡ m) → X i n) → (k : Known) (x : Event) → Fits b j x → AllBegun X k
+    → ((m q : ℕ) → j ≡ Kind.Begin m q → (i n : ℕ) → (i ≡ a) → (n ≡ m) → X i n) → (k : Known) (x : Event) → Fits b j x
+    → AllBegun X k
     → (begin_first k (by a x) ≡ false) × AllBegun X (known_next k (by a x))
 each X a b j sets begins k (Event.Set m v g w) fits kn = (
-  ap (λ d. is_look_up k a v w && d) (not_begun (is_begun (k.looks a m).stage) refl) ∙ and_right (is_look_up k a v w) false refl,
+  ap (λ d. is_look_up k a v w && d) (not_begun (is_begun (k.looks a m).stage) refl)
+      ∙ and_right (is_look_up k a v w) false refl,
   λ i n h. kn i n (begun_before k a (Event.Set m v g w) i n refl h),
 )
   where
@@ -165,15 +156,17 @@ abbrev KnowsBegun : Program → Known → State → Type 0
 KnowsBegun c k t = AllBegun (λ b m. WalksIn c b (t.going b) m) k
 
 -- a walk that an entry ends is not one that has begun and not walked
-ended : (t u : State) (a : ℕ) (j : Kind) (x : Option Op) (o : Op) (top : Phase) (below : List Phase) (k : Known) → x ≡ Some o
+ended : (t u : State) (a : ℕ) (j : Kind) (x : Option Op) (o : Op) (top : Phase) (below : List Phase) (k : Known)
+    → x ≡ Some o
     → (t.going a).stack ≡ top ∷ below → ends_walk top j ≡ true
     → is_begun ((fold known_next k (by_thread a (events_in t u a j x))).looks a (op_mirror o)).stage ≡ false
-ended t u a j x o top below k io is h =
-    let g : Going = t.going a in let after : Phase = top_of (u.going a).stack in
-    let z : (ys : List Event) × ((d : Bool) × ((comes_to t.after o g.pages top j ++ events_by t.after u.after a o g.pages (top ∷ below) after j)
-    ≡ ys ++ Event.Walked (op_mirror o) d ∷ [])) = walk_ends t.after u.after a o g.pages top below after j h in
+ended t u a j x o top below k io is h = let g : Going = t.going a in let after : Phase = top_of (u.going a).stack in
+    let z : (ys : List Event) × ((d : Bool)
+    × (events_by t.after u.after a o g.pages (top ∷ below) after j ≡ ys ++ Event.Walked (op_mirror o) d ∷ [])) =
+    walk_ends t.after u.after a o g.pages top below after j h in
     let same : events_in t u a j x ≡ z.0 ++ Event.Walked (op_mirror o) z.1.0 ∷ [] = ap (events_in t u a j) io
-    ∙ (ap (λ st. comes_to t.after o g.pages (top_of st) j ++ events_by t.after u.after a o g.pages st after j) is ∙ z.1.1) in
+    ∙ (ap (λ st. comes_to t.after o g.pages (top_of st) j ++ events_by t.after u.after a o g.pages st after j) is
+    ∙ (walk_moves_not t.after o g.pages top j h _ ∙ z.1.1)) in
     ap (λ ss. is_begun ((fold known_next k ss).looks a (op_mirror o)).stage)
     (ap (by_thread a) same ∙ apart a z.0 (Event.Walked (op_mirror o) z.1.0 ∷ []))
     ∙ last_walked k (by_thread a z.0) a (op_mirror o) z.1.0
@@ -195,12 +188,14 @@ keeps : (c : Program) → Keeps c begin_first (KnowsBegun c)
 keeps c t e k s kn = (all.0, λ b m h. other b m (cases_eq b e.actor) h)
   where
     may_be : may s.turn.op s.turn.top e.kind ≡ true
-    may_be = turn_may c t.after s.past e.actor s.turn.op (t.going e.actor).pages s.turn.top s.turn.below e.kind s.turn.known s.turn.is_due
+    may_be = turn_may c t.after s.past e.actor s.turn.op (t.going e.actor).pages s.turn.top s.turn.below e.kind
+        s.turn.known s.turn.is_due
 
     walking : (m : ℕ) → WalksIn c e.actor (t.going e.actor) m → doing (s.turn.top ∷ s.turn.below) ≡ Doing.Walks
     walking m x = ap doing (sym s.turn.is_stack) ∙ x.0
 
-    sets : (m v from : ℕ) (f : Option Frame) (w : TableRight) → e.kind ≡ Kind.Set m v f w from → MayWalk c t e e.actor m → ⊥
+    sets : (m v from : ℕ) (f : Option Frame) (w : TableRight) → e.kind ≡ Kind.Set m v f w from
+        → MayWalk c t e e.actor m → ⊥
     sets m v from f w q (inl x) = sets_after s.turn.op s.turn.top s.turn.below m v from f w
         (subst (λ j. may s.turn.op s.turn.top j ≡ true) q may_be) (walking m x)
     sets m v from f w q (inr y) = apart_kinds (sym q ∙ y.1.1)
@@ -210,19 +205,25 @@ keeps c t e k s kn = (all.0, λ b m h. other b m (cases_eq b e.actor) h)
 
     all : GoBy begin_first k (events_of c t (state_next c t e) e) (AllBegun (MayWalk c t e))
     all = all_fit c t e begin_first (AllBegun (MayWalk c t e))
-        (λ l x fits r. each (MayWalk c t e) e.actor _ e.kind sets (λ m q z i n h p. inr (h, (q, z ∙ ap (λ m. Kind.Begin m q) (sym p)))) l x fits r) k
+        (λ l x fits r. each (MayWalk c t e) e.actor _ e.kind sets
+        (λ m q z i n h p. inr (h, (q, z ∙ ap (λ m. Kind.Begin m q) (sym p)))) l x fits r) k
         (λ b m h. inl (kn b m h))
 
-    on : (m : ℕ) → doing (stack_after s.turn.op (s.turn.top ∷ s.turn.below) e.kind (seen_at t.after s.turn.op (t.going e.actor).pages s.turn.top e.kind)) ≡ Doing.Walks
+    on : (m : ℕ) → doing (stack_after s.turn.op (s.turn.top ∷ s.turn.below) e.kind
+        (seen_at t.after s.turn.op (t.going e.actor).pages s.turn.top e.kind)) ≡ Doing.Walks
         → m ≡ op_mirror s.turn.op → WalksIn c e.actor (going_after c t e) m
     on m d h = subst (λ g. WalksIn c e.actor g m)
-        (sym (going_is c t.after e.actor (t.going e.actor) e.kind s.turn.op s.turn.top s.turn.below s.turn.is_op s.turn.is_stack))
+        (sym (going_is c t.after e.actor (t.going e.actor) e.kind s.turn.op s.turn.top s.turn.below s.turn.is_op
+        s.turn.is_stack))
         (still_walks c e.actor (t.going e.actor).index m s.turn.op _ _ s.turn.is_op d h)
 
-    own : (m : ℕ) → is_begun ((noted_by c t e k).looks e.actor m).stage ≡ true → MayWalk c t e e.actor m → WalksIn c e.actor (going_after c t e) m
-    own m h (inr y) = let z : (m ≡ op_mirror s.turn.op) × (doing (stack_after s.turn.op (s.turn.top ∷ s.turn.below) (Kind.Begin m y.1.0)
+    own : (m : ℕ) → is_begun ((noted_by c t e k).looks e.actor m).stage ≡ true → MayWalk c t e e.actor m
+        → WalksIn c e.actor (going_after c t e) m
+    own m h (inr y) = let z : (m ≡ op_mirror s.turn.op)
+        × (doing (stack_after s.turn.op (s.turn.top ∷ s.turn.below) (Kind.Begin m y.1.0)
         (seen_at t.after s.turn.op (t.going e.actor).pages s.turn.top e.kind)) ≡ Doing.Walks) =
-        begins_now s.turn.op s.turn.top s.turn.below m y.1.0 (seen_at t.after s.turn.op (t.going e.actor).pages s.turn.top e.kind)
+        begins_now s.turn.op s.turn.top s.turn.below m y.1.0
+        (seen_at t.after s.turn.op (t.going e.actor).pages s.turn.top e.kind)
         (subst (λ j. may s.turn.op s.turn.top j ≡ true) y.1.1 may_be) in
         on m (subst (λ j. doing (stack_after s.turn.op (s.turn.top ∷ s.turn.below) j
         (seen_at t.after s.turn.op (t.going e.actor).pages s.turn.top e.kind)) ≡ Doing.Walks) (sym y.1.1) z.1) z.0
@@ -233,15 +234,20 @@ keeps c t e k s kn = (all.0, λ b m h. other b m (cases_eq b e.actor) h)
 
         by_end : (b : Bool) → ends_walk s.turn.top e.kind ≡ b → WalksIn c e.actor (going_after c t e) m
         by_end false i = on m (goes_on s.turn.op s.turn.top s.turn.below e.kind _ may_be i (walking m x)) mine
-        by_end true i = absurd (false≢true (sym (ended t (state_next c t e) e.actor e.kind (op_at c e.actor (t.going e.actor).index) s.turn.op
-            s.turn.top s.turn.below k s.turn.is_op s.turn.is_stack i) ∙ (ap (λ n. is_begun ((noted_by c t e k).looks e.actor n).stage) (sym mine) ∙ h)))
+        by_end true i = absurd
+            (false≢true (sym (ended t (state_next c t e) e.actor e.kind
+            (op_at c e.actor (t.going e.actor).index) s.turn.op
+            s.turn.top s.turn.below k s.turn.is_op s.turn.is_stack i)
+            ∙ (ap (λ n. is_begun ((noted_by c t e k).looks e.actor n).stage) (sym mine) ∙ h)))
 
     other : (b m : ℕ) → (b ≡ e.actor) ⊎ (b ≡ e.actor → ⊥) → is_begun ((noted_by c t e k).looks b m).stage ≡ true
         → WalksIn c b ((state_next c t e).going b) m
     other b m (inl q) h = subst (λ b. WalksIn c b ((state_next c t e).going b) m) (sym q)
         (subst (λ g. WalksIn c e.actor g m) (sym (here_at t.going e.actor (going_after c t e)))
-        (own m (ap (λ b. is_begun ((noted_by c t e k).looks b m).stage) (sym q) ∙ h) (all.1 e.actor m (ap (λ b. is_begun ((noted_by c t e k).looks b m).stage) (sym q) ∙ h))))
-    other b m (inr ne) h = subst (λ g. WalksIn c b g m) (sym (other_at t.going e.actor b (going_after c t e) ne)) (was (all.1 b m h))
+        (own m (ap (λ b. is_begun ((noted_by c t e k).looks b m).stage) (sym q) ∙ h)
+        (all.1 e.actor m (ap (λ b. is_begun ((noted_by c t e k).looks b m).stage) (sym q) ∙ h))))
+    other b m (inr ne) h = subst (λ g. WalksIn c b g m) (sym (other_at t.going e.actor b (going_after c t e) ne))
+        (was (all.1 b m h))
       where
         was : MayWalk c t e b m → WalksIn c b (t.going b) m
         was (inl x) = x

@@ -22,6 +22,7 @@ use Rattle.hm_protocol.proofs.Frames.{take_from_there_kept, withdraw_first_kept,
 use Rattle.hm_protocol.proofs.Invalidations.{detach_waits_kept, exclusive_waits_kept, set_unless_invalidated_kept, begin_waits_kept, set_sequence_kept, own_events_kept, own_sequence_kept, own_by}
 use Rattle.hm_protocol.proofs.Detached.{stop_at_detach_kept}
 use Rattle.hm_protocol.proofs.BeginFirst.{begin_first_kept}
+use Rattle.hm_protocol.proofs.EntryRight.{entry_right_kept}
 use Rattle.hm_protocol.proofs.Tables.{write_entry_kept, look_again_kept, erase_kept, erase_all_kept, erase_in_time_kept, own_entries_kept, kept_by, none_left_behind}
 
 no_blame : (n : ℕ) → is_blame (if_asked n) ≡ false
@@ -122,3 +123,6 @@ own_entries_cleared = from_kept Rule.OwnEntries own_entries_kept
 
 pub begin_first_cleared : IsCleared Rule.BeginFirst
 begin_first_cleared = from_kept Rule.BeginFirst begin_first_kept (λ c sc h legal. refl)
+
+pub entry_right_cleared : IsCleared Rule.EntryRight
+entry_right_cleared = from_kept Rule.EntryRight entry_right_kept (λ c sc h legal. refl)

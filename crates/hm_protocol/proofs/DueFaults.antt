@@ -29,7 +29,8 @@ use Rattle.hm_history.specs.declared.phases.Phase.{Phase}
 use Rattle.hm_laws.proofs.Due.Good.{either, either_option}
 use Rattle.hm_laws.proofs.Migration.Setup.{at_itself}
 use Rattle.hm_protocol.proofs.DueKinds as kinds
-use Rattle.hm_protocol.proofs.DueKinds.{is_plain, is_of_piece, is_rlock, is_of_walk, is_of_fault, is_commit, is_giving_up}
+use Rattle.hm_protocol.proofs.DueKinds.{is_plain, is_of_piece, is_rlock, is_of_walk, is_of_fault, is_commit}
+use Rattle.hm_protocol.proofs.DueKinds.{is_giving_up}
 use Rattle.hm_protocol.proofs.DueKinds.{is_failed, is_at_walk}
 use Rattle.hm_protocol.proofs.DueKinds.{is_inner, is_of_move, may, next_passes, Passes, Is, option_passes, If, locks}
 
@@ -47,8 +48,10 @@ takes_or : (f : Kind → Bool) (c : Program) (s : After) (k : Kind) → ((g : Fr
     → Passes f (due.take_or c s k)
 takes_or f c s k h g = either_option (Passes f) (lowest_free c s.places PoolId.System) _ _ (λ n. g) (λ x n. h x)
 
-homes : (f : Kind → Bool) (o : Op) (s : After) (a p v : ℕ) (g : Frame) → Decides f o → Passes f (due.bring_home s a p v g)
-homes f o s a p v g h = either_option (Passes f) (other_locker s.locks g a) _ _ (λ n. h.starts p _ (one_page v)) (λ b n. refl)
+homes : (f : Kind → Bool) (o : Op) (s : After) (a p v : ℕ) (g : Frame) → Decides f o
+    → Passes f (due.bring_home s a p v g)
+homes f o s a p v g h = either_option (Passes f) (other_locker s.locks g a) _ _ (λ n. h.starts p _ (one_page v))
+    (λ b n. refl)
 
 faults_at : (f : Kind → Bool) (c : Program) (s : After) (a : ℕ) (o : Op) (k p v : ℕ) (x : Place) → Decides f o
     → Passes f (due.fault_at c s a o k p v x)
@@ -87,7 +90,8 @@ by_walk o h = record {
   starts = λ p q r. refl;
 }
 
-soles : (c : Program) (s : After) (a : ℕ) (o : Op) (m p v : ℕ) (x : Place) → Passes is_of_fault (due.due_sole c s a o m p v x)
+soles : (c : Program) (s : After) (a : ℕ) (o : Op) (m p v : ℕ) (x : Place)
+    → Passes is_of_fault (due.due_sole c s a o m p v x)
 soles c s a o m p v (Place.Exclusive n b) = either (Passes is_of_fault) (a == b) _ _
     (λ e. either (Passes is_of_fault) (due.is_invalidating s m) _ _ (λ e. refl) (λ e. refl))
     (λ e. faults is_of_fault c s a o 0 (due.suits true) p v (by_fault o))
@@ -99,7 +103,8 @@ decides : (c : Program) (s : After) (a : ℕ) (o : Op) (touch : Touch) (p v : �
     → Passes (may o (Phase.Decide touch)) (due.due_decide c s a o touch p v)
 decides c s a o (Touch.Cpu k) p v h = faults is_of_fault c s a o k (due.suits (op_writes o)) p v (by_fault o)
 decides c s a o (Touch.Walk k since q) p v h = either (Passes is_of_walk) (due.repeats s (op_mirror o) q) _ _
-    (λ e. refl) (λ e. faults is_of_walk c s a o k (due.suits_walk (mirror_dev s.plain (op_mirror o)) (op_writes o)) p v (by_walk o (h refl)))
+    (λ e. refl) (λ e. faults is_of_walk c s a o k (due.suits_walk (mirror_dev s.plain (op_mirror o)) (op_writes o)) p v
+    (by_walk o (h refl)))
 decides c s a o Touch.Sole p v h = either (Passes is_of_fault) (is_attached s.plain (op_mirror o)) _ _
     (λ e. soles c s a o (op_mirror o) p v (s.places.place p v))
     (λ e. (by_fault o).failing 0 Cause.Outside)
@@ -121,7 +126,8 @@ mirrors s o k m = let v : ℕ = page_of (op_piece o k).0 in
 
 cpus : (s : After) (o : Op) (k p : ℕ) → Passes (is_of_piece (op_mirror o)) (due.due_cpu s o k p)
 cpus s o k p = either (Passes (is_of_piece (op_mirror o))) (s.plain.there p) _ _
-    (λ e. either (Passes (is_of_piece (op_mirror o))) (due.suits (op_writes o) (s.places.place p (page_of (op_piece o k).0))) _ _
+    (λ e. either (Passes (is_of_piece (op_mirror o)))
+    (due.suits (op_writes o) (s.places.place p (page_of (op_piece o k).0))) _ _
     (λ i. answers_piece (op_mirror o) s o k) (λ i. locks (is_of_piece (op_mirror o)) s p refl)) (λ e. refl)
 
 pieces : (s : After) (a : ℕ) (o : Op) (k : ℕ) → Passes (is_of_piece (op_mirror o)) (due.due_piece s a o k)
@@ -150,7 +156,8 @@ gives o (Some Touch.Sole) h = either (Is is_giving_up) (is_exclusive_op o) _ _ (
 
 -- ---- guards and frames
 
-withins : (f : Kind → Bool) (r : Pages) (x : Option ℕ) (g : ℕ → Kind) → ((v : ℕ) → f (g v) ≡ true) → If f (due.within r x g)
+withins : (f : Kind → Bool) (r : Pages) (x : Option ℕ) (g : ℕ → Kind) → ((v : ℕ) → f (g v) ≡ true)
+    → If f (due.within r x g)
 withins f r None g h = refl
 withins f r (Some v) g h = either (If f) (nat_lt v (r.first + r.count)) _ _ (λ e. h v) (λ e. refl)
 
@@ -172,14 +179,17 @@ selects s a o p v = either (Is is_inner) (is_to_device o) _ _
     to_device x = refl
 
     to_system : (x : Place) → Is is_inner (due.select_to_system s a (mirror_dev s.plain (op_mirror o)) p v x)
-    to_system (Place.Own d n w) = either (Is is_inner) (mirror_dev s.plain (op_mirror o) == d) _ _ (λ e. keeps s a p v _ w) (λ e. refl)
+    to_system (Place.Own d n w) = either (Is is_inner) (mirror_dev s.plain (op_mirror o) == d) _ _
+        (λ e. keeps s a p v _ w) (λ e. refl)
     to_system x = refl
 
-bodies : (s : After) (a : ℕ) (o : Op) (p : ℕ) (r : Pages) (x : Place) (body : Body) → If is_inner (due.due_body s a o p r x body)
+bodies : (s : After) (a : ℕ) (o : Op) (p : ℕ) (r : Pages) (x : Place) (body : Body)
+    → If is_inner (due.due_body s a o p r x body)
 bodies s a o p r x Body.Nothing = refl
 bodies s a o p r x (Body.Zap v) = withins is_inner r _ _ (λ u. refl)
 bodies s a o p r x (Body.Narrow v) = withins is_inner r _ _ (λ u. refl)
-bodies s a o p r x (Body.Fork v false) = withins is_inner r _ _ (λ u. either (Is is_inner) (writable (s.places.place p u)) _ _ (λ e. refl) (λ e. refl))
+bodies s a o p r x (Body.Fork v false) = withins is_inner r _ _
+    (λ u. either (Is is_inner) (writable (s.places.place p u)) _ _ (λ e. refl) (λ e. refl))
 bodies s a o p r x (Body.Fork v true) = refl
 bodies s a o p r x (Body.Select v) = withins is_inner r (Some v) _ (λ u. selects s a o p u)
 bodies s a o p r x (Body.Replace over g) = when _ _ refl
@@ -196,7 +206,8 @@ bodies s a o p r x (Body.Seize f) = when _ _ refl
 guards : (s : After) (a : ℕ) (o : Op) (p : ℕ) (r : Pages) (met : Bool) (told : Option ℕ) (body : Body)
     → Is is_inner (due.due_guard s a o p r met told body)
 guards s a o p r met told body = either_option (Is is_inner) (due.to_tell s p r met told) _ _
-    (λ n. ends (due.due_body s a o p r (s.places.place p r.first) body) (bodies s a o p r (s.places.place p r.first) body)) (λ m n. refl)
+    (λ n. ends (due.due_body s a o p r (s.places.place p r.first) body)
+    (bodies s a o p r (s.places.place p r.first) body)) (λ m n. refl)
   where
     ends : (x : Option Kind) → If is_inner x → Is is_inner (due.body_or_end s p r x)
     ends None h = refl
@@ -208,9 +219,11 @@ taken s g over p v = either (Passes is_inner) (same_place (s.places.place p v) o
 
 empties : (c : Program) (s : After) (f : Frame) (what : KeptAt) → Is is_inner (due.due_emptying c s f what)
 empties c s f what = either_option (Is is_inner) (lowest_direct s.places f) _ _
-    (λ n. either_option (Is is_inner) (lowest_free c s.places PoolId.System) _ _ (λ n. refl) (λ g n. refl)) (λ x n. refl)
+    (λ n. either_option (Is is_inner) (lowest_free c s.places PoolId.System) _ _ (λ n. refl) (λ g n. refl))
+    (λ x n. refl)
 
-settles : (f : Kind → Bool) (s : After) (g : Frame) → f (Kind.Done g) ≡ true → f (Kind.Drop g) ≡ true → Is f (due.settle s g)
+settles : (f : Kind → Bool) (s : After) (g : Frame) → f (Kind.Done g) ≡ true → f (Kind.Drop g) ≡ true
+    → Is f (due.settle s g)
 settles f s g h i = either_option (Is f) (lowest_named s.places g) _ _ (λ n. i) (λ x n. h)
 
 finishes : (s : After) (f : Frame) (to : Option Frame) → Is is_inner (due.due_finish s f to)
@@ -242,7 +255,8 @@ steps c s o MoveStep.Commit x = commits x.source x.dest
   where
     commits : (f g : Option Frame) → Is is_of_move (due.commit_page s (mirror_proc s.plain (op_mirror o)) x.page f g)
     commits (Some f) (Some g) = refl
-    commits None (Some g) = either (Is is_of_move) (has_no_frame (s.places.place (mirror_proc s.plain (op_mirror o)) x.page)) _ _ (λ e. refl) (λ e. refl)
+    commits None (Some g) = either (Is is_of_move)
+        (has_no_frame (s.places.place (mirror_proc s.plain (op_mirror o)) x.page)) _ _ (λ e. refl) (λ e. refl)
     commits f None = refl
 steps c s o MoveStep.SetOwnTable x = refl
 steps c s o MoveStep.Finish x = ends x.source x.dest
@@ -264,7 +278,8 @@ due_may c s a o xs Phase.Begin h = kinds.begins s a o
 due_may c s a o xs Phase.Locked h = kinds.locked s o
 due_may c s a o xs Phase.Ready h = kinds.ready s o
 due_may c s a o xs Phase.Answer h = kinds.answers s o
-due_may c s a o xs (Phase.Detaching q) h = either (Passes is_plain) (in_tree s.sequences (op_mirror o)) _ _ (λ e. refl) (λ e. refl)
+due_may c s a o xs (Phase.Detaching q) h = either (Passes is_plain) (in_tree s.sequences (op_mirror o)) _ _ (λ e. refl)
+    (λ e. refl)
 due_may c s a o xs (Phase.Pages v) h = kinds.pages s o v
 due_may c s a o xs (Phase.Piece k) h = pieces s a o k
 due_may c s a o xs (Phase.Fetched old) h = fetches s a o old

@@ -1,6 +1,7 @@
 -- Which entries may be due at a phase.
 use Rattle.std.proofs.Common.{refl}
-use Rattle.std.specs.Prelude.{◌≡◌, ℕ, ◌+◌, Bool, true, false, not, ◌&&◌, ◌||◌, ◌==◌, nat_lt, is_some, Option, Some, None}
+use Rattle.std.specs.Prelude.{◌≡◌, ℕ, ◌+◌, Bool, true, false, not, ◌&&◌, ◌||◌, ◌==◌, nat_lt, is_some, Option, Some}
+use Rattle.std.specs.Prelude.{None}
 use Rattle.hm_base.specs.Pages.{Pages, one_page}
 use Rattle.hm_base.specs.Program.{Program}
 use Rattle.hm_base.specs.declared.Frame.{Frame}
@@ -168,7 +169,8 @@ attaches s m d p r = either (Is is_plain) (is_some (s.plain.mirrors m)) _ _ (λ 
 
 detaches : (s : After) (m : ℕ) → Is is_plain (due.due_detach s m)
 detaches s m = either (Is is_plain) (is_attached s.plain m) _ _
-    (λ e. either (Is is_plain) (not (is_odd (due.process_seq s m)) || insert_deferred s.sequences m) _ _ (λ i. refl) (λ i. refl))
+    (λ e. either (Is is_plain) (not (is_odd (due.process_seq s m)) || insert_deferred s.sequences m) _ _ (λ i. refl)
+    (λ i. refl))
     (λ e. refl)
 
 pub begins : (s : After) (a : ℕ) (o : Op) → Passes is_plain (due.due_begin s a o)
@@ -220,10 +222,12 @@ frames_at s a remove f = either_option (Passes is_plain) (other_locker s.locks f
     (λ n. either_option (Passes is_plain) (lowest_named s.places f) _ _ (λ n. refl) (λ x n. refl))
     (λ b n. either (Passes is_plain) remove _ _ (λ e. refl) (λ e. refl))
 
-frames_of : (c : Program) (s : After) (a d : ℕ) (remove : Bool) (v n : ℕ) → Passes is_plain (due.due_frames_of c s a d remove v n)
+frames_of : (c : Program) (s : After) (a d : ℕ) (remove : Bool) (v n : ℕ)
+    → Passes is_plain (due.due_frames_of c s a d remove v n)
 frames_of c s a d remove v n = either (Passes is_plain) (remove && not (s.places.withdrawn d)) _ _ (λ e. refl)
     (λ e. either_option (Passes is_plain) (held_from c s.places d v) _ _
-    (λ n. either (Is is_plain) remove _ _ (λ e. either (Is is_plain) (s.places.removed d) _ _ (λ i. refl) (λ i. refl)) (λ e. refl))
+    (λ n. either (Is is_plain) remove _ _ (λ e. either (Is is_plain) (s.places.removed d) _ _ (λ i. refl) (λ i. refl))
+    (λ e. refl))
     (λ k n. frames_at s a remove _))
 
 pub frames : (c : Program) (s : After) (a : ℕ) (o : Op) (v n : ℕ) → Passes is_plain (due.due_frames c s a o v n)

@@ -4,6 +4,17 @@ mod DueKinds
 mod DueFaults
 mod Looks
 mod BeginFirst
+mod Settling
+mod MoveSteps
+mod Carrying
+mod Still
+mod Carried
+mod CarriedOn
+mod Founds
+mod RightOn
+mod RightMoves
+mod WriteSets
+mod EntryRight
 mod Steps
 mod Fields
 mod MmapLock

@@ -1,7 +1,8 @@
 -- A look-up that has begun and has not walked is under way: what events and entries make of that.
 use Rattle.std.proofs.Common.{refl, ap, sym, ◌∙◌}
 use Rattle.std.proofs.lemmas.Bool.{true≢false, false≢true, and_parts, eqb-true}
-use Rattle.std.specs.Prelude.{◌≡◌, ℕ, Bool, true, false, ◌&&◌, ◌==◌, if◌then◌else◌, Option, Some, None, List, [], ◌∷◌, ◌++◌, fold}
+use Rattle.std.specs.Prelude.{◌≡◌, ℕ, Bool, true, false, ◌&&◌, ◌==◌, if◌then◌else◌, Option, Some, None, List, [], ◌∷◌}
+use Rattle.std.specs.Prelude.{◌++◌, fold}
 use Rattle.hm_base.specs.declared.Frame.{Frame}
 use Rattle.hm_base.specs.declared.Place.{Place}
 use Rattle.hm_base.specs.declared.ops.Op.{Op}
@@ -38,7 +39,8 @@ with_stage looks t m l b n h = by_bool ((b == t) && (n == m)) refl
     by_bool : (d : Bool) → ((b == t) && (n == m)) ≡ d → (if d then l else looks b n).stage ≡ (looks b n).stage
     by_bool false e = refl
     by_bool true e = let p : ((b == t) ≡ true) × ((n == m) ≡ true) = and_parts (b == t) (n == m) e in
-        h ∙ (ap (λ i. (looks i m).stage) (sym (eqb-true b t p.0)) ∙ ap (λ i. (looks b i).stage) (sym (eqb-true n m p.1)))
+        h ∙ (ap (λ i. (looks i m).stage) (sym (eqb-true b t p.0))
+        ∙ ap (λ i. (looks b i).stage) (sym (eqb-true n m p.1)))
 
 -- but for a `Begin` no event makes a look-up one that has begun and not walked
 pub begun_before : (k : Known) (t : ℕ) (x : Event) (b n : ℕ) → is_begin x ≡ false
@@ -69,12 +71,17 @@ begun_before k t (Event.Walked m done) b n h g = by_bool ((b == t) && (n == m)) 
     by_bool true l e g = absurd (false≢true (sym (ap is_begun e) ∙ g))
     by_bool false l e g = g
 begun_before k t (Event.Set m v f w) b n h g = sym (ap is_begun
-    (at_set (λ k. (k.looks b n).stage) (λ k t m. with_stage k.looks t m _ b n refl) (λ k t f. refl) (λ k ss xs. refl) k t m v f w)) ∙ g
-begun_before k t (Event.End p r) b n h g = sym (at_end (λ k. is_begun (k.looks b n).stage) (λ k us xs. refl) k t p r) ∙ g
+    (at_set (λ k. (k.looks b n).stage) (λ k t m. with_stage k.looks t m _ b n refl) (λ k t f. refl)
+    (λ k ss xs. refl) k t m v f w)) ∙ g
+begun_before k t (Event.End p r) b n h g = sym (at_end (λ k. is_begun (k.looks b n).stage) (λ k us xs. refl) k t p r)
+    ∙ g
 begun_before k t (Event.Told m q true) b n h g = g
-begun_before k t (Event.Told m q false) b n h g = sym (at_refused (λ k. is_begun (k.looks b n).stage) (λ k us xs. refl) k t m q) ∙ g
-begun_before k t (Event.Take f) b n h g = sym (held_keeps (λ k. is_begun (k.looks b n).stage) (λ k fs. refl) k f (device_of f)) ∙ g
-begun_before k t (Event.Pass f) b n h g = sym (pass_keeps (λ k. is_begun (k.looks b n).stage) (λ k p. refl) k (device_of f)) ∙ g
+begun_before k t (Event.Told m q false) b n h g = sym
+    (at_refused (λ k. is_begun (k.looks b n).stage) (λ k us xs. refl) k t m q) ∙ g
+begun_before k t (Event.Take f) b n h g = sym
+    (held_keeps (λ k. is_begun (k.looks b n).stage) (λ k fs. refl) k f (device_of f)) ∙ g
+begun_before k t (Event.Pass f) b n h g = sym
+    (pass_keeps (λ k. is_begun (k.looks b n).stage) (λ k p. refl) k (device_of f)) ∙ g
 begun_before k t x b n h g = g
 
 -- a walk that is over has walked
@@ -99,7 +106,7 @@ ends_walk (Phase.Decide (Touch.Walk n since q)) (Kind.Runlock p) = true
 ends_walk (Phase.GiveUp (Some (Touch.Walk n since q))) (Kind.Failed x at len why) = true
 ends_walk top k = false
 
-opens : (k : Kind) (seen : Seen) (body : Body) (st : List Phase) → doing (with_guard k seen body st) ≡ doing st
+pub opens : (k : Kind) (seen : Seen) (body : Body) (st : List Phase) → doing (with_guard k seen body st) ≡ doing st
 opens (Kind.Start p r q) seen body st = refl
 opens k seen body st = refl
 
@@ -107,17 +114,20 @@ takes : (touch : Touch) (g : Frame) (x : Place) → doing (with_frame_taken touc
 takes touch g Place.Zero = refl
 takes touch g x = refl
 
-takes_on : (touch : Touch) (g : Frame) (over : Place) (k : Kind) → doing (after_taken touch g over k) ≡ of_touch touch
+pub takes_on : (touch : Touch) (g : Frame) (over : Place) (k : Kind)
+    → doing (after_taken touch g over k) ≡ of_touch touch
 takes_on touch g over (Kind.Copied f h n) = refl
 takes_on touch g over k = refl
 
 -- a walk goes on, if the entry does not end it
-pub goes_on : (o : Op) (top : Phase) (below : List Phase) (k : Kind) (seen : Seen) → may o top k ≡ true → ends_walk top k ≡ false
+pub goes_on : (o : Op) (top : Phase) (below : List Phase) (k : Kind) (seen : Seen) → may o top k ≡ true
+    → ends_walk top k ≡ false
     → doing (top ∷ below) ≡ Doing.Walks → doing (stack_after o (top ∷ below) k seen) ≡ Doing.Walks
 goes_on o (Phase.Begun n since q) below (Kind.Rlock p) seen h e d = refl
 goes_on o (Phase.Begun n since q) below k seen h e d = absurd (false≢true h)
 goes_on o (Phase.Decide (Touch.Walk n since q)) below (Kind.Place p v x) seen h e d = refl
-goes_on o (Phase.Decide (Touch.Walk n since q)) below (Kind.Take g) seen h e d = takes (Touch.Walk n since q) g seen.place
+goes_on o (Phase.Decide (Touch.Walk n since q)) below (Kind.Take g) seen h e d = takes
+    (Touch.Walk n since q) g seen.place
 goes_on o (Phase.Decide (Touch.Walk n since q)) below (Kind.Start p r z) seen h e d = refl
 goes_on o (Phase.Decide (Touch.Walk n since q)) below (Kind.Failed x at len why) seen h e d = absurd (true≢false e)
 goes_on o (Phase.Decide (Touch.Walk n since q)) below (Kind.Retry m) seen h e d = absurd (true≢false e)
@@ -125,9 +135,11 @@ goes_on o (Phase.Decide (Touch.Walk n since q)) below (Kind.Runlock p) seen h e 
 goes_on o (Phase.Decide (Touch.Walk n since q)) below k seen h e d = absurd (false≢true h)
 goes_on o (Phase.Taken touch g x) below k seen h e d = takes_on touch g x k ∙ d
 goes_on o (Phase.Armed touch g x) below k seen h e d = opens k seen (Body.Replace x g) (Phase.Decide touch ∷ []) ∙ d
-goes_on o (Phase.GiveUp (Some (Touch.Walk n since q))) below (Kind.Failed x at len why) seen h e d = absurd (true≢false e)
+goes_on o (Phase.GiveUp (Some (Touch.Walk n since q))) below (Kind.Failed x at len why) seen h e d = absurd
+    (true≢false e)
 goes_on o (Phase.GiveUp (Some (Touch.Walk n since q))) below k seen h e d = absurd (false≢true h)
-goes_on o (Phase.Guard p r met told body) below k seen h e d = passes o (Phase.Guard p r met told body) below k seen refl ∙ d
+goes_on o (Phase.Guard p r met told body) below k seen h e d = passes o
+    (Phase.Guard p r met told body) below k seen refl ∙ d
 goes_on o (Phase.Drop f) below k seen h e d = passes o (Phase.Drop f) below k seen refl ∙ d
 goes_on o (Phase.Emptying f what) below k seen h e d = passes o (Phase.Emptying f what) below k seen refl ∙ d
 goes_on o (Phase.Copy f g n) below k seen h e d = passes o (Phase.Copy f g n) below k seen refl ∙ d

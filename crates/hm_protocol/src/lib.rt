@@ -55,6 +55,7 @@ pub fn no_legal_history_is_blamed()
     ensures erase_in_time { IsKept rule.Rule.EraseInTime }
     ensures own_entries { IsKept rule.Rule.OwnEntries }
     ensures begin_first { IsKept rule.Rule.BeginFirst }
+    ensures entry_right { IsKept rule.Rule.EntryRight }
 {}
 
 /// Nor a joint rule: callbacks of a right driver leave no entries, and set the sequence also for its own migrations.
@@ -86,4 +87,5 @@ pub fn no_verdict_blames_a_legal_history()
     ensures erase_in_time { IsCleared rule.Rule.EraseInTime }
     ensures own_entries { IsCleared rule.Rule.OwnEntries }
     ensures begin_first { IsCleared rule.Rule.BeginFirst }
+    ensures entry_right { IsCleared rule.Rule.EntryRight }
 {}

@@ -5,6 +5,7 @@ use Rattle.hm_protocol.proofs.Invalidations.{detach_waits_kept, exclusive_waits_
 use Rattle.hm_protocol.proofs.Detached.{stop_at_detach_kept}
 use Rattle.hm_protocol.proofs.Tables.{write_entry_kept, look_again_kept, erase_kept, erase_all_kept, erase_in_time_kept, own_entries_kept}
 use Rattle.hm_protocol.proofs.BeginFirst.{begin_first_kept}
+use Rattle.hm_protocol.proofs.EntryRight.{entry_right_kept}
 use Rattle.hm_protocol.proofs.no_legal_history_is_blamed.Goals as goal
 
 pub returns-clause-mmap_lock : goal.returns-clause-mmap_lock
@@ -72,3 +73,6 @@ returns-clause-own_entries c = own_entries_kept
 
 pub returns-clause-begin_first : goal.returns-clause-begin_first
 returns-clause-begin_first c = begin_first_kept
+
+pub returns-clause-entry_right : goal.returns-clause-entry_right
+returns-clause-entry_right c = entry_right_kept
