@@ -56,8 +56,8 @@ walk_is_device s t a o xs top below h e = absurd (false≢true e)
 
 -- an entry that is due may be due
 pub turn_may : (c : Program) (s : After) (t : Past) (a : ℕ) (o : Op) (xs : List Migrating) (top : Phase)
-    (below : List Phase)
-    (j : Kind) → HoldsAll s t a (facts o xs (top ∷ below)) → due_phase c s a o xs top ≡ Do j → may o top j ≡ true
+    (below : List Phase) (j : Kind) → HoldsAll s t a (facts o xs (top ∷ below)) → due_phase c s a o xs top ≡ Do j
+    → may o top j ≡ true
 turn_may c s t a o xs top below j h d = sym (ap (next_passes (may o top)) d)
     ∙ due_may c s a o xs top (λ e. device_refuses_not o (walk_is_device s t a o xs top below h e))
 
@@ -112,7 +112,8 @@ walk_moves_not s o xs top j h ys = absurd (false≢true h)
 walk_ends : (s u : After) (a : ℕ) (o : Op) (xs : List Migrating) (top : Phase) (below : List Phase) (after : Phase)
     (j : Kind) → ends_walk top j ≡ true → (ys : List Event)
     × ((d : Bool) × (events_by s u a o xs (top ∷ below) after j ≡ ys ++ Event.Walked (op_mirror o) d ∷ []))
-walk_ends s u a o xs (Phase.Decide (Touch.Walk n since q)) below after (Kind.Failed x at len why) h = ([], (false, refl))
+walk_ends s u a o xs (Phase.Decide (Touch.Walk n since q)) below after (Kind.Failed x at len why) h =
+    ([], (false, refl))
 walk_ends s u a o xs (Phase.Decide (Touch.Walk n since q)) below after (Kind.Retry m) h = ([], (false, refl))
 walk_ends s u a o xs (Phase.Decide (Touch.Walk n since q)) below after (Kind.Runlock p) h =
     let v : ℕ = touch_page o (Touch.Walk n since q) in
@@ -125,8 +126,7 @@ walk_ends s u a o xs top below after j h = absurd (false≢true h)
 each : (X : ℕ → ℕ → Type 0) (a : ℕ) (b : Bool) (j : Kind)
     → ((m v from : ℕ) (f : Option Frame) (w : TableRight) → j ≡ Kind.Set m v f w from → X a m → ⊥)
     → ((m q : ℕ) → j ≡ Kind.Begin m q → (i n : ℕ) → (i ≡ a) → (n ≡ m) → X i n) → (k : Known) (x : Event) → Fits b j x
-    → AllBegun X k
-    → (begin_first k (by a x) ≡ false) × AllBegun X (known_next k (by a x))
+    → AllBegun X k → (begin_first k (by a x) ≡ false) × AllBegun X (known_next k (by a x))
 each X a b j sets begins k (Event.Set m v g w) fits kn = (
   ap (λ d. is_look_up k a v w && d) (not_begun (is_begun (k.looks a m).stage) refl)
       ∙ and_right (is_look_up k a v w) false refl,
@@ -157,8 +157,7 @@ KnowsBegun c k t = AllBegun (λ b m. WalksIn c b (t.going b) m) k
 
 -- a walk that an entry ends is not one that has begun and not walked
 ended : (t u : State) (a : ℕ) (j : Kind) (x : Option Op) (o : Op) (top : Phase) (below : List Phase) (k : Known)
-    → x ≡ Some o
-    → (t.going a).stack ≡ top ∷ below → ends_walk top j ≡ true
+    → x ≡ Some o → (t.going a).stack ≡ top ∷ below → ends_walk top j ≡ true
     → is_begun ((fold known_next k (by_thread a (events_in t u a j x))).looks a (op_mirror o)).stage ≡ false
 ended t u a j x o top below k io is h = let g : Going = t.going a in let after : Phase = top_of (u.going a).stack in
     let z : (ys : List Event) × ((d : Bool)

@@ -190,6 +190,7 @@ one_same late x z xs ms i p q c = record {
         ∙ c.moved x i (sym q ∙ (sym (ap (λ (y : Migrating). y.moved) h) ∙ e))
     by y (inr j) e = c.moved y j e
 
+-- records with one more, which has not moved
 pub one_unmoved : (late : Bool) (x : Migrating) (xs : List Migrating) (ms : List Move) → x.moved ≡ false
     → Carried late xs ms
     → Carried late (xs ++ x ∷ []) ms

@@ -65,8 +65,8 @@ own c k s u t a i o xs (Phase.Decide (Touch.Walk n since q)) below after (Kind.R
     at_walk c k s u t a i o xs xs n since q p below after known d
 own c k s u t a i o xs (Phase.Guard p r met told body) below after j known d m h =
     passing_on k s u a i o xs (Phase.Guard p r met told body) below after j refl m h
-own c k s u t a i o xs (Phase.Drop f) below after j known d m h = passing_on k s u a i o xs
-    (Phase.Drop f) below after j refl m h
+own c k s u t a i o xs (Phase.Drop f) below after j known d m h =
+    passing_on k s u a i o xs (Phase.Drop f) below after j refl m h
 own c k s u t a i o xs (Phase.Emptying f what) below after j known d m h =
     passing_on k s u a i o xs (Phase.Emptying f what) below after j refl m h
 own c k s u t a i o xs (Phase.Copy f g n) below after j known d m h =
@@ -105,11 +105,9 @@ keeps c t e k s kn = (by_write (is_write_set e.kind) refl, λ b. after b (cases_
 
     same : events_in t (state_next c t e) e.actor e.kind (op_at c e.actor (t.going e.actor).index)
         ≡ own_events t.after (state_next c t e).after e.actor s.turn.op (t.going e.actor).pages
-        (s.turn.top ∷ s.turn.below)
-        (top_of ((state_next c t e).going e.actor).stack) e.kind
+        (s.turn.top ∷ s.turn.below) (top_of ((state_next c t e).going e.actor).stack) e.kind
     same = events_are t (state_next c t e) e.actor e.kind (op_at c e.actor (t.going e.actor).index) s.turn.op
-        s.turn.top s.turn.below
-        s.turn.is_op s.turn.is_stack
+        s.turn.top s.turn.below s.turn.is_op s.turn.is_stack
 
     before : Right (k.looks e.actor) (k.moves e.actor) (Some s.turn.op)
         (record { index = (t.going e.actor).index; stack = s.turn.top ∷ s.turn.below; pages = (t.going e.actor).pages })
@@ -118,8 +116,8 @@ keeps c t e k s kn = (by_write (is_write_set e.kind) refl, λ b. after b (cases_
         (subst (λ x. Right (k.looks e.actor) (k.moves e.actor) x (t.going e.actor)) s.turn.is_op (kn e.actor))
 
     by_write : (b : Bool) → is_write_set e.kind ≡ b → Calm entry_right k (events_of c t (state_next c t e) e)
-    by_write false h = (all_fit c t e entry_right (λ l. ⊤) (λ l x fits n. harmless _ e.kind e.actor h l x fits n) k
-        tt).0
+    by_write false h = (all_fit c t e entry_right (λ l. ⊤) (λ l x fits n. harmless _ e.kind e.actor h l x fits n)
+        k tt).0
     by_write true h = subst (λ es. Calm entry_right k (by_thread e.actor es)) (sym same)
         (calm c k t.after (state_next c t e).after s.past e.actor (t.going e.actor).index s.turn.op
         (t.going e.actor).pages

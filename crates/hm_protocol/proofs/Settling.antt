@@ -227,6 +227,7 @@ kept_early : (why : KeptWhy) → is_late (kept_step why) ≡ false
 kept_early KeptWhy.Lost = refl
 kept_early why = refl
 
+-- after an entry that fits step `at` a migration is past the commits only if `at` is
 pub comes : (at step : MoveStep) (x : Migrating) (k : Kind) (seen : Seen) → fits_step at k ≡ true
     → Comes at (doing (after_moves step x k seen))
 comes at step x (Kind.Start p r q) seen h = let z : (next : MoveStep)

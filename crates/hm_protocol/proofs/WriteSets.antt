@@ -135,7 +135,8 @@ move_calm c k s t a i o xs step n below m v from f known d h (Some at) e = with_
     came = coming_to s o xs step n at e
 
     set : (is_late at.0 ≡ true) × (at.1.page ≡ v) × (at.1.moved ≡ true) × (is_to_device o ≡ true)
-    set = let is : due_step c s o at.0 at.1 ≡ Kind.Set m v f TableRight.Write from = step_is c s a o xs step n _ at d e in
+    set = let is : due_step c s o at.0 at.1 ≡ Kind.Set m v f TableRight.Write from =
+        step_is c s a o xs step n _ at d e in
         set_step c s o at.0 at.1 m v from f TableRight.Write
         (subst (λ j. fits_step at.0 j ≡ true) is (step_fits c s o at.0 at.1 came.1)) is came.1
 
