@@ -13,6 +13,14 @@ mod Invalidations
 mod Slots
 mod Erasing
 mod Tables
+mod ComesFrom
+mod Stands
+mod Unmet
+mod Seeing
+mod Opening
+mod Moved
+mod Migrated
+mod Commits
 mod Cleared
 mod RightRacesCome
 mod ShortRacesCome
