@@ -1,43 +1,43 @@
--- Each entry keeps what is known of migrations, and a page that a migration sets is one that has moved.
-use Rattle.std.proofs.Common.{refl, ap, sym, subst, ◌∙◌, inl, inr}
-use Rattle.std.proofs.lemmas.Bool.{true≢false, false≢true, and_parts, cases_eq}
-use Rattle.std.specs.Prelude.{◌≡◌, ℕ, ◌+◌, ◌⊎◌, Bool, true, false, not, ◌&&◌, ◌||◌, ◌==◌, if◌then◌else◌, Option, Some, None}
+-- An entry of an actor in a migration keeps what its inner migration says of its records.
+use Rattle.std.proofs.Common.{refl, ap, sym, subst, ◌∙◌}
+use Rattle.std.proofs.lemmas.Bool.{true≢false, false≢true}
+use Rattle.std.specs.Prelude.{◌≡◌, ℕ, Bool, true, false, not, ◌&&◌, if◌then◌else◌, Option, Some}
+use Rattle.std.specs.Prelude.{None}
 use Rattle.std.specs.Prelude.{List, [], ◌∷◌, ◌++◌, fold}
-use Rattle.std.specs.List.{list_any}
 use Rattle.hm_base.specs.Pages.{Pages}
-use Rattle.hm_base.specs.Program.{Program}
 use Rattle.hm_base.specs.declared.Frame.{Frame}
 use Rattle.hm_base.specs.declared.Place.{Place}
 use Rattle.hm_base.specs.declared.ops.Op.{Op}
 use Rattle.hm_history.specs.Memory.After.{After}
-use Rattle.hm_history.specs.Kernel.Operation.{op_mirror, is_migration, is_evicting, is_to_device}
-use Rattle.hm_history.specs.Kernel.Stacks.{first_phase, stack_after, after_migration}
-use Rattle.hm_history.specs.Kernel.Going.{Going, State, op_at, first_stack, going_on, going_next, going_top, seen_at}
-use Rattle.hm_history.specs.Kernel.Going.{recorded, recorded_at, recorded_body, coming, coming_page, concerns, sets_now, steps_from, state_next}
-use Rattle.hm_history.specs.declared.TableRight.{TableRight}
+use Rattle.hm_history.specs.Kernel.Operation.{is_migration, is_evicting}
+use Rattle.hm_history.specs.Kernel.Stacks.{stack_after, after_migration}
+use Rattle.hm_history.specs.Kernel.Going.{seen_at}
+use Rattle.hm_history.specs.Kernel.Going.{recorded, recorded_at, recorded_body, coming, coming_page}
+use Rattle.hm_history.specs.Kernel.Going.{steps_from}
 use Rattle.hm_history.specs.declared.Kind.{Kind}
-use Rattle.hm_history.specs.declared.Entry.{Entry}
 use Rattle.hm_history.specs.declared.phases.Body.{Body}
 use Rattle.hm_history.specs.declared.phases.Migrating.{Migrating}
 use Rattle.hm_history.specs.declared.phases.MoveStep.{MoveStep}
 use Rattle.hm_history.specs.declared.phases.Phase.{Phase}
 use Rattle.hm_history.proofs.Tests.{no_test, same_some, some_none}
-use Rattle.hm_history.proofs.Updates.{here_at, other_at}
 use Rattle.hm_laws.specs.Past.{Past}
 use Rattle.hm_laws.specs.Records.{Among, is_nil}
 use Rattle.hm_laws.specs.Facts.{facts, HoldsAll}
 use Rattle.hm_laws.proofs.Migration.Records.{step_says}
 use Rattle.hm_protocol.specs.declared.events.Event.{Event}
-use Rattle.hm_protocol.specs.Words.{is_sole}
-use Rattle.hm_protocol.specs.Known.{Move, Known, is_migrated, is_look_up}
+use Rattle.hm_protocol.specs.Known.{Move, Known}
 use Rattle.hm_protocol.specs.Noted.{known_next}
-use Rattle.hm_protocol.specs.Projection.{comes_to, events_by, events_in, events_of, top_of, is_home, is_start, is_past_commits, shown, in_trace, record_at, moved}
-use Rattle.hm_protocol.proofs.Steps.{Step, by_thread}
-use Rattle.hm_protocol.proofs.ComesFrom.{ComesFrom, DueFrom, SetAt, comes_from}
-use Rattle.hm_protocol.proofs.Stands.{Stand, stand, is_passing, is_moves, passes, passing, turned, turns, Leads, leads}
-use Rattle.hm_protocol.proofs.Opening.{is_answer, by_quiet, is_open, is_paged, has_moved, Grows, grows, others_moves}
-use Rattle.hm_protocol.proofs.Moved.{AllFresh, AllMoved, MoveOk, Mid, all_mid, paged_mid, grown, in_turn, mid, is_set, turned_ok, recorded_same}
-use Rattle.hm_protocol.proofs.Moved.{recorded_moved, moved_now, is_fresh, body_fresh, body_moved, come_says, finish_sets_nothing}
+use Rattle.hm_protocol.specs.Projection.{comes_to, events_by, is_home, is_start}
+use Rattle.hm_protocol.specs.Projection.{is_past_commits, shown, in_trace, record_at, moved}
+use Rattle.hm_protocol.proofs.Steps.{by_thread}
+use Rattle.hm_protocol.proofs.ComesFrom.{ComesFrom}
+use Rattle.hm_protocol.proofs.Stands.{Stand, stand, is_passing, is_moves, passes, passing, turned, turns}
+use Rattle.hm_protocol.proofs.Leading.{Leads, leads}
+use Rattle.hm_protocol.proofs.Opening.{is_answer, by_quiet}
+use Rattle.hm_protocol.proofs.Inner.{is_open, has_moved, Grows, grows}
+use Rattle.hm_protocol.proofs.Coming.{come_says, finish_sets_nothing}
+use Rattle.hm_protocol.proofs.Moved.{AllFresh, AllMoved, MoveOk, grown, in_turn, mid, is_set, turned_ok, recorded_same}
+use Rattle.hm_protocol.proofs.Moved.{recorded_moved, moved_now, is_fresh, body_fresh, body_moved}
 
 -- an actor in a migration: what its inner migration says of its records
 abbrev pub Migrates : Op → MoveStep → List Move → List Migrating → Type 0
@@ -54,7 +54,7 @@ not_home o h = ap (λ b. not b && not (is_evicting o)) h
 same_step : (x y : MoveStep) → Stand.Moves x ≡ Stand.Moves y → x ≡ y
 same_step x y e = ap (λ (z : Stand). elim z [ Stand.Moves step ↦ step | _ ↦ x ]) e
 
-rests_not : (x : MoveStep) → Stand.Rests ≡ Stand.Moves x → ⊥
+pub rests_not : (x : MoveStep) → Stand.Rests ≡ Stand.Moves x → ⊥
 rests_not x e = no_test (ap (λ (z : Stand). elim z [ Stand.Moves step ↦ true | _ ↦ false ]) e)
 
 looks_not : (q : ℕ) (x : MoveStep) → Stand.Looks q ≡ Stand.Moves x → ⊥
@@ -62,13 +62,15 @@ looks_not q x e = no_test (ap (λ (z : Stand). elim z [ Stand.Moves step ↦ tru
 
 -- ---- at the cursor of a migration
 
-answers_not : (s : After) (o : Op) (xs : List Migrating) (step : MoveStep) (n : ℕ) (at : MoveStep × Migrating) (j : Kind)
+answers_not : (s : After) (o : Op) (xs : List Migrating) (step : MoveStep) (n : ℕ) (at : MoveStep × Migrating)
+    (j : Kind)
     → coming s o xs (Phase.Moves step n) ≡ Some at → ComesFrom s o xs (Phase.Moves step n) j → is_answer j ≡ false
 answers_not s o xs step n at (Kind.Migrated i) e h = absurd (some_none (coming s o xs (Phase.Moves step n)) at e h)
 answers_not s o xs step n at j e h = refl
 
 past_set : (s : After) (o : Op) (xs : List Migrating) (step : MoveStep) (n : ℕ) (j : Kind)
-    → ComesFrom s o xs (Phase.Moves step n) j → is_set j ≡ true → is_past_commits (coming s o xs (Phase.Moves step n)) ≡ true
+    → ComesFrom s o xs (Phase.Moves step n) j → is_set j ≡ true
+    → is_past_commits (coming s o xs (Phase.Moves step n)) ≡ true
 past_set s o xs step n (Kind.Set m v f w from) h e = ap is_past_commits h.1.0
 past_set s o xs step n j h e = absurd (false≢true e)
 
@@ -78,11 +80,13 @@ set_before_last s o xs step n (Kind.Set m v f w from) h e g =
     finish_sets_nothing s o xs n h.0 (ap (λ step. coming s o xs (Phase.Moves step n)) (sym g) ∙ h.1.0)
 set_before_last s o xs step n j h e g = absurd (false≢true e)
 
-page_is : (x : Option (MoveStep × Migrating)) (at : MoveStep × Migrating) (y : Migrating) → x ≡ Some at → coming_page x ≡ Some y
+page_is : (x : Option (MoveStep × Migrating)) (at : MoveStep × Migrating) (y : Migrating) → x ≡ Some at
+    → coming_page x ≡ Some y
     → at.1 ≡ y
 page_is x at y e h = same_some (coming_page x) at.1 y (ap coming_page e) h
 
-at_cursor : (s u : After) (a : ℕ) (o : Op) (xs : List Migrating) (step : MoveStep) (n : ℕ) (below : List Phase) (after : Phase)
+at_cursor : (s u : After) (a : ℕ) (o : Op) (xs : List Migrating) (step : MoveStep) (n : ℕ) (below : List Phase)
+    (after : Phase)
     (j : Kind) (k : Known) (at : MoveStep × Migrating) → coming s o xs (Phase.Moves step n) ≡ Some at
     → ComesFrom s o xs (Phase.Moves step n) j → Migrates o step (k.moves a) xs
     → Migrates o (turned step j) (moves_after k s u a o xs (Phase.Moves step n ∷ below) (Phase.Moves step n) after j)
@@ -108,7 +112,8 @@ at_cursor s u a o xs step n below after j k at e from h = (
     more : Grows ((fold known_next k (by_thread a (comes_to s o xs (Phase.Moves step n) j))).moves a)
         (moves_after k s u a o xs (Phase.Moves step n ∷ below) (Phase.Moves step n) after j)
     more = subst (λ m. Grows (l.moves a) (m.moves a)) (sym (in_turn a (comes_to s o xs (Phase.Moves step n) j) es k))
-        (grows a es (by_quiet s u a o xs (Phase.Moves step n ∷ below) after j (not_home o h.0) (answers_not s o xs step n at j e from)) l)
+        (grows a es (by_quiet s u a o xs (Phase.Moves step n ∷ below) after j (not_home o h.0)
+        (answers_not s o xs step n at j e from)) l)
 
     same : (j : Kind) → is_start j ≡ true → recorded_at (coming_page (coming s o xs (Phase.Moves step n))) xs j ≡ xs
     same (Kind.Start p r q) i = recorded_same (coming_page (coming s o xs (Phase.Moves step n))) xs p q r
@@ -165,9 +170,11 @@ fresh_later s t a o xs p r met told g (x ∷ below) step h e = absurd h.0
 guard_on : (s : After) (t : Past) (a : ℕ) (o : Op) (xs : List Migrating) (p : ℕ) (r : Pages) (met : Bool)
     (told : Option ℕ) (body : Body) (below : List Phase) (step : MoveStep) (j : Kind) (ys zs : List Move)
     → HoldsAll s t a (facts o xs (Phase.Guard p r met told body ∷ below)) → stand below ≡ Stand.Moves step → Grows ys zs
-    → (is_open ys ≡ true → (g : Frame) (q v : ℕ) (x : Place) → body ≡ Body.Fresh g → j ≡ Kind.Place q v x → has_moved zs v ≡ true)
+    → (is_open ys ≡ true → (g : Frame) (q v : ℕ) (x : Place) → body ≡ Body.Fresh g → j ≡ Kind.Place q v x
+    → has_moved zs v ≡ true)
     → MoveOk step ys xs → MoveOk step zs (recorded_body body xs j)
-guard_on s t a o xs p r met told body below MoveStep.FreezeOthers j ys zs h e more m ok = body_fresh body xs j (not_fresh body refl) ok
+guard_on s t a o xs p r met told body below MoveStep.FreezeOthers j ys zs h e more m ok = body_fresh body xs j
+    (not_fresh body refl) ok
   where
     not_fresh : (b : Body) → body ≡ b → is_fresh b ≡ false
     not_fresh (Body.Fresh g) i = absurd (no_test (ap (λ (x : MoveStep). elim x [ MoveStep.Commit ↦ false | _ ↦ true ])
@@ -183,7 +190,8 @@ guard_on s t a o xs p r met told body below MoveStep.Commit j ys zs h e more m o
 guard_on s t a o xs p r met told body below MoveStep.Finish j ys zs h e more m ok =
     body_moved body xs j zs (m ok.0) (grown ys zs xs more ok)
 
-still_ok : (step : MoveStep) (ys zs : List Move) (xs : List Migrating) → Grows ys zs → MoveOk step ys xs → MoveOk step zs xs
+still_ok : (step : MoveStep) (ys zs : List Move) (xs : List Migrating) → Grows ys zs → MoveOk step ys xs
+    → MoveOk step zs xs
 still_ok MoveStep.FreezeOthers ys zs xs more ok = ok
 still_ok MoveStep.SetOwnTable ys zs xs more ok = (grown ys zs xs more ok.0, more.paged ok.1)
 still_ok MoveStep.TakeAndCopy ys zs xs more ok = grown ys zs xs more ok
@@ -196,7 +204,8 @@ no_answer s o xs (Phase.Moves step n) j h from = absurd (true≢false h)
 no_answer s o xs top (Kind.Migrated n) h from = absurd from
 no_answer s o xs top j h from = refl
 
-at_passing : (s u : After) (t : Past) (a : ℕ) (o : Op) (xs : List Migrating) (top : Phase) (below : List Phase) (after : Phase)
+at_passing : (s u : After) (t : Past) (a : ℕ) (o : Op) (xs : List Migrating) (top : Phase) (below : List Phase)
+    (after : Phase)
     (j : Kind) (k : Known) (page : Option Migrating) (step : MoveStep) → is_passing top ≡ true → is_moves top ≡ false
     → HoldsAll s t a (facts o xs (top ∷ below)) → ComesFrom s o xs top j → stand below ≡ Stand.Moves step
     → Migrates o step (k.moves a) xs
@@ -206,7 +215,8 @@ at_passing s u t a o xs top below after j k page step pass none h from e ok = (o
     zs : List Move
     zs = moves_after k s u a o xs (top ∷ below) top after j
 
-    events : comes_to s o xs top j ++ events_by s u a o xs (top ∷ below) after j ≡ events_by s u a o xs (top ∷ below) after j
+    events : comes_to s o xs top j ++ events_by s u a o xs (top ∷ below) after j
+        ≡ events_by s u a o xs (top ∷ below) after j
     events = ap (λ es. es ++ events_by s u a o xs (top ∷ below) after j) (nothing_comes s o xs top j none)
 
     more : Grows (k.moves a) (moves_after k s u a o xs (top ∷ below) top after j)
@@ -218,7 +228,8 @@ at_passing s u t a o xs top below after j k page step pass none h from e ok = (o
         → is_open (k.moves a) ≡ true → (g : Frame) (q v : ℕ) (x : Place) → body ≡ Body.Fresh g → j ≡ Kind.Place q v x
         → has_moved (moves_after k s u a o xs (top ∷ below) top after j) v ≡ true
     placed_now p r met told body i op g q v x b c =
-        ap (λ es. has_moved ((fold known_next k (by_thread a es)).moves a) v) (events ∙ now) ∙ moved_now k a v (shown x) op
+        ap (λ es. has_moved ((fold known_next k (by_thread a es)).moves a) v) (events ∙ now)
+        ∙ moved_now k a v (shown x) op
       where
         now : events_by s u a o xs (top ∷ below) after j ≡ Event.Moved v (shown x) ∷ []
         now = ap (λ top. events_by s u a o xs (top ∷ below) after j) (i ∙ ap (λ body. Phase.Guard p r met told body) b)
@@ -249,11 +260,13 @@ after_else : (s u : After) (t : Past) (a : ℕ) (o : Op) (xs : List Migrating) (
     → ComesFrom s o xs top j
     → ((step : MoveStep) → stand (top ∷ below) ≡ Stand.Moves step → Migrates o step (k.moves a) xs) → (step : MoveStep)
     → stand (stack_after o (top ∷ below) j (seen_at s o xs top j)) ≡ Stand.Moves step
-    → Migrates o step (moves_after k s u a o xs (top ∷ below) top after j) (recorded top (seen_at s o xs top j).page xs j)
+    → Migrates o step (moves_after k s u a o xs (top ∷ below) top after j)
+    (recorded top (seen_at s o xs top j).page xs j)
 after_else s u t a o xs top below after j k none h from was step e = pick (is_passing top) refl
   where
     pick : (b : Bool) → is_passing top ≡ b
-        → Migrates o step (moves_after k s u a o xs (top ∷ below) top after j) (recorded top (seen_at s o xs top j).page xs j)
+        → Migrates o step (moves_after k s u a o xs (top ∷ below) top after j)
+        (recorded top (seen_at s o xs top j).page xs j)
     pick true p = let g : stand below ≡ Stand.Moves step = sym (passes o top below j (seen_at s o xs top j) p) ∙ e in
         at_passing s u t a o xs top below after j k (seen_at s o xs top j).page step p none h from g
         (was step (passing top below p ∙ g))
@@ -261,7 +274,8 @@ after_else s u t a o xs top below after j k none h from was step e = pick (is_pa
         (recorded x (seen_at s o xs top j).page xs j)) (sym way.0) (
           way.1.1,
           subst (λ x. MoveOk x (moves_after k s u a o xs (top ∷ below) top after j) xs) (sym way.1.0)
-              (nil_fresh xs (ready_none s t a o xs below (subst (λ x. HoldsAll s t a (facts o xs (x ∷ below))) way.0 h) way.1.1)),
+              (nil_fresh xs (ready_none s t a o xs below (subst (λ x. HoldsAll s t a (facts o xs (x ∷ below))) way.0 h)
+              way.1.1)),
         )
       where
         way : (top ≡ Phase.Ready) × ((step ≡ MoveStep.FreezeOthers) × (is_migration o ≡ true))
@@ -272,8 +286,10 @@ pub after_own : (s u : After) (t : Past) (a : ℕ) (o : Op) (xs : List Migrating
     (after : Phase) (j : Kind) (k : Known) → HoldsAll s t a (facts o xs (top ∷ below)) → ComesFrom s o xs top j
     → ((step : MoveStep) → stand (top ∷ below) ≡ Stand.Moves step → Migrates o step (k.moves a) xs) → (step : MoveStep)
     → stand (stack_after o (top ∷ below) j (seen_at s o xs top j)) ≡ Stand.Moves step
-    → Migrates o step (moves_after k s u a o xs (top ∷ below) top after j) (recorded top (seen_at s o xs top j).page xs j)
-after_own s u t a o xs (Phase.Moves at n) below after j k h from was step e = pick (coming s o xs (Phase.Moves at n)) refl e
+    → Migrates o step (moves_after k s u a o xs (top ∷ below) top after j)
+    (recorded top (seen_at s o xs top j).page xs j)
+after_own s u t a o xs (Phase.Moves at n) below after j k h from was step e =
+    pick (coming s o xs (Phase.Moves at n)) refl e
   where
     pick : (x : Option (MoveStep × Migrating)) → coming s o xs (Phase.Moves at n) ≡ x
         → stand (after_migration at (coming_page x) j (seen_at s o xs (Phase.Moves at n) j)) ≡ Stand.Moves step
@@ -287,147 +303,3 @@ after_own s u t a o xs (Phase.Moves at n) below after j k h from was step e = pi
         (at_cursor s u a o xs at n below after j k y i from (was at refl))
 after_own s u t a o xs top below after j k h from was step e =
     after_else s u t a o xs top below after j k refl h from was step e
-
--- ---- an actor after its entry
-
--- where an actor is then
-pub going_is : (c : Program) (s : After) (a : ℕ) (g : Going) (j : Kind) (o : Op) (top : Phase) (below : List Phase)
-    → op_at c a g.index ≡ Some o → g.stack ≡ top ∷ below
-    → going_next c s a g j ≡ going_on c a g.index (stack_after o (top ∷ below) j (seen_at s o g.pages top j))
-    (recorded top (seen_at s o g.pages top j).page g.pages j)
-going_is c s a g j o top below i e =
-    ap (λ x. elim x as (λ x. Going) [ None ↦ g | Some o ↦ going_top c s a g o g.stack j ]) i ∙ pick g.stack e refl
-  where
-    pick : (st : List Phase) → st ≡ top ∷ below → g.stack ≡ st → going_top c s a g o st j
-        ≡ going_on c a g.index (stack_after o (top ∷ below) j (seen_at s o g.pages top j))
-        (recorded top (seen_at s o g.pages top j).page g.pages j)
-    pick st q r = subst (λ x. going_top c s a g o x j
-        ≡ going_on c a g.index (stack_after o (top ∷ below) j (seen_at s o g.pages top j))
-        (recorded top (seen_at s o g.pages top j).page g.pages j)) (sym q)
-        (ap (λ x. going_on c a g.index (stack_after o x j (seen_at s o g.pages top j))
-        (recorded top (seen_at s o g.pages top j).page g.pages j)) e)
-
--- an operation begins at rest
-pub first_rests : (o : Option Op) → stand (first_stack o) ≡ Stand.Rests
-first_rests None = refl
-first_rests (Some o) = pick o
-  where
-    pick : (o : Op) → stand (first_phase o ∷ []) ≡ Stand.Rests
-    pick (Op.Load p at n) = refl
-    pick (Op.Store p at bs) = refl
-    pick (Op.DeviceLoad m at n) = refl
-    pick (Op.DeviceStore m at bs) = refl
-    pick (Op.Add m at n) = refl
-    pick (Op.Evict d) = refl
-    pick (Op.Remove d) = refl
-    pick o = refl
-
--- what holds wherever an operation goes on holds of its actor then: an operation that begins stands nowhere
-pub going_holds : (P : Op → Stand → List Migrating → Type 0) (c : Program) (a i : ℕ) (o : Op) (st : List Phase)
-    (xs : List Migrating) → op_at c a i ≡ Some o → ((x : Op) (us : List Migrating) → P x Stand.Rests us) → P o (stand st) xs
-    → (x : Op) → op_at c a (going_on c a i st xs).index ≡ Some x
-    → P x (stand (going_on c a i st xs).stack) (going_on c a i st xs).pages
-going_holds P c a i o [] xs e rests h x q =
-    subst (λ z. P x z []) (sym (first_rests (op_at c a (i + 1)))) (rests x [])
-going_holds P c a i o (top ∷ below) xs e rests h x q =
-    subst (λ z. P z (stand (top ∷ below)) xs) (same_some (op_at c a i) o x e q) h
-
--- ---- a state
-
--- what is known after the events of an entry
-abbrev pub known_after : Program → State → Entry → Known → Known
-known_after c t e k = fold known_next k (events_of c t (state_next c t e) e)
-
--- each actor in a migration is known to be
-abbrev pub AllMigrate : Program → Known → State → Type 0
-AllMigrate c k t = (a : ℕ) (o : Op) → op_at c a (t.going a).index ≡ Some o → (step : MoveStep)
-    → stand (t.going a).stack ≡ Stand.Moves step → Migrates o step (k.moves a) (t.going a).pages
-
--- the events of an entry at a phase
-pub events_are : (c : Program) (t u : State) (a : ℕ) (j : Kind) (o : Op) (top : Phase) (below : List Phase)
-    → op_at c a (t.going a).index ≡ Some o → (t.going a).stack ≡ top ∷ below
-    → events_in t u a j (op_at c a (t.going a).index)
-    ≡ comes_to t.after o (t.going a).pages top j
-    ++ events_by t.after u.after a o (t.going a).pages (top ∷ below) (top_of (u.going a).stack) j
-events_are c t u a j o top below i e = ap (events_in t u a j) i
-    ∙ ap (λ st. comes_to t.after o (t.going a).pages (top_of st) j
-    ++ events_by t.after u.after a o (t.going a).pages st (top_of (u.going a).stack) j) e
-
--- so it is after each entry
-pub all_migrate : (c : Program) (t : State) (e : Entry) (k : Known) → Step c t e → AllMigrate c k t
-    → AllMigrate c (known_after c t e k) (state_next c t e)
-all_migrate c t e k s kn = λ a. pick a (cases_eq a e.actor)
-  where
-    u : State
-    u = state_next c t e
-
-    from : ComesFrom t.after s.turn.op (t.going e.actor).pages s.turn.top e.kind
-    from = subst (DueFrom t.after s.turn.op (t.going e.actor).pages s.turn.top) s.turn.is_due
-        (comes_from c t.after e.actor s.turn.op (t.going e.actor).pages s.turn.top)
-
-    own : (o : Op) → op_at c e.actor (going_next c t.after e.actor (t.going e.actor) e.kind).index ≡ Some o → (step : MoveStep)
-        → stand (going_next c t.after e.actor (t.going e.actor) e.kind).stack ≡ Stand.Moves step
-        → Migrates o step ((known_after c t e k).moves e.actor) (going_next c t.after e.actor (t.going e.actor) e.kind).pages
-    own = subst (λ g. (o : Op) → op_at c e.actor g.index ≡ Some o → (step : MoveStep) → stand g.stack ≡ Stand.Moves step
-        → Migrates o step ((known_after c t e k).moves e.actor) g.pages)
-        (sym (going_is c t.after e.actor (t.going e.actor) e.kind s.turn.op s.turn.top s.turn.below s.turn.is_op s.turn.is_stack))
-        (going_holds (λ o x us. (step : MoveStep) → x ≡ Stand.Moves step → Migrates o step ((known_after c t e k).moves e.actor) us)
-        c e.actor (t.going e.actor).index s.turn.op
-        (stack_after s.turn.op (s.turn.top ∷ s.turn.below) e.kind (seen_at t.after s.turn.op (t.going e.actor).pages s.turn.top e.kind))
-        (recorded s.turn.top (seen_at t.after s.turn.op (t.going e.actor).pages s.turn.top e.kind).page (t.going e.actor).pages e.kind)
-        s.turn.is_op (λ o us step q. absurd (rests_not step q))
-        (λ step q. subst (λ es. Migrates s.turn.op step ((fold known_next k (by_thread e.actor es)).moves e.actor)
-        (recorded s.turn.top (seen_at t.after s.turn.op (t.going e.actor).pages s.turn.top e.kind).page (t.going e.actor).pages e.kind))
-        (sym (events_are c t u e.actor e.kind s.turn.op s.turn.top s.turn.below s.turn.is_op s.turn.is_stack))
-        (after_own t.after u.after s.past e.actor s.turn.op (t.going e.actor).pages s.turn.top s.turn.below
-        (top_of (u.going e.actor).stack) e.kind k s.turn.known from
-        (λ at g. kn e.actor s.turn.op s.turn.is_op at (ap stand s.turn.is_stack ∙ g)) step q)))
-
-    pick : (a : ℕ) → (a ≡ e.actor) ⊎ (a ≡ e.actor → ⊥) → (o : Op) → op_at c a ((state_next c t e).going a).index ≡ Some o
-        → (step : MoveStep) → stand ((state_next c t e).going a).stack ≡ Stand.Moves step
-        → Migrates o step ((known_after c t e k).moves a) ((state_next c t e).going a).pages
-    pick a (inl q) = subst (λ a. (o : Op) → op_at c a ((state_next c t e).going a).index ≡ Some o
-        → (step : MoveStep) → stand ((state_next c t e).going a).stack ≡ Stand.Moves step
-        → Migrates o step ((known_after c t e k).moves a) ((state_next c t e).going a).pages) (sym q)
-        (subst (λ g. (o : Op) → op_at c e.actor g.index ≡ Some o → (step : MoveStep) → stand g.stack ≡ Stand.Moves step
-        → Migrates o step ((known_after c t e k).moves e.actor) g.pages)
-        (sym (here_at t.going e.actor (going_next c t.after e.actor (t.going e.actor) e.kind))) own)
-    pick a (inr ne) = subst (λ g. (o : Op) → op_at c a g.index ≡ Some o → (step : MoveStep) → stand g.stack ≡ Stand.Moves step
-        → Migrates o step ((known_after c t e k).moves a) g.pages)
-        (sym (other_at t.going e.actor a (going_next c t.after e.actor (t.going e.actor) e.kind) ne))
-        (subst (λ ys. (o : Op) → op_at c a (t.going a).index ≡ Some o → (step : MoveStep) → stand (t.going a).stack ≡ Stand.Moves step
-        → Migrates o step ys (t.going a).pages)
-        (sym (others_moves e.actor a ne (events_in t u e.actor e.kind (op_at c e.actor (t.going e.actor).index)) k)) (kn a))
-
--- ---- a page that a migration sets
-
-migrated : (ys : List Move) (v : ℕ) → is_paged ys ≡ true → has_moved ys v ≡ true → is_migrated ys v ≡ true
-migrated [] v p h = absurd (false≢true p)
-migrated (y ∷ ys) v p h = ap (λ b. b && (list_any (λ u. u == v) y.moved || list_any (λ u. u.0 == v) y.stayed)) p
-    ∙ ap (λ b. b || list_any (λ u. u.0 == v) y.stayed) h
-
-no_look_up : (k : Known) (a v : ℕ) (w : TableRight) → is_migrated (k.moves a) v ≡ true → is_look_up k a v w ≡ false
-no_look_up k a v w h = ap (λ b. not (is_sole w) && not b) h ∙ pick (not (is_sole w))
-  where
-    pick : (b : Bool) → (b && false) ≡ false
-    pick true = refl
-    pick false = refl
-
-moved_now_known : (step : MoveStep) (past : Bool) (ys : List Move) (xs : List Migrating) (x : Migrating) → past ≡ true
-    → (step ≡ MoveStep.Finish → ⊥) → Among xs x → x.moved ≡ true → Mid step false past ys xs → is_migrated ys x.page ≡ true
-moved_now_known step past ys xs x p ne i m h =
-    migrated ys x.page (paged_mid step past ys xs p ne h) ((all_mid step past ys xs h).1 x i m)
-
--- it is no look-up that sets it
-pub set_by_migration : (s : After) (o : Op) (xs : List Migrating) (step : MoveStep) (n m v from : ℕ) (f : Option Frame)
-    (w : TableRight) (k : Known) (a : ℕ) → Migrates o step (k.moves a) xs
-    → SetAt s o xs (Phase.Moves step n) m v w
-    → is_look_up (fold known_next k (by_thread a (comes_to s o xs (Phase.Moves step n) (Kind.Set m v f w from)))) a v w ≡ false
-set_by_migration s o xs step n m v from f w k a ok at = let x : Migrating = at.0 in
-    let j : Kind = Kind.Set m v f w from in
-    let l : Known = fold known_next k (by_thread a (comes_to s o xs (Phase.Moves step n) j)) in
-    let y : Among xs x × (concerns s o MoveStep.SetOwnTable x ≡ true) = come_says s o xs (steps_from step) n MoveStep.SetOwnTable x at.1.0 in
-    no_look_up l a v w (ap (is_migrated (l.moves a)) at.1.1
-    ∙ moved_now_known step (is_past_commits (coming s o xs (Phase.Moves step n))) (l.moves a) xs x (ap is_past_commits at.1.0)
-    (λ g. finish_sets_nothing s o xs n x (ap (λ step. coming s o xs (Phase.Moves step n)) (sym g) ∙ at.1.0)) y.0
-    (and_parts x.moved (sets_now s (op_mirror o)) (and_parts (is_to_device o) _ y.1).1).0 (mid s o xs step n j k a ok.0 ok.1))

@@ -1,9 +1,10 @@
 -- What a thread's inner migration says of the records of its actor, at each step, and what an entry makes of both.
-use Rattle.std.proofs.Common.{refl, ap, sym, subst, ◌∙◌, inl, inr, cond}
-use Rattle.std.proofs.lemmas.Bool.{true≢false, false≢true, and_parts}
+use Rattle.std.proofs.Common.{refl, ap, sym, subst, ◌∙◌, inl, inr}
+use Rattle.std.proofs.lemmas.Bool.{true≢false, false≢true}
 use Rattle.std.proofs.lemmas.List.Sums.{fold-append}
-use Rattle.std.specs.Prelude.{◌≡◌, ℕ, ◌⊎◌, Bool, true, false, ◌&&◌, ◌||◌, ◌==◌, nat_le, if◌then◌else◌, Option, Some, None}
-use Rattle.std.specs.Prelude.{List, [], ◌∷◌, ◌++◌, map, fold, find}
+use Rattle.std.specs.Prelude.{◌≡◌, ℕ, ◌⊎◌, Bool, true, false, ◌||◌, ◌==◌, if◌then◌else◌, Option, Some}
+use Rattle.std.specs.Prelude.{None}
+use Rattle.std.specs.Prelude.{List, [], ◌∷◌, ◌++◌, map, fold}
 use Rattle.std.specs.List.{list_any}
 use Rattle.hm_base.specs.Pages.{Pages}
 use Rattle.hm_base.specs.declared.Frame.{Frame}
@@ -12,7 +13,7 @@ use Rattle.hm_base.specs.declared.ops.Op.{Op}
 use Rattle.hm_history.specs.Memory.Plain.{mirror_proc, mirror_dev}
 use Rattle.hm_history.specs.Memory.After.{After}
 use Rattle.hm_history.specs.Kernel.Operation.{op_mirror, is_migration, is_to_device}
-use Rattle.hm_history.specs.Kernel.Going.{come_to, coming, concerns, with_record, recorded_at}
+use Rattle.hm_history.specs.Kernel.Going.{coming, with_record, recorded_at}
 use Rattle.hm_history.specs.Kernel.Going.{recorded_body}
 use Rattle.hm_history.specs.declared.KeptWhy.{KeptWhy}
 use Rattle.hm_history.specs.declared.Kind.{Kind}
@@ -21,7 +22,6 @@ use Rattle.hm_history.specs.declared.phases.Migrating.{Migrating}
 use Rattle.hm_history.specs.declared.phases.MoveStep.{MoveStep}
 use Rattle.hm_history.specs.declared.phases.Phase.{Phase}
 use Rattle.hm_history.proofs.Updates.{here_at}
-use Rattle.hm_history.proofs.Tests.{no_test}
 use Rattle.hm_laws.specs.Records.{Among}
 use Rattle.hm_laws.proofs.Migration.Records.{with_among, among_on}
 use Rattle.hm_laws.proofs.Migration.Setup.{at_itself}
@@ -33,7 +33,8 @@ use Rattle.hm_protocol.specs.Projection as project
 use Rattle.hm_protocol.specs.Projection.{comes_to, is_start, is_past_commits, collected, pages_of}
 use Rattle.hm_protocol.proofs.Steps.{by, by_thread, apart}
 use Rattle.hm_protocol.proofs.Stands.{turned}
-use Rattle.hm_protocol.proofs.Opening.{Quiet, both_quiet, each_quiet, if_quiet, is_open, is_paged, has_moved, Grows, grows}
+use Rattle.hm_protocol.proofs.Opening.{Quiet, both_quiet, each_quiet, if_quiet}
+use Rattle.hm_protocol.proofs.Inner.{is_open, is_paged, has_moved, Grows, grows}
 
 -- no record was moved
 abbrev pub AllFresh : List Migrating → Type 0
@@ -97,34 +98,33 @@ opened : (k : Known) (a p : ℕ) (r : Pages) (to_device : Bool) (d : Option ℕ)
 opened k a p r to_device d es q = let l : Known = known_next k (by a (Event.Setup p r to_device d)) in
     (grows a es q l).stays (ap is_open (here_at k.moves a _))
 
-set_up_moved : (s : After) (o : Op) (xs : List Migrating) (k : Known) (a : ℕ) (start past : Bool) → AllFresh xs
-    → Mid MoveStep.FreezeOthers start past ((fold known_next k (by_thread a ((if start then []
-    else Event.Setup (mirror_proc s.plain (op_mirror o)) (pages_of o) (is_to_device o)
+-- the rest of its set-up
+abbrev collects : After → Op → List Migrating → List Event
+collects s o xs = let p = mirror_proc s.plain (op_mirror o) in map (collected s p) xs ++ Event.Ready p ∷ []
+
+-- all of it
+abbrev sets_up : After → Op → List Migrating → List Event
+sets_up s o xs =
+    Event.Setup (mirror_proc s.plain (op_mirror o)) (pages_of o) (is_to_device o)
     (Some (mirror_dev s.plain (op_mirror o)))
-    ∷ map (collected s (mirror_proc s.plain (op_mirror o))) xs ++ Event.Ready (mirror_proc s.plain (op_mirror o)) ∷ [])
-    ++ (if past then Event.Paged (mirror_proc s.plain (op_mirror o)) ∷ [] else [])))).moves a) xs
-set_up_moved s o xs k a true past h = h
-set_up_moved s o xs k a false past h = subst (λ l. AllMoved (l.moves a) xs × (past ≡ true → is_paged (l.moves a) ≡ true))
-    (sym (in_turn a first (if past then Event.Paged p ∷ [] else []) k))
-    (after_paging (fold known_next k (by_thread a first)) a p past xs (
-      opened k a p (pages_of o) (is_to_device o) (Some (mirror_dev s.plain (op_mirror o))) rest quiet,
+    ∷ collects s o xs
+
+set_up_moved : (s : After) (o : Op) (xs : List Migrating) (k : Known) (a p : ℕ) (start past : Bool) → AllFresh xs
+    → Mid MoveStep.FreezeOthers start past ((fold known_next k (by_thread a
+    ((if start then [] else sets_up s o xs) ++ (if past then Event.Paged p ∷ [] else [])))).moves a) xs
+set_up_moved s o xs k a p true past h = h
+set_up_moved s o xs k a p false past h =
+    subst (λ l. AllMoved (l.moves a) xs × (past ≡ true → is_paged (l.moves a) ≡ true))
+    (sym (in_turn a (sets_up s o xs) (if past then Event.Paged p ∷ [] else []) k))
+    (after_paging (fold known_next k (by_thread a (sets_up s o xs))) a p past xs (
+      opened k a (mirror_proc s.plain (op_mirror o)) (pages_of o) (is_to_device o)
+          (Some (mirror_dev s.plain (op_mirror o))) (collects s o xs) quiet,
       λ x i e. absurd (false≢true (sym (h x i) ∙ e)),
     ))
   where
-    p : ℕ
-    p = mirror_proc s.plain (op_mirror o)
-
-    rest : List Event
-    rest = map (collected s (mirror_proc s.plain (op_mirror o))) xs ++ Event.Ready (mirror_proc s.plain (op_mirror o)) ∷ []
-
-    first : List Event
-    first = Event.Setup (mirror_proc s.plain (op_mirror o)) (pages_of o) (is_to_device o)
-        (Some (mirror_dev s.plain (op_mirror o)))
-        ∷ map (collected s (mirror_proc s.plain (op_mirror o))) xs ++ Event.Ready (mirror_proc s.plain (op_mirror o)) ∷ []
-
-    quiet : Quiet (map (collected s (mirror_proc s.plain (op_mirror o))) xs ++ Event.Ready (mirror_proc s.plain (op_mirror o)) ∷ [])
-    quiet = both_quiet (map (collected s (mirror_proc s.plain (op_mirror o))) xs) (Event.Ready (mirror_proc s.plain (op_mirror o)) ∷ [])
-        (each_quiet (collected s (mirror_proc s.plain (op_mirror o))) (λ x. refl) xs) (refl, tt)
+    quiet : Quiet (collects s o xs)
+    quiet = let p : ℕ = mirror_proc s.plain (op_mirror o) in
+        both_quiet (map (collected s p) xs) (Event.Ready p ∷ []) (each_quiet (collected s p) (λ x. refl) xs) (refl, tt)
 
 -- what is known after that
 pub mid : (s : After) (o : Op) (xs : List Migrating) (step : MoveStep) (n : ℕ) (j : Kind) (k : Known) (a : ℕ)
@@ -139,7 +139,7 @@ mid s o xs step n j k a m ok = subst (λ b. Mid step (is_start j) (is_past_commi
         → Mid step (is_start j) (is_past_commits (coming s o xs (Phase.Moves step n)))
         ((fold known_next k (by_thread a (project.set_up s o xs (Phase.Moves step n) j
         ++ project.paged s o xs (Phase.Moves step n)))).moves a) xs
-    pick MoveStep.FreezeOthers h = set_up_moved s o xs k a (is_start j)
+    pick MoveStep.FreezeOthers h = set_up_moved s o xs k a (mirror_proc s.plain (op_mirror o)) (is_start j)
         (is_past_commits (coming s o xs (Phase.Moves MoveStep.FreezeOthers n))) h
     pick MoveStep.TakeAndCopy h = after_paging k a (mirror_proc s.plain (op_mirror o))
         (is_past_commits (coming s o xs (Phase.Moves MoveStep.TakeAndCopy n))) xs h
@@ -155,7 +155,8 @@ abbrev pub is_set : Kind → Bool
 is_set (Kind.Set m v f w from) = true
 is_set k = false
 
-pub all_mid : (step : MoveStep) (past : Bool) (ys : List Move) (xs : List Migrating) → Mid step false past ys xs → AllMoved ys xs
+pub all_mid : (step : MoveStep) (past : Bool) (ys : List Move) (xs : List Migrating) → Mid step false past ys xs
+    → AllMoved ys xs
 all_mid MoveStep.FreezeOthers past ys xs h = h.0
 all_mid MoveStep.TakeAndCopy past ys xs h = h.0
 all_mid MoveStep.Commit past ys xs h = h.0
@@ -197,9 +198,11 @@ with_moved : (zs : List Move) (xs : List Migrating) (u : Migrating) → (u.moved
     → AllMoved zs xs → AllMoved zs (with_record u xs)
 with_moved zs xs u h g = (g.0, λ y i e. pick y (with_among u xs y i) e)
   where
-    pick : (y : Migrating) → ((y ≡ u) × ((z : Migrating) × Among xs z × (z.page ≡ u.page))) ⊎ (Among xs y × (y.page ≡ u.page → ⊥))
+    pick : (y : Migrating)
+        → ((y ≡ u) × ((z : Migrating) × Among xs z × (z.page ≡ u.page))) ⊎ (Among xs y × (y.page ≡ u.page → ⊥))
         → y.moved ≡ true → has_moved zs y.page ≡ true
-    pick y (inl i) e = ap (λ (w : Migrating). has_moved zs w.page) i.0 ∙ h (sym (ap (λ (w : Migrating). w.moved) i.0) ∙ e)
+    pick y (inl i) e = ap (λ (w : Migrating). has_moved zs w.page) i.0
+        ∙ h (sym (ap (λ (w : Migrating). w.moved) i.0) ∙ e)
     pick y (inr i) e = g.1 y i.0 e
 
 pub recorded_moved : (page : Option Migrating) (xs : List Migrating) (j : Kind) (zs : List Move)
@@ -207,17 +210,20 @@ pub recorded_moved : (page : Option Migrating) (xs : List Migrating) (j : Kind) 
     → ((x : Migrating) (f g : Frame) → page ≡ Some x → j ≡ Kind.Committed f g → has_moved zs x.page ≡ true)
     → AllMoved zs xs → AllMoved zs (recorded_at page xs j)
 recorded_moved (Some x) xs (Kind.Take g) zs i m h = with_moved zs xs (record x { dest = Some g }) (h.1 x (i x refl)) h
-recorded_moved (Some x) xs (Kind.Committed f g) zs i m h = with_moved zs xs (record x { moved = true }) (λ e. m x f g refl refl) h
+recorded_moved (Some x) xs (Kind.Committed f g) zs i m h = with_moved zs xs (record x { moved = true })
+    (λ e. m x f g refl refl) h
 recorded_moved None xs j zs i m h = h
 recorded_moved (Some x) xs j zs i m h = h
 
 -- a page that has moved is said to have
 pub moved_now : (k : Known) (a v : ℕ) (f : TraceFrame) → is_open (k.moves a) ≡ true
     → has_moved ((noted k a (Event.Moved v f)).moves a) v ≡ true
-moved_now k a v f h = ap (λ ys. has_moved ys v) (here_at k.moves a (with_move (λ y. record y { moved = v ∷ y.moved }) (k.moves a)))
+moved_now k a v f h = ap (λ ys. has_moved ys v)
+    (here_at k.moves a (with_move (λ y. record y { moved = v ∷ y.moved }) (k.moves a)))
     ∙ pick (k.moves a) h
   where
-    pick : (ys : List Move) → is_open ys ≡ true → has_moved (with_move (λ y. record y { moved = v ∷ y.moved }) ys) v ≡ true
+    pick : (ys : List Move) → is_open ys ≡ true
+        → has_moved (with_move (λ y. record y { moved = v ∷ y.moved }) ys) v ≡ true
     pick [] i = absurd (false≢true i)
     pick (y ∷ ys) i = ap (λ b. b || list_any (λ u. u == v) y.moved) (at_itself v)
 
@@ -236,7 +242,8 @@ fresh_on xs x e h y i = pick (among_on xs x y i)
     pick (inl j) = h y j
     pick (inr j) = ap (λ (w : Migrating). w.moved) j ∙ e
 
-moved_on : (zs : List Move) (xs : List Migrating) (x : Migrating) → x.moved ≡ false → AllMoved zs xs → AllMoved zs (xs ++ x ∷ [])
+moved_on : (zs : List Move) (xs : List Migrating) (x : Migrating) → x.moved ≡ false → AllMoved zs xs
+    → AllMoved zs (xs ++ x ∷ [])
 moved_on zs xs x e h = (h.0, λ y i m. pick y m (among_on xs x y i))
   where
     pick : (y : Migrating) → y.moved ≡ true → Among xs y ⊎ (y ≡ x) → has_moved zs y.page ≡ true
@@ -259,53 +266,3 @@ body_moved (Body.Select n) xs (Kind.Fresh p v) zs m h = moved_on zs xs _ refl h
 body_moved (Body.Select n) xs (Kind.Place p v x) zs m h = moved_on zs xs _ refl h
 body_moved (Body.Fresh g) xs (Kind.Place p v x) zs m h = with_moved zs xs _ (λ e. m g p v x refl refl) h
 body_moved body xs j zs m h = h
-
--- ---- the record to which a migration has come
-
-find_some : (test : Migrating → Bool) (xs : List Migrating) (x : Migrating) → find test xs ≡ Some x
-    → Among xs x × (test x ≡ true)
-find_some test [] x h = cc
-find_some test (w ∷ xs) x h = pick (test w) refl h (find_some test xs x)
-  where
-    same : (w x : Migrating) → ◌≡◌ {A = Option Migrating} (Some w) (Some x) → w ≡ x
-    same w x e = cc
-
-    pick : (b : Bool) → test w ≡ b → cond b (Some w) (find test xs) ≡ Some x
-        → (find test xs ≡ Some x → Among xs x × (test x ≡ true)) → ((w ≡ x) ⊎ Among xs x) × (test x ≡ true)
-    pick true e h ih = (inl (same w x h), sym (ap test (same w x h)) ∙ e)
-    pick false e h ih = let z : Among xs x × (test x ≡ true) = ih h in (inr z.0, z.1)
-
--- it is one of the records, and the step has something to do for it
-pub come_says : (s : After) (o : Op) (xs : List Migrating) (steps : List MoveStep) (n : ℕ) (at : MoveStep) (x : Migrating)
-    → come_to s o xs steps n ≡ Some (at, x) → Among xs x × (concerns s o at x ≡ true)
-come_says s o xs [] n at x e = cc
-come_says s o xs (step ∷ steps) n at x e =
-    pick (find (λ x. nat_le n x.page && concerns s o step x) xs) refl e (come_says s o xs steps 0 at x)
-  where
-    pick : (y : Option Migrating) → find (λ x. nat_le n x.page && concerns s o step x) xs ≡ y
-        → elim y as (λ y. Option (MoveStep × Migrating)) [ Some x ↦ Some (step, x) | None ↦ come_to s o xs steps 0 ] ≡ Some (at, x)
-        → (come_to s o xs steps 0 ≡ Some (at, x) → Among xs x × (concerns s o at x ≡ true))
-        → Among xs x × (concerns s o at x ≡ true)
-    pick None f e ih = ih e
-    pick (Some y) f e ih = subst (λ (w : MoveStep × Migrating). Among xs w.1 × (concerns s o w.0 w.1 ≡ true)) (same (step, y) (at, x) e)
-        (z.0, (and_parts (nat_le n y.page) (concerns s o step y) z.1).1)
-      where
-        same : (v w : MoveStep × Migrating) → ◌≡◌ {A = Option (MoveStep × Migrating)} (Some v) (Some w) → v ≡ w
-        same v w e = cc
-
-        z : Among xs y × ((nat_le n y.page && concerns s o step y) ≡ true)
-        z = find_some (λ x. nat_le n x.page && concerns s o step x) xs y f
-
--- a migration in its last step sets nothing
-pub finish_sets_nothing : (s : After) (o : Op) (xs : List Migrating) (n : ℕ) (x : Migrating)
-    → coming s o xs (Phase.Moves MoveStep.Finish n) ≡ Some (MoveStep.SetOwnTable, x) → ⊥
-finish_sets_nothing s o xs n x e = pick (find (λ x. nat_le n x.page && concerns s o MoveStep.Finish x) xs) e
-  where
-    pick : (y : Option Migrating) → elim y as (λ y. Option (MoveStep × Migrating)) [ Some x ↦ Some (MoveStep.Finish, x) | None ↦ None ]
-        ≡ Some (MoveStep.SetOwnTable, x) → ⊥
-    pick None e = cc
-    pick (Some y) e = no_test (ap (λ (w : Option (MoveStep × Migrating)). is_own w) e)
-      where
-        is_own : Option (MoveStep × Migrating) → Bool
-        is_own None = false
-        is_own (Some w) = elim w.0 [ MoveStep.SetOwnTable ↦ true | _ ↦ false ]

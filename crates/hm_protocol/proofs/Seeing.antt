@@ -36,12 +36,14 @@ cores_met : (begun : Option ℕ) (q m : ℕ) (k : Known) (b : ℕ) (x : Event) �
 cores_met begun q m k b (Event.Start p r why d) h = refl
 cores_met begun q m k b (Event.End p r) h = over_met begun q m k b _
 cores_met begun q m k b (Event.Tell n r z) h = called_met begun q m (call k b n r z) refl k.calls
-cores_met begun q m k b (Event.Told n z true) h = same_met begun q m (returned k b n z) (return_met begun q m k b n z h) k.calls
+cores_met begun q m k b (Event.Told n z true) h = same_met begun q m (returned k b n z)
+    (return_met begun q m k b n z h) k.calls
 cores_met begun q m k b (Event.Told n z false) h = absurd h
 cores_met begun q m k b (Event.Insert n p r d) h = refl
 cores_met begun q m k b (Event.Begin n z) h = refl
 cores_met begun q m k b (Event.Walk n r z locked d) h = refl
-cores_met begun q m k b (Event.Set n v f w) h = ap (list_any (is_met begun q m)) (cores_keep k b (Event.Set n v f w) refl)
+cores_met begun q m k b (Event.Set n v f w) h = ap (list_any (is_met begun q m))
+    (cores_keep k b (Event.Set n v f w) refl)
 cores_met begun q m k b (Event.Erase n v) h = ap (list_any (is_met begun q m)) (cores_keep k b (Event.Erase n v) refl)
 cores_met begun q m k b (Event.Paged p) h = ap (list_any (is_met begun q m)) (cores_keep k b (Event.Paged p) refl)
 cores_met begun q m k b (Event.Take f) h = ap (list_any (is_met begun q m)) (cores_keep k b (Event.Take f) refl)
@@ -80,7 +82,8 @@ changed_met : (k : Known) (b n a m : ℕ) (l : Look) (cs : List Core)
 changed_met k b n a m l cs h un = pick (a == b) (m == n) refl refl
   where
     pick : (x y : Bool) → (a == b) ≡ x → (m == n) ≡ y
-        → list_any (is_met (if x && y then l else k.looks a m).begun (if x && y then l else k.looks a m).seq m) cs ≡ false
+        → list_any (is_met (if x && y then l else k.looks a m).begun (if x && y then l else k.looks a m).seq m)
+        cs ≡ false
     pick true true e f = h e f
     pick true false e f = un
     pick false y e f = un
@@ -91,7 +94,8 @@ here_met : (k : Known) (b n : ℕ) (l : Look) (cs : List Core) → list_any (is_
 here_met k b n l cs h = pick (b == b) (n == n) (at_itself b) (at_itself n)
   where
     pick : (x y : Bool) → x ≡ true → y ≡ true
-        → list_any (is_met (if x && y then l else k.looks b n).begun (if x && y then l else k.looks b n).seq n) cs ≡ false
+        → list_any (is_met (if x && y then l else k.looks b n).begun (if x && y then l else k.looks b n).seq n)
+        cs ≡ false
     pick true true e f = h
     pick true false e f = absurd (false≢true f)
     pick false y e f = absurd (false≢true e)
@@ -135,7 +139,8 @@ looks_met : (k : Known) (b : ℕ) (x : Event) (a m : ℕ) (cs : List Core) → A
 looks_met k b (Event.Insert n p r d) a m cs g un = pick (m == n)
   where
     pick : (y : Bool)
-        → list_any (is_met (if y then no_look else k.looks a m).begun (if y then no_look else k.looks a m).seq m) cs ≡ false
+        → list_any (is_met (if y then no_look else k.looks a m).begun (if y then no_look else k.looks a m).seq m)
+        cs ≡ false
     pick true = unbegun_unmet 0 m cs
     pick false = un
 looks_met k b (Event.Begin n q) a m cs g un = changed_met k b n a m
@@ -168,7 +173,8 @@ looks_met k b x a m cs g un = un
 unmet_next : (k : Known) (b : ℕ) (x : Event) (a m : ℕ) → Apart x m → AllBefore k.at (cores k) → Unmet k a m
     → Unmet (noted k b x) a m
 unmet_next k b x a m h g un =
-    cores_met ((noted k b x).looks a m).begun ((noted k b x).looks a m).seq m k b x h ∙ looks_met k b x a m (cores k) g un
+    cores_met ((noted k b x).looks a m).begun ((noted k b x).looks a m).seq m k b x h
+    ∙ looks_met k b x a m (cores k) g un
 
 -- ---- commits
 
@@ -181,7 +187,8 @@ none_filtered f (x ∷ xs) h = pick (f x) h (none_filtered f xs)
     pick true e r = absurd (true≢false e)
     pick false e r = r e
 
-met_any : (l : Look) (m : ℕ) (xs : List Call) → list_any (meets l m) xs ≡ list_any (is_met l.begun l.seq m) (map core xs)
+met_any : (l : Look) (m : ℕ) (xs : List Call)
+    → list_any (meets l m) xs ≡ list_any (is_met l.begun l.seq m) (map core xs)
 met_any l m [] = refl
 met_any l m (x ∷ xs) = ap (λ b. meets l m x || b) (met_any l m xs)
 
@@ -250,6 +257,7 @@ each W c j h k b (Event.Set m v f w) fits se = absurd (false≢true (sym h ∙ a
 each W c j h k b x fits se = (refl, seen_next W k b x (λ a m w. tt) refl tt se)
 
 -- so it is after the events of an entry that neither tells a mirror nor sets a table
-pub unheard : (W : ℕ → ℕ → Type 0) (c : Bool) (j : Kind) → is_heard j ≡ false → (b : ℕ) (xs : List Event) → AllFit c j xs
+pub unheard : (W : ℕ → ℕ → Type 0) (c : Bool) (j : Kind) → is_heard j ≡ false → (b : ℕ) (xs : List Event)
+    → AllFit c j xs
     → (k : Known) → Seen W k → GoBy nothing k (by_thread b xs) (Seen W)
 unheard W c j h b xs fits k se = through nothing (Seen W) c j b (λ k x. each W c j h k b x) xs fits k se

@@ -2,7 +2,8 @@
 use Rattle.std.proofs.Common.{refl, ap, sym, ◌∙◌, arith}
 use Rattle.std.proofs.lemmas.Bool.{true≢false, eqb-true}
 use Rattle.std.proofs.lemmas.Bool.Decides.{nat_tests}
-use Rattle.std.specs.Prelude.{◌≡◌, ℕ, ◌+◌, ◌<◌, Bool, true, false, not, ◌&&◌, ◌||◌, ◌==◌, if◌then◌else◌, Option, Some, None}
+use Rattle.std.specs.Prelude.{◌≡◌, ℕ, ◌+◌, ◌<◌, Bool, true, false, not, ◌&&◌, ◌||◌, ◌==◌, if◌then◌else◌, Option, Some}
+use Rattle.std.specs.Prelude.{None}
 use Rattle.std.specs.Prelude.{is_none, nat_lt, ⊤, List, [], ◌∷◌, ◌++◌, map, count_by}
 use Rattle.std.specs.List.{list_any}
 use Rattle.hm_base.specs.Pages.{overlap}
@@ -74,7 +75,8 @@ more n (c ∷ cs) h = (later h.0, more n cs h.1)
     later : c.at < n → c.at < n + 1
     later l = omega (arith, l)
 
-end_met : (begun : Option ℕ) (q m i j : ℕ) (x : Call) → is_met begun q m (core (after_end i j x)) ≡ is_met begun q m (core x)
+end_met : (begun : Option ℕ) (q m i j : ℕ) (x : Call)
+    → is_met begun q m (core (after_end i j x)) ≡ is_met begun q m (core x)
 end_met begun q m i j x = by (is_it x.of i)
   where
     by : (b : Bool) → is_met begun q m (core (if b then record x { ended = Some j } else x)) ≡ is_met begun q m (core x)
@@ -93,7 +95,8 @@ pub over_met : (begun : Option ℕ) (q m : ℕ) (k : Known) (t : ℕ) (o : Optio
 over_met begun q m k t None = refl
 over_met begun q m k t (Some i) = same_met begun q m (after_end i k.at) (end_met begun q m i k.at) k.calls
 
-pub over_before : (k : Known) (t : ℕ) (o : Option ℕ) → AllBefore k.at (cores k) → AllBefore (k.at + 1) (cores (over k t o))
+pub over_before : (k : Known) (t : ℕ) (o : Option ℕ) → AllBefore k.at (cores k)
+    → AllBefore (k.at + 1) (cores (over k t o))
 over_before k t None h = more k.at (cores k) h
 over_before k t (Some i) h = all_before k.at (k.at + 1) (after_end i k.at) (end_before k.at i k.at) k.calls h
 
@@ -182,7 +185,8 @@ begins (Event.Walk m r q locked d) = true
 begins x = false
 
 -- so it leaves when they have, and with which sequence
-pub look_keeps : {X : Type 0} (F : Look → X) → ((l j : Look) → l.begun ≡ j.begun → l.seq ≡ j.seq → F l ≡ F j) → (k : Known)
+pub look_keeps : {X : Type 0} (F : Look → X) → ((l j : Look) → l.begun ≡ j.begun → l.seq ≡ j.seq → F l ≡ F j)
+    → (k : Known)
     (b : ℕ) (x : Event) (a m : ℕ) → begins x ≡ false → F ((noted k b x).looks a m) ≡ F (k.looks a m)
 look_keeps F f k b (Event.Insert n p r d) a m h = absurd (true≢false h)
 look_keeps F f k b (Event.Begin n q) a m h = absurd (true≢false h)
