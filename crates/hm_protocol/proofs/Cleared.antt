@@ -19,7 +19,8 @@ use Rattle.hm_protocol.proofs.Slots.{Clean}
 use Rattle.hm_protocol.proofs.MmapLock.{mmap_lock_kept}
 use Rattle.hm_protocol.proofs.Devices.{own_device_kept}
 use Rattle.hm_protocol.proofs.Frames.{take_from_there_kept, withdraw_first_kept, evict_first_kept, wait_for_locked_kept}
-use Rattle.hm_protocol.proofs.Invalidations.{detach_waits_kept, exclusive_waits_kept, set_unless_invalidated_kept, begin_waits_kept, set_sequence_kept, own_events_kept, own_sequence_kept, own_by}
+use Rattle.hm_protocol.proofs.Invalidations.{detach_waits_kept, exclusive_waits_kept, set_unless_invalidated_kept, begin_waits_kept, compare_kept, set_sequence_kept, own_events_kept, own_sequence_kept, own_by}
+use Rattle.hm_protocol.proofs.Commits.{stale_commit_kept, compare_sequence_kept}
 use Rattle.hm_protocol.proofs.Detached.{stop_at_detach_kept}
 use Rattle.hm_protocol.proofs.BeginFirst.{begin_first_kept}
 use Rattle.hm_protocol.proofs.EntryRight.{entry_right_kept}
@@ -83,6 +84,12 @@ set_unless_invalidated_cleared = from_kept Rule.SetUnlessInvalidated set_unless_
 
 pub begin_waits_cleared : IsCleared Rule.BeginWaits
 begin_waits_cleared = from_kept Rule.BeginWaits begin_waits_kept (λ c sc h legal. refl)
+
+pub compare_cleared : IsCleared Rule.Compare
+compare_cleared = from_kept Rule.Compare compare_kept stale_commit_kept
+
+pub compare_sequence_cleared : IsCleared Rule.CompareSequence
+compare_sequence_cleared = from_kept Rule.CompareSequence compare_sequence_kept stale_commit_kept
 
 pub stop_at_detach_cleared : IsCleared Rule.StopAtDetach
 stop_at_detach_cleared = from_kept Rule.StopAtDetach stop_at_detach_kept (λ c sc h legal. refl)

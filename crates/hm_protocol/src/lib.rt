@@ -44,6 +44,7 @@ pub fn no_legal_history_is_blamed()
     ensures set_unless_invalidated { IsKept rule.Rule.SetUnlessInvalidated }
     ensures begin_waits { IsKept rule.Rule.BeginWaits }
     ensures compare { IsKept rule.Rule.Compare }
+    ensures compare_sequence { IsKept rule.Rule.CompareSequence }
     ensures set_sequence { IsKept rule.Rule.SetSequence }
     ensures own_events { IsKept rule.Rule.OwnEvents }
     ensures own_sequence { IsKept rule.Rule.OwnSequence }
@@ -58,8 +59,10 @@ pub fn no_legal_history_is_blamed()
     ensures entry_right { IsKept rule.Rule.EntryRight }
 {}
 
-/// Nor a joint rule: callbacks of a right driver leave no entries, and set the sequence also for its own migrations.
+/// Nor a joint rule: a right driver commits no stale look-up, and its callbacks leave no entries, and set the sequence
+/// also for its own migrations.
 pub fn no_legal_history_is_blamed_jointly()
+    ensures stale_commit { IsJointKept joint.Joint.StaleCommit }
     ensures entries_left { IsJointKept joint.Joint.EntriesLeft }
     ensures own_sequence_left { IsJointKept joint.Joint.OwnSequenceLeft }
 {}
@@ -76,6 +79,8 @@ pub fn no_verdict_blames_a_legal_history()
     ensures exclusive_waits { IsCleared rule.Rule.ExclusiveWaits }
     ensures set_unless_invalidated { IsCleared rule.Rule.SetUnlessInvalidated }
     ensures begin_waits { IsCleared rule.Rule.BeginWaits }
+    ensures compare { IsCleared rule.Rule.Compare }
+    ensures compare_sequence { IsCleared rule.Rule.CompareSequence }
     ensures stop_at_detach { IsCleared rule.Rule.StopAtDetach }
     ensures write_entry { IsCleared rule.Rule.WriteEntry }
     ensures look_again { IsCleared rule.Rule.LookAgain }

@@ -4,6 +4,7 @@ use Rattle.hm_protocol.proofs.Cleared.{set_unless_invalidated_cleared, begin_wai
 use Rattle.hm_protocol.proofs.Cleared.{look_again_cleared, set_sequence_cleared, own_events_cleared, own_sequence_cleared}
 use Rattle.hm_protocol.proofs.Cleared.{erase_cleared, erase_all_cleared, erase_in_time_cleared, own_entries_cleared}
 use Rattle.hm_protocol.proofs.Cleared.{begin_first_cleared, entry_right_cleared}
+use Rattle.hm_protocol.proofs.Cleared.{compare_cleared, compare_sequence_cleared}
 use Rattle.hm_protocol.proofs.no_verdict_blames_a_legal_history.Goals as goal
 
 pub returns-clause-mmap_lock : goal.returns-clause-mmap_lock
@@ -35,6 +36,12 @@ returns-clause-set_unless_invalidated c = set_unless_invalidated_cleared
 
 pub returns-clause-begin_waits : goal.returns-clause-begin_waits
 returns-clause-begin_waits c = begin_waits_cleared
+
+pub returns-clause-compare : goal.returns-clause-compare
+returns-clause-compare c = compare_cleared
+
+pub returns-clause-compare_sequence : goal.returns-clause-compare_sequence
+returns-clause-compare_sequence c = compare_sequence_cleared
 
 pub returns-clause-stop_at_detach : goal.returns-clause-stop_at_detach
 returns-clause-stop_at_detach c = stop_at_detach_cleared
