@@ -29,7 +29,7 @@ use Rattle.hm_protocol.proofs.BeginFirst.{turn_may, going_is}
 use Rattle.hm_protocol.proofs.Settling.{settles, first_settles}
 use Rattle.hm_protocol.proofs.Carried.{noted_all}
 use Rattle.hm_protocol.proofs.RightOn.{Right, settled, others, right_on, own_events, at_passing}
-use Rattle.hm_protocol.proofs.RightMoves.{at_move, at_walk}
+use Rattle.hm_protocol.proofs.WriteMoves.{at_move, at_walk}
 use Rattle.hm_protocol.proofs.WriteSets.{is_write_set, harmless, calm}
 
 -- ---- what is known after an actor's own entry

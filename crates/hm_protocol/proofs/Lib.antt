@@ -5,14 +5,14 @@ mod DueFaults
 mod Looks
 mod BeginFirst
 mod Settling
-mod MoveSteps
+mod CarriedSteps
 mod Carrying
 mod Still
 mod Carried
 mod CarriedOn
 mod Founds
 mod RightOn
-mod RightMoves
+mod WriteMoves
 mod WriteSets
 mod EntryRight
 mod Steps

@@ -31,11 +31,11 @@ use Rattle.hm_protocol.proofs.Fits.{Fits, comes_ok}
 use Rattle.hm_protocol.proofs.Steps.{Calm, by, by_thread, through, and_more}
 use Rattle.hm_protocol.proofs.DueKinds.{may}
 use Rattle.hm_protocol.proofs.Settling.{is_late, fits_step}
-use Rattle.hm_protocol.proofs.MoveSteps.{CameTo, coming_to, step_is, end_is, step_fits}
+use Rattle.hm_protocol.proofs.CarriedSteps.{CameTo, coming_to, step_is, end_is, step_fits}
 use Rattle.hm_protocol.proofs.Carrying.{has_moved, is_paged}
 use Rattle.hm_protocol.proofs.Carried.{Carried, noted_all, no_comes}
 use Rattle.hm_protocol.proofs.RightOn.{Right, own_events}
-use Rattle.hm_protocol.proofs.RightMoves.{carried_here}
+use Rattle.hm_protocol.proofs.WriteMoves.{carried_here}
 
 -- ---- what is set
 

@@ -29,7 +29,7 @@ use Rattle.hm_protocol.specs.Projection.{events_by, comes_to, is_start, found_at
 use Rattle.hm_protocol.proofs.Doing.{Doing}
 use Rattle.hm_protocol.proofs.BeginFirst.{walk_is_device}
 use Rattle.hm_protocol.proofs.Settling.{is_late, is_first, fits_step, comes, leads, first_starts}
-use Rattle.hm_protocol.proofs.MoveSteps.{CameTo, coming_to, step_is, step_fits}
+use Rattle.hm_protocol.proofs.CarriedSteps.{CameTo, coming_to, step_is, step_fits}
 use Rattle.hm_protocol.proofs.Carried.{Carried, noted_all, noted_apart, comes_carried, no_comes}
 use Rattle.hm_protocol.proofs.CarriedOn.{unmoved, moves_carried}
 use Rattle.hm_protocol.proofs.Founds.{walk_finds, walk_suits}
