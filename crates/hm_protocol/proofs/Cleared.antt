@@ -21,6 +21,7 @@ use Rattle.hm_protocol.proofs.Devices.{own_device_kept}
 use Rattle.hm_protocol.proofs.Frames.{take_from_there_kept, withdraw_first_kept, evict_first_kept, wait_for_locked_kept}
 use Rattle.hm_protocol.proofs.Invalidations.{detach_waits_kept, exclusive_waits_kept, set_unless_invalidated_kept, begin_waits_kept, set_sequence_kept, own_events_kept, own_sequence_kept, own_by}
 use Rattle.hm_protocol.proofs.Detached.{stop_at_detach_kept}
+use Rattle.hm_protocol.proofs.Moves.{set_moved_kept, drop_lost_kept}
 use Rattle.hm_protocol.proofs.Tables.{write_entry_kept, look_again_kept, erase_kept, erase_all_kept, erase_in_time_kept, own_entries_kept, kept_by, none_left_behind}
 
 no_blame : (n : ℕ) → is_blame (if_asked n) ≡ false
@@ -118,3 +119,9 @@ erase_in_time_cleared = from_kept Rule.EraseInTime erase_in_time_kept
 pub own_entries_cleared : IsCleared Rule.OwnEntries
 own_entries_cleared = from_kept Rule.OwnEntries own_entries_kept
     (kept_by (λ k x. may_leave k x && is_own k x) (λ k x l. ap (λ b. b && is_own k x) (none_may_leave k x l)))
+
+pub set_moved_cleared : IsCleared Rule.SetMoved
+set_moved_cleared = from_kept Rule.SetMoved set_moved_kept (λ c sc h legal. refl)
+
+pub drop_lost_cleared : IsCleared Rule.DropLost
+drop_lost_cleared = from_kept Rule.DropLost drop_lost_kept (λ c sc h legal. refl)

@@ -54,6 +54,8 @@ pub fn no_legal_history_is_blamed()
     ensures erase_all { IsKept rule.Rule.EraseAll }
     ensures erase_in_time { IsKept rule.Rule.EraseInTime }
     ensures own_entries { IsKept rule.Rule.OwnEntries }
+    ensures set_moved { IsKept rule.Rule.SetMoved }
+    ensures drop_lost { IsKept rule.Rule.DropLost }
 {}
 
 /// Nor a joint rule: callbacks of a right driver leave no entries, and set the sequence also for its own migrations.
@@ -84,4 +86,6 @@ pub fn no_verdict_blames_a_legal_history()
     ensures erase_all { IsCleared rule.Rule.EraseAll }
     ensures erase_in_time { IsCleared rule.Rule.EraseInTime }
     ensures own_entries { IsCleared rule.Rule.OwnEntries }
+    ensures set_moved { IsCleared rule.Rule.SetMoved }
+    ensures drop_lost { IsCleared rule.Rule.DropLost }
 {}
