@@ -22,6 +22,7 @@ use Rattle.hm_protocol.proofs.Frames.{take_from_there_kept, withdraw_first_kept,
 use Rattle.hm_protocol.proofs.Invalidations.{detach_waits_kept, exclusive_waits_kept, set_unless_invalidated_kept, begin_waits_kept, set_sequence_kept, own_events_kept, own_sequence_kept, own_by}
 use Rattle.hm_protocol.proofs.Detached.{stop_at_detach_kept}
 use Rattle.hm_protocol.proofs.Moves.{set_moved_kept, drop_lost_kept}
+use Rattle.hm_protocol.proofs.Migrations.{set_right_kept}
 use Rattle.hm_protocol.proofs.Tables.{write_entry_kept, look_again_kept, erase_kept, erase_all_kept, erase_in_time_kept, own_entries_kept, kept_by, none_left_behind}
 
 no_blame : (n : ℕ) → is_blame (if_asked n) ≡ false
@@ -122,6 +123,9 @@ own_entries_cleared = from_kept Rule.OwnEntries own_entries_kept
 
 pub set_moved_cleared : IsCleared Rule.SetMoved
 set_moved_cleared = from_kept Rule.SetMoved set_moved_kept (λ c sc h legal. refl)
+
+pub set_right_cleared : IsCleared Rule.SetRight
+set_right_cleared = from_kept Rule.SetRight set_right_kept (λ c sc h legal. refl)
 
 pub drop_lost_cleared : IsCleared Rule.DropLost
 drop_lost_cleared = from_kept Rule.DropLost drop_lost_kept (λ c sc h legal. refl)

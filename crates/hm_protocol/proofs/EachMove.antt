@@ -267,7 +267,8 @@ moves_on wrong j c s u t a o xs step v after k vs so know d h = subst (λ k. Lea
 -- ---- an entry of an actor anywhere
 
 -- nothing stands below a migration
-nothing_below : (s : After) (t : Past) (a : ℕ) (o : Op) (xs : List Migrating) (top : Phase) (step : MoveStep) (v : ℕ)
+pub nothing_below : (s : After) (t : Past) (a : ℕ) (o : Op) (xs : List Migrating) (top : Phase) (step : MoveStep)
+    (v : ℕ)
     (x : Phase)
     (below : List Phase) → HoldsAll s t a (facts o xs (top ∷ Phase.Moves step v ∷ x ∷ below)) → ⊥
 nothing_below s t a o xs (Phase.Guard q r met told (Body.Catch f)) step v x below h = h.1.1.1.1.0

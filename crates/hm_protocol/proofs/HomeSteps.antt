@@ -1,4 +1,4 @@
--- Every entry of an actor that is in no migration: none begins but with a set-up, and a page that is brought home ends it.
+-- Every entry of an actor that is in no migration: one begins with a set-up alone, and ends at home.
 use Rattle.std.proofs.Common.{refl, sym, subst}
 use Rattle.std.proofs.lemmas.Bool.{true≢false, false≢true}
 use Rattle.std.specs.Prelude.{◌≡◌, ℕ, ◌+◌, Bool, true, false, nat_lt, if◌then◌else◌, Option, Some, None}
@@ -16,7 +16,8 @@ use Rattle.hm_history.specs.Memory.After.{After}
 use Rattle.hm_history.specs.Kernel.Operation.{is_remove}
 use Rattle.hm_history.specs.Kernel.Stacks.{with_guard, after_ready, after_top, gives_up, giving_up, with_one_more}
 use Rattle.hm_history.specs.Kernel.Going.{recorded, seen_at, touch_proc}
-use Rattle.hm_history.specs.Kernel.Due.{due_phase, due_emptying, start_entry, settle, due_finish, finish_frames, target_of}
+use Rattle.hm_history.specs.Kernel.Due.{due_phase, due_emptying, start_entry, settle, due_finish, finish_frames}
+use Rattle.hm_history.specs.Kernel.Due.{target_of}
 use Rattle.hm_history.specs.declared.KeptAt.{KeptAt}
 use Rattle.hm_history.specs.declared.KeptWhy.{KeptWhy}
 use Rattle.hm_history.specs.declared.Kind.{Kind}
@@ -31,10 +32,12 @@ use Rattle.hm_protocol.specs.Projection as project
 use Rattle.hm_protocol.specs.Projection.{events_by, comes_to, top_of, in_trace, is_home, owner_of, if_device}
 use Rattle.hm_protocol.proofs.Moving.{View}
 use Rattle.hm_protocol.proofs.Unmoved.{is_still, Comes, no_more, and_on, still_all}
-use Rattle.hm_protocol.proofs.Unmoved.{be_if, none_all, by_none, all_erased_be}
+use Rattle.hm_protocol.proofs.Unmoved.{be_if, none_all, all_erased_be}
+use Rattle.hm_protocol.proofs.Usual.{by_none}
 use Rattle.hm_protocol.proofs.Sitting.{AllPlain, Homes, homes, CopiedOn, Single, Sits, is_plain, single_sits}
 use Rattle.hm_protocol.proofs.Sitting.{plain_sits, plain_after, plain_guard}
-use Rattle.hm_protocol.proofs.Homing.{Judges, still_of, Leads, is_moves, just_by, due_is, home_freed, home_ends, home_begins}
+use Rattle.hm_protocol.proofs.Homing.{Judges, still_of, Leads, is_moves, just_by, due_is, home_freed, home_ends}
+use Rattle.hm_protocol.proofs.Homing.{home_begins}
 
 -- ---- the entries of emptying a frame
 

@@ -1,4 +1,4 @@
--- An entry of an actor that is in no migration: none begins but with a set-up, and a page that is brought home comes there.
+-- What an entry leads to, and the events of a page that is brought home: its set-up and its end.
 use Rattle.std.proofs.Common.{refl, ap, sym, subst, ◌∙◌}
 use Rattle.std.proofs.lemmas.Bool.{true≢false, false≢true}
 use Rattle.std.specs.Prelude.{◌≡◌, ℕ, Bool, true, false, not, ◌||◌, if◌then◌else◌, Option, Some, None}

@@ -15,6 +15,7 @@ mod Erasing
 mod Tables
 mod Moving
 mod Unmoved
+mod Usual
 mod Sitting
 mod Homing
 mod HomeSteps
@@ -28,6 +29,13 @@ mod MoveSteps
 mod CommitSteps
 mod EachMove
 mod Moves
+mod Rights
+mod RightEvents
+mod RightMoves
+mod RightSteps
+mod Collected
+mod RightSet
+mod Migrations
 mod Cleared
 mod RightRacesCome
 mod ShortRacesCome

@@ -1,4 +1,4 @@
--- A fresh page gets its frame or stays, the frame of a page that stayed is freed, and pages return: a migration goes on.
+-- A fresh page gets its frame or stays, and the frame of a page that stayed is freed: a migration goes on.
 use Rattle.std.proofs.Common.{refl, ap, sym, subst, ◌∙◌, inl, inr, arith}
 use Rattle.std.proofs.lemmas.Bool.{true≢false, false≢true}
 use Rattle.std.proofs.lemmas.Bool.Decides.{nat_tests}
@@ -87,7 +87,7 @@ fresh_unmoved xs n g w h x i m e = let y : (y : Migrating) × Among xs y × (y.p
     true≢false (sym m ∙ (ap (λ (x : Migrating). x.moved) (one_of_page xs x y.0 w i y.1 (e ∙ sym y.2)) ∙ y.5))
 
 -- no frame was there before
-none_orphan : (s : After) (q v : ℕ) (x : Place) → has_no_frame (s.places.place q v) ≡ true
+pub none_orphan : (s : After) (q v : ℕ) (x : Place) → has_no_frame (s.places.place q v) ≡ true
     → orphan s.locks s.places (Kind.Place q v x) ≡ None
 none_orphan s q v x h = ap (left_behind s.locks (places_next s.places (Kind.Place q v x)))
     (none_named (s.places.place q v) h)

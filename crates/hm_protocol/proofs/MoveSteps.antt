@@ -25,7 +25,8 @@ use Rattle.hm_history.proofs.Tests.{no_test}
 use Rattle.hm_laws.proofs.Migration.Good.{seen_moves}
 use Rattle.hm_protocol.specs.declared.events.Event.{Event}
 use Rattle.hm_protocol.specs.Projection as project
-use Rattle.hm_protocol.specs.Projection.{events_by, comes_to, set_up, is_start, is_up_to_commits, is_past_commits, collected, pages_of, in_trace, is_home, owner_of, if_device}
+use Rattle.hm_protocol.specs.Projection.{events_by, comes_to, set_up, is_start, is_up_to_commits, is_past_commits}
+use Rattle.hm_protocol.specs.Projection.{collected, pages_of, in_trace, is_home, owner_of, if_device}
 use Rattle.hm_protocol.proofs.Moving.{View}
 use Rattle.hm_protocol.proofs.Unmoved.{is_still, Comes, no_more, still_all}
 use Rattle.hm_protocol.proofs.Unmoved.{be_there}

@@ -1,7 +1,8 @@
 -- No legal history breaks `set-moved` or `drop-lost`: a page that stayed was not moved, and its frame was dropped.
 use Rattle.std.proofs.Common.{refl, ap, sym, subst, ◌∙◌, inl, inr}
 use Rattle.std.proofs.lemmas.Bool.{true≢false, cases_eq, eqb-true}
-use Rattle.std.specs.Prelude.{◌≡◌, ◌⊎◌, ℕ, ◌+◌, Bool, true, false, not, ◌&&◌, ◌||◌, ◌==◌, Option, Some, None, List, [], ◌∷◌, fold}
+use Rattle.std.specs.Prelude.{◌≡◌, ◌⊎◌, ℕ, ◌+◌, Bool, true, false, not, ◌&&◌, ◌||◌, ◌==◌, Option, Some, None, List, []}
+use Rattle.std.specs.Prelude.{◌∷◌, fold}
 use Rattle.std.specs.List.{list_any}
 use Rattle.hm_base.specs.Program.{Program, IsScript}
 use Rattle.hm_base.specs.declared.ops.Op.{Op}
@@ -25,7 +26,6 @@ use Rattle.hm_laws.specs.Allowed.{next}
 use Rattle.hm_laws.proofs.Histories.Sound.{Turn}
 use Rattle.hm_protocol.specs.declared.events.Event.{Event}
 use Rattle.hm_protocol.specs.declared.events.TraceFrame.{TraceFrame}
-use Rattle.hm_protocol.specs.declared.events.Traced.{Traced}
 use Rattle.hm_protocol.specs.declared.rules.Rule.{Rule}
 use Rattle.hm_protocol.specs.Words.{is_sole}
 use Rattle.hm_protocol.specs.Known.{Known, known_start}
@@ -34,7 +34,7 @@ use Rattle.hm_protocol.specs.Tests.{set_moved, drop_lost, is_kept_back}
 use Rattle.hm_protocol.specs.Projection.{project, events_in, events_of, top_of}
 use Rattle.hm_protocol.specs.Laws.{IsKept}
 use Rattle.hm_protocol.proofs.Steps.{GoBy, Keeps, Step, never, watched, calm_left, calm_right}
-use Rattle.hm_protocol.proofs.Moving.{View, views, views_after, Went, went, Seen_wrong, move_wrong, moves_badly, moves_so}
+use Rattle.hm_protocol.proofs.Moving.{View, views, views_after, Went, went, move_wrong, moves_badly, moves_so}
 use Rattle.hm_protocol.proofs.Unmoved.{Comes}
 use Rattle.hm_protocol.proofs.Sitting.{Sits, Good, Stay, AllOf, AllPlain, plain_sits}
 use Rattle.hm_protocol.proofs.Homing.{Judges, Leads, events_at, is_judged}
@@ -64,7 +64,7 @@ first_plain (Op.Evict d) = (refl, tt)
 first_plain (Op.Remove d) = (refl, tt)
 first_plain o = (refl, tt)
 
-sits_from : (c : Program) (a i : ℕ) → SitsAt c a (going_from c a i) []
+pub sits_from : (c : Program) (a i : ℕ) → SitsAt c a (going_from c a i) []
 sits_from c a i = by_op (op_at c a i)
   where
     by_op : (x : Option Op) → SitsOf x [] (first_stack x) []
@@ -79,7 +79,7 @@ sits_going c a i o xs (top ∷ below) vs e h = subst (λ x. SitsOf x xs (top ∷
 
 -- ---- an entry
 
-goes_as : (c : Program) (s : After) (a : ℕ) (g : Going) (k : Kind) (o : Op) (top : Phase) (below : List Phase)
+pub goes_as : (c : Program) (s : After) (a : ℕ) (g : Going) (k : Kind) (o : Op) (top : Phase) (below : List Phase)
     → op_at c a g.index ≡ Some o → g.stack ≡ top ∷ below
     → going_next c s a g k ≡ going_on c a g.index (after_top o top below k (seen_at s o g.pages top k))
     (recorded top (seen_at s o g.pages top k).page g.pages k)
@@ -136,41 +136,6 @@ entry_goes wrong j c t e s vs h = (
         (subst (λ g. Knows c (next t.after e.actor e.kind) (past_next s.past t.after.length e.actor e.kind) e.actor g)
         goes s.turn.knows) sits
 
--- each entry keeps what is seen of migrations, by a test that is wrong by that alone
-pub moves_keep : (test : Known → Traced → Bool) (wrong : List View → Event → Bool) → Seen_wrong test wrong
-    → Judges wrong
-    → (c : Program) → Keeps c test (KnowsMoves c)
-moves_keep test wrong says j c t e k s kn = (gone.0, λ b. by_actor b (cases_eq b e.actor))
-  where
-    a : ℕ
-    a = e.actor
-
-    xs : List Event
-    xs = events_in t (state_next c t e) e.actor e.kind (op_at c e.actor (t.going e.actor).index)
-
-    led : (ws : List View) × Comes wrong (views k e.actor) (events_in t (state_next c t e) e.actor e.kind
-        (op_at c e.actor (t.going e.actor).index)) ws
-        × SitsAt c e.actor (going_next c t.after e.actor (t.going e.actor) e.kind) ws
-    led = entry_goes wrong j c t e s (views k e.actor) (kn e.actor)
-
-    gone : GoBy test k (events_of c t (state_next c t e) e) (λ l. Went k l e.actor (views_after (views k e.actor)
-        (events_in t (state_next c t e) e.actor e.kind (op_at c e.actor (t.going e.actor).index))))
-    gone = went test wrong says e.actor (events_in t (state_next c t e) e.actor e.kind
-        (op_at c e.actor (t.going e.actor).index)) k
-        (views k e.actor) refl led.1.calm
-
-    by_actor : (b : ℕ) → (b ≡ e.actor) ⊎ (b ≡ e.actor → ⊥)
-        → SitsAt c b ((state_next c t e).going b) (views (fold known_next k (events_of c t (state_next c t e) e)) b)
-    by_actor b (inl q) = subst (λ b. SitsAt c b ((state_next c t e).going b)
-        (views (fold known_next k (events_of c t (state_next c t e) e)) b)) (sym q)
-        (subst (λ g. SitsAt c e.actor g (views (fold known_next k (events_of c t (state_next c t e) e)) e.actor))
-        (sym (here_at t.going e.actor (going_next c t.after e.actor (t.going e.actor) e.kind)))
-        (subst (SitsAt c e.actor (going_next c t.after e.actor (t.going e.actor) e.kind))
-        (sym (gone.1.here ∙ led.1.is)) led.2))
-    by_actor b (inr ne) = subst (λ g. SitsAt c b g (views (fold known_next k (events_of c t (state_next c t e) e)) b))
-        (sym (other_at t.going e.actor b (going_next c t.after e.actor (t.going e.actor) e.kind) ne))
-        (subst (SitsAt c b (t.going b)) (sym (gone.1.there b ne)) (kn b))
-
 -- ---- what is wrong there
 
 none_stays : (o : Op) (xs : List Migrating) (step : MoveStep) (v : ℕ) (frames : List TraceFrame)
@@ -193,7 +158,7 @@ all_freed o xs step v frames [] d h = refl
 all_freed o xs step v frames (u ∷ us) d h =
     ap (λ b. not b || list_any (λ x. is_kept_back frames x.1) us) (h.0.freed d) ∙ all_freed o xs step v frames us d h.1
 
-judged : Judges move_wrong
+pub judged : Judges move_wrong
 judged = record { none = none; only = only; home = home; ends = ends; sets = sets }
   where
     no_set : (b : Bool) → (b && false) ≡ false
@@ -228,11 +193,50 @@ judged = record { none = none; only = only; home = home; ends = ends; sets = set
         y.stayed x i mo h.1)
         ∙ no_set (not (is_sole w))
 
+-- each entry keeps what is seen of migrations
+pub moves_next : (c : Program) (t : State) (e : Entry) (k l : Known) → Step c t e → KnowsMoves c k t
+    → Went k l e.actor (views_after (views k e.actor)
+    (events_in t (state_next c t e) e.actor e.kind (op_at c e.actor (t.going e.actor).index)))
+    → KnowsMoves c l (state_next c t e)
+moves_next c t e k l s kn gone b = by_actor (cases_eq b e.actor)
+  where
+    led : (ws : List View) × Comes move_wrong (views k e.actor) (events_in t (state_next c t e) e.actor e.kind
+        (op_at c e.actor (t.going e.actor).index)) ws
+        × SitsAt c e.actor (going_next c t.after e.actor (t.going e.actor) e.kind) ws
+    led = entry_goes move_wrong judged c t e s (views k e.actor) (kn e.actor)
+
+    by_actor : (b ≡ e.actor) ⊎ (b ≡ e.actor → ⊥) → SitsAt c b ((state_next c t e).going b) (views l b)
+    by_actor (inl q) = subst (λ b. SitsAt c b ((state_next c t e).going b) (views l b)) (sym q)
+        (subst (λ g. SitsAt c e.actor g (views l e.actor))
+        (sym (here_at t.going e.actor (going_next c t.after e.actor (t.going e.actor) e.kind)))
+        (subst (SitsAt c e.actor (going_next c t.after e.actor (t.going e.actor) e.kind))
+        (sym (gone.here ∙ led.1.is)) led.2))
+    by_actor (inr ne) = subst (λ g. SitsAt c b g (views l b))
+        (sym (other_at t.going e.actor b (going_next c t.after e.actor (t.going e.actor) e.kind) ne))
+        (subst (SitsAt c b (t.going b)) (sym (gone.there b ne)) (kn b))
+
+-- and breaks none of the two rules
+moves_keep : (c : Program) → Keeps c moves_badly (KnowsMoves c)
+moves_keep c t e k s kn = (
+  gone.0,
+  moves_next c t e k (fold known_next k (events_of c t (state_next c t e) e)) s kn
+      gone.1,
+)
+  where
+    led : (ws : List View) × Comes move_wrong (views k e.actor) (events_in t (state_next c t e) e.actor e.kind
+        (op_at c e.actor (t.going e.actor).index)) ws
+        × SitsAt c e.actor (going_next c t.after e.actor (t.going e.actor) e.kind) ws
+    led = entry_goes move_wrong judged c t e s (views k e.actor) (kn e.actor)
+
+    gone : GoBy moves_badly k (events_of c t (state_next c t e) e) (λ l. Went k l e.actor (views_after (views k e.actor)
+        (events_in t (state_next c t e) e.actor e.kind (op_at c e.actor (t.going e.actor).index))))
+    gone = went moves_badly move_wrong moves_so e.actor (events_in t (state_next c t e) e.actor e.kind
+        (op_at c e.actor (t.going e.actor).index)) k (views k e.actor) refl led.1.calm
+
 -- no legal history breaks one of the two
 moves_watched : (c : Program) → IsScript c → (h : List Entry) → Legal c h
     → GoBy moves_badly known_start (project c h) (λ l. (u : State) × KnowsMoves c l u)
-moves_watched c sc h legal = watched c moves_badly (KnowsMoves c) sc (moves_keep moves_badly move_wrong moves_so judged
-    c)
+moves_watched c sc h legal = watched c moves_badly (KnowsMoves c) sc (moves_keep c)
     (λ a. sits_from c a 0) h legal
 
 -- no legal history breaks `set-moved`

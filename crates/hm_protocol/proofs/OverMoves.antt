@@ -27,7 +27,8 @@ use Rattle.hm_protocol.specs.Projection as project
 use Rattle.hm_protocol.specs.Projection.{events_by, in_trace, is_home, owner_of, if_device}
 use Rattle.hm_protocol.proofs.Moving.{View}
 use Rattle.hm_protocol.proofs.Unmoved.{is_still, AllBe, Comes, still_all, both_be}
-use Rattle.hm_protocol.proofs.Unmoved.{none_all, by_none, erased_be, all_erased_be}
+use Rattle.hm_protocol.proofs.Unmoved.{none_all, erased_be, all_erased_be}
+use Rattle.hm_protocol.proofs.Usual.{by_none}
 use Rattle.hm_protocol.proofs.Sitting.{Stays, Sits}
 use Rattle.hm_protocol.proofs.Homing.{Judges, Leads, events_at, is_moves, just_by, still_of}
 

@@ -1,4 +1,4 @@
--- What comes before an entry of a migration's step: the set-up, once other mappings are frozen, and the end of the commits.
+-- What comes before an entry of a migration's step: the set-up, once all is frozen, and the end of the commits.
 use Rattle.std.proofs.Common.{refl, ap, sym, subst, ◌∙◌}
 use Rattle.std.proofs.lemmas.Bool.{true≢false}
 use Rattle.std.specs.Prelude.{◌≡◌, ℕ, Bool, true, false, ◌&&◌, if◌then◌else◌}
@@ -16,7 +16,8 @@ use Rattle.hm_history.specs.declared.phases.MoveStep.{MoveStep}
 use Rattle.hm_history.specs.declared.phases.Phase.{Phase}
 use Rattle.hm_laws.proofs.Migration.Good.{seen_moves}
 use Rattle.hm_protocol.specs.declared.events.Event.{Event}
-use Rattle.hm_protocol.specs.Projection.{events_by, comes_to, set_up, is_start, is_up_to_commits, is_past_commits, collected, pages_of}
+use Rattle.hm_protocol.specs.Projection.{events_by, comes_to, set_up, is_start, is_up_to_commits, is_past_commits}
+use Rattle.hm_protocol.specs.Projection.{collected, pages_of}
 use Rattle.hm_protocol.proofs.Moving.{View, set_up_view}
 use Rattle.hm_protocol.proofs.Unmoved.{is_still, AllBe, Comes, one_more, no_more, and_on, still_all, be_if}
 use Rattle.hm_protocol.proofs.Sitting.{Good, One, Stay, AllOf, Stays, Sits, gone_by, is_later}

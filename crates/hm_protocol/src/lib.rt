@@ -55,6 +55,7 @@ pub fn no_legal_history_is_blamed()
     ensures erase_in_time { IsKept rule.Rule.EraseInTime }
     ensures own_entries { IsKept rule.Rule.OwnEntries }
     ensures set_moved { IsKept rule.Rule.SetMoved }
+    ensures set_right { IsKept rule.Rule.SetRight }
     ensures drop_lost { IsKept rule.Rule.DropLost }
 {}
 
@@ -87,5 +88,6 @@ pub fn no_verdict_blames_a_legal_history()
     ensures erase_in_time { IsCleared rule.Rule.EraseInTime }
     ensures own_entries { IsCleared rule.Rule.OwnEntries }
     ensures set_moved { IsCleared rule.Rule.SetMoved }
+    ensures set_right { IsCleared rule.Rule.SetRight }
     ensures drop_lost { IsCleared rule.Rule.DropLost }
 {}

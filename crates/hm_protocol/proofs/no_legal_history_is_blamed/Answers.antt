@@ -5,6 +5,7 @@ use Rattle.hm_protocol.proofs.Invalidations.{detach_waits_kept, exclusive_waits_
 use Rattle.hm_protocol.proofs.Detached.{stop_at_detach_kept}
 use Rattle.hm_protocol.proofs.Tables.{write_entry_kept, look_again_kept, erase_kept, erase_all_kept, erase_in_time_kept, own_entries_kept}
 use Rattle.hm_protocol.proofs.Moves.{set_moved_kept, drop_lost_kept}
+use Rattle.hm_protocol.proofs.Migrations.{set_right_kept}
 use Rattle.hm_protocol.proofs.no_legal_history_is_blamed.Goals as goal
 
 pub returns-clause-mmap_lock : goal.returns-clause-mmap_lock
@@ -72,6 +73,9 @@ returns-clause-own_entries c = own_entries_kept
 
 pub returns-clause-set_moved : goal.returns-clause-set_moved
 returns-clause-set_moved c = set_moved_kept
+
+pub returns-clause-set_right : goal.returns-clause-set_right
+returns-clause-set_right c = set_right_kept
 
 pub returns-clause-drop_lost : goal.returns-clause-drop_lost
 returns-clause-drop_lost c = drop_lost_kept

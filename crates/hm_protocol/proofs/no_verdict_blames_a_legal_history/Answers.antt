@@ -3,7 +3,7 @@ use Rattle.hm_protocol.proofs.Cleared.{evict_first_cleared, wait_for_locked_clea
 use Rattle.hm_protocol.proofs.Cleared.{set_unless_invalidated_cleared, begin_waits_cleared, stop_at_detach_cleared, write_entry_cleared}
 use Rattle.hm_protocol.proofs.Cleared.{look_again_cleared, set_sequence_cleared, own_events_cleared, own_sequence_cleared}
 use Rattle.hm_protocol.proofs.Cleared.{erase_cleared, erase_all_cleared, erase_in_time_cleared, own_entries_cleared}
-use Rattle.hm_protocol.proofs.Cleared.{set_moved_cleared, drop_lost_cleared}
+use Rattle.hm_protocol.proofs.Cleared.{set_moved_cleared, set_right_cleared, drop_lost_cleared}
 use Rattle.hm_protocol.proofs.no_verdict_blames_a_legal_history.Goals as goal
 
 pub returns-clause-mmap_lock : goal.returns-clause-mmap_lock
@@ -68,6 +68,9 @@ returns-clause-own_entries c = own_entries_cleared
 
 pub returns-clause-set_moved : goal.returns-clause-set_moved
 returns-clause-set_moved c = set_moved_cleared
+
+pub returns-clause-set_right : goal.returns-clause-set_right
+returns-clause-set_right c = set_right_cleared
 
 pub returns-clause-drop_lost : goal.returns-clause-drop_lost
 returns-clause-drop_lost c = drop_lost_cleared
