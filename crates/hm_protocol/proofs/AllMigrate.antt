@@ -10,7 +10,7 @@ use Rattle.hm_base.specs.declared.ops.Op.{Op}
 use Rattle.hm_history.specs.Memory.After.{After}
 use Rattle.hm_history.specs.Kernel.Operation.{op_mirror, is_to_device}
 use Rattle.hm_history.specs.Kernel.Stacks.{stack_after}
-use Rattle.hm_history.specs.Kernel.Going.{State, op_at, going_next, seen_at}
+use Rattle.hm_history.specs.Kernel.Going.{State, state_start, op_at, going_next, seen_at}
 use Rattle.hm_history.specs.Kernel.Going.{recorded, coming, concerns, sets_now}
 use Rattle.hm_history.specs.Kernel.Going.{steps_from, state_next}
 use Rattle.hm_history.specs.declared.TableRight.{TableRight}
@@ -22,7 +22,7 @@ use Rattle.hm_history.specs.declared.phases.Phase.{Phase}
 use Rattle.hm_history.proofs.Updates.{here_at, other_at}
 use Rattle.hm_laws.specs.Records.{Among}
 use Rattle.hm_protocol.specs.Words.{is_sole}
-use Rattle.hm_protocol.specs.Known.{Move, Known, is_migrated, is_look_up}
+use Rattle.hm_protocol.specs.Known.{Move, Known, known_start, is_migrated, is_look_up}
 use Rattle.hm_protocol.specs.Noted.{known_next}
 use Rattle.hm_protocol.specs.Projection.{comes_to, events_in, top_of}
 use Rattle.hm_protocol.specs.Projection.{is_past_commits}
@@ -33,7 +33,7 @@ use Rattle.hm_protocol.proofs.Inner.{is_paged, has_moved, others_moves}
 use Rattle.hm_protocol.proofs.Coming.{come_says, finish_sets_nothing}
 use Rattle.hm_protocol.proofs.Moved.{Mid, all_mid, paged_mid, mid}
 use Rattle.hm_protocol.proofs.Migrated.{Migrates, rests_not, after_own}
-use Rattle.hm_protocol.proofs.Entries.{going_is, going_holds, known_after, events_are}
+use Rattle.hm_protocol.proofs.Entries.{first_rests, going_is, going_holds, known_after, events_are}
 
 -- each actor in a migration is known to be
 abbrev pub AllMigrate : Program → Known → State → Type 0
@@ -98,6 +98,10 @@ all_migrate c t e k s kn = λ a. pick a (cases_eq a e.actor)
         → Migrates o step ys (t.going a).pages)
         (sym (others_moves e.actor a ne (events_in t u e.actor e.kind (op_at c e.actor (t.going e.actor).index)) k))
         (kn a))
+
+-- at first none migrates
+pub none_migrate : (c : Program) → AllMigrate c known_start (state_start c)
+none_migrate c a o i step e = absurd (rests_not step (sym (first_rests (op_at c a 0)) ∙ e))
 
 -- ---- a page that a migration sets
 

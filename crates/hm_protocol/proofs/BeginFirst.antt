@@ -9,7 +9,7 @@ use Rattle.hm_base.specs.declared.ops.Op.{Op}
 use Rattle.hm_history.specs.Memory.After.{After}
 use Rattle.hm_history.specs.Kernel.Operation.{op_mirror, is_exclusive_op, is_migration}
 use Rattle.hm_history.specs.Kernel.Stacks.{stack_after}
-use Rattle.hm_history.specs.Kernel.Going.{State, Going, op_at, state_next, going_on, going_next, going_top, recorded}
+use Rattle.hm_history.specs.Kernel.Going.{State, Going, op_at, state_next, going_on, going_next}
 use Rattle.hm_history.specs.Kernel.Going.{seen_at, touch_page, touch_proc}
 use Rattle.hm_history.specs.Kernel.Due.{due_phase}
 use Rattle.hm_history.specs.declared.TableRight.{TableRight}
@@ -34,6 +34,7 @@ use Rattle.hm_protocol.proofs.Steps.{GoBy, Keeps, by, by_thread, never, all_fit,
 use Rattle.hm_protocol.proofs.Doing.{Doing, doing}
 use Rattle.hm_protocol.proofs.DueKinds.{may, next_passes, is_at_walk}
 use Rattle.hm_protocol.proofs.DueFaults.{due_may}
+use Rattle.hm_protocol.proofs.Entries.{going_is}
 use Rattle.hm_protocol.proofs.Looks.{begun_before, last_walked, ends_walk, goes_on, sets_after, begins_now}
 
 -- ---- what is due to an actor
@@ -67,17 +68,6 @@ turn_may c s t a o xs top below j h d = sym (ap (next_passes (may o top)) d)
 abbrev pub mirror_of : Option Op → ℕ
 mirror_of None = 0
 mirror_of (Some o) = op_mirror o
-
--- where an actor is after its entry
-pub going_is : (c : Program) (s : After) (a : ℕ) (g : Going) (j : Kind) (o : Op) (top : Phase) (below : List Phase)
-    → op_at c a g.index ≡ Some o → g.stack ≡ top ∷ below
-    → going_next c s a g j ≡ going_on c a g.index (stack_after o (top ∷ below) j (seen_at s o g.pages top j))
-    (recorded top (seen_at s o g.pages top j).page g.pages j)
-going_is c s a g j o top below io is =
-    ap (λ x. elim x as (λ x. Going) [ None ↦ g | Some o ↦ going_top c s a g o g.stack j ]) io
-    ∙ (ap (λ st. going_top c s a g o st j) is
-    ∙ ap (λ st. going_on c a g.index (stack_after o st j (seen_at s o g.pages top j))
-    (recorded top (seen_at s o g.pages top j).page g.pages j)) is)
 
 -- a look-up under way is that of the operation in whose mirror it is
 abbrev pub WalksIn : Program → ℕ → Going → ℕ → Type 0

@@ -32,7 +32,7 @@ use Rattle.hm_protocol.proofs.Stands.{Stand, stand, is_passing, is_moves, passes
 use Rattle.hm_protocol.proofs.Leading.{Leads, leads}
 use Rattle.hm_protocol.proofs.Seeing.{Seen, nothing}
 use Rattle.hm_protocol.proofs.Entries.{known_after, going_is, going_holds, first_rests}
-use Rattle.hm_protocol.proofs.AllMigrate.{all_migrate}
+use Rattle.hm_protocol.proofs.AllMigrate.{all_migrate, none_migrate}
 use Rattle.hm_protocol.proofs.SeenAfter.{Held, AllHeld, Lasting, Still, Commits, seen_after}
 use Rattle.hm_protocol.proofs.HeldOn.{held_on, held_new}
 
@@ -136,8 +136,7 @@ at_first : (c : Program) → Commits c known_start (state_start c)
 at_first c = record {
   before = tt;
   held = λ a o i q e. absurd (rests_not q (sym (first_rests (op_at c a 0)) ∙ e));
-  migrate = λ a o i step e. absurd (no_test (ap (λ (z : Stand). elim z [ Stand.Moves x ↦ true | _ ↦ false ])
-      (sym (first_rests (op_at c a 0)) ∙ e)));
+  migrate = none_migrate c;
   none_stale = refl;
 }
 

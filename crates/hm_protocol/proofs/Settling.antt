@@ -1,18 +1,18 @@
--- Which entries lead to a noted place, or to a step of a migration.
-use Rattle.std.proofs.Common.{refl, ap, sym, ◌∙◌}
-use Rattle.std.proofs.lemmas.Bool.{true≢false, false≢true}
+-- Which entries lead to a noted place: none but the end of a walk.
+use Rattle.std.proofs.Common.{refl, ap, ◌∙◌}
+use Rattle.std.proofs.lemmas.Bool.{true≢false}
 use Rattle.std.specs.Prelude.{◌≡◌, ℕ, ◌+◌, Bool, true, false, nat_lt, if◌then◌else◌, Option, Some, None, List, [], ◌∷◌}
 use Rattle.std.specs.Prelude.{length}
 use Rattle.hm_base.specs.declared.Frame.{Frame}
 use Rattle.hm_base.specs.declared.Place.{Place}
 use Rattle.hm_base.specs.declared.ops.Op.{Op}
 use Rattle.hm_history.specs.Kernel.Operation.{op_pieces}
-use Rattle.hm_history.specs.Kernel.Stacks.{read_locked, with_guard, piece_ends, with_frame_taken, is_added}
+use Rattle.hm_history.specs.Kernel.Stacks.{after_migration, read_locked, with_guard, piece_ends, with_frame_taken, is_added}
 use Rattle.hm_history.specs.Kernel.Stacks.{stack_after, after_begin, after_locked, after_ready, after_answer}
 use Rattle.hm_history.specs.Kernel.Stacks.{after_pages}
 use Rattle.hm_history.specs.Kernel.Stacks.{after_piece, after_fetched, after_decide, after_give_up, after_frames}
 use Rattle.hm_history.specs.Kernel.Stacks.{first_touch, copying}
-use Rattle.hm_history.specs.Kernel.Stacks.{dropping_lost, kept_step, next_cursor, after_moves, after_finish}
+use Rattle.hm_history.specs.Kernel.Stacks.{dropping_lost, kept_step, after_moves, after_finish}
 use Rattle.hm_history.specs.Kernel.Stacks.{first_phase}
 use Rattle.hm_history.specs.Kernel.Going.{first_stack}
 use Rattle.hm_history.specs.declared.KeptAt.{KeptAt}
@@ -25,25 +25,17 @@ use Rattle.hm_history.specs.declared.phases.Touch.{Touch}
 use Rattle.hm_history.specs.declared.phases.Body.{Body}
 use Rattle.hm_history.specs.declared.phases.Phase.{Phase}
 use Rattle.hm_protocol.proofs.Doing.{Doing, of_touch, is_passing, doing, finishes}
-use Rattle.hm_protocol.specs.Projection.{is_start}
 use Rattle.hm_protocol.proofs.Looks.{opens, takes_on}
 
--- neither has it noted a place, nor is its migration past the first step
+-- it has noted no place
 abbrev pub is_settled : Doing → Bool
-is_settled Doing.Nothing = true
-is_settled Doing.Walks = true
-is_settled (Doing.Moves MoveStep.FreezeOthers) = true
-is_settled d = false
+is_settled (Doing.Notes n x) = false
+is_settled d = true
 
 -- a walk has found its place
 abbrev pub notes_now : Phase → Kind → Bool
 notes_now (Phase.Decide (Touch.Walk n since q)) (Kind.Runlock p) = true
 notes_now top k = false
-
--- the phase is a step of a migration
-abbrev pub is_move : Phase → Bool
-is_move (Phase.Moves step v) = true
-is_move top = false
 
 abbrev Settles : List Phase → Type 0
 Settles st = is_settled (doing st) ≡ true
@@ -137,26 +129,59 @@ frames v n (Kind.Drop f) seen = refl
 frames v n (Kind.Withdrawn d) seen = refl
 frames v n k seen = refl
 
+-- ---- at a step of a migration
+
+copies : (source : Option Frame) (g : Frame) (st : List Phase) → doing (copying source g st) ≡ doing st
+copies None g st = refl
+copies (Some f) g st = refl
+
+drops : (why : KeptWhy) (to : Option Frame) (st : List Phase) → doing (dropping_lost why to st) ≡ doing st
+drops KeptWhy.Lost None st = refl
+drops KeptWhy.Lost (Some f) st = refl
+drops why to st = refl
+
+moves : (step : MoveStep) (x : Migrating) (k : Kind) (seen : Seen) → Settles (after_moves step x k seen)
+moves MoveStep.FreezeOthers x (Kind.Start p r q) seen = refl
+moves step x (Kind.Start p r q) seen = refl
+moves step x (Kind.Take g) seen = ap is_settled (copies x.source g (Phase.Moves MoveStep.TakeAndCopy (x.page + 1) ∷ []))
+moves step x (Kind.Kept what why) seen =
+    ap is_settled (drops why x.dest (Phase.Moves (kept_step why) (x.page + 1) ∷ []))
+moves step x (Kind.Committed f g) seen = refl
+moves step x (Kind.Set m v f w from) seen = refl
+moves step x k seen = ends_page x.source
+  where
+    ends_page : (y : Option Frame) → Settles (elim y [
+      | None ↦ Phase.Moves MoveStep.Finish (x.page + 1) ∷ []
+      | Some f ↦ after_finish f (if x.moved then x.dest else None) (Phase.Moves MoveStep.Finish (x.page + 1) ∷ []) k
+    ])
+    ends_page None = refl
+    ends_page (Some f) = ap is_settled
+        (finishes f (if x.moved then x.dest else None) (Phase.Moves MoveStep.Finish (x.page + 1) ∷ []) k)
+
+migration : (step : MoveStep) (x : Option Migrating) (k : Kind) (seen : Seen) → Settles (after_migration step x k seen)
+migration step None k seen = refl
+migration step (Some x) k seen = moves step x k seen
+
 -- no other entry leads there
 pub settles : (o : Op) (top : Phase) (below : List Phase) (k : Kind) (seen : Seen) → is_passing top ≡ false
-    → is_move top ≡ false → notes_now top k ≡ false → is_settled (doing (stack_after o (top ∷ below) k seen)) ≡ true
-settles o Phase.Begin below k seen h m e = begin o k
-settles o Phase.Locked below k seen h m e = locked o k seen
-settles o Phase.Ready below k seen h m e = ready o k seen
-settles o Phase.Answer below k seen h m e = answer k
-settles o (Phase.Detaching q) below k seen h m e = refl
-settles o (Phase.Pages v) below k seen h m e = pages k
-settles o (Phase.Piece n) below k seen h m e = piece o n (first_touch o n) k seen
-settles o (Phase.Fetched old) below k seen h m e = fetched o k seen
-settles o (Phase.Begun n since q) below k seen h m e = piece o n (Touch.Walk n since q) k seen
-settles o (Phase.Decide touch) below k seen h m e = decide o touch k seen e
-settles o (Phase.Noted n since q x) below k seen h m e = refl
-settles o (Phase.Taken touch g x) below k seen h m e = ap is_settled (takes_on touch g x k) ∙ of_touches touch
-settles o (Phase.Armed touch g x) below k seen h m e = opens_on k seen _ (Phase.Decide touch ∷ []) (of_touches touch)
-settles o (Phase.GiveUp touch) below k seen h m e = given o touch k
-settles o (Phase.Frames v n) below k seen h m e = frames v n k seen
-settles o (Phase.Moves step v) below k seen h m e = absurd (true≢false m)
-settles o top below k seen h m e = absurd (true≢false h)
+    → notes_now top k ≡ false → is_settled (doing (stack_after o (top ∷ below) k seen)) ≡ true
+settles o Phase.Begin below k seen h e = begin o k
+settles o Phase.Locked below k seen h e = locked o k seen
+settles o Phase.Ready below k seen h e = ready o k seen
+settles o Phase.Answer below k seen h e = answer k
+settles o (Phase.Detaching q) below k seen h e = refl
+settles o (Phase.Pages v) below k seen h e = pages k
+settles o (Phase.Piece n) below k seen h e = piece o n (first_touch o n) k seen
+settles o (Phase.Fetched old) below k seen h e = fetched o k seen
+settles o (Phase.Begun n since q) below k seen h e = piece o n (Touch.Walk n since q) k seen
+settles o (Phase.Decide touch) below k seen h e = decide o touch k seen e
+settles o (Phase.Noted n since q x) below k seen h e = refl
+settles o (Phase.Taken touch g x) below k seen h e = ap is_settled (takes_on touch g x k) ∙ of_touches touch
+settles o (Phase.Armed touch g x) below k seen h e = opens_on k seen _ (Phase.Decide touch ∷ []) (of_touches touch)
+settles o (Phase.GiveUp touch) below k seen h e = given o touch k
+settles o (Phase.Frames v n) below k seen h e = frames v n k seen
+settles o (Phase.Moves step v) below k seen h e = migration step seen.page k seen
+settles o top below k seen h e = absurd (true≢false h)
 
 -- nor does an operation begin there
 pub first_settles : (o : Option Op) → is_settled (doing (first_stack o)) ≡ true
@@ -172,109 +197,3 @@ first_settles (Some o) = first o
     first (Op.Evict d) = refl
     first (Op.Remove d) = refl
     first o = refl
-
--- ---- where a migration comes
-
--- the step comes after the commits
-abbrev pub is_late : MoveStep → Bool
-is_late MoveStep.SetOwnTable = true
-is_late MoveStep.Finish = true
-is_late step = false
-
--- what a step may have for a page
-abbrev pub fits_step : MoveStep → Kind → Bool
-fits_step MoveStep.FreezeOthers (Kind.Start p r q) = true
-fits_step MoveStep.TakeAndCopy (Kind.Take g) = true
-fits_step MoveStep.TakeAndCopy (Kind.Kept what why) = true
-fits_step MoveStep.Commit (Kind.Committed f g) = true
-fits_step MoveStep.Commit (Kind.Start p r q) = true
-fits_step MoveStep.Commit (Kind.Kept what why) = true
-fits_step MoveStep.SetOwnTable (Kind.Set m v f w from) = true
-fits_step MoveStep.Finish (Kind.Place p v x) = true
-fits_step MoveStep.Finish (Kind.Drop f) = true
-fits_step MoveStep.Finish (Kind.Done f) = true
-fits_step MoveStep.Finish (Kind.Refused why) = true
-fits_step step k = false
-
--- it comes past the commits only if it was past them
-abbrev Comes : MoveStep → Doing → Type 0
-Comes step d = (next : MoveStep) → d ≡ Doing.Moves next → is_late next ≡ true → is_late step ≡ true
-
-early : (step next : MoveStep) (d : Doing) → d ≡ Doing.Moves next → is_late next ≡ false → Comes step d
-early step next d h e i q l = absurd (false≢true (sym e ∙ (ap is_late (same next i (sym h ∙ q)) ∙ l)))
-  where
-    same : (x y : MoveStep) → Doing.Moves x ≡ Doing.Moves y → x ≡ y
-    same x y e = cc
-
-cursors : (step : MoveStep) (v : ℕ) → (next : MoveStep)
-    × ((doing (next_cursor step v ∷ []) ≡ Doing.Moves next) × (is_late next ≡ false))
-cursors MoveStep.FreezeOthers v = (MoveStep.FreezeOthers, (refl, refl))
-cursors MoveStep.TakeAndCopy v = (MoveStep.Commit, (refl, refl))
-cursors MoveStep.Commit v = (MoveStep.Commit, (refl, refl))
-cursors MoveStep.SetOwnTable v = (MoveStep.Commit, (refl, refl))
-cursors MoveStep.Finish v = (MoveStep.Commit, (refl, refl))
-
-copies : (source : Option Frame) (g : Frame) (st : List Phase) → doing (copying source g st) ≡ doing st
-copies None g st = refl
-copies (Some f) g st = refl
-
-drops : (why : KeptWhy) (to : Option Frame) (st : List Phase) → doing (dropping_lost why to st) ≡ doing st
-drops KeptWhy.Lost None st = refl
-drops KeptWhy.Lost (Some f) st = refl
-drops why to st = refl
-
-kept_early : (why : KeptWhy) → is_late (kept_step why) ≡ false
-kept_early KeptWhy.Lost = refl
-kept_early why = refl
-
--- after an entry that fits step `at` a migration is past the commits only if `at` is
-pub comes : (at step : MoveStep) (x : Migrating) (k : Kind) (seen : Seen) → fits_step at k ≡ true
-    → Comes at (doing (after_moves step x k seen))
-comes at step x (Kind.Start p r q) seen h = let z : (next : MoveStep)
-    × ((doing (next_cursor step x.page ∷ []) ≡ Doing.Moves next) × (is_late next ≡ false)) =
-    cursors step x.page in early at z.0 _ z.1.0 z.1.1
-comes at step x (Kind.Take g) seen h = early at MoveStep.TakeAndCopy _
-    (copies x.source g (Phase.Moves MoveStep.TakeAndCopy (x.page + 1) ∷ [])) refl
-comes at step x (Kind.Kept what why) seen h = early at (kept_step why) _
-    (drops why x.dest (Phase.Moves (kept_step why) (x.page + 1) ∷ [])) (kept_early why)
-comes at step x (Kind.Committed f g) seen h = early at MoveStep.Commit _ refl refl
-comes MoveStep.FreezeOthers step x k seen h = absurd (false≢true h)
-comes MoveStep.TakeAndCopy step x k seen h = absurd (false≢true h)
-comes MoveStep.Commit step x k seen h = absurd (false≢true h)
-comes MoveStep.SetOwnTable step x k seen h = λ next q l. refl
-comes MoveStep.Finish step x k seen h = λ next q l. refl
-
--- a migration goes on with some step
-pub leads : (step : MoveStep) (x : Migrating) (k : Kind) (seen : Seen)
-    → (next : MoveStep) × (doing (after_moves step x k seen) ≡ Doing.Moves next)
-leads step x (Kind.Start p r q) seen =
-    let z : (next : MoveStep) × ((doing (next_cursor step x.page ∷ []) ≡ Doing.Moves next) × (is_late next ≡ false)) =
-    cursors step x.page in (z.0, z.1.0)
-leads step x (Kind.Take g) seen =
-    (MoveStep.TakeAndCopy, copies x.source g (Phase.Moves MoveStep.TakeAndCopy (x.page + 1) ∷ []))
-leads step x (Kind.Kept what why) seen =
-    (kept_step why, drops why x.dest (Phase.Moves (kept_step why) (x.page + 1) ∷ []))
-leads step x (Kind.Committed f g) seen = (MoveStep.Commit, refl)
-leads step x (Kind.Set m v f w from) seen = (MoveStep.SetOwnTable, refl)
-leads step x k seen = (MoveStep.Finish, ends_page x.source)
-  where
-    ends_page : (y : Option Frame) → doing (elim y [
-      | None ↦ Phase.Moves MoveStep.Finish (x.page + 1) ∷ []
-      | Some f ↦ after_finish f (if x.moved then x.dest else None) (Phase.Moves MoveStep.Finish (x.page + 1) ∷ []) k
-    ]) ≡ Doing.Moves MoveStep.Finish
-    ends_page None = refl
-    ends_page (Some f) = finishes f (if x.moved then x.dest else None) (Phase.Moves MoveStep.Finish (x.page + 1) ∷ []) k
-
-abbrev pub is_first : MoveStep → Bool
-is_first MoveStep.FreezeOthers = true
-is_first step = false
-
--- where other mappings are frozen it stays at its first step
-pub first_starts : (step : MoveStep) (x : Migrating) (j : Kind) (seen : Seen) (next : MoveStep) → is_first step ≡ true
-    → doing (after_moves step x j seen) ≡ Doing.Moves next → is_first next ≡ false → is_start j ≡ false
-first_starts MoveStep.FreezeOthers x (Kind.Start p r q) seen next f h e = absurd (true≢false (ap is_first (same h) ∙ e))
-  where
-    same : Doing.Moves MoveStep.FreezeOthers ≡ Doing.Moves next → MoveStep.FreezeOthers ≡ next
-    same h = cc
-first_starts MoveStep.FreezeOthers x j seen next f h e = refl
-first_starts step x j seen next f h e = absurd (false≢true f)
