@@ -31,7 +31,7 @@ use Rattle.hm_protocol.specs.Projection.{project, events_of, events_in, events_b
 use Rattle.hm_protocol.specs.Laws.{IsKept}
 use Rattle.hm_protocol.proofs.Fits.{Fits}
 use Rattle.hm_protocol.proofs.Steps.{GoBy, Keeps, by, by_thread, never, all_fit, watched, apart}
-use Rattle.hm_protocol.proofs.Doing.{Doing, doing}
+use Rattle.hm_protocol.proofs.Stands.{walks}
 use Rattle.hm_protocol.proofs.DueKinds.{may, next_passes, is_at_walk}
 use Rattle.hm_protocol.proofs.DueFaults.{due_may}
 use Rattle.hm_protocol.proofs.Entries.{going_is}
@@ -71,11 +71,11 @@ mirror_of (Some o) = op_mirror o
 
 -- a look-up under way is that of the operation in whose mirror it is
 abbrev pub WalksIn : Program → ℕ → Going → ℕ → Type 0
-WalksIn c b g m = (doing g.stack ≡ Doing.Walks) × (m ≡ mirror_of (op_at c b g.index))
+WalksIn c b g m = (walks g.stack ≡ true) × (m ≡ mirror_of (op_at c b g.index))
 
 still_walks : (c : Program) (a i m : ℕ) (o : Op) (xs : List Migrating) (st : List Phase) → op_at c a i ≡ Some o
-    → doing st ≡ Doing.Walks → m ≡ op_mirror o → WalksIn c a (going_on c a i st xs) m
-still_walks c a i m o xs [] e d h = cc
+    → walks st ≡ true → m ≡ op_mirror o → WalksIn c a (going_on c a i st xs) m
+still_walks c a i m o xs [] e d h = absurd (false≢true d)
 still_walks c a i m o xs (top ∷ below) e d h = (d, h ∙ sym (ap mirror_of e))
 
 -- look-ups that have begun and have not walked are all such
@@ -180,8 +180,8 @@ keeps c t e k s kn = (all.0, λ b m h. other b m (cases_eq b e.actor) h)
     may_be = turn_may c t.after s.past e.actor s.turn.op (t.going e.actor).pages s.turn.top s.turn.below e.kind
         s.turn.known s.turn.is_due
 
-    walking : (m : ℕ) → WalksIn c e.actor (t.going e.actor) m → doing (s.turn.top ∷ s.turn.below) ≡ Doing.Walks
-    walking m x = ap doing (sym s.turn.is_stack) ∙ x.0
+    walking : (m : ℕ) → WalksIn c e.actor (t.going e.actor) m → walks (s.turn.top ∷ s.turn.below) ≡ true
+    walking m x = ap walks (sym s.turn.is_stack) ∙ x.0
 
     sets : (m v from : ℕ) (f : Option Frame) (w : TableRight) → e.kind ≡ Kind.Set m v f w from
         → MayWalk c t e e.actor m → ⊥
@@ -198,8 +198,8 @@ keeps c t e k s kn = (all.0, λ b m h. other b m (cases_eq b e.actor) h)
         (λ m q z i n h p. inr (h, (q, z ∙ ap (λ m. Kind.Begin m q) (sym p)))) l x fits r) k
         (λ b m h. inl (kn b m h))
 
-    on : (m : ℕ) → doing (stack_after s.turn.op (s.turn.top ∷ s.turn.below) e.kind
-        (seen_at t.after s.turn.op (t.going e.actor).pages s.turn.top e.kind)) ≡ Doing.Walks
+    on : (m : ℕ) → walks (stack_after s.turn.op (s.turn.top ∷ s.turn.below) e.kind
+        (seen_at t.after s.turn.op (t.going e.actor).pages s.turn.top e.kind)) ≡ true
         → m ≡ op_mirror s.turn.op → WalksIn c e.actor (going_after c t e) m
     on m d h = subst (λ g. WalksIn c e.actor g m)
         (sym (going_is c t.after e.actor (t.going e.actor) e.kind s.turn.op s.turn.top s.turn.below s.turn.is_op
@@ -209,13 +209,13 @@ keeps c t e k s kn = (all.0, λ b m h. other b m (cases_eq b e.actor) h)
     own : (m : ℕ) → is_begun ((noted_by c t e k).looks e.actor m).stage ≡ true → MayWalk c t e e.actor m
         → WalksIn c e.actor (going_after c t e) m
     own m h (inr y) = let z : (m ≡ op_mirror s.turn.op)
-        × (doing (stack_after s.turn.op (s.turn.top ∷ s.turn.below) (Kind.Begin m y.1.0)
-        (seen_at t.after s.turn.op (t.going e.actor).pages s.turn.top e.kind)) ≡ Doing.Walks) =
+        × (walks (stack_after s.turn.op (s.turn.top ∷ s.turn.below) (Kind.Begin m y.1.0)
+        (seen_at t.after s.turn.op (t.going e.actor).pages s.turn.top e.kind)) ≡ true) =
         begins_now s.turn.op s.turn.top s.turn.below m y.1.0
         (seen_at t.after s.turn.op (t.going e.actor).pages s.turn.top e.kind)
         (subst (λ j. may s.turn.op s.turn.top j ≡ true) y.1.1 may_be) in
-        on m (subst (λ j. doing (stack_after s.turn.op (s.turn.top ∷ s.turn.below) j
-        (seen_at t.after s.turn.op (t.going e.actor).pages s.turn.top e.kind)) ≡ Doing.Walks) (sym y.1.1) z.1) z.0
+        on m (subst (λ j. walks (stack_after s.turn.op (s.turn.top ∷ s.turn.below) j
+        (seen_at t.after s.turn.op (t.going e.actor).pages s.turn.top e.kind)) ≡ true) (sym y.1.1) z.1) z.0
     own m h (inl x) = by_end (ends_walk s.turn.top e.kind) refl
       where
         mine : m ≡ op_mirror s.turn.op

@@ -14,10 +14,10 @@ use Rattle.hm_history.specs.Kernel.Legal.{Legal}
 use Rattle.hm_history.specs.declared.Kind.{Kind}
 use Rattle.hm_history.specs.declared.Entry.{Entry}
 use Rattle.hm_history.specs.declared.phases.Migrating.{Migrating}
-use Rattle.hm_history.specs.declared.phases.MoveStep.{MoveStep}
 use Rattle.hm_history.specs.declared.phases.Phase.{Phase}
 use Rattle.hm_history.proofs.Updates.{here_at, other_at}
-use Rattle.hm_history.proofs.Tests.{no_test}
+use Rattle.hm_history.proofs.Tests.{same_some}
+use Rattle.std.proofs.lemmas.Option.{none-some}
 use Rattle.hm_protocol.specs.declared.events.Traced.{Traced}
 use Rattle.hm_protocol.specs.declared.rules.Rule.{Rule}
 use Rattle.hm_protocol.specs.declared.rules.Joint.{Joint}
@@ -28,7 +28,7 @@ use Rattle.hm_protocol.specs.Rules.{compare, first_commit}
 use Rattle.hm_protocol.specs.Projection.{project, events_of}
 use Rattle.hm_protocol.specs.Laws.{IsKept, IsJointKept}
 use Rattle.hm_protocol.proofs.Steps.{Step, Calm, Keeps, watched}
-use Rattle.hm_protocol.proofs.Stands.{Stand, stand, is_passing, is_moves, passes, passing, turned, turns}
+use Rattle.hm_protocol.proofs.Stands.{Stand, stand, seq_of, seq_at, is_passing, is_moves, passes, passing, turns}
 use Rattle.hm_protocol.proofs.Leading.{Leads, leads}
 use Rattle.hm_protocol.proofs.Seeing.{Seen, nothing}
 use Rattle.hm_protocol.proofs.Entries.{known_after, going_is, going_holds, first_rests}
@@ -36,34 +36,37 @@ use Rattle.hm_protocol.proofs.AllMigrate.{all_migrate, none_migrate}
 use Rattle.hm_protocol.proofs.SeenAfter.{Held, AllHeld, Lasting, Still, Commits, seen_after}
 use Rattle.hm_protocol.proofs.HeldOn.{held_on, held_new}
 
-rests_not : (q : ℕ) → Stand.Rests ≡ Stand.Looks q → ⊥
-rests_not q e = no_test (ap (λ (z : Stand). elim z [ Stand.Looks i ↦ true | _ ↦ false ]) e)
-
-moves_not : (q : ℕ) (step : MoveStep) → Stand.Moves step ≡ Stand.Looks q → ⊥
-moves_not q step e = no_test (ap (λ (z : Stand). elim z [ Stand.Looks i ↦ true | _ ↦ false ]) e)
-
 else_looks : (s : After) (o : Op) (xs : List Migrating) (top : Phase) (below : List Phase) (j : Kind) (q : ℕ)
-    → is_moves top ≡ false → stand (stack_after o (top ∷ below) j (seen_at s o xs top j)) ≡ Stand.Looks q
-    → (stand (top ∷ below) ≡ Stand.Looks q) ⊎ ((m : ℕ) × (j ≡ Kind.Begin m q))
+    → is_moves top ≡ false → seq_at (stack_after o (top ∷ below) j (seen_at s o xs top j)) ≡ Some q
+    → (seq_at (top ∷ below) ≡ Some q) ⊎ ((m : ℕ) × (j ≡ Kind.Begin m q))
 else_looks s o xs top below j q none e = pick (is_passing top) refl
   where
     pick : (b : Bool) → is_passing top ≡ b
-        → (stand (top ∷ below) ≡ Stand.Looks q) ⊎ ((m : ℕ) × (j ≡ Kind.Begin m q))
-    pick true p = inl (passing top below p ∙ (sym (passes o top below j (seen_at s o xs top j) p) ∙ e))
-    pick false p = subst (Leads o top below j) e (leads o top below j (seen_at s o xs top j) p none)
+        → (seq_at (top ∷ below) ≡ Some q) ⊎ ((m : ℕ) × (j ≡ Kind.Begin m q))
+    pick true p = inl (ap seq_of (passing top below p ∙ sym (passes o top below j (seen_at s o xs top j) p)) ∙ e)
+    pick false p = led (stand (stack_after o (top ∷ below) j (seen_at s o xs top j)))
+        (leads o top below j (seen_at s o xs top j) p none) e
+      where
+        led : (x : Stand) → Leads o top below j x → seq_of x ≡ Some q
+            → (seq_at (top ∷ below) ≡ Some q) ⊎ ((m : ℕ) × (j ≡ Kind.Begin m q))
+        led Stand.Rests l i = absurd (none-some q i)
+        led (Stand.Walks z) (inl h) i = inl (ap seq_of h ∙ i)
+        led (Stand.Walks z) (inr (m, h)) i = inr (m, subst (λ q. j ≡ Kind.Begin m q) (same_some (Some z) z q refl i) h)
+        led (Stand.Notes z n x) (since, p, (h, k)) i = inl (ap (λ top. seq_at (top ∷ below)) h ∙ i)
+        led (Stand.Moves step) l i = absurd (none-some q i)
 
 -- an actor's look-up was under way before its entry, or begins with it
 own_looks : (s : After) (o : Op) (xs : List Migrating) (top : Phase) (below : List Phase) (j : Kind) (q : ℕ)
-    → stand (stack_after o (top ∷ below) j (seen_at s o xs top j)) ≡ Stand.Looks q
-    → (stand (top ∷ below) ≡ Stand.Looks q) ⊎ ((m : ℕ) × (j ≡ Kind.Begin m q))
+    → seq_at (stack_after o (top ∷ below) j (seen_at s o xs top j)) ≡ Some q
+    → (seq_at (top ∷ below) ≡ Some q) ⊎ ((m : ℕ) × (j ≡ Kind.Begin m q))
 own_looks s o xs (Phase.Moves step n) below j q e = pick (coming_page (coming s o xs (Phase.Moves step n))) e
   where
     pick : (x : Option Migrating)
-        → stand (after_migration step x j (seen_at s o xs (Phase.Moves step n) j)) ≡ Stand.Looks q
-        → (Stand.Moves step ≡ Stand.Looks q) ⊎ ((m : ℕ) × (j ≡ Kind.Begin m q))
-    pick None g = absurd (rests_not q g)
+        → seq_at (after_migration step x j (seen_at s o xs (Phase.Moves step n) j)) ≡ Some q
+        → (seq_of (Stand.Moves step) ≡ Some q) ⊎ ((m : ℕ) × (j ≡ Kind.Begin m q))
+    pick None g = absurd (none-some q g)
     pick (Some x) g = absurd
-        (moves_not q (turned step j) (sym (turns step x j (seen_at s o xs (Phase.Moves step n) j)) ∙ g))
+        (none-some q (sym (ap seq_of (turns step x j (seen_at s o xs (Phase.Moves step n) j))) ∙ g))
 own_looks s o xs top below j q e = else_looks s o xs top below j q refl e
 
 -- look-ups under way after an entry
@@ -74,44 +77,44 @@ held_after c t e k s co = λ a. pick a (cases_eq a e.actor)
     se : Seen (Still e.kind e.actor (Lasting c t)) (known_after c t e k)
     se = seen_after c t e k s co
 
-    mine : (q : ℕ) → stand (stack_after s.turn.op (s.turn.top ∷ s.turn.below) e.kind
-        (seen_at t.after s.turn.op (t.going e.actor).pages s.turn.top e.kind)) ≡ Stand.Looks q
+    mine : (q : ℕ) → seq_at (stack_after s.turn.op (s.turn.top ∷ s.turn.below) e.kind
+        (seen_at t.after s.turn.op (t.going e.actor).pages s.turn.top e.kind)) ≡ Some q
         → Held (state_next c t e).after (known_after c t e k) e.actor s.turn.op q
     mine q g = by_way (own_looks t.after s.turn.op (t.going e.actor).pages s.turn.top s.turn.below e.kind q g)
       where
-        by_way : (stand (s.turn.top ∷ s.turn.below) ≡ Stand.Looks q) ⊎ ((m : ℕ) × (e.kind ≡ Kind.Begin m q))
+        by_way : (seq_at (s.turn.top ∷ s.turn.below) ≡ Some q) ⊎ ((m : ℕ) × (e.kind ≡ Kind.Begin m q))
             → Held (state_next c t e).after (known_after c t e k) e.actor s.turn.op q
-        by_way (inl h) = let was : stand (t.going e.actor).stack ≡ Stand.Looks q = ap stand s.turn.is_stack ∙ h in
+        by_way (inl h) = let was : seq_at (t.going e.actor).stack ≡ Some q = ap seq_at s.turn.is_stack ∙ h in
             held_on c t e k s se e.actor s.turn.op q s.turn.is_op was (co.held e.actor s.turn.op s.turn.is_op q was)
         by_way (inr (m, h)) = held_new c t e k s se m q h
 
     own : (o : Op) → op_at c e.actor (going_next c t.after e.actor (t.going e.actor) e.kind).index ≡ Some o → (q : ℕ)
-        → stand (going_next c t.after e.actor (t.going e.actor) e.kind).stack ≡ Stand.Looks q
+        → seq_at (going_next c t.after e.actor (t.going e.actor) e.kind).stack ≡ Some q
         → Held (state_next c t e).after (known_after c t e k) e.actor o q
-    own = subst (λ g. (o : Op) → op_at c e.actor g.index ≡ Some o → (q : ℕ) → stand g.stack ≡ Stand.Looks q
+    own = subst (λ g. (o : Op) → op_at c e.actor g.index ≡ Some o → (q : ℕ) → seq_at g.stack ≡ Some q
         → Held (state_next c t e).after (known_after c t e k) e.actor o q)
         (sym (going_is c t.after e.actor (t.going e.actor) e.kind s.turn.op s.turn.top s.turn.below s.turn.is_op
         s.turn.is_stack))
-        (going_holds (λ o x us. (q : ℕ) → x ≡ Stand.Looks q
+        (going_holds (λ o x us. (q : ℕ) → seq_of x ≡ Some q
         → Held (state_next c t e).after (known_after c t e k) e.actor o q)
         c e.actor (t.going e.actor).index s.turn.op
         (stack_after s.turn.op (s.turn.top ∷ s.turn.below) e.kind
         (seen_at t.after s.turn.op (t.going e.actor).pages s.turn.top e.kind))
         (recorded s.turn.top (seen_at t.after s.turn.op (t.going e.actor).pages s.turn.top e.kind).page
         (t.going e.actor).pages e.kind)
-        s.turn.is_op (λ o us q g. absurd (rests_not q g)) mine)
+        s.turn.is_op (λ o us q g. absurd (none-some q g)) mine)
 
     pick : (a : ℕ) → (a ≡ e.actor) ⊎ (a ≡ e.actor → ⊥) → (o : Op)
         → op_at c a ((state_next c t e).going a).index ≡ Some o
-        → (q : ℕ) → stand ((state_next c t e).going a).stack ≡ Stand.Looks q
+        → (q : ℕ) → seq_at ((state_next c t e).going a).stack ≡ Some q
         → Held (state_next c t e).after (known_after c t e k) a o q
     pick a (inl i) = subst (λ a. (o : Op) → op_at c a ((state_next c t e).going a).index ≡ Some o
-        → (q : ℕ) → stand ((state_next c t e).going a).stack ≡ Stand.Looks q
+        → (q : ℕ) → seq_at ((state_next c t e).going a).stack ≡ Some q
         → Held (state_next c t e).after (known_after c t e k) a o q) (sym i)
-        (subst (λ g. (o : Op) → op_at c e.actor g.index ≡ Some o → (q : ℕ) → stand g.stack ≡ Stand.Looks q
+        (subst (λ g. (o : Op) → op_at c e.actor g.index ≡ Some o → (q : ℕ) → seq_at g.stack ≡ Some q
         → Held (state_next c t e).after (known_after c t e k) e.actor o q)
         (sym (here_at t.going e.actor (going_next c t.after e.actor (t.going e.actor) e.kind))) own)
-    pick a (inr ne) = subst (λ g. (o : Op) → op_at c a g.index ≡ Some o → (q : ℕ) → stand g.stack ≡ Stand.Looks q
+    pick a (inr ne) = subst (λ g. (o : Op) → op_at c a g.index ≡ Some o → (q : ℕ) → seq_at g.stack ≡ Some q
         → Held (state_next c t e).after (known_after c t e k) a o q)
         (sym (other_at t.going e.actor a (going_next c t.after e.actor (t.going e.actor) e.kind) ne))
         (λ o i q g. held_on c t e k s se a o q i g (co.held a o i q g))
@@ -135,7 +138,7 @@ keeps c t e k s co = let se : Seen (Still e.kind e.actor (Lasting c t)) (known_a
 at_first : (c : Program) → Commits c known_start (state_start c)
 at_first c = record {
   before = tt;
-  held = λ a o i q e. absurd (rests_not q (sym (first_rests (op_at c a 0)) ∙ e));
+  held = λ a o i q e. absurd (none-some q (sym (ap seq_of (first_rests (op_at c a 0))) ∙ e));
   migrate = none_migrate c;
   none_stale = refl;
 }

@@ -22,9 +22,9 @@ use Rattle.hm_protocol.specs.Known.{Known, known_start}
 use Rattle.hm_protocol.specs.Tests.{entry_right}
 use Rattle.hm_protocol.specs.Projection.{project, events_of, events_in, top_of}
 use Rattle.hm_protocol.specs.Laws.{IsKept}
-use Rattle.hm_protocol.proofs.Settling.{settles, first_settles}
-use Rattle.hm_protocol.proofs.Stands.{stand}
-use Rattle.hm_protocol.proofs.Entries.{going_is, known_after, events_are}
+use Rattle.hm_protocol.proofs.Leading.{notes_none}
+use Rattle.hm_protocol.proofs.Stands.{stand, has_noted}
+use Rattle.hm_protocol.proofs.Entries.{first_rests, going_is, known_after, events_are}
 use Rattle.hm_protocol.proofs.AllMigrate.{AllMigrate, turn_from, all_migrate, none_migrate}
 use Rattle.hm_protocol.proofs.FoundRights.{Right, settled, noted_all, others, right_on, at_passing, own_events, at_walk}
 use Rattle.hm_protocol.proofs.WriteSets.{is_write_set, harmless, calm}
@@ -60,7 +60,7 @@ own c k s u t a i o xs (Phase.Settle g) below after j known d h = at_passing (k.
 own c k s u t a i o xs (Phase.Lost v g) below after j known d h = at_passing (k.looks a) _ i o xs _
     (Phase.Lost v g) below j (seen_at s o xs (Phase.Lost v g) j) refl h
 own c k s u t a i o xs top below after j known d h =
-    settled _ (Some o) _ (settles o top below j (seen_at s o xs top j) refl refl)
+    settled _ (Some o) _ (notes_none o top below j (seen_at s o xs top j) refl refl)
 
 -- ---- an entry
 
@@ -125,4 +125,4 @@ keeps c t e k s kn = (
 pub entry_right_kept : IsKept Rule.EntryRight
 entry_right_kept c sc h legal = never entry_right known_start (project c h)
     (watched c entry_right (λ k t. KnowsRight c k t × AllMigrate c k t) sc (keeps c)
-    (λ b. settled _ (op_at c b 0) _ (first_settles (op_at c b 0)), none_migrate c) h legal).0
+    (λ b. settled _ (op_at c b 0) _ (ap has_noted (first_rests (op_at c b 0))), none_migrate c) h legal).0

@@ -25,9 +25,9 @@ use Rattle.hm_history.specs.declared.phases.Next.TheVariants.{Do}
 use Rattle.hm_laws.specs.Past.{Past}
 use Rattle.hm_laws.specs.Facts.{facts, HoldsAll, is_device_access}
 use Rattle.hm_protocol.proofs.Steps.{by, by_thread}
-use Rattle.hm_protocol.proofs.Doing.{Doing, is_passing, doing, passes, passing}
+use Rattle.hm_protocol.proofs.Stands.{Stand, is_passing, stand, has_noted, passes, passing}
 use Rattle.hm_protocol.proofs.BeginFirst.{mirror_of, walk_is_device}
-use Rattle.hm_protocol.proofs.Settling.{is_settled, first_settles}
+use Rattle.hm_protocol.proofs.Entries.{first_rests}
 use Rattle.hm_protocol.proofs.Migrated.{nothing_comes}
 use Rattle.hm_protocol.proofs.Founds.{other_found, walk_finds, walk_suits}
 
@@ -38,12 +38,12 @@ piece_page (Some o) n = page_of (op_piece o n).0
 
 -- of an actor: if it has noted a writable place, it has not found the page for reads
 pub record Right (looks : ℕ → Look) (x : Option Op) (g : Going) : Type 0 where
-  pub noted : (n : ℕ) (y : Place) → doing g.stack ≡ Doing.Notes n y → (is_passing (top_of g.stack) ≡ false)
+  pub noted : (q n : ℕ) (y : Place) → stand g.stack ≡ Stand.Notes q n y → (is_passing (top_of g.stack) ≡ false)
       × (writable y ≡ true → is_noted (piece_page x n) false (looks (mirror_of x)).found ≡ false)
 
 -- an actor that has noted none
-pub settled : (looks : ℕ → Look) (x : Option Op) (g : Going) → is_settled (doing g.stack) ≡ true → Right looks x g
-settled looks x g h = record { noted = λ n y e. absurd (false≢true (sym (ap is_settled e) ∙ h)) }
+pub settled : (looks : ℕ → Look) (x : Option Op) (g : Going) → has_noted (stand g.stack) ≡ false → Right looks x g
+settled looks x g h = record { noted = λ q n y e. absurd (true≢false (sym (ap has_noted e) ∙ h)) }
 
 -- after some events of a thread
 abbrev pub noted_all : Known → ℕ → List Event → Known
@@ -54,8 +54,8 @@ pub others : (k : Known) (a b : ℕ) (x : Option Op) (g : Going) → (b ≡ a �
     → Right (k.looks b) x g → Right ((noted_all k a es).looks b) x g
 others k a b x g ne [] h = h
 others k a b x g ne (e ∷ es) h = others (known_next k (by a e)) a b x g ne es (record {
-  noted = λ n y d. let z : (is_passing (top_of g.stack) ≡ false)
-      × (writable y ≡ true → is_noted (piece_page x n) false (k.looks b (mirror_of x)).found ≡ false) = h.noted n y d in
+  noted = λ q n y d. let z : (is_passing (top_of g.stack) ≡ false)
+      × (writable y ≡ true → is_noted (piece_page x n) false (k.looks b (mirror_of x)).found ≡ false) = h.noted q n y d in
       (z.0, λ w. other_found k a e b (mirror_of x) (piece_page x n) false ne (z.1 w));
 })
 
@@ -63,7 +63,7 @@ others k a b x g ne (e ∷ es) h = others (known_next k (by a e)) a b x g ne es 
 pub right_on : (c : Program) (looks : ℕ → Look) (a i : ℕ) (o : Op) (st : List Phase) (xs : List Migrating)
     → op_at c a i ≡ Some o → Right looks (Some o) (record { index = i; stack = st; pages = xs })
     → Right looks (op_at c a (going_on c a i st xs).index) (going_on c a i st xs)
-right_on c looks a i o [] xs e h = settled looks _ _ (first_settles (op_at c a (i + 1)))
+right_on c looks a i o [] xs e h = settled looks _ _ (ap has_noted (first_rests (op_at c a (i + 1))))
 right_on c looks a i o (y ∷ ys) xs e h = subst
     (λ x. Right looks x (record { index = i; stack = y ∷ ys; pages = xs })) (sym e) h
 
@@ -75,10 +75,10 @@ pub at_passing : (was looks : ℕ → Look) (i : ℕ) (o : Op) (xs ys : List Mig
     → Right was (Some o) (record { index = i; stack = top ∷ below; pages = xs })
     → Right looks (Some o) (record { index = i; stack = stack_after o (top ∷ below) j seen; pages = ys })
 at_passing was looks i o xs ys top below j seen p h = record {
-  noted = λ n y e. absurd (true≢false (sym p ∙ (h.noted n y (before e)).0));
+  noted = λ q n y e. absurd (true≢false (sym p ∙ (h.noted q n y (before e)).0));
 }
   where
-    before : {d : Doing} → doing (stack_after o (top ∷ below) j seen) ≡ d → doing (top ∷ below) ≡ d
+    before : {d : Stand} → stand (stack_after o (top ∷ below) j seen) ≡ d → stand (top ∷ below) ≡ d
     before e = passing top below p ∙ (sym (passes o top below j seen p) ∙ e)
 
 -- the events of an entry, with those before its own
@@ -105,7 +105,7 @@ pub at_walk : (c : Program) (k : Known) (s u : After) (t : Past) (a i : ℕ) (o 
       pages = ys;
     })
 at_walk c k s u t a i o xs ys n since q p below after known d = record {
-  noted = λ e y h. (
+  noted = λ l e y h. (
     refl,
     λ w. subst (λ e. is_noted (page_of (op_piece o e).0) false
         ((noted_all k a (own_events s u a o xs (Phase.Decide (Touch.Walk n since q) ∷ below) after
@@ -114,10 +114,10 @@ at_walk c k s u t a i o xs ys n since q p below after known d = record {
   );
 }
   where
-    same_piece : {x y : ℕ} {z w : Place} → Doing.Notes x z ≡ Doing.Notes y w → x ≡ y
+    same_piece : {u v x y : ℕ} {z w : Place} → Stand.Notes u x z ≡ Stand.Notes v y w → x ≡ y
     same_piece h = cc
 
-    same_place : {x y : ℕ} {z w : Place} → Doing.Notes x z ≡ Doing.Notes y w → z ≡ w
+    same_place : {u v x y : ℕ} {z w : Place} → Stand.Notes u x z ≡ Stand.Notes v y w → z ≡ w
     same_place h = cc
 
     finds : writable (s.places.place (touch_proc s o) (touch_page o (Touch.Walk n since q))) ≡ true

@@ -26,7 +26,7 @@ use Rattle.hm_protocol.specs.Known.{Known}
 use Rattle.hm_protocol.proofs.Steps.{Step}
 use Rattle.hm_protocol.proofs.Tellings.{Tells, told_now, told_seq, is_interval}
 use Rattle.hm_protocol.proofs.ComesFrom.{ComesFrom}
-use Rattle.hm_protocol.proofs.Stands.{Stand, stand}
+use Rattle.hm_protocol.proofs.Stands.{seq_at}
 use Rattle.hm_protocol.proofs.Seeing.{Seen}
 use Rattle.hm_protocol.proofs.Entries.{known_after}
 use Rattle.hm_protocol.proofs.AllMigrate.{turn_from}
@@ -87,7 +87,7 @@ still_lasts j a W b m w h = w
 -- one that was under way
 pub held_on : (c : Program) (t : State) (e : Entry) (k : Known) → Step c t e
     → Seen (Still e.kind e.actor (Lasting c t)) (known_after c t e k)
-    → (a : ℕ) (o : Op) (q : ℕ) → op_at c a (t.going a).index ≡ Some o → stand (t.going a).stack ≡ Stand.Looks q
+    → (a : ℕ) (o : Op) (q : ℕ) → op_at c a (t.going a).index ≡ Some o → seq_at (t.going a).stack ≡ Some q
     → Held t.after k a o q → Held (state_next c t e).after (known_after c t e k) a o q
 held_on c t e k s se a o q is_op looks h = record {
   page = h.page;

@@ -1,7 +1,8 @@
--- Where an entry leads, at a phase that does not pass on: a look-up goes on or begins, or a migration begins.
-use Rattle.std.proofs.Common.{refl, sym, subst, inl, inr}
+-- Where an entry leads, at a phase that does not pass on: a look-up goes on or begins or notes a place, or a migration
+-- begins.
+use Rattle.std.proofs.Common.{refl, ap, sym, subst, ◌∙◌, inl, inr}
 use Rattle.std.proofs.lemmas.Bool.{true≢false}
-use Rattle.std.specs.Prelude.{◌≡◌, ℕ, ◌+◌, ◌⊎◌, Bool, true, false, nat_lt, if◌then◌else◌, Option, length, ⊤}
+use Rattle.std.specs.Prelude.{◌≡◌, ℕ, ◌+◌, ◌⊎◌, Bool, true, false, nat_lt, if◌then◌else◌, Option, Some, None, length, ⊤}
 use Rattle.std.specs.Prelude.{List, [], ◌∷◌}
 use Rattle.hm_base.specs.declared.Frame.{Frame}
 use Rattle.hm_base.specs.declared.Place.{Place}
@@ -10,22 +11,25 @@ use Rattle.hm_history.specs.Kernel.Operation.{op_pieces, is_migration}
 use Rattle.hm_history.specs.Kernel.Stacks.{piece_ends, with_guard, read_locked, after_begin, after_locked}
 use Rattle.hm_history.specs.Kernel.Stacks.{after_ready, after_answer, after_pages, first_touch, is_added, after_piece}
 use Rattle.hm_history.specs.Kernel.Stacks.{after_fetched, after_walk, with_frame_taken, after_decide}
-use Rattle.hm_history.specs.Kernel.Stacks.{after_taken}
+use Rattle.hm_history.specs.Kernel.Stacks.{after_taken, after_migration}
 use Rattle.hm_history.specs.Kernel.Stacks.{after_give_up, after_frames}
 use Rattle.hm_history.specs.Kernel.Stacks.{piece_of, piece_of_given_up, stack_after}
 use Rattle.hm_history.specs.declared.KeptAt.{KeptAt}
 use Rattle.hm_history.specs.declared.Kind.{Kind}
+use Rattle.hm_history.specs.declared.phases.Migrating.{Migrating}
 use Rattle.hm_history.specs.declared.phases.MoveStep.{MoveStep}
 use Rattle.hm_history.specs.declared.phases.Seen.{Seen}
 use Rattle.hm_history.specs.declared.phases.Touch.{Touch}
 use Rattle.hm_history.specs.declared.phases.Body.{Body}
 use Rattle.hm_history.specs.declared.phases.Phase.{Phase}
-use Rattle.hm_protocol.proofs.Stands.{Stand, of_touch, is_passing, is_moves, stand}
+use Rattle.hm_protocol.proofs.Stands.{Stand, of_touch, is_passing, is_moves, stand, has_noted, turns}
 
--- where it leads: a look-up goes on or begins, and a migration begins
+-- where it leads: a look-up goes on or begins, it notes a place where a walk ends, and a migration begins
 abbrev pub Leads : Op → Phase → List Phase → Kind → Stand → Type 0
 Leads o top below k Stand.Rests = ⊤
-Leads o top below k (Stand.Looks q) = (stand (top ∷ below) ≡ Stand.Looks q) ⊎ ((m : ℕ) × (k ≡ Kind.Begin m q))
+Leads o top below k (Stand.Walks q) = (stand (top ∷ below) ≡ Stand.Walks q) ⊎ ((m : ℕ) × (k ≡ Kind.Begin m q))
+Leads o top below k (Stand.Notes q n x) =
+    (since p : ℕ) × ((top ≡ Phase.Decide (Touch.Walk n since q)) × (k ≡ Kind.Runlock p))
 Leads o top below k (Stand.Moves step) =
     (top ≡ Phase.Ready) × ((step ≡ MoveStep.FreezeOthers) × (is_migration o ≡ true))
 
@@ -40,7 +44,7 @@ ends o n = by (nat_lt (n + 1) (length (op_pieces o)))
     by true = refl
     by false = refl
 
-guarded : (k : Kind) (seen : Seen) (body : Body) (below : List Phase)
+pub guarded : (k : Kind) (seen : Seen) (body : Body) (below : List Phase)
     → stand (with_guard k seen body below) ≡ stand below
 guarded (Kind.Start p r q) seen body below = refl
 guarded k seen body below = refl
@@ -116,13 +120,13 @@ fetched_leads o old below k seen = by (is_added k)
     by true = tt
     by false = piece_leads o (Phase.Fetched old) below 0 Touch.Sole k seen tt
 
-walk_leads : (o : Op) (touch : Touch) (below : List Phase) (k : Kind) (x : Place)
-    → Leads o (Phase.Decide touch) below k (stand (after_walk touch x ∷ []))
-walk_leads o (Touch.Walk n since q) below k x = inl refl
-walk_leads o (Touch.Cpu n) below k x = tt
-walk_leads o Touch.Sole below k x = tt
+walk_leads : (o : Op) (touch : Touch) (below : List Phase) (p : ℕ) (x : Place)
+    → Leads o (Phase.Decide touch) below (Kind.Runlock p) (stand (after_walk touch x ∷ []))
+walk_leads o (Touch.Walk n since q) below p x = (since, p, (refl, refl))
+walk_leads o (Touch.Cpu n) below p x = tt
+walk_leads o Touch.Sole below p x = tt
 
-framed : (touch : Touch) (g : Frame) (x : Place) → stand (with_frame_taken touch g x ∷ []) ≡ of_touch touch
+pub framed : (touch : Touch) (g : Frame) (x : Place) → stand (with_frame_taken touch g x ∷ []) ≡ of_touch touch
 framed touch g Place.Zero = refl
 framed touch g x = refl
 
@@ -131,7 +135,7 @@ decide_leads : (o : Op) (touch : Touch) (below : List Phase) (k : Kind) (seen : 
 decide_leads o touch below (Kind.Failed x at n c) seen = by_stand o (Phase.Decide touch) below (Kind.Failed x at n c)
     Stand.Rests (piece_ends o (piece_of touch)) (ends o (piece_of touch)) tt
 decide_leads o touch below (Kind.Retry m) seen = tt
-decide_leads o touch below (Kind.Runlock p) seen = walk_leads o touch below (Kind.Runlock p) seen.place
+decide_leads o touch below (Kind.Runlock p) seen = walk_leads o touch below p seen.place
 decide_leads o touch below (Kind.Set m v f w from) seen = tt
 decide_leads o touch below (Kind.Place p v x) seen =
     goes_on o (Phase.Decide touch) below (Kind.Place p v x) touch refl
@@ -186,3 +190,26 @@ leads o (Phase.GiveUp touch) below k seen h g = give_up_leads o touch below k
 leads o (Phase.Frames v n) below k seen h g = frames_leads o v n below k seen
 leads o (Phase.Moves step v) below k seen h g = absurd (true≢false g)
 leads o top below k seen h g = absurd (true≢false h)
+
+-- ---- where a place is noted
+
+-- a walk has found its place
+abbrev pub notes_now : Phase → Kind → Bool
+notes_now (Phase.Decide (Touch.Walk n since q)) (Kind.Runlock p) = true
+notes_now top k = false
+
+migrates_on : (step : MoveStep) (x : Option Migrating) (k : Kind) (seen : Seen)
+    → has_noted (stand (after_migration step x k seen)) ≡ false
+migrates_on step None k seen = refl
+migrates_on step (Some x) k seen = ap has_noted (turns step x k seen)
+
+-- no other entry leads there
+pub notes_none : (o : Op) (top : Phase) (below : List Phase) (k : Kind) (seen : Seen) → is_passing top ≡ false
+    → notes_now top k ≡ false → has_noted (stand (stack_after o (top ∷ below) k seen)) ≡ false
+notes_none o (Phase.Moves step v) below k seen h e = migrates_on step seen.page k seen
+notes_none o top below k seen h e = pick (stand (stack_after o (top ∷ below) k seen)) (leads o top below k seen h refl)
+  where
+    pick : (x : Stand) → Leads o top below k x → has_noted x ≡ false
+    pick (Stand.Notes q n x) (since, p, (i, j)) = absurd (true≢false
+        (sym (ap (λ y. notes_now y k) i ∙ ap (notes_now (Phase.Decide (Touch.Walk n since q))) j) ∙ e))
+    pick x l = refl

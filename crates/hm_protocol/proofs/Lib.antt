@@ -18,7 +18,6 @@ mod DueFaults
 mod OtherDues
 mod ComesFrom
 mod Stands
-mod Doing
 mod Leading
 mod Entries
 mod Opening
@@ -34,7 +33,6 @@ mod HeldOn
 mod Commits
 mod Looks
 mod BeginFirst
-mod Settling
 mod Founds
 mod FoundRights
 mod WriteSets

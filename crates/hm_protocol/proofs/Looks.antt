@@ -7,7 +7,7 @@ use Rattle.hm_base.specs.declared.Frame.{Frame}
 use Rattle.hm_base.specs.declared.Place.{Place}
 use Rattle.hm_base.specs.declared.ops.Op.{Op}
 use Rattle.hm_history.specs.Kernel.Operation.{op_mirror}
-use Rattle.hm_history.specs.Kernel.Stacks.{stack_after, with_guard, with_frame_taken, after_taken}
+use Rattle.hm_history.specs.Kernel.Stacks.{stack_after, after_taken}
 use Rattle.hm_history.specs.declared.TableRight.{TableRight}
 use Rattle.hm_history.specs.declared.Kind.{Kind}
 use Rattle.hm_history.specs.declared.phases.Seen.{Seen}
@@ -22,7 +22,8 @@ use Rattle.hm_protocol.specs.Known.{Stage, Look, Known}
 use Rattle.hm_protocol.specs.Noted.{noted, known_next, is_begun}
 use Rattle.hm_protocol.proofs.Fields.{at_set, at_end, at_refused, held_keeps, pass_keeps}
 use Rattle.hm_protocol.proofs.Steps.{by}
-use Rattle.hm_protocol.proofs.Doing.{Doing, of_touch, doing, passes}
+use Rattle.hm_protocol.proofs.Stands.{of_touch, stand, is_walking, walks, passes}
+use Rattle.hm_protocol.proofs.Leading.{guarded, framed}
 use Rattle.hm_protocol.proofs.DueKinds.{may}
 
 -- ---- what an event makes of stages
@@ -106,57 +107,48 @@ ends_walk (Phase.Decide (Touch.Walk n since q)) (Kind.Runlock p) = true
 ends_walk (Phase.GiveUp (Some (Touch.Walk n since q))) (Kind.Failed x at len why) = true
 ends_walk top k = false
 
-pub opens : (k : Kind) (seen : Seen) (body : Body) (st : List Phase) → doing (with_guard k seen body st) ≡ doing st
-opens (Kind.Start p r q) seen body st = refl
-opens k seen body st = refl
-
-takes : (touch : Touch) (g : Frame) (x : Place) → doing (with_frame_taken touch g x ∷ []) ≡ of_touch touch
-takes touch g Place.Zero = refl
-takes touch g x = refl
-
-pub takes_on : (touch : Touch) (g : Frame) (over : Place) (k : Kind)
-    → doing (after_taken touch g over k) ≡ of_touch touch
+takes_on : (touch : Touch) (g : Frame) (over : Place) (k : Kind) → stand (after_taken touch g over k) ≡ of_touch touch
 takes_on touch g over (Kind.Copied f h n) = refl
 takes_on touch g over k = refl
 
 -- a walk goes on, if the entry does not end it
 pub goes_on : (o : Op) (top : Phase) (below : List Phase) (k : Kind) (seen : Seen) → may o top k ≡ true
     → ends_walk top k ≡ false
-    → doing (top ∷ below) ≡ Doing.Walks → doing (stack_after o (top ∷ below) k seen) ≡ Doing.Walks
+    → walks (top ∷ below) ≡ true → walks (stack_after o (top ∷ below) k seen) ≡ true
 goes_on o (Phase.Begun n since q) below (Kind.Rlock p) seen h e d = refl
 goes_on o (Phase.Begun n since q) below k seen h e d = absurd (false≢true h)
 goes_on o (Phase.Decide (Touch.Walk n since q)) below (Kind.Place p v x) seen h e d = refl
-goes_on o (Phase.Decide (Touch.Walk n since q)) below (Kind.Take g) seen h e d = takes
-    (Touch.Walk n since q) g seen.place
+goes_on o (Phase.Decide (Touch.Walk n since q)) below (Kind.Take g) seen h e d =
+    ap is_walking (framed (Touch.Walk n since q) g seen.place)
 goes_on o (Phase.Decide (Touch.Walk n since q)) below (Kind.Start p r z) seen h e d = refl
 goes_on o (Phase.Decide (Touch.Walk n since q)) below (Kind.Failed x at len why) seen h e d = absurd (true≢false e)
 goes_on o (Phase.Decide (Touch.Walk n since q)) below (Kind.Retry m) seen h e d = absurd (true≢false e)
 goes_on o (Phase.Decide (Touch.Walk n since q)) below (Kind.Runlock p) seen h e d = absurd (true≢false e)
 goes_on o (Phase.Decide (Touch.Walk n since q)) below k seen h e d = absurd (false≢true h)
-goes_on o (Phase.Taken touch g x) below k seen h e d = takes_on touch g x k ∙ d
-goes_on o (Phase.Armed touch g x) below k seen h e d = opens k seen (Body.Replace x g) (Phase.Decide touch ∷ []) ∙ d
+goes_on o (Phase.Taken touch g x) below k seen h e d = ap is_walking (takes_on touch g x k) ∙ d
+goes_on o (Phase.Armed touch g x) below k seen h e d =
+    ap is_walking (guarded k seen (Body.Replace x g) (Phase.Decide touch ∷ [])) ∙ d
 goes_on o (Phase.GiveUp (Some (Touch.Walk n since q))) below (Kind.Failed x at len why) seen h e d = absurd
     (true≢false e)
 goes_on o (Phase.GiveUp (Some (Touch.Walk n since q))) below k seen h e d = absurd (false≢true h)
-goes_on o (Phase.Guard p r met told body) below k seen h e d = passes o
-    (Phase.Guard p r met told body) below k seen refl ∙ d
-goes_on o (Phase.Drop f) below k seen h e d = passes o (Phase.Drop f) below k seen refl ∙ d
-goes_on o (Phase.Emptying f what) below k seen h e d = passes o (Phase.Emptying f what) below k seen refl ∙ d
-goes_on o (Phase.Copy f g n) below k seen h e d = passes o (Phase.Copy f g n) below k seen refl ∙ d
-goes_on o (Phase.Copied f g) below k seen h e d = passes o (Phase.Copied f g) below k seen refl ∙ d
-goes_on o (Phase.Finish f to) below k seen h e d = passes o (Phase.Finish f to) below k seen refl ∙ d
-goes_on o (Phase.Settle g) below k seen h e d = passes o (Phase.Settle g) below k seen refl ∙ d
-goes_on o (Phase.Lost v g) below k seen h e d = passes o (Phase.Lost v g) below k seen refl ∙ d
-goes_on o top below k seen h e d = cc
+goes_on o (Phase.Guard p r met told body) below k seen h e d = ap is_walking (passes o (Phase.Guard p r met told body) below k seen refl) ∙ d
+goes_on o (Phase.Drop f) below k seen h e d = ap is_walking (passes o (Phase.Drop f) below k seen refl) ∙ d
+goes_on o (Phase.Emptying f what) below k seen h e d = ap is_walking (passes o (Phase.Emptying f what) below k seen refl) ∙ d
+goes_on o (Phase.Copy f g n) below k seen h e d = ap is_walking (passes o (Phase.Copy f g n) below k seen refl) ∙ d
+goes_on o (Phase.Copied f g) below k seen h e d = ap is_walking (passes o (Phase.Copied f g) below k seen refl) ∙ d
+goes_on o (Phase.Finish f to) below k seen h e d = ap is_walking (passes o (Phase.Finish f to) below k seen refl) ∙ d
+goes_on o (Phase.Settle g) below k seen h e d = ap is_walking (passes o (Phase.Settle g) below k seen refl) ∙ d
+goes_on o (Phase.Lost v g) below k seen h e d = ap is_walking (passes o (Phase.Lost v g) below k seen refl) ∙ d
+goes_on o top below k seen h e d = absurd (false≢true d)
 
 -- nothing is set while a walk goes on
 pub sets_after : (o : Op) (top : Phase) (below : List Phase) (m v from : ℕ) (f : Option Frame) (w : TableRight)
-    → may o top (Kind.Set m v f w from) ≡ true → doing (top ∷ below) ≡ Doing.Walks → ⊥
-sets_after o (Phase.Moves step n) below m v from f w h d = cc
-sets_after o (Phase.Noted n since q x) below m v from f w h d = cc
-sets_after o (Phase.Decide (Touch.Cpu n)) below m v from f w h d = cc
+    → may o top (Kind.Set m v f w from) ≡ true → walks (top ∷ below) ≡ true → ⊥
+sets_after o (Phase.Moves step n) below m v from f w h d = false≢true d
+sets_after o (Phase.Noted n since q x) below m v from f w h d = false≢true d
+sets_after o (Phase.Decide (Touch.Cpu n)) below m v from f w h d = false≢true d
 sets_after o (Phase.Decide (Touch.Walk n since q)) below m v from f w h d = false≢true h
-sets_after o (Phase.Decide Touch.Sole) below m v from f w h d = cc
+sets_after o (Phase.Decide Touch.Sole) below m v from f w h d = false≢true d
 sets_after o (Phase.GiveUp None) below m v from f w h d = false≢true h
 sets_after o (Phase.GiveUp (Some (Touch.Cpu n))) below m v from f w h d = false≢true h
 sets_after o (Phase.GiveUp (Some (Touch.Walk n since q))) below m v from f w h d = false≢true h
@@ -165,7 +157,7 @@ sets_after o top below m v from f w h d = false≢true h
 
 -- a look-up begins in the mirror of its operation, and walks next
 pub begins_now : (o : Op) (top : Phase) (below : List Phase) (m q : ℕ) (seen : Seen) → may o top (Kind.Begin m q) ≡ true
-    → (m ≡ op_mirror o) × (doing (stack_after o (top ∷ below) (Kind.Begin m q) seen) ≡ Doing.Walks)
+    → (m ≡ op_mirror o) × (walks (stack_after o (top ∷ below) (Kind.Begin m q) seen) ≡ true)
 begins_now o (Phase.Piece n) below m q seen h = (eqb-true m (op_mirror o) h, refl)
 begins_now o (Phase.Fetched old) below m q seen h = (eqb-true m (op_mirror o) h, refl)
 begins_now o (Phase.Decide (Touch.Cpu n)) below m q seen h = absurd (false≢true h)

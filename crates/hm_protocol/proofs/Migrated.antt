@@ -57,9 +57,6 @@ same_step x y e = ap (λ (z : Stand). elim z [ Stand.Moves step ↦ step | _ ↦
 pub rests_not : (x : MoveStep) → Stand.Rests ≡ Stand.Moves x → ⊥
 rests_not x e = no_test (ap (λ (z : Stand). elim z [ Stand.Moves step ↦ true | _ ↦ false ]) e)
 
-looks_not : (q : ℕ) (x : MoveStep) → Stand.Looks q ≡ Stand.Moves x → ⊥
-looks_not q x e = no_test (ap (λ (z : Stand). elim z [ Stand.Moves step ↦ true | _ ↦ false ]) e)
-
 -- ---- at the cursor of a migration
 
 answers_not : (s : After) (o : Op) (xs : List Migrating) (step : MoveStep) (n : ℕ) (at : MoveStep × Migrating)

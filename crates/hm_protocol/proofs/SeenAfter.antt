@@ -28,7 +28,7 @@ use Rattle.hm_protocol.proofs.Fits.{events_fit, comes_ok, erased_ok}
 use Rattle.hm_protocol.proofs.Steps.{Step, by, by_thread}
 use Rattle.hm_protocol.proofs.Calls.{cores}
 use Rattle.hm_protocol.proofs.ComesFrom.{ComesFrom, SetAt}
-use Rattle.hm_protocol.proofs.Stands.{Stand, stand}
+use Rattle.hm_protocol.proofs.Stands.{Stand, stand, seq_at}
 use Rattle.hm_protocol.proofs.Unmet.{Unmet, AllBefore}
 use Rattle.hm_protocol.proofs.Seeing.{begun_unmet, Seen, Sets, seen_next, unheard}
 use Rattle.hm_protocol.proofs.Moved.{in_turn}
@@ -46,14 +46,14 @@ pub record Held (s : After) (k : Known) (a : ℕ) (o : Op) (q : ℕ) : Type 0 wh
 -- each look-up under way is so
 abbrev pub AllHeld : Program → Known → State → Type 0
 AllHeld c k t = (a : ℕ) (o : Op) → op_at c a (t.going a).index ≡ Some o → (q : ℕ)
-    → stand (t.going a).stack ≡ Stand.Looks q → Held t.after k a o q
+    → seq_at (t.going a).stack ≡ Some q → Held t.after k a o q
 
 -- a look-up of the actor in the mirror is under way with the interval's sequence
 pub record Lasting (c : Program) (t : State) (a m : ℕ) : Type 0 where
   pub op : Op
   pub seq : ℕ
   pub is_op : op_at c a (t.going a).index ≡ Some op
-  pub looks : stand (t.going a).stack ≡ Stand.Looks seq
+  pub looks : seq_at (t.going a).stack ≡ Some seq
   pub mirror : m ≡ op_mirror op
   pub same : interval_seq t.after.sequences m ≡ seq
 
@@ -123,7 +123,7 @@ after_events W s u a o xs stack after j k sets se =
 -- who sets a table: a look-up under way, or another that is none
 set_ok : (W : ℕ → ℕ → Type 0) (s : After) (a : ℕ) (o : Op) (xs : List Migrating) (top : Phase) (below : List Phase)
     (m v from : ℕ) (f : Option Frame) (w : TableRight) (k : Known)
-    → ((q : ℕ) → stand (top ∷ below) ≡ Stand.Looks q → m ≡ op_mirror o → interval_seq s.sequences m ≡ q → W a m)
+    → ((q : ℕ) → seq_at (top ∷ below) ≡ Some q → m ≡ op_mirror o → interval_seq s.sequences m ≡ q → W a m)
     → ((step : MoveStep) → stand (top ∷ below) ≡ Stand.Moves step → Migrates o step (k.moves a) xs)
     → Seen W (fold known_next k (by_thread a (comes_to s o xs top (Kind.Set m v f w from))))
     → SetAt s o xs top m v w
@@ -195,7 +195,7 @@ seen_after c t e k s co =
           op = s.turn.op;
           seq = z;
           is_op = s.turn.is_op;
-          looks = ap stand s.turn.is_stack ∙ g;
+          looks = ap seq_at s.turn.is_stack ∙ g;
           mirror = i;
           same = h;
         })

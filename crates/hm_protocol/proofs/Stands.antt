@@ -5,6 +5,7 @@ use Rattle.std.specs.Prelude.{◌≡◌, ℕ, ◌+◌, Bool, true, false, nat_lt
 use Rattle.std.specs.Prelude.{List, [], ◌∷◌}
 use Rattle.hm_base.specs.Pages.{Pages}
 use Rattle.hm_base.specs.declared.Frame.{Frame}
+use Rattle.hm_base.specs.declared.Place.{Place}
 use Rattle.hm_base.specs.declared.ops.Op.{Op}
 use Rattle.hm_history.specs.Kernel.Operation.{is_evicting, is_remove}
 use Rattle.hm_history.specs.Kernel.Stacks.{body_next, frames_past, below_next, dropping, after_body}
@@ -22,15 +23,16 @@ use Rattle.hm_history.specs.declared.phases.Touch.{Touch}
 use Rattle.hm_history.specs.declared.phases.Body.{Body}
 use Rattle.hm_history.specs.declared.phases.Phase.{Phase}
 
--- its look-up has read this sequence, or its migration is at this step
+-- its look-up has read this sequence and walks, or has noted a place for a piece; or its migration is at this step
 pub data Stand : Type 0 where
   Rests : Stand
-  Looks : (seq : ℕ) → Stand
+  Walks : (seq : ℕ) → Stand
+  Notes : (seq piece : ℕ) → (place : Place) → Stand
   Moves : (step : MoveStep) → Stand
 
 -- the fault is that of a look-up
 abbrev pub of_touch : Touch → Stand
-of_touch (Touch.Walk k since q) = Stand.Looks q
+of_touch (Touch.Walk k since q) = Stand.Walks q
 of_touch touch = Stand.Rests
 
 -- so it was, if one was given up
@@ -58,8 +60,8 @@ is_moves top = false
 -- where an actor stands: the first phase says it that does not pass on
 abbrev pub stand : List Phase → Stand
 stand [] = Stand.Rests
-stand (Phase.Begun k since q ∷ below) = Stand.Looks q
-stand (Phase.Noted k since q x ∷ below) = Stand.Looks q
+stand (Phase.Begun k since q ∷ below) = Stand.Walks q
+stand (Phase.Noted k since q x ∷ below) = Stand.Notes q k x
 stand (Phase.Decide touch ∷ below) = of_touch touch
 stand (Phase.Taken touch g x ∷ below) = of_touch touch
 stand (Phase.Armed touch g x ∷ below) = of_touch touch
@@ -74,6 +76,30 @@ stand (Phase.Finish f to ∷ below) = stand below
 stand (Phase.Settle g ∷ below) = stand below
 stand (Phase.Lost v g ∷ below) = stand below
 stand (top ∷ below) = Stand.Rests
+
+-- the sequence of a look-up
+abbrev pub seq_of : Stand → Option ℕ
+seq_of (Stand.Walks q) = Some q
+seq_of (Stand.Notes q n x) = Some q
+seq_of x = None
+
+-- that of an actor's
+abbrev pub seq_at : List Phase → Option ℕ
+seq_at st = seq_of (stand st)
+
+-- a look-up that walks
+abbrev pub is_walking : Stand → Bool
+is_walking (Stand.Walks q) = true
+is_walking x = false
+
+-- an actor whose look-up walks
+abbrev pub walks : List Phase → Bool
+walks st = is_walking (stand st)
+
+-- a look-up that has noted a place
+abbrev pub has_noted : Stand → Bool
+has_noted (Stand.Notes q n x) = true
+has_noted x = false
 
 -- ---- an entry at a phase that passes on
 

@@ -102,7 +102,7 @@ calm c k s u a i o xs (Phase.Noted n since q x) below after (Kind.Set m v f Tabl
     (sym (nothing_comes s o xs (Phase.Noted n since q x) (Kind.Set m v f TableRight.Write from) refl)) (
       ap (λ b. is_look_up k a v TableRight.Write && b) (ap (λ v. is_noted v false (k.looks a m).found) (sym z.1)
           ∙ (ap (λ m. is_noted (page_of (op_piece o n).0) false (k.looks a m).found) (sym z.0)
-          ∙ (h.noted n x refl).1 z.2))
+          ∙ (h.noted q n x refl).1 z.2))
           ∙ and_right (is_look_up k a v TableRight.Write) false refl,
       tt,
     )
