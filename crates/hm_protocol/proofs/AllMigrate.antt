@@ -27,7 +27,7 @@ use Rattle.hm_protocol.specs.Noted.{known_next}
 use Rattle.hm_protocol.specs.Projection.{comes_to, events_in, top_of}
 use Rattle.hm_protocol.specs.Projection.{is_past_commits}
 use Rattle.hm_protocol.proofs.Steps.{Step, by_thread}
-use Rattle.hm_protocol.proofs.ComesFrom.{ComesFrom, DueFrom, SetAt, comes_from}
+use Rattle.hm_protocol.proofs.ComesFrom.{SetAt, turn_from}
 use Rattle.hm_protocol.proofs.Stands.{Stand, stand}
 use Rattle.hm_protocol.proofs.Inner.{is_paged, has_moved, others_moves}
 use Rattle.hm_protocol.proofs.Coming.{come_says, finish_sets_nothing}
@@ -39,12 +39,6 @@ use Rattle.hm_protocol.proofs.Entries.{first_rests, going_is, going_holds, known
 abbrev pub AllMigrate : Program → Known → State → Type 0
 AllMigrate c k t = (a : ℕ) (o : Op) → op_at c a (t.going a).index ≡ Some o → (step : MoveStep)
     → stand (t.going a).stack ≡ Stand.Moves step → Migrates o step (k.moves a) (t.going a).pages
-
--- the phase from which an entry comes
-pub turn_from : (c : Program) (t : State) (e : Entry) → (s : Step c t e)
-    → ComesFrom t.after s.turn.op (t.going e.actor).pages s.turn.top e.kind
-turn_from c t e s = subst (DueFrom t.after s.turn.op (t.going e.actor).pages s.turn.top) s.turn.is_due
-    (comes_from c t.after e.actor s.turn.op (t.going e.actor).pages s.turn.top)
 
 -- so it is after each entry
 pub all_migrate : (c : Program) (t : State) (e : Entry) (k : Known) → Step c t e → AllMigrate c k t

@@ -7,21 +7,17 @@ use Rattle.hm_base.specs.Program.{Program}
 use Rattle.hm_base.specs.declared.Frame.{Frame}
 use Rattle.hm_base.specs.declared.ops.Op.{Op}
 use Rattle.hm_history.specs.Memory.After.{After}
-use Rattle.hm_history.specs.Kernel.Operation.{op_mirror, is_exclusive_op, is_migration}
+use Rattle.hm_history.specs.Kernel.Operation.{op_mirror, is_migration}
 use Rattle.hm_history.specs.Kernel.Stacks.{stack_after}
 use Rattle.hm_history.specs.Kernel.Going.{State, Going, op_at, state_next, going_on, going_next}
 use Rattle.hm_history.specs.Kernel.Going.{seen_at, touch_page, touch_proc}
-use Rattle.hm_history.specs.Kernel.Due.{due_phase}
 use Rattle.hm_history.specs.declared.TableRight.{TableRight}
 use Rattle.hm_history.specs.declared.Kind.{Kind}
 use Rattle.hm_history.specs.declared.Entry.{Entry}
 use Rattle.hm_history.specs.declared.phases.Migrating.{Migrating}
 use Rattle.hm_history.specs.declared.phases.Touch.{Touch}
 use Rattle.hm_history.specs.declared.phases.Phase.{Phase}
-use Rattle.hm_history.specs.declared.phases.Next.TheVariants.{Do}
 use Rattle.hm_history.proofs.Updates.{here_at, other_at}
-use Rattle.hm_laws.specs.Past.{Past}
-use Rattle.hm_laws.specs.Facts.{facts, HoldsAll, is_device_access, has_piece}
 use Rattle.hm_protocol.specs.declared.events.Event.{Event}
 use Rattle.hm_protocol.specs.declared.rules.Rule.{Rule}
 use Rattle.hm_protocol.specs.Known.{Stage, Known, known_start, is_look_up}
@@ -32,35 +28,10 @@ use Rattle.hm_protocol.specs.Laws.{IsKept}
 use Rattle.hm_protocol.proofs.Fits.{Fits}
 use Rattle.hm_protocol.proofs.Steps.{GoBy, Keeps, by, by_thread, never, all_fit, watched, apart}
 use Rattle.hm_protocol.proofs.Stands.{walks}
-use Rattle.hm_protocol.proofs.DueKinds.{may, next_passes, is_at_walk}
-use Rattle.hm_protocol.proofs.DueFaults.{due_may}
+use Rattle.hm_protocol.proofs.DueKinds.{may}
 use Rattle.hm_protocol.proofs.Entries.{going_is}
+use Rattle.hm_protocol.proofs.ComesFrom.{turn_may}
 use Rattle.hm_protocol.proofs.Looks.{begun_before, last_walked, ends_walk, goes_on, sets_after, begins_now}
-
--- ---- what is due to an actor
-
-device_refuses_not : (o : Op) → is_device_access o ≡ true → is_exclusive_op o ≡ false
-device_refuses_not (Op.DeviceLoad m at n) h = refl
-device_refuses_not (Op.DeviceStore m at bs) h = refl
-device_refuses_not o h = absurd (false≢true h)
-
--- a walk is that of an access through a mirror
-pub walk_is_device : (s : After) (t : Past) (a : ℕ) (o : Op) (xs : List Migrating) (top : Phase) (below : List Phase)
-    → HoldsAll s t a (facts o xs (top ∷ below)) → is_at_walk top ≡ true → is_device_access o ≡ true
-walk_is_device s t a o xs (Phase.Decide (Touch.Walk k since q)) [] h e =
-    (and_parts (is_device_access o) (has_piece o k) h.0.0).0
-walk_is_device s t a o xs (Phase.Decide (Touch.Walk k since q)) (y ∷ ys) h e = absurd h.0
-walk_is_device s t a o xs (Phase.GiveUp (Some (Touch.Walk k since q))) [] h e =
-    (and_parts (is_device_access o) (has_piece o k) h.1.1.0.0).0
-walk_is_device s t a o xs (Phase.GiveUp (Some (Touch.Walk k since q))) (y ∷ ys) h e = absurd h.0
-walk_is_device s t a o xs top below h e = absurd (false≢true e)
-
--- an entry that is due may be due
-pub turn_may : (c : Program) (s : After) (t : Past) (a : ℕ) (o : Op) (xs : List Migrating) (top : Phase)
-    (below : List Phase) (j : Kind) → HoldsAll s t a (facts o xs (top ∷ below)) → due_phase c s a o xs top ≡ Do j
-    → may o top j ≡ true
-turn_may c s t a o xs top below j h d = sym (ap (next_passes (may o top)) d)
-    ∙ due_may c s a o xs top (λ e. device_refuses_not o (walk_is_device s t a o xs top below h e))
 
 -- ---- an actor after its entry
 

@@ -1,6 +1,6 @@
 -- Of each phase: what is due there is what may be.
 use Rattle.std.proofs.Common.{refl, sym, ◌∙◌}
-use Rattle.std.proofs.lemmas.Bool.{true≢false}
+use Rattle.std.proofs.lemmas.Bool.{true≢false, false≢true}
 use Rattle.std.specs.Prelude.{◌≡◌, ℕ, ◌+◌, Bool, true, false, ◌&&◌, ◌==◌, nat_lt, is_none, Option, Some, None, List}
 use Rattle.hm_base.specs.Pages.{Pages, one_page}
 use Rattle.hm_base.specs.Program.{Program}
@@ -26,13 +26,15 @@ use Rattle.hm_history.specs.declared.phases.MoveStep.{MoveStep}
 use Rattle.hm_history.specs.declared.phases.Touch.{Touch}
 use Rattle.hm_history.specs.declared.phases.Body.{Body}
 use Rattle.hm_history.specs.declared.phases.Phase.{Phase}
+use Rattle.hm_history.specs.declared.phases.Next.{Next}
+use Rattle.hm_history.specs.declared.phases.Next.TheVariants.{Do, Wait}
 use Rattle.hm_laws.proofs.Due.Good.{either, either_option}
 use Rattle.hm_laws.proofs.Migration.Setup.{at_itself}
 use Rattle.hm_protocol.proofs.DueKinds as kinds
 use Rattle.hm_protocol.proofs.DueKinds.{is_plain, is_of_piece, is_rlock, is_of_walk, is_of_fault, is_commit}
 use Rattle.hm_protocol.proofs.DueKinds.{is_giving_up}
 use Rattle.hm_protocol.proofs.DueKinds.{is_failed, is_at_walk}
-use Rattle.hm_protocol.proofs.DueKinds.{is_inner, is_of_move, may, next_passes, Passes, Is, option_passes, If, locks}
+use Rattle.hm_protocol.proofs.DueKinds.{is_inner, is_of_move, is_of_step, may, Passes, Is, If, locks}
 
 -- ---- accesses and faults
 
@@ -109,37 +111,44 @@ decides c s a o Touch.Sole p v h = either (Passes is_of_fault) (is_attached s.pl
     (λ e. soles c s a o (op_mirror o) p v (s.places.place p v))
     (λ e. (by_fault o).failing 0 Cause.Outside)
 
-adds : (s : After) (a : ℕ) (o : Op) (m at : ℕ) → Passes (is_of_piece (op_mirror o)) (due.due_add s a o m at)
-adds s a o m at = either (Passes (is_of_piece (op_mirror o))) (in_window s.plain m (one_page (page_of at))) _ _
-    (λ e. either (Passes (is_of_piece (op_mirror o))) (due.has_exclusive s a m (page_of at)) _ _
-    (λ i. refl) (λ i. locks (is_of_piece (op_mirror o)) s (mirror_proc s.plain m) refl)) (λ e. refl)
+pub adds : (s : After) (a : ℕ) (o : Op) (m at : ℕ) → Passes is_plain (due.due_add s a o m at)
+adds s a o m at = either (Passes is_plain) (in_window s.plain m (one_page (page_of at))) _ _
+    (λ e. either (Passes is_plain) (due.has_exclusive s a m (page_of at)) _ _
+    (λ i. refl) (λ i. locks is_plain s (mirror_proc s.plain m) refl)) (λ e. refl)
 
-answers_piece : (n : ℕ) (s : After) (o : Op) (k : ℕ) → Is (is_of_piece n) (due.answer_of_piece s o k)
-answers_piece n s o k = either (Is (is_of_piece n)) (op_writes o) _ _ (λ e. refl) (λ e. refl)
+pub answers_piece : (s : After) (o : Op) (k : ℕ) → Is is_plain (due.answer_of_piece s o k)
+answers_piece s o k = either (Is is_plain) (op_writes o) _ _ (λ e. refl) (λ e. refl)
+
+plain_piece : (m : ℕ) (k : Kind) → is_plain k ≡ true → is_of_piece m k ≡ true
+plain_piece m (Kind.Begin n q) h = absurd (false≢true h)
+plain_piece m k h = h
+
+plainly : (m : ℕ) (n : Next) → Passes is_plain n → Passes (is_of_piece m) n
+plainly m (Do k) h = plain_piece m k h
+plainly m (Wait why) h = refl
 
 mirrors : (s : After) (o : Op) (k m : ℕ) → Passes (is_of_piece m) (due.due_mirror s o k m)
 mirrors s o k m = let v : ℕ = page_of (op_piece o k).0 in
     either (Passes (is_of_piece m)) (in_window s.plain m (one_page v)) _ _
     (λ e. either (Passes (is_of_piece m)) (due.is_usable (op_writes o) (s.places.table m v)) _ _
-    (λ i. answers_piece m s o k)
+    (λ i. plain_piece m (due.answer_of_piece s o k) (answers_piece s o k))
     (λ i. either (Passes (is_of_piece m)) (due.is_invalidating s m) _ _ (λ j. refl) (λ j. at_itself m))) (λ e. refl)
 
-cpus : (s : After) (o : Op) (k p : ℕ) → Passes (is_of_piece (op_mirror o)) (due.due_cpu s o k p)
-cpus s o k p = either (Passes (is_of_piece (op_mirror o))) (s.plain.there p) _ _
-    (λ e. either (Passes (is_of_piece (op_mirror o)))
-    (due.suits (op_writes o) (s.places.place p (page_of (op_piece o k).0))) _ _
-    (λ i. answers_piece (op_mirror o) s o k) (λ i. locks (is_of_piece (op_mirror o)) s p refl)) (λ e. refl)
+pub cpus : (s : After) (o : Op) (k p : ℕ) → Passes is_plain (due.due_cpu s o k p)
+cpus s o k p = either (Passes is_plain) (s.plain.there p) _ _
+    (λ e. either (Passes is_plain) (due.suits (op_writes o) (s.places.place p (page_of (op_piece o k).0))) _ _
+    (λ i. answers_piece s o k) (λ i. locks is_plain s p refl)) (λ e. refl)
 
 pieces : (s : After) (a : ℕ) (o : Op) (k : ℕ) → Passes (is_of_piece (op_mirror o)) (due.due_piece s a o k)
-pieces s a (Op.Add m at n) k = adds s a (Op.Add m at n) m at
+pieces s a (Op.Add m at n) k = plainly m _ (adds s a (Op.Add m at n) m at)
 pieces s a (Op.DeviceLoad m at n) k = mirrors s (Op.DeviceLoad m at n) k m
 pieces s a (Op.DeviceStore m at bs) k = mirrors s (Op.DeviceStore m at bs) k m
-pieces s a (Op.Load p at n) k = cpus s (Op.Load p at n) k p
-pieces s a (Op.Store p at bs) k = cpus s (Op.Store p at bs) k p
+pieces s a (Op.Load p at n) k = plainly 0 _ (cpus s (Op.Load p at n) k p)
+pieces s a (Op.Store p at bs) k = plainly 0 _ (cpus s (Op.Store p at bs) k p)
 pieces s a o k = refl
 
-fetches : (s : After) (a : ℕ) (o : Op) (old : ℕ) → Passes (is_of_piece (op_mirror o)) (due.due_fetched s a o old)
-fetches s a (Op.Add m at n) old = either (Passes (is_of_piece m)) (due.has_exclusive s a m (page_of at)) _ _
+fetches : (s : After) (a : ℕ) (o : Op) (old : ℕ) → Passes is_plain (due.due_fetched s a o old)
+fetches s a (Op.Add m at n) old = either (Passes is_plain) (due.has_exclusive s a m (page_of at)) _ _
     (λ e. refl) (λ e. adds s a (Op.Add m at n) m at)
 fetches s a o old = refl
 
@@ -236,40 +245,46 @@ finishes s f to = either_option (Is is_inner) (lowest_moving s.places f) _ _ (λ
 -- ---- migrations
 
 -- what moves a page is of a step, as what is inside of a frame's return is
-returns : (s : After) (f : Frame) (to : Option Frame) → Is is_of_move (due.due_finish s f to)
-returns s f to = either_option (Is is_of_move) (lowest_moving s.places f) _ _ (λ n. last to) (λ x n. refl)
+returns : (step : MoveStep) (s : After) (f : Frame) (to : Option Frame) → Is (is_of_step step) (due.due_finish s f to)
+returns step s f to = either_option (Is (is_of_step step)) (lowest_moving s.places f) _ _ (λ n. last to) (λ x n. refl)
   where
-    last : (to : Option Frame) → Is is_of_move (due.finish_frames s f to)
-    last None = settles is_of_move s f refl refl
+    last : (to : Option Frame) → Is (is_of_step step) (due.finish_frames s f to)
+    last None = settles (is_of_step step) s f refl refl
     last (Some g) = refl
 
-others : (s : After) (x : Option Frame) → Is is_of_move (due.others_of s x)
-others s None = refl
-others s (Some f) = either_option (Is is_of_move) (lowest_direct s.places f) _ _ (λ n. refl) (λ x n. refl)
+others : (step : MoveStep) (s : After) (x : Option Frame) → Is (is_of_step step) (due.others_of s x)
+others step s None = refl
+others step s (Some f) = either_option (Is (is_of_step step)) (lowest_direct s.places f) _ _ (λ n. refl) (λ x n. refl)
 
-steps : (c : Program) (s : After) (o : Op) (step : MoveStep) (x : Migrating) → Is is_of_move (due.due_step c s o step x)
-steps c s o MoveStep.FreezeOthers x = others s x.source
-steps c s o MoveStep.TakeAndCopy x = either (Is is_of_move) (due.skips c o x.page) _ _ (λ e. refl)
-    (λ e. either_option (Is is_of_move) (lowest_free c s.places (due.pool_of s o)) _ _ (λ n. refl) (λ g n. refl))
+-- an entry of a migration's step
+pub steps : (c : Program) (s : After) (o : Op) (step : MoveStep) (x : Migrating) → Is (is_of_step step) (due.due_step c s o step x)
+steps c s o MoveStep.FreezeOthers x = others MoveStep.FreezeOthers s x.source
+steps c s o MoveStep.TakeAndCopy x = either (Is (is_of_step MoveStep.TakeAndCopy)) (due.skips c o x.page) _ _ (λ e. refl)
+    (λ e. either_option (Is (is_of_step MoveStep.TakeAndCopy)) (lowest_free c s.places (due.pool_of s o)) _ _ (λ n. refl) (λ g n. refl))
 steps c s o MoveStep.Commit x = commits x.source x.dest
   where
-    commits : (f g : Option Frame) → Is is_of_move (due.commit_page s (mirror_proc s.plain (op_mirror o)) x.page f g)
+    commits : (f g : Option Frame) → Is (is_of_step MoveStep.Commit) (due.commit_page s (mirror_proc s.plain (op_mirror o)) x.page f g)
     commits (Some f) (Some g) = refl
-    commits None (Some g) = either (Is is_of_move)
+    commits None (Some g) = either (Is (is_of_step MoveStep.Commit))
         (has_no_frame (s.places.place (mirror_proc s.plain (op_mirror o)) x.page)) _ _ (λ e. refl) (λ e. refl)
     commits f None = refl
 steps c s o MoveStep.SetOwnTable x = refl
 steps c s o MoveStep.Finish x = ends x.source x.dest
   where
-    ends : (f g : Option Frame) → Is is_of_move (due.finish_page s f g x.moved)
-    ends (Some f) g = returns s f _
+    ends : (f g : Option Frame) → Is (is_of_step MoveStep.Finish) (due.finish_page s f g x.moved)
+    ends (Some f) g = returns MoveStep.Finish s f _
     ends None (Some g) = refl
     ends None None = refl
+
+step_moves : (step : MoveStep) (k : Kind) → is_of_step step k ≡ true → is_of_move k ≡ true
+step_moves step (Kind.Set m v f w from) h = refl
+step_moves step (Kind.Migrated n) h = refl
+step_moves step k h = h
 
 moves : (c : Program) (s : After) (o : Op) (xs : List Migrating) (at : Option (MoveStep × Migrating))
     → Is is_of_move (due.due_moves c s o xs at)
 moves c s o xs None = refl
-moves c s o xs (Some at) = steps c s o at.0 at.1
+moves c s o xs (Some at) = step_moves at.0 _ (steps c s o at.0 at.1)
 
 -- what is due at a phase may be due there
 pub due_may : (c : Program) (s : After) (a : ℕ) (o : Op) (xs : List Migrating) (top : Phase)

@@ -13,9 +13,10 @@ use Rattle.hm_history.specs.Memory.Locks.{writer, lowest_other, other_locker}
 use Rattle.hm_history.specs.Memory.After.{After}
 use Rattle.hm_history.specs.Kernel.Operation.{op_mirror}
 use Rattle.hm_history.specs.Kernel.Due as due
-use Rattle.hm_history.specs.Kernel.Due.{due_phase, fails, has_no_frame}
+use Rattle.hm_history.specs.Kernel.Due.{fails}
 use Rattle.hm_history.specs.declared.TableRight.{TableRight}
 use Rattle.hm_history.specs.declared.Kind.{Kind}
+use Rattle.hm_history.specs.declared.phases.MoveStep.{MoveStep}
 use Rattle.hm_history.specs.declared.phases.Touch.{Touch}
 use Rattle.hm_history.specs.declared.phases.Phase.{Phase}
 use Rattle.hm_history.specs.declared.phases.Next.{Next}
@@ -24,17 +25,17 @@ use Rattle.hm_laws.proofs.Due.Good.{either, either_option}
 
 -- ---- tests of entries
 
--- neither a `Begin` nor a `Set`
+-- neither a `Begin` nor a `Set`, nor the answer of a migration
 abbrev pub is_plain : Kind → Bool
 is_plain (Kind.Begin m q) = false
 is_plain (Kind.Set m v f w from) = false
+is_plain (Kind.Migrated n) = false
 is_plain k = true
 
--- no `Set`, and a `Begin` of this mirror alone
+-- such a one, or a `Begin` of this mirror
 abbrev pub is_of_piece : ℕ → Kind → Bool
 is_of_piece m (Kind.Begin n q) = n == m
-is_of_piece m (Kind.Set n v f w from) = false
-is_of_piece m k = true
+is_of_piece m k = is_plain k
 
 -- a walk's lock is taken
 abbrev pub is_rlock : Kind → Bool
@@ -56,6 +57,7 @@ abbrev pub is_of_fault : Kind → Bool
 is_of_fault (Kind.Begin m q) = false
 is_of_fault (Kind.Set m v f TableRight.Sole from) = true
 is_of_fault (Kind.Set m v f w from) = false
+is_of_fault (Kind.Migrated n) = false
 is_of_fault k = true
 
 -- a look-up is committed, or given up
@@ -104,6 +106,17 @@ is_of_move (Kind.Refused why) = true
 is_of_move (Kind.Migrated n) = true
 is_of_move k = false
 
+-- the step sets a table
+abbrev pub is_setting : MoveStep → Bool
+is_setting MoveStep.SetOwnTable = true
+is_setting step = false
+
+-- an entry of this step
+abbrev pub is_of_step : MoveStep → Kind → Bool
+is_of_step step (Kind.Set m v f w from) = is_setting step
+is_of_step step (Kind.Migrated n) = false
+is_of_step step k = is_of_move k
+
 -- a walk decides there, or was given up
 abbrev pub is_at_walk : Phase → Bool
 is_at_walk (Phase.Decide (Touch.Walk n since q)) = true
@@ -113,7 +126,7 @@ is_at_walk top = false
 -- what may be due at a phase
 abbrev pub may : Op → Phase → Kind → Bool
 may o (Phase.Piece n) k = is_of_piece (op_mirror o) k
-may o (Phase.Fetched old) k = is_of_piece (op_mirror o) k
+may o (Phase.Fetched old) k = is_plain k
 may o (Phase.Begun n since q) k = is_rlock k
 may o (Phase.Decide (Touch.Walk n since q)) k = is_of_walk k
 may o (Phase.Decide touch) k = is_of_fault k

@@ -25,7 +25,8 @@ use Rattle.hm_protocol.specs.Laws.{IsKept}
 use Rattle.hm_protocol.proofs.Leading.{notes_none}
 use Rattle.hm_protocol.proofs.Stands.{stand, has_noted}
 use Rattle.hm_protocol.proofs.Entries.{first_rests, going_is, known_after, events_are}
-use Rattle.hm_protocol.proofs.AllMigrate.{AllMigrate, turn_from, all_migrate, none_migrate}
+use Rattle.hm_protocol.proofs.ComesFrom.{turn_from}
+use Rattle.hm_protocol.proofs.AllMigrate.{AllMigrate, all_migrate, none_migrate}
 use Rattle.hm_protocol.proofs.FoundRights.{Right, settled, noted_all, others, right_on, at_passing, own_events, at_walk}
 use Rattle.hm_protocol.proofs.WriteSets.{is_write_set, harmless, calm}
 use Rattle.hm_protocol.proofs.Steps.{Calm, Keeps, by_thread, never, all_fit, watched}

@@ -26,7 +26,8 @@ use Rattle.hm_laws.specs.Past.{Past}
 use Rattle.hm_laws.specs.Facts.{facts, HoldsAll, is_device_access}
 use Rattle.hm_protocol.proofs.Steps.{by, by_thread}
 use Rattle.hm_protocol.proofs.Stands.{Stand, is_passing, stand, has_noted, passes, passing}
-use Rattle.hm_protocol.proofs.BeginFirst.{mirror_of, walk_is_device}
+use Rattle.hm_protocol.proofs.BeginFirst.{mirror_of}
+use Rattle.hm_protocol.proofs.ComesFrom.{walk_is_device}
 use Rattle.hm_protocol.proofs.Entries.{first_rests}
 use Rattle.hm_protocol.proofs.Migrated.{nothing_comes}
 use Rattle.hm_protocol.proofs.Founds.{other_found, walk_finds, walk_suits}

@@ -25,11 +25,10 @@ use Rattle.hm_laws.proofs.State.MirrorInterval.{Mirrored, mirrored, same_proc}
 use Rattle.hm_protocol.specs.Known.{Known}
 use Rattle.hm_protocol.proofs.Steps.{Step}
 use Rattle.hm_protocol.proofs.Tellings.{Tells, told_now, told_seq, is_interval}
-use Rattle.hm_protocol.proofs.ComesFrom.{ComesFrom}
+use Rattle.hm_protocol.proofs.ComesFrom.{turn_from, ComesFrom}
 use Rattle.hm_protocol.proofs.Stands.{seq_at}
 use Rattle.hm_protocol.proofs.Seeing.{Seen}
 use Rattle.hm_protocol.proofs.Entries.{known_after}
-use Rattle.hm_protocol.proofs.AllMigrate.{turn_from}
 use Rattle.hm_protocol.proofs.SeenAfter.{Held, Lasting, Still}
 
 below_itself : (n m k : ℕ) → n ≡ k → m ≡ k → n < m → ⊥

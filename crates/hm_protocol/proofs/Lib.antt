@@ -15,7 +15,6 @@ mod Erasing
 mod Tables
 mod DueKinds
 mod DueFaults
-mod OtherDues
 mod ComesFrom
 mod Stands
 mod Leading

@@ -159,7 +159,6 @@ sets_after o top below m v from f w h d = false≢true h
 pub begins_now : (o : Op) (top : Phase) (below : List Phase) (m q : ℕ) (seen : Seen) → may o top (Kind.Begin m q) ≡ true
     → (m ≡ op_mirror o) × (walks (stack_after o (top ∷ below) (Kind.Begin m q) seen) ≡ true)
 begins_now o (Phase.Piece n) below m q seen h = (eqb-true m (op_mirror o) h, refl)
-begins_now o (Phase.Fetched old) below m q seen h = (eqb-true m (op_mirror o) h, refl)
 begins_now o (Phase.Decide (Touch.Cpu n)) below m q seen h = absurd (false≢true h)
 begins_now o (Phase.Decide (Touch.Walk n since z)) below m q seen h = absurd (false≢true h)
 begins_now o (Phase.Decide Touch.Sole) below m q seen h = absurd (false≢true h)
