@@ -1,7 +1,7 @@
 -- Each entry keeps what is known of migrations, and a page that a migration sets is one that has moved.
-use Rattle.std.proofs.Common.{refl, ap, sym, subst, ◌∙◌, inl, inr}
-use Rattle.std.proofs.lemmas.Bool.{false≢true, and_parts, cases_eq}
-use Rattle.std.specs.Prelude.{◌≡◌, ℕ, ◌⊎◌, Bool, true, false, not, ◌&&◌, ◌||◌, ◌==◌, Option, Some}
+use Rattle.std.proofs.Common.{refl, ap, sym, subst, ◌∙◌}
+use Rattle.std.proofs.lemmas.Bool.{false≢true, and_parts}
+use Rattle.std.specs.Prelude.{◌≡◌, ℕ, Bool, true, false, not, ◌&&◌, ◌||◌, ◌==◌, Option, Some}
 use Rattle.std.specs.Prelude.{List, [], ◌∷◌, fold}
 use Rattle.std.specs.List.{list_any}
 use Rattle.hm_base.specs.Program.{Program}
@@ -19,7 +19,6 @@ use Rattle.hm_history.specs.declared.Entry.{Entry}
 use Rattle.hm_history.specs.declared.phases.Migrating.{Migrating}
 use Rattle.hm_history.specs.declared.phases.MoveStep.{MoveStep}
 use Rattle.hm_history.specs.declared.phases.Phase.{Phase}
-use Rattle.hm_history.proofs.Updates.{here_at, other_at}
 use Rattle.hm_laws.specs.Records.{Among}
 use Rattle.hm_protocol.specs.Words.{is_sole}
 use Rattle.hm_protocol.specs.Known.{Move, Known, known_start, is_migrated, is_look_up}
@@ -33,7 +32,7 @@ use Rattle.hm_protocol.proofs.Inner.{is_paged, has_moved, others_moves}
 use Rattle.hm_protocol.proofs.Coming.{come_says, finish_sets_nothing}
 use Rattle.hm_protocol.proofs.Moved.{Mid, all_mid, paged_mid, mid}
 use Rattle.hm_protocol.proofs.Migrated.{Migrates, rests_not, after_own}
-use Rattle.hm_protocol.proofs.Entries.{first_rests, going_is, going_holds, known_after, events_are}
+use Rattle.hm_protocol.proofs.Entries.{each_actor, first_rests, going_is, going_holds, known_after, events_are}
 
 -- each actor in a migration is known to be
 abbrev pub AllMigrate : Program → Known → State → Type 0
@@ -43,7 +42,11 @@ AllMigrate c k t = (a : ℕ) (o : Op) → op_at c a (t.going a).index ≡ Some o
 -- so it is after each entry
 pub all_migrate : (c : Program) (t : State) (e : Entry) (k : Known) → Step c t e → AllMigrate c k t
     → AllMigrate c (known_after c t e k) (state_next c t e)
-all_migrate c t e k s kn = λ a. pick a (cases_eq a e.actor)
+all_migrate c t e k s kn = each_actor c t e (λ a g. (o : Op) → op_at c a g.index ≡ Some o → (step : MoveStep)
+    → stand g.stack ≡ Stand.Moves step → Migrates o step ((known_after c t e k).moves a) g.pages) own
+    (λ a ne. subst (λ ys. (o : Op) → op_at c a (t.going a).index ≡ Some o → (step : MoveStep)
+    → stand (t.going a).stack ≡ Stand.Moves step → Migrates o step ys (t.going a).pages)
+    (sym (others_moves e.actor a ne (events_in t u e.actor e.kind (op_at c e.actor (t.going e.actor).index)) k)) (kn a))
   where
     u : State
     u = state_next c t e
@@ -72,26 +75,6 @@ all_migrate c t e k s kn = λ a. pick a (cases_eq a e.actor)
         (after_own t.after u.after s.past e.actor s.turn.op (t.going e.actor).pages s.turn.top s.turn.below
         (top_of (u.going e.actor).stack) e.kind k s.turn.known (turn_from c t e s)
         (λ at g. kn e.actor s.turn.op s.turn.is_op at (ap stand s.turn.is_stack ∙ g)) step q)))
-
-    pick : (a : ℕ) → (a ≡ e.actor) ⊎ (a ≡ e.actor → ⊥) → (o : Op)
-        → op_at c a ((state_next c t e).going a).index ≡ Some o
-        → (step : MoveStep) → stand ((state_next c t e).going a).stack ≡ Stand.Moves step
-        → Migrates o step ((known_after c t e k).moves a) ((state_next c t e).going a).pages
-    pick a (inl q) = subst (λ a. (o : Op) → op_at c a ((state_next c t e).going a).index ≡ Some o
-        → (step : MoveStep) → stand ((state_next c t e).going a).stack ≡ Stand.Moves step
-        → Migrates o step ((known_after c t e k).moves a) ((state_next c t e).going a).pages) (sym q)
-        (subst (λ g. (o : Op) → op_at c e.actor g.index ≡ Some o → (step : MoveStep) → stand g.stack ≡ Stand.Moves step
-        → Migrates o step ((known_after c t e k).moves e.actor) g.pages)
-        (sym (here_at t.going e.actor (going_next c t.after e.actor (t.going e.actor) e.kind))) own)
-    pick a (inr ne) = subst (λ g. (o : Op) → op_at c a g.index ≡ Some o → (step : MoveStep)
-        → stand g.stack ≡ Stand.Moves step
-        → Migrates o step ((known_after c t e k).moves a) g.pages)
-        (sym (other_at t.going e.actor a (going_next c t.after e.actor (t.going e.actor) e.kind) ne))
-        (subst (λ ys. (o : Op) → op_at c a (t.going a).index ≡ Some o → (step : MoveStep)
-        → stand (t.going a).stack ≡ Stand.Moves step
-        → Migrates o step ys (t.going a).pages)
-        (sym (others_moves e.actor a ne (events_in t u e.actor e.kind (op_at c e.actor (t.going e.actor).index)) k))
-        (kn a))
 
 -- at first none migrates
 pub none_migrate : (c : Program) → AllMigrate c known_start (state_start c)

@@ -1,6 +1,6 @@
 -- No legal history breaks `begin-first`: a look-up that has begun and has not walked is under way.
 use Rattle.std.proofs.Common.{refl, ap, sym, subst, ◌∙◌, inl, inr}
-use Rattle.std.proofs.lemmas.Bool.{false≢true, and_parts, and_right, cases_eq, eqb-true}
+use Rattle.std.proofs.lemmas.Bool.{false≢true, and_parts, and_right, eqb-true}
 use Rattle.std.specs.Prelude.{◌≡◌, ℕ, Bool, true, false, ◌&&◌, ◌==◌, ◌⊎◌, if◌then◌else◌, Option, Some, None, List, []}
 use Rattle.std.specs.Prelude.{◌∷◌, ◌++◌, fold}
 use Rattle.hm_base.specs.Program.{Program}
@@ -17,7 +17,6 @@ use Rattle.hm_history.specs.declared.Entry.{Entry}
 use Rattle.hm_history.specs.declared.phases.Migrating.{Migrating}
 use Rattle.hm_history.specs.declared.phases.Touch.{Touch}
 use Rattle.hm_history.specs.declared.phases.Phase.{Phase}
-use Rattle.hm_history.proofs.Updates.{here_at, other_at}
 use Rattle.hm_protocol.specs.declared.events.Event.{Event}
 use Rattle.hm_protocol.specs.declared.rules.Rule.{Rule}
 use Rattle.hm_protocol.specs.Known.{Stage, Known, known_start, is_look_up}
@@ -29,7 +28,7 @@ use Rattle.hm_protocol.proofs.Fits.{Fits}
 use Rattle.hm_protocol.proofs.Steps.{GoBy, Keeps, by, by_thread, never, all_fit, watched, apart}
 use Rattle.hm_protocol.proofs.Stands.{walks}
 use Rattle.hm_protocol.proofs.DueKinds.{may}
-use Rattle.hm_protocol.proofs.Entries.{going_is}
+use Rattle.hm_protocol.proofs.Entries.{going_is, known_after, each_actor}
 use Rattle.hm_protocol.proofs.ComesFrom.{turn_may}
 use Rattle.hm_protocol.proofs.Looks.{begun_before, last_walked, ends_walk, goes_on, sets_after, begins_now}
 
@@ -131,10 +130,6 @@ ended t u a j x o top below k io is h = let g : Going = t.going a in let after :
     (ap (by_thread a) same ∙ apart a z.0 (Event.Walked (op_mirror o) z.1.0 ∷ []))
     ∙ last_walked k (by_thread a z.0) a (op_mirror o) z.1.0
 
--- after the entry's events
-abbrev noted_by : Program → State → Entry → Known → Known
-noted_by c t e k = fold known_next k (events_of c t (state_next c t e) e)
-
 -- its actor after the entry
 abbrev going_after : Program → State → Entry → Going
 going_after c t e = going_next c t.after e.actor (t.going e.actor) e.kind
@@ -145,7 +140,11 @@ MayWalk c t e i n = WalksIn c i (t.going i) n ⊎ ((i ≡ e.actor) × ((q : ℕ)
 
 -- what is known of it after one entry more
 keeps : (c : Program) → Keeps c begin_first (KnowsBegun c)
-keeps c t e k s kn = (all.0, λ b m h. other b m (cases_eq b e.actor) h)
+keeps c t e k s kn = (
+  all.0,
+  each_actor c t e (λ b g. (m : ℕ) → is_begun ((known_after c t e k).looks b m).stage ≡ true → WalksIn c b g m)
+      (λ m h. own m h (all.1 e.actor m h)) (λ b ne m h. was b m ne (all.1 b m h)),
+)
   where
     may_be : may s.turn.op s.turn.top e.kind ≡ true
     may_be = turn_may c t.after s.past e.actor s.turn.op (t.going e.actor).pages s.turn.top s.turn.below e.kind
@@ -177,7 +176,7 @@ keeps c t e k s kn = (all.0, λ b m h. other b m (cases_eq b e.actor) h)
         s.turn.is_stack))
         (still_walks c e.actor (t.going e.actor).index m s.turn.op _ _ s.turn.is_op d h)
 
-    own : (m : ℕ) → is_begun ((noted_by c t e k).looks e.actor m).stage ≡ true → MayWalk c t e e.actor m
+    own : (m : ℕ) → is_begun ((known_after c t e k).looks e.actor m).stage ≡ true → MayWalk c t e e.actor m
         → WalksIn c e.actor (going_after c t e) m
     own m h (inr y) = let z : (m ≡ op_mirror s.turn.op)
         × (walks (stack_after s.turn.op (s.turn.top ∷ s.turn.below) (Kind.Begin m y.1.0)
@@ -198,20 +197,11 @@ keeps c t e k s kn = (all.0, λ b m h. other b m (cases_eq b e.actor) h)
             (false≢true (sym (ended t (state_next c t e) e.actor e.kind
             (op_at c e.actor (t.going e.actor).index) s.turn.op
             s.turn.top s.turn.below k s.turn.is_op s.turn.is_stack i)
-            ∙ (ap (λ n. is_begun ((noted_by c t e k).looks e.actor n).stage) (sym mine) ∙ h)))
+            ∙ (ap (λ n. is_begun ((known_after c t e k).looks e.actor n).stage) (sym mine) ∙ h)))
 
-    other : (b m : ℕ) → (b ≡ e.actor) ⊎ (b ≡ e.actor → ⊥) → is_begun ((noted_by c t e k).looks b m).stage ≡ true
-        → WalksIn c b ((state_next c t e).going b) m
-    other b m (inl q) h = subst (λ b. WalksIn c b ((state_next c t e).going b) m) (sym q)
-        (subst (λ g. WalksIn c e.actor g m) (sym (here_at t.going e.actor (going_after c t e)))
-        (own m (ap (λ b. is_begun ((noted_by c t e k).looks b m).stage) (sym q) ∙ h)
-        (all.1 e.actor m (ap (λ b. is_begun ((noted_by c t e k).looks b m).stage) (sym q) ∙ h))))
-    other b m (inr ne) h = subst (λ g. WalksIn c b g m) (sym (other_at t.going e.actor b (going_after c t e) ne))
-        (was (all.1 b m h))
-      where
-        was : MayWalk c t e b m → WalksIn c b (t.going b) m
-        was (inl x) = x
-        was (inr y) = absurd (ne y.0)
+    was : (b m : ℕ) → (b ≡ e.actor → ⊥) → MayWalk c t e b m → WalksIn c b (t.going b) m
+    was b m ne (inl x) = x
+    was b m ne (inr y) = absurd (ne y.0)
 
 -- no legal history breaks `begin-first`
 pub begin_first_kept : IsKept Rule.BeginFirst

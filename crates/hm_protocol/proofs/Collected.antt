@@ -27,12 +27,15 @@ use Rattle.hm_laws.proofs.Migration.Records.{records_each}
 use Rattle.hm_protocol.specs.declared.events.Event.{Event}
 use Rattle.hm_protocol.specs.Projection as project
 use Rattle.hm_protocol.specs.Projection.{events_by, comes_to, set_up, paged, is_start, is_home, collected, pages_of}
+use Rattle.hm_protocol.proofs.Entries.{not_home}
+use Rattle.hm_protocol.proofs.Entries.{events_at}
+use Rattle.hm_protocol.proofs.Stands.{is_moves}
 use Rattle.hm_protocol.proofs.Moving.{View, views_after, set_up_view}
 use Rattle.hm_protocol.proofs.Unmoved.{AllBe, none_all}
 use Rattle.hm_protocol.proofs.Usual.{by_none, be_when}
 use Rattle.hm_protocol.proofs.Sitting.{AllOf, Homes, homes, Stays, Over, Single, Sits, is_later, all_more}
-use Rattle.hm_protocol.proofs.Homing.{events_at, is_moves, just_by, due_is}
-use Rattle.hm_protocol.proofs.StaysOn.{not_home, gone_later}
+use Rattle.hm_protocol.proofs.Homing.{just_by, due_is}
+use Rattle.hm_protocol.proofs.StaysOn.{gone_later}
 use Rattle.hm_protocol.proofs.EachMove.{nothing_below}
 use Rattle.hm_protocol.proofs.Rights.{Right, is_mild, Sourced, Places_fresh, right_own, mild_plain, is_between}
 use Rattle.hm_protocol.proofs.Rights.{own_between, between}

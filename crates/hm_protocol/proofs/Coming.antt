@@ -13,7 +13,8 @@ use Rattle.hm_history.specs.declared.phases.Phase.{Phase}
 use Rattle.hm_history.proofs.Tests.{no_test}
 use Rattle.hm_laws.specs.Records.{Among}
 
-find_some : (test : Migrating → Bool) (xs : List Migrating) (x : Migrating) → find test xs ≡ Some x
+-- what a search finds
+pub find_some : (test : Migrating → Bool) (xs : List Migrating) (x : Migrating) → find test xs ≡ Some x
     → Among xs x × (test x ≡ true)
 find_some test [] x h = cc
 find_some test (w ∷ xs) x h = pick (test w) refl h (find_some test xs x)

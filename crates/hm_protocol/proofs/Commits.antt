@@ -1,6 +1,5 @@
 -- No legal history breaks the joint rule of stale commits, nor `compare-sequence`: each commit's look-up meets none.
 use Rattle.std.proofs.Common.{refl, ap, sym, subst, ◌∙◌, inl, inr}
-use Rattle.std.proofs.lemmas.Bool.{cases_eq}
 use Rattle.std.specs.Prelude.{◌≡◌, ℕ, ◌⊎◌, Bool, true, false, not, ◌||◌, if◌then◌else◌, Option}
 use Rattle.std.specs.Prelude.{Some, None}
 use Rattle.std.specs.Prelude.{is_some, option_map, find, List, [], ◌∷◌}
@@ -15,7 +14,6 @@ use Rattle.hm_history.specs.declared.Kind.{Kind}
 use Rattle.hm_history.specs.declared.Entry.{Entry}
 use Rattle.hm_history.specs.declared.phases.Migrating.{Migrating}
 use Rattle.hm_history.specs.declared.phases.Phase.{Phase}
-use Rattle.hm_history.proofs.Updates.{here_at, other_at}
 use Rattle.hm_history.proofs.Tests.{same_some}
 use Rattle.std.proofs.lemmas.Option.{none-some}
 use Rattle.hm_protocol.specs.declared.events.Traced.{Traced}
@@ -31,7 +29,7 @@ use Rattle.hm_protocol.proofs.Steps.{Step, Calm, Keeps, watched}
 use Rattle.hm_protocol.proofs.Stands.{Stand, stand, seq_of, seq_at, is_passing, is_moves, passes, passing, turns}
 use Rattle.hm_protocol.proofs.Leading.{Leads, leads}
 use Rattle.hm_protocol.proofs.Seeing.{Seen, nothing}
-use Rattle.hm_protocol.proofs.Entries.{known_after, going_is, going_holds, first_rests}
+use Rattle.hm_protocol.proofs.Entries.{each_actor, known_after, going_is, going_holds, first_rests}
 use Rattle.hm_protocol.proofs.AllMigrate.{all_migrate, none_migrate}
 use Rattle.hm_protocol.proofs.SeenAfter.{Held, AllHeld, Lasting, Still, Commits, seen_after}
 use Rattle.hm_protocol.proofs.HeldOn.{held_on, held_new}
@@ -72,7 +70,9 @@ own_looks s o xs top below j q e = else_looks s o xs top below j q refl e
 -- look-ups under way after an entry
 held_after : (c : Program) (t : State) (e : Entry) (k : Known) → Step c t e → Commits c k t
     → AllHeld c (known_after c t e k) (state_next c t e)
-held_after c t e k s co = λ a. pick a (cases_eq a e.actor)
+held_after c t e k s co = each_actor c t e (λ a g. (o : Op) → op_at c a g.index ≡ Some o → (q : ℕ)
+    → seq_at g.stack ≡ Some q → Held (state_next c t e).after (known_after c t e k) a o q) own
+    (λ a ne o i q g. held_on c t e k s se a o q i g (co.held a o i q g))
   where
     se : Seen (Still e.kind e.actor (Lasting c t)) (known_after c t e k)
     se = seen_after c t e k s co
@@ -103,21 +103,6 @@ held_after c t e k s co = λ a. pick a (cases_eq a e.actor)
         (recorded s.turn.top (seen_at t.after s.turn.op (t.going e.actor).pages s.turn.top e.kind).page
         (t.going e.actor).pages e.kind)
         s.turn.is_op (λ o us q g. absurd (none-some q g)) mine)
-
-    pick : (a : ℕ) → (a ≡ e.actor) ⊎ (a ≡ e.actor → ⊥) → (o : Op)
-        → op_at c a ((state_next c t e).going a).index ≡ Some o
-        → (q : ℕ) → seq_at ((state_next c t e).going a).stack ≡ Some q
-        → Held (state_next c t e).after (known_after c t e k) a o q
-    pick a (inl i) = subst (λ a. (o : Op) → op_at c a ((state_next c t e).going a).index ≡ Some o
-        → (q : ℕ) → seq_at ((state_next c t e).going a).stack ≡ Some q
-        → Held (state_next c t e).after (known_after c t e k) a o q) (sym i)
-        (subst (λ g. (o : Op) → op_at c e.actor g.index ≡ Some o → (q : ℕ) → seq_at g.stack ≡ Some q
-        → Held (state_next c t e).after (known_after c t e k) e.actor o q)
-        (sym (here_at t.going e.actor (going_next c t.after e.actor (t.going e.actor) e.kind))) own)
-    pick a (inr ne) = subst (λ g. (o : Op) → op_at c a g.index ≡ Some o → (q : ℕ) → seq_at g.stack ≡ Some q
-        → Held (state_next c t e).after (known_after c t e k) a o q)
-        (sym (other_at t.going e.actor a (going_next c t.after e.actor (t.going e.actor) e.kind) ne))
-        (λ o i q g. held_on c t e k s se a o q i g (co.held a o i q g))
 
 calm : (k : Known) (ss : List Traced) → Calm nothing k ss
 calm k [] = tt

@@ -1,7 +1,6 @@
 -- No legal history breaks `entry-right`: what a look-up sets for writes it has found for writes.
-use Rattle.std.proofs.Common.{refl, ap, sym, subst, ◌∙◌, inl, inr}
-use Rattle.std.proofs.lemmas.Bool.{cases_eq}
-use Rattle.std.specs.Prelude.{◌≡◌, ℕ, Bool, true, false, ◌⊎◌, Some, ⊤, List, ◌∷◌}
+use Rattle.std.proofs.Common.{refl, ap, sym, subst, ◌∙◌}
+use Rattle.std.specs.Prelude.{◌≡◌, ℕ, Bool, true, false, Some, ⊤, List, ◌∷◌}
 use Rattle.hm_base.specs.Program.{Program}
 use Rattle.hm_base.specs.declared.ops.Op.{Op}
 use Rattle.hm_history.specs.Memory.After.{After}
@@ -13,7 +12,6 @@ use Rattle.hm_history.specs.declared.phases.Migrating.{Migrating}
 use Rattle.hm_history.specs.declared.phases.Touch.{Touch}
 use Rattle.hm_history.specs.declared.phases.Phase.{Phase}
 use Rattle.hm_history.specs.declared.phases.Next.TheVariants.{Do}
-use Rattle.hm_history.proofs.Updates.{here_at, other_at}
 use Rattle.hm_laws.specs.Past.{Past}
 use Rattle.hm_laws.specs.Facts.{facts, HoldsAll}
 use Rattle.hm_protocol.specs.declared.events.Event.{Event}
@@ -24,10 +22,10 @@ use Rattle.hm_protocol.specs.Projection.{project, events_of, events_in, top_of}
 use Rattle.hm_protocol.specs.Laws.{IsKept}
 use Rattle.hm_protocol.proofs.Leading.{notes_none}
 use Rattle.hm_protocol.proofs.Stands.{stand, has_noted}
-use Rattle.hm_protocol.proofs.Entries.{first_rests, going_is, known_after, events_are}
+use Rattle.hm_protocol.proofs.Entries.{each_actor, events_at, first_rests, going_is, known_after, events_are}
 use Rattle.hm_protocol.proofs.ComesFrom.{turn_from}
 use Rattle.hm_protocol.proofs.AllMigrate.{AllMigrate, all_migrate, none_migrate}
-use Rattle.hm_protocol.proofs.FoundRights.{Right, settled, noted_all, others, right_on, at_passing, own_events, at_walk}
+use Rattle.hm_protocol.proofs.FoundRights.{Right, settled, noted_all, others, right_on, at_passing, at_walk}
 use Rattle.hm_protocol.proofs.WriteSets.{is_write_set, harmless, calm}
 use Rattle.hm_protocol.proofs.Steps.{Calm, Keeps, by_thread, never, all_fit, watched}
 
@@ -37,7 +35,7 @@ own : (c : Program) (k : Known) (s u : After) (t : Past) (a i : ℕ) (o : Op) (x
     (below : List Phase)
     (after : Phase) (j : Kind) → HoldsAll s t a (facts o xs (top ∷ below)) → due_phase c s a o xs top ≡ Do j
     → Right (k.looks a) (Some o) (record { index = i; stack = top ∷ below; pages = xs })
-    → Right ((noted_all k a (own_events s u a o xs (top ∷ below) after j)).looks a) (Some o) (record {
+    → Right ((noted_all k a (events_at s u a o xs (top ∷ below) after j)).looks a) (Some o) (record {
       index = i;
       stack = stack_after o (top ∷ below) j (seen_at s o xs top j);
       pages = recorded top (seen_at s o xs top j).page xs j;
@@ -73,7 +71,12 @@ KnowsRight c k t = (b : ℕ) → Right (k.looks b) (op_at c b (t.going b).index)
 keeps : (c : Program) → Keeps c entry_right (λ k t. KnowsRight c k t × AllMigrate c k t)
 keeps c t e k s kn = (
   by_write (is_write_set e.kind) refl,
-  (λ b. after b (cases_eq b e.actor), all_migrate c t e k s kn.1),
+  (
+    each_actor c t e (λ b g. Right ((known_after c t e k).looks b) (op_at c b g.index) g) here
+        (λ b ne. others k e.actor b (op_at c b (t.going b).index) (t.going b) ne
+        (events_in t u e.actor e.kind (op_at c e.actor (t.going e.actor).index)) (kn.0 b)),
+    all_migrate c t e k s kn.1,
+  ),
 )
   where
     u : State
@@ -83,7 +86,7 @@ keeps c t e k s kn = (
     next = going_next c t.after e.actor (t.going e.actor) e.kind
 
     es : List Event
-    es = own_events t.after u.after e.actor s.turn.op (t.going e.actor).pages (s.turn.top ∷ s.turn.below)
+    es = events_at t.after u.after e.actor s.turn.op (t.going e.actor).pages (s.turn.top ∷ s.turn.below)
         (top_of (u.going e.actor).stack) e.kind
 
     same : events_in t u e.actor e.kind (op_at c e.actor (t.going e.actor).index) ≡ es
@@ -111,16 +114,6 @@ keeps c t e k s kn = (
         (right_on c _ e.actor (t.going e.actor).index s.turn.op _ _ s.turn.is_op
         (own c k t.after u.after s.past e.actor (t.going e.actor).index s.turn.op (t.going e.actor).pages
         s.turn.top s.turn.below (top_of (u.going e.actor).stack) e.kind s.turn.known s.turn.is_due before)))
-
-    after : (b : ℕ) → (b ≡ e.actor) ⊎ (b ≡ e.actor → ⊥)
-        → Right ((known_after c t e k).looks b) (op_at c b (u.going b).index) (u.going b)
-    after b (inl q) = subst (λ b. Right ((known_after c t e k).looks b) (op_at c b (u.going b).index) (u.going b))
-        (sym q) (subst (λ g. Right ((known_after c t e k).looks e.actor) (op_at c e.actor g.index) g)
-        (sym (here_at t.going e.actor next)) here)
-    after b (inr ne) = subst (λ g. Right ((known_after c t e k).looks b) (op_at c b g.index) g)
-        (sym (other_at t.going e.actor b next ne))
-        (others k e.actor b (op_at c b (t.going b).index) (t.going b) ne
-        (events_in t u e.actor e.kind (op_at c e.actor (t.going e.actor).index)) (kn.0 b))
 
 -- no legal history breaks `entry-right`
 pub entry_right_kept : IsKept Rule.EntryRight

@@ -1,8 +1,8 @@
 -- To which record a migration comes: it is past no commit that it has not made, and begins by taking frames.
-use Rattle.std.proofs.Common.{refl, ap, sym, ◌∙◌, inl, inr, arith, cond}
+use Rattle.std.proofs.Common.{refl, ap, sym, ◌∙◌, arith}
 use Rattle.std.proofs.lemmas.Bool.{true≢false, false≢true, and_parts}
 use Rattle.std.proofs.lemmas.Bool.Decides.{nat_tests}
-use Rattle.std.specs.Prelude.{◌≡◌, ◌⊎◌, ℕ, Bool, true, false, ◌&&◌, nat_lt, nat_le, Option, Some, None, ⊤}
+use Rattle.std.specs.Prelude.{◌≡◌, ℕ, Bool, true, false, ◌&&◌, nat_lt, nat_le, Option, Some, None, ⊤}
 use Rattle.std.specs.Prelude.{List, [], ◌∷◌, find}
 use Rattle.hm_base.specs.declared.ops.Op.{Op}
 use Rattle.hm_history.specs.Memory.After.{After}
@@ -12,6 +12,7 @@ use Rattle.hm_history.specs.declared.phases.MoveStep.{MoveStep}
 use Rattle.hm_history.specs.declared.phases.Phase.{Phase}
 use Rattle.hm_laws.specs.Records.{Among}
 use Rattle.hm_laws.proofs.Migration.Coming.{find_none}
+use Rattle.hm_protocol.proofs.Coming.{find_some}
 use Rattle.hm_protocol.proofs.Sitting.{gone_by, is_later}
 
 -- nothing is committed in this step, or was before
@@ -32,20 +33,6 @@ abbrev pub FoundAt : After → Op → List Migrating → MoveStep → ℕ → Op
 FoundAt s o xs step v None = ⊤
 FoundAt s o xs step v (Some at) = Found s o xs step v at.0 at.1
 
--- what a search finds
-found_one : (test : Migrating → Bool) (xs : List Migrating) (x : Migrating) → find test xs ≡ Some x → Among xs x
-    × (test x ≡ true)
-found_one test [] x h = cc
-found_one test (w ∷ xs) x h = by_test (test w) refl h (found_one test xs x)
-  where
-    same : (w x : Migrating) → ◌≡◌ {A = Option Migrating} (Some w) (Some x) → w ≡ x
-    same w x e = cc
-
-    by_test : (b : Bool) → test w ≡ b → cond b (Some w) (find test xs) ≡ Some x
-        → (find test xs ≡ Some x → Among xs x × (test x ≡ true)) → ((w ≡ x) ⊎ Among xs x) × (test x ≡ true)
-    by_test true e h more = (inl (same w x h), sym (ap test (same w x h)) ∙ e)
-    by_test false e h more = let z : Among xs x × (test x ≡ true) = more h in (inr z.0, z.1)
-
 look : (s : After) (o : Op) (xs : List Migrating) (step : MoveStep) (v : ℕ) (k : MoveStep) (rest : List MoveStep)
     (next : ℕ)
     → ((x : Migrating) → nat_le next x.page ≡ true → Among xs x → (u : ℕ) → gone_by step v u ≡ true
@@ -60,7 +47,7 @@ look s o xs step v k rest next later began over = by_found (find (λ x. nat_le n
         [ Some x ↦ Some (k, x) | None ↦ come_to s o xs rest 0 ])
     by_found None e = over e
     by_found (Some x) e =
-        let y : Among xs x × ((nat_le next x.page && concerns s o k x) ≡ true) = found_one
+        let y : Among xs x × ((nat_le next x.page && concerns s o k x) ≡ true) = find_some
         (λ x. nat_le next x.page && concerns s o k x) xs x e in
         let z : (nat_le next x.page ≡ true) × (concerns s o k x ≡ true) = and_parts (nat_le next x.page)
         (concerns s o k x) y.1 in record {

@@ -17,19 +17,19 @@ use Rattle.hm_history.specs.declared.phases.Phase.{Phase}
 use Rattle.hm_protocol.specs.declared.events.Event.{Event}
 use Rattle.hm_protocol.specs.Known.{Look, Known, is_noted}
 use Rattle.hm_protocol.specs.Noted.{known_next}
-use Rattle.hm_protocol.specs.Projection.{events_by, comes_to, top_of, found_at}
+use Rattle.hm_protocol.specs.Projection.{events_by, top_of, found_at}
 use Rattle.hm_history.specs.Memory.Plain.{mirror_dev}
 use Rattle.hm_history.specs.Kernel.Due.{due_phase}
 use Rattle.hm_history.specs.declared.phases.Touch.{Touch}
 use Rattle.hm_history.specs.declared.phases.Next.TheVariants.{Do}
 use Rattle.hm_laws.specs.Past.{Past}
 use Rattle.hm_laws.specs.Facts.{facts, HoldsAll, is_device_access}
+use Rattle.hm_protocol.proofs.Entries.{nothing_comes}
 use Rattle.hm_protocol.proofs.Steps.{by, by_thread}
 use Rattle.hm_protocol.proofs.Stands.{Stand, is_passing, stand, has_noted, passes, passing}
 use Rattle.hm_protocol.proofs.BeginFirst.{mirror_of}
 use Rattle.hm_protocol.proofs.ComesFrom.{walk_is_device}
-use Rattle.hm_protocol.proofs.Entries.{first_rests}
-use Rattle.hm_protocol.proofs.Migrated.{nothing_comes}
+use Rattle.hm_protocol.proofs.Entries.{first_rests, events_at}
 use Rattle.hm_protocol.proofs.Founds.{other_found, walk_finds, walk_suits}
 
 -- the page of an operation's piece
@@ -82,10 +82,6 @@ at_passing was looks i o xs ys top below j seen p h = record {
     before : {d : Stand} → stand (stack_after o (top ∷ below) j seen) ≡ d → stand (top ∷ below) ≡ d
     before e = passing top below p ∙ (sym (passes o top below j seen p) ∙ e)
 
--- the events of an entry, with those before its own
-abbrev pub own_events : After → After → ℕ → Op → List Migrating → List Phase → Phase → Kind → List Event
-own_events s u a o xs stack after j = comes_to s o xs (top_of stack) j ++ events_by s u a o xs stack after j
-
 device_page : (o : Op) (n since q : ℕ) → is_device_access o ≡ true
     → touch_page o (Touch.Walk n since q) ≡ page_of (op_piece o n).0
 device_page (Op.DeviceLoad m at len) n since q h = refl
@@ -99,7 +95,7 @@ pub at_walk : (c : Program) (k : Known) (s u : After) (t : Past) (a i : ℕ) (o 
     → HoldsAll s t a (facts o xs (Phase.Decide (Touch.Walk n since q) ∷ below))
     → due_phase c s a o xs (Phase.Decide (Touch.Walk n since q)) ≡ Do (Kind.Runlock p)
     → Right ((noted_all k a
-    (own_events s u a o xs (Phase.Decide (Touch.Walk n since q) ∷ below) after (Kind.Runlock p))).looks a) (Some o)
+    (events_at s u a o xs (Phase.Decide (Touch.Walk n since q) ∷ below) after (Kind.Runlock p))).looks a) (Some o)
     (record {
       index = i;
       stack = Phase.Noted n since q (s.places.place (touch_proc s o) (touch_page o (Touch.Walk n since q))) ∷ [];
@@ -109,7 +105,7 @@ at_walk c k s u t a i o xs ys n since q p below after known d = record {
   noted = λ l e y h. (
     refl,
     λ w. subst (λ e. is_noted (page_of (op_piece o e).0) false
-        ((noted_all k a (own_events s u a o xs (Phase.Decide (Touch.Walk n since q) ∷ below) after
+        ((noted_all k a (events_at s u a o xs (Phase.Decide (Touch.Walk n since q) ∷ below) after
         (Kind.Runlock p))).looks a (op_mirror o)).found ≡ false)
         (same_piece h) (finds (ap writable (same_place h) ∙ w)),
   );
@@ -123,7 +119,7 @@ at_walk c k s u t a i o xs ys n since q p below after known d = record {
 
     finds : writable (s.places.place (touch_proc s o) (touch_page o (Touch.Walk n since q))) ≡ true
         → is_noted (page_of (op_piece o n).0) false
-        ((noted_all k a (own_events s u a o xs (Phase.Decide (Touch.Walk n since q) ∷ below) after
+        ((noted_all k a (events_at s u a o xs (Phase.Decide (Touch.Walk n since q) ∷ below) after
         (Kind.Runlock p))).looks a (op_mirror o)).found ≡ false
     finds w = subst (λ es. is_noted (page_of (op_piece o n).0) false ((noted_all k a
         (es ++ events_by s u a o xs (Phase.Decide (Touch.Walk n since q) ∷ below) after (Kind.Runlock p))).looks a

@@ -23,6 +23,7 @@ use Rattle.hm_laws.proofs.Due.MirrorPieces.{window_within}
 use Rattle.hm_laws.proofs.Other.Lookups.{within_keeps, below_keeps, seq_back}
 use Rattle.hm_laws.proofs.State.MirrorInterval.{Mirrored, mirrored, same_proc}
 use Rattle.hm_protocol.specs.Known.{Known}
+use Rattle.hm_protocol.proofs.Invalidations.{below_itself}
 use Rattle.hm_protocol.proofs.Steps.{Step}
 use Rattle.hm_protocol.proofs.Tellings.{Tells, told_now, told_seq, is_interval}
 use Rattle.hm_protocol.proofs.ComesFrom.{turn_from, ComesFrom}
@@ -30,9 +31,6 @@ use Rattle.hm_protocol.proofs.Stands.{seq_at}
 use Rattle.hm_protocol.proofs.Seeing.{Seen}
 use Rattle.hm_protocol.proofs.Entries.{known_after}
 use Rattle.hm_protocol.proofs.SeenAfter.{Held, Lasting, Still}
-
-below_itself : (n m k : ℕ) → n ≡ k → m ≡ k → n < m → ⊥
-below_itself n m k e g l = omega (arith, e, g, l)
 
 -- a mirror that is told now has the sequence of its process
 told_else : (c : Program) (s : After) (t : Past) (a n q v z : ℕ) (r : Pages) → Sound c s t

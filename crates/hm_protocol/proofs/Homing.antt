@@ -8,7 +8,6 @@ use Rattle.hm_base.specs.declared.Frame.{Frame}
 use Rattle.hm_base.specs.declared.ops.Op.{Op}
 use Rattle.hm_history.specs.Memory.Words.{writable}
 use Rattle.hm_history.specs.Memory.After.{After}
-use Rattle.hm_history.specs.Kernel.Operation.{is_migration}
 use Rattle.hm_history.specs.Kernel.Stacks.{after_top}
 use Rattle.hm_history.specs.Kernel.Going.{recorded, seen_at, touch_proc}
 use Rattle.hm_history.specs.declared.TableRight.{TableRight}
@@ -22,14 +21,12 @@ use Rattle.hm_laws.specs.Records.{Among}
 use Rattle.hm_protocol.specs.declared.events.Event.{Event}
 use Rattle.hm_protocol.specs.declared.events.TraceFrame.{TraceFrame}
 use Rattle.hm_protocol.specs.Projection as project
-use Rattle.hm_protocol.specs.Projection.{events_by, comes_to, top_of, in_trace, is_home, owner_of, if_device}
+use Rattle.hm_protocol.specs.Projection.{events_by, in_trace, is_home, owner_of, if_device}
+use Rattle.hm_protocol.proofs.Entries.{events_at, nothing_comes}
+use Rattle.hm_protocol.proofs.Stands.{is_moves}
 use Rattle.hm_protocol.proofs.Moving.{View, freed_view, set_up_view}
 use Rattle.hm_protocol.proofs.Unmoved.{Comes, Still_calm, one_more, no_more}
 use Rattle.hm_protocol.proofs.Sitting.{Good, Homes, homes, Sits}
-
--- the events of an entry of an actor with an operation
-abbrev pub events_at : After → After → ℕ → Op → List Migrating → List Phase → Phase → Kind → List Event
-events_at s u a o xs stack after k = comes_to s o xs (top_of stack) k ++ events_by s u a o xs stack after k
 
 -- only a `Set` and the end of a migration can be wrong
 abbrev pub is_judged : Event → Bool
@@ -60,21 +57,6 @@ abbrev pub Leads : (List View → Event → Bool) → After → After → ℕ �
 Leads wrong s u a o xs top below after k vs =
     (ws : List View) × Comes wrong vs (events_at s u a o xs (top ∷ below) after k) ws
     × Sits o (recorded top (seen_at s o xs top k).page xs k) (after_top o top below k (seen_at s o xs top k)) ws
-
--- a phase of a migration's step
-abbrev pub is_moves : Phase → Bool
-is_moves (Phase.Moves step v) = true
-is_moves top = false
-
-none_either : (b : Bool) → ◌≡◌ {A = List Event} (if b then [] ++ [] else []) []
-none_either true = refl
-none_either false = refl
-
--- only at such a phase a migration comes to something before an entry
-pub nothing_comes : (s : After) (o : Op) (xs : List Migrating) (top : Phase) (k : Kind) → is_moves top ≡ false
-    → comes_to s o xs top k ≡ []
-nothing_comes s o xs (Phase.Moves step v) k h = absurd (true≢false h)
-nothing_comes s o xs top k h = none_either (is_migration o)
 
 pub just_by : (wrong : List View → Event → Bool) (s u : After) (a : ℕ) (o : Op) (xs : List Migrating) (top : Phase)
     (below : List Phase) (after : Phase) (k : Kind) (vs ws : List View) → is_moves top ≡ false

@@ -1,18 +1,18 @@
 -- What other events than those that open or close a migration leave of a thread's inner one.
 use Rattle.std.proofs.Common.{refl, ap, sym, subst, ◌∙◌}
-use Rattle.std.proofs.lemmas.Bool.{true≢false, or_right}
+use Rattle.std.proofs.lemmas.Bool.{false≢true, or_right}
 use Rattle.std.specs.Prelude.{◌≡◌, ℕ, Bool, true, false, ◌==◌, if◌then◌else◌}
 use Rattle.std.specs.Prelude.{List, [], ◌∷◌, map, fold}
 use Rattle.std.specs.List.{list_any}
 use Rattle.hm_history.specs.Memory.Words.{with_at}
-use Rattle.hm_history.proofs.Updates.{here_at, other_at}
+use Rattle.hm_history.proofs.Updates.{here_at}
 use Rattle.hm_protocol.specs.declared.events.Event.{Event}
 use Rattle.hm_protocol.specs.Words.{device_of, is_sole, drop_if}
 use Rattle.hm_protocol.specs.Known.{Move, Known, is_slot, is_look_up}
 use Rattle.hm_protocol.specs.Noted.{noted, known_next, commit, moving, with_move, freed, after_set}
-use Rattle.hm_protocol.proofs.Fields.{at_end, at_refused, held_keeps, pass_keeps}
+use Rattle.hm_protocol.proofs.Fields.{moves_else, at_end, at_refused, held_keeps, pass_keeps}
 use Rattle.hm_protocol.proofs.Steps.{by, by_thread}
-use Rattle.hm_protocol.proofs.Opening.{opens, Quiet}
+use Rattle.hm_protocol.proofs.Opening.{is_quiet, Quiet}
 
 -- a thread has an inner migration
 abbrev pub is_open : List Move → Bool
@@ -67,9 +67,9 @@ freed_grows (y ∷ ys) g p m = record {
   moved = λ v e. ap (list_any (λ u. u == v)) (m y) ∙ e;
 }
 
-grows_next : (k : Known) (a : ℕ) (x : Event) → opens x ≡ false → Grows (k.moves a) ((noted k a x).moves a)
-grows_next k a (Event.Setup p r to_device d) h = absurd (true≢false h)
-grows_next k a (Event.Finalize p) h = absurd (true≢false h)
+grows_next : (k : Known) (a : ℕ) (x : Event) → is_quiet x ≡ true → Grows (k.moves a) ((noted k a x).moves a)
+grows_next k a (Event.Setup p r to_device d) h = absurd (false≢true h)
+grows_next k a (Event.Finalize p) h = absurd (false≢true h)
 grows_next k a (Event.From v f w) h =
     inner_grows (λ y. record y { source = (v, w) ∷ y.source }) (λ y e. e) (λ y u e. e) k a (k.moves a)
 grows_next k a (Event.Moved v f) h = inner_grows (λ y. record y { moved = v ∷ y.moved }) (λ y e. e)
@@ -114,35 +114,6 @@ grows a (x ∷ xs) h k = let l : Known = known_next k (by a x) in
     (grows a xs h.1 l)
 
 -- ---- another thread
-
-moves_else : (k : Known) (b : ℕ) (x : Event) (a : ℕ) → (a ≡ b → ⊥) → (noted k b x).moves a ≡ k.moves a
-moves_else k b (Event.Setup p r to_device d) a ne = other_at k.moves b a _ ne
-moves_else k b (Event.Finalize p) a ne = other_at k.moves b a _ ne
-moves_else k b (Event.From v f w) a ne = other_at k.moves b a _ ne
-moves_else k b (Event.Moved v f) a ne = other_at k.moves b a _ ne
-moves_else k b (Event.Stayed v f) a ne = other_at k.moves b a _ ne
-moves_else k b (Event.Paged p) a ne = other_at k.moves b a _ ne
-moves_else k b (Event.Free f) a ne = other_at k.moves b a _ ne
-moves_else k b (Event.Set m v f w) a ne = pick (is_look_up k b v w) (is_sole w)
-  where
-    l : Known
-    l = record k {
-      slots = record { mirror = m; page = v; right = w; at = k.at } ∷ drop_if (is_slot m v) k.slots;
-      calls = map (after_set m v) k.calls;
-    }
-
-    pick : (x y : Bool)
-        → (if x then commit l b m else if y then l else moving l b (λ y. record y { set = v ∷ y.set })).moves a
-        ≡ k.moves a
-    pick true y = refl
-    pick false true = refl
-    pick false false = other_at k.moves b a _ ne
-moves_else k b (Event.End p r) a ne = at_end (λ k. k.moves a) (λ k us xs. refl) k b p r
-moves_else k b (Event.Told m q true) a ne = refl
-moves_else k b (Event.Told m q false) a ne = at_refused (λ k. k.moves a) (λ k us xs. refl) k b m q
-moves_else k b (Event.Take f) a ne = held_keeps (λ k. k.moves a) (λ k fs. refl) k f (device_of f)
-moves_else k b (Event.Pass f) a ne = pass_keeps (λ k. k.moves a) (λ k p. refl) k (device_of f)
-moves_else k b x a ne = refl
 
 -- events of another thread leave a thread's migrations
 pub others_moves : (b a : ℕ) → (a ≡ b → ⊥) → (xs : List Event) (k : Known)

@@ -1,7 +1,7 @@
 -- An entry of an actor in a migration keeps what its inner migration says of its records.
 use Rattle.std.proofs.Common.{refl, ap, sym, subst, ◌∙◌}
 use Rattle.std.proofs.lemmas.Bool.{true≢false, false≢true}
-use Rattle.std.specs.Prelude.{◌≡◌, ℕ, Bool, true, false, not, ◌&&◌, if◌then◌else◌, Option, Some}
+use Rattle.std.specs.Prelude.{◌≡◌, ℕ, Bool, true, false, Option, Some}
 use Rattle.std.specs.Prelude.{None}
 use Rattle.std.specs.Prelude.{List, [], ◌∷◌, ◌++◌, fold}
 use Rattle.hm_base.specs.Pages.{Pages}
@@ -9,7 +9,7 @@ use Rattle.hm_base.specs.declared.Frame.{Frame}
 use Rattle.hm_base.specs.declared.Place.{Place}
 use Rattle.hm_base.specs.declared.ops.Op.{Op}
 use Rattle.hm_history.specs.Memory.After.{After}
-use Rattle.hm_history.specs.Kernel.Operation.{is_migration, is_evicting}
+use Rattle.hm_history.specs.Kernel.Operation.{is_migration}
 use Rattle.hm_history.specs.Kernel.Stacks.{stack_after, after_migration}
 use Rattle.hm_history.specs.Kernel.Going.{seen_at}
 use Rattle.hm_history.specs.Kernel.Going.{recorded, recorded_at, recorded_body, coming, coming_page}
@@ -27,8 +27,9 @@ use Rattle.hm_laws.proofs.Migration.Records.{step_says}
 use Rattle.hm_protocol.specs.declared.events.Event.{Event}
 use Rattle.hm_protocol.specs.Known.{Move, Known}
 use Rattle.hm_protocol.specs.Noted.{known_next}
-use Rattle.hm_protocol.specs.Projection.{comes_to, events_by, is_home, is_start}
+use Rattle.hm_protocol.specs.Projection.{comes_to, events_by, is_start}
 use Rattle.hm_protocol.specs.Projection.{is_past_commits, shown, in_trace, record_at, moved}
+use Rattle.hm_protocol.proofs.Entries.{not_home, nothing_comes}
 use Rattle.hm_protocol.proofs.Steps.{by_thread}
 use Rattle.hm_protocol.proofs.ComesFrom.{ComesFrom}
 use Rattle.hm_protocol.proofs.Stands.{Stand, stand, is_passing, is_moves, passes, passing, turned, turns}
@@ -47,9 +48,6 @@ Migrates o step ys xs = (is_migration o ≡ true) × MoveOk step ys xs
 abbrev pub moves_after : Known → After → After → ℕ → Op → List Migrating → List Phase → Phase → Phase → Kind → List Move
 moves_after k s u a o xs stack top after j =
     (fold known_next k (by_thread a (comes_to s o xs top j ++ events_by s u a o xs stack after j))).moves a
-
-not_home : (o : Op) → is_migration o ≡ true → is_home o ≡ false
-not_home o h = ap (λ b. not b && not (is_evicting o)) h
 
 same_step : (x y : MoveStep) → Stand.Moves x ≡ Stand.Moves y → x ≡ y
 same_step x y e = ap (λ (z : Stand). elim z [ Stand.Moves step ↦ step | _ ↦ x ]) e
@@ -141,16 +139,6 @@ at_cursor s u a o xs step n below after j k at e from h = (
         (grown (l.moves a) zs xs more g)
 
 -- ---- at a phase that passes on
-
-none_either : (b : Bool) → ◌≡◌ {A = List Event} (if b then [] ++ [] else []) []
-none_either true = refl
-none_either false = refl
-
--- only at its cursor a migration comes to something
-pub nothing_comes : (s : After) (o : Op) (xs : List Migrating) (top : Phase) (j : Kind) → is_moves top ≡ false
-    → comes_to s o xs top j ≡ []
-nothing_comes s o xs (Phase.Moves step n) j h = absurd (true≢false h)
-nothing_comes s o xs top j h = none_either (is_migration o)
 
 -- a fresh page gets its frame after the first step
 fresh_later : (s : After) (t : Past) (a : ℕ) (o : Op) (xs : List Migrating) (p : ℕ) (r : Pages) (met : Bool)

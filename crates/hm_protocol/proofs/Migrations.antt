@@ -1,7 +1,7 @@
 -- No legal history breaks `set-right`: a page that was collected for reads is not writable until all are set.
-use Rattle.std.proofs.Common.{refl, ap, sym, subst, ◌∙◌, inl, inr}
-use Rattle.std.proofs.lemmas.Bool.{false≢true, cases_eq}
-use Rattle.std.specs.Prelude.{◌≡◌, ◌⊎◌, ℕ, ◌+◌, true, false, Option, Some, None, ⊤, List, [], ◌∷◌, fold}
+use Rattle.std.proofs.Common.{refl, ap, sym, subst, ◌∙◌}
+use Rattle.std.proofs.lemmas.Bool.{false≢true}
+use Rattle.std.specs.Prelude.{◌≡◌, ℕ, ◌+◌, true, false, Option, Some, None, ⊤, List, [], ◌∷◌, fold}
 use Rattle.hm_base.specs.Program.{Program}
 use Rattle.hm_base.specs.declared.ops.Op.{Op}
 use Rattle.hm_history.specs.Memory.Plain.{mirror_proc}
@@ -15,7 +15,6 @@ use Rattle.hm_history.specs.declared.Kind.{Kind}
 use Rattle.hm_history.specs.declared.Entry.{Entry}
 use Rattle.hm_history.specs.declared.phases.Migrating.{Migrating}
 use Rattle.hm_history.specs.declared.phases.Phase.{Phase}
-use Rattle.hm_history.proofs.Updates.{here_at, other_at}
 use Rattle.hm_laws.specs.Past.{Past, past_next}
 use Rattle.hm_laws.specs.Sound.{Sound}
 use Rattle.hm_laws.specs.Allowed.{next, Allowed}
@@ -27,11 +26,11 @@ use Rattle.hm_protocol.specs.Noted.{known_next}
 use Rattle.hm_protocol.specs.Tests.{set_right}
 use Rattle.hm_protocol.specs.Projection.{project, events_in, events_of, top_of}
 use Rattle.hm_protocol.specs.Laws.{IsKept}
+use Rattle.hm_protocol.proofs.Entries.{each_actor, not_home}
+use Rattle.hm_protocol.proofs.Entries.{events_at}
 use Rattle.hm_protocol.proofs.Steps.{GoBy, Keeps, Step, never, watched}
 use Rattle.hm_protocol.proofs.Moving.{View, views, views_after, CalmAt, Went, went}
 use Rattle.hm_protocol.proofs.Sitting.{Sits, all_more}
-use Rattle.hm_protocol.proofs.Homing.{events_at}
-use Rattle.hm_protocol.proofs.StaysOn.{not_home}
 use Rattle.hm_protocol.proofs.Moves.{SitsOf, KnowsMoves, sits_from, goes_as, moves_next}
 use Rattle.hm_protocol.proofs.Rights.{Right, Between, between, between_facts, frozen_pages, right_other}
 use Rattle.hm_protocol.proofs.RightEvents.{right_wrong, rights_so, top_source}
@@ -160,7 +159,18 @@ rights_other c s t a b k xs stack vs so ne ok (Some o) h r =
 -- ---- an entry
 
 keeps : (c : Program) → Keeps c set_right (λ k t. KnowsMoves c k t × KnowsRights c k t)
-keeps c t e k s kn = (gone.0, (moves_next c t e k l s kn.0 gone.1, λ b. by_actor b (cases_eq b e.actor)))
+keeps c t e k s kn = (
+  gone.0,
+  (
+    moves_next c t e k l s kn.0 gone.1,
+    each_actor c t e (λ b g. RightsAt (state_next c t e).after c b g (views l b))
+        (subst (RightsAt (state_next c t e).after c e.actor (going_next c t.after e.actor (t.going e.actor) e.kind))
+        (sym gone.1.here) here.rights)
+        (λ b ne. subst (RightsAt (state_next c t e).after c b (t.going b)) (sym (gone.1.there b ne))
+        (rights_other c t.after s.past e.actor b e.kind (t.going b).pages (t.going b).stack (views k b) s.now.sound ne
+        s.turn.allowed (op_at c b (t.going b).index) (s.now.known b) (kn.1 b))),
+  ),
+)
   where
     l : Known
     l = fold known_next k (events_of c t (state_next c t e) e)
@@ -172,24 +182,6 @@ keeps c t e k s kn = (gone.0, (moves_next c t e k l s kn.0 gone.1, λ b. by_acto
         (events_in t (state_next c t e) e.actor e.kind (op_at c e.actor (t.going e.actor).index))))
     gone = went set_right right_wrong rights_so e.actor (events_in t (state_next c t e) e.actor e.kind
         (op_at c e.actor (t.going e.actor).index)) k (views k e.actor) refl here.calm
-
-    by_actor : (b : ℕ) → (b ≡ e.actor) ⊎ (b ≡ e.actor → ⊥) → RightsAt (state_next c t e).after c b
-        ((state_next c t e).going b)
-        (views (fold known_next k (events_of c t (state_next c t e) e)) b)
-    by_actor b (inl q) = subst (λ b. RightsAt (state_next c t e).after c b ((state_next c t e).going b)
-        (views (fold known_next k (events_of c t (state_next c t e) e)) b)) (sym q)
-        (subst (λ g. RightsAt (state_next c t e).after c e.actor g (views
-        (fold known_next k (events_of c t (state_next c t e) e)) e.actor))
-        (sym (here_at t.going e.actor (going_next c t.after e.actor (t.going e.actor) e.kind)))
-        (subst (RightsAt (state_next c t e).after c e.actor (going_next c t.after e.actor (t.going e.actor) e.kind))
-        (sym gone.1.here) here.rights))
-    by_actor b (inr ne) = subst (λ g. RightsAt (state_next c t e).after c b g
-        (views (fold known_next k (events_of c t (state_next c t e) e)) b))
-        (sym (other_at t.going e.actor b (going_next c t.after e.actor (t.going e.actor) e.kind) ne))
-        (subst (RightsAt (state_next c t e).after c b (t.going b)) (sym (gone.1.there b ne))
-        (rights_other c t.after s.past e.actor b e.kind (t.going b).pages (t.going b).stack (views k b) s.now.sound ne
-        s.turn.allowed
-        (op_at c b (t.going b).index) (s.now.known b) (kn.1 b)))
 
 -- no legal history breaks `set-right`
 pub set_right_kept : IsKept Rule.SetRight

@@ -33,7 +33,8 @@ use Rattle.hm_protocol.specs.Projection as project
 use Rattle.hm_protocol.specs.Projection.{comes_to, is_start, is_past_commits, collected, pages_of}
 use Rattle.hm_protocol.proofs.Steps.{by, by_thread, apart}
 use Rattle.hm_protocol.proofs.Stands.{turned}
-use Rattle.hm_protocol.proofs.Opening.{Quiet, both_quiet, each_quiet, if_quiet}
+use Rattle.hm_protocol.proofs.Opening.{is_quiet, Quiet}
+use Rattle.hm_protocol.proofs.Unmoved.{both_be, be_each, be_if}
 use Rattle.hm_protocol.proofs.Inner.{is_open, is_paged, has_moved, Grows, grows}
 
 -- no record was moved
@@ -88,7 +89,7 @@ after_paging : (k : Known) (a p : ℕ) (b : Bool) (xs : List Migrating) → AllM
     → AllMoved ((fold known_next k (by_thread a (if b then Event.Paged p ∷ [] else []))).moves a) xs
     × (b ≡ true → is_paged ((fold known_next k (by_thread a (if b then Event.Paged p ∷ [] else []))).moves a) ≡ true)
 after_paging k a p b xs h = (
-  grown (k.moves a) _ xs (grows a (if b then Event.Paged p ∷ [] else []) (if_quiet b _ _ (refl, tt) tt) k) h,
+  grown (k.moves a) _ xs (grows a (if b then Event.Paged p ∷ [] else []) (be_if is_quiet b _ _ (refl, tt) tt) k) h,
   paging k a p b h.0,
 )
 
@@ -124,7 +125,7 @@ set_up_moved s o xs k a p false past h =
   where
     quiet : Quiet (collects s o xs)
     quiet = let p : ℕ = mirror_proc s.plain (op_mirror o) in
-        both_quiet (map (collected s p) xs) (Event.Ready p ∷ []) (each_quiet (collected s p) (λ x. refl) xs) (refl, tt)
+        both_be is_quiet (map (collected s p) xs) (Event.Ready p ∷ []) (be_each is_quiet (collected s p) (λ x. refl) xs) (refl, tt)
 
 -- what is known after that
 pub mid : (s : After) (o : Op) (xs : List Migrating) (step : MoveStep) (n : ℕ) (j : Kind) (k : Known) (a : ℕ)

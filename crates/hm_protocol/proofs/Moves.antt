@@ -1,7 +1,7 @@
 -- No legal history breaks `set-moved` or `drop-lost`: a page that stayed was not moved, and its frame was dropped.
-use Rattle.std.proofs.Common.{refl, ap, sym, subst, ◌∙◌, inl, inr}
-use Rattle.std.proofs.lemmas.Bool.{true≢false, cases_eq, eqb-true}
-use Rattle.std.specs.Prelude.{◌≡◌, ◌⊎◌, ℕ, ◌+◌, Bool, true, false, not, ◌&&◌, ◌||◌, ◌==◌, Option, Some, None, List, []}
+use Rattle.std.proofs.Common.{refl, ap, sym, subst, ◌∙◌}
+use Rattle.std.proofs.lemmas.Bool.{true≢false, eqb-true}
+use Rattle.std.specs.Prelude.{◌≡◌, ℕ, ◌+◌, Bool, true, false, not, ◌&&◌, ◌||◌, ◌==◌, Option, Some, None, List, []}
 use Rattle.std.specs.Prelude.{◌∷◌, fold}
 use Rattle.std.specs.List.{list_any}
 use Rattle.hm_base.specs.Program.{Program, IsScript}
@@ -18,7 +18,6 @@ use Rattle.hm_history.specs.declared.Entry.{Entry}
 use Rattle.hm_history.specs.declared.phases.Migrating.{Migrating}
 use Rattle.hm_history.specs.declared.phases.MoveStep.{MoveStep}
 use Rattle.hm_history.specs.declared.phases.Phase.{Phase}
-use Rattle.hm_history.proofs.Updates.{here_at, other_at}
 use Rattle.hm_laws.specs.Records.{Among}
 use Rattle.hm_laws.specs.Facts.{Knows}
 use Rattle.hm_laws.specs.Past.{past_next}
@@ -33,11 +32,12 @@ use Rattle.hm_protocol.specs.Noted.{known_next}
 use Rattle.hm_protocol.specs.Tests.{set_moved, drop_lost, is_kept_back}
 use Rattle.hm_protocol.specs.Projection.{project, events_in, events_of, top_of}
 use Rattle.hm_protocol.specs.Laws.{IsKept}
+use Rattle.hm_protocol.proofs.Entries.{each_actor, events_at}
 use Rattle.hm_protocol.proofs.Steps.{GoBy, Keeps, Step, never, watched, calm_left, calm_right}
 use Rattle.hm_protocol.proofs.Moving.{View, views, views_after, Went, went, move_wrong, moves_badly, moves_so}
 use Rattle.hm_protocol.proofs.Unmoved.{Comes}
 use Rattle.hm_protocol.proofs.Sitting.{Sits, Good, Stay, AllOf, AllPlain, plain_sits}
-use Rattle.hm_protocol.proofs.Homing.{Judges, Leads, events_at, is_judged}
+use Rattle.hm_protocol.proofs.Homing.{Judges, Leads, is_judged}
 use Rattle.hm_protocol.proofs.EachMove.{sits_on}
 
 -- ---- where an actor is
@@ -198,22 +198,14 @@ pub moves_next : (c : Program) (t : State) (e : Entry) (k l : Known) → Step c 
     → Went k l e.actor (views_after (views k e.actor)
     (events_in t (state_next c t e) e.actor e.kind (op_at c e.actor (t.going e.actor).index)))
     → KnowsMoves c l (state_next c t e)
-moves_next c t e k l s kn gone b = by_actor (cases_eq b e.actor)
+moves_next c t e k l s kn gone = each_actor c t e (λ b g. SitsAt c b g (views l b))
+    (subst (SitsAt c e.actor (going_next c t.after e.actor (t.going e.actor) e.kind)) (sym (gone.here ∙ led.1.is)) led.2)
+    (λ b ne. subst (SitsAt c b (t.going b)) (sym (gone.there b ne)) (kn b))
   where
     led : (ws : List View) × Comes move_wrong (views k e.actor) (events_in t (state_next c t e) e.actor e.kind
         (op_at c e.actor (t.going e.actor).index)) ws
         × SitsAt c e.actor (going_next c t.after e.actor (t.going e.actor) e.kind) ws
     led = entry_goes move_wrong judged c t e s (views k e.actor) (kn e.actor)
-
-    by_actor : (b ≡ e.actor) ⊎ (b ≡ e.actor → ⊥) → SitsAt c b ((state_next c t e).going b) (views l b)
-    by_actor (inl q) = subst (λ b. SitsAt c b ((state_next c t e).going b) (views l b)) (sym q)
-        (subst (λ g. SitsAt c e.actor g (views l e.actor))
-        (sym (here_at t.going e.actor (going_next c t.after e.actor (t.going e.actor) e.kind)))
-        (subst (SitsAt c e.actor (going_next c t.after e.actor (t.going e.actor) e.kind))
-        (sym (gone.here ∙ led.1.is)) led.2))
-    by_actor (inr ne) = subst (λ g. SitsAt c b g (views l b))
-        (sym (other_at t.going e.actor b (going_next c t.after e.actor (t.going e.actor) e.kind) ne))
-        (subst (SitsAt c b (t.going b)) (sym (gone.there b ne)) (kn b))
 
 -- and breaks none of the two rules
 moves_keep : (c : Program) → Keeps c moves_badly (KnowsMoves c)

@@ -4,7 +4,7 @@ use Rattle.std.specs.Prelude.{◌≡◌, ℕ, Bool, true, false, not, ◌&&◌, 
 use Rattle.std.specs.Prelude.{map, fold}
 use Rattle.std.specs.List.{list_any}
 use Rattle.hm_history.specs.declared.TableRight.{TableRight}
-use Rattle.hm_history.proofs.Updates.{here_at, other_at}
+use Rattle.hm_history.proofs.Updates.{here_at}
 use Rattle.hm_protocol.specs.declared.events.Event.{Event}
 use Rattle.hm_protocol.specs.declared.events.TraceFrame.{TraceFrame}
 use Rattle.hm_protocol.specs.declared.events.Traced.{Traced}
@@ -12,7 +12,7 @@ use Rattle.hm_protocol.specs.Words.{device_of, is_sole, drop_if}
 use Rattle.hm_protocol.specs.Known.{Move, Known, is_look_up, is_slot}
 use Rattle.hm_protocol.specs.Noted.{known_next, with_move, freed, outer, commit, moving, set_by, after_set}
 use Rattle.hm_protocol.specs.Tests.{set_moved, drop_lost, is_kept_back, is_migrated_set}
-use Rattle.hm_protocol.proofs.Fields.{at_end, at_refused, held_keeps, pass_keeps}
+use Rattle.hm_protocol.proofs.Fields.{moves_else, at_end, at_refused, held_keeps, pass_keeps}
 use Rattle.hm_protocol.proofs.Steps.{GoBy, by, by_thread}
 
 -- a migration, without what these rules do not read of it
@@ -97,17 +97,6 @@ set_here k a m v w = by_bool (is_look_up k a v w) (is_sole w)
     by_bool false false = moving_here k a (λ y. record y { set = v ∷ y.set }) (views k a)
         (same_view (λ y. record y { set = v ∷ y.set }) (λ y. refl) (k.moves a))
 
-set_there : (k : Known) (a b m v : ℕ) (w : TableRight) → (b ≡ a → ⊥) → views (set_by k a m v w) b ≡ views k b
-set_there k a b m v w ne = by_bool (is_look_up k a v w) (is_sole w)
-  where
-    by_bool : (d e : Bool)
-        → views (if d then commit k a m else if e then k else moving k a (λ y. record y { set = v ∷ y.set })) b ≡ views
-        k b
-    by_bool true e = refl
-    by_bool false true = refl
-    by_bool false false = ap (map view) (other_at k.moves a b (with_move (λ y. record y { set = v ∷ y.set })
-        (k.moves a)) ne)
-
 -- ---- an event
 
 pub view_here : (k : Known) (a : ℕ) (x : Event) → views (known_next k (by a x)) a ≡ view_next (views k a) x
@@ -147,23 +136,7 @@ view_here k a (Event.Pass f) = pass_keeps (λ k. views k a) (λ k p. refl) k (de
 view_here k a x = refl
 
 pub view_there : (k : Known) (a b : ℕ) (x : Event) → (b ≡ a → ⊥) → views (known_next k (by a x)) b ≡ views k b
-view_there k a b (Event.Setup p r to_device d) ne = ap (map view) (other_at k.moves a b _ ne)
-view_there k a b (Event.From v f w) ne = ap (map view) (other_at k.moves a b _ ne)
-view_there k a b (Event.Moved v f) ne = ap (map view) (other_at k.moves a b _ ne)
-view_there k a b (Event.Stayed v f) ne = ap (map view) (other_at k.moves a b _ ne)
-view_there k a b (Event.Paged p) ne = ap (map view) (other_at k.moves a b _ ne)
-view_there k a b (Event.Finalize p) ne = ap (map view) (other_at k.moves a b _ ne)
-view_there k a b (Event.Free f) ne = ap (map view) (other_at k.moves a b _ ne)
-view_there k a b (Event.Set m v f w) ne = set_there (record k {
-  slots = record { mirror = m; page = v; right = w; at = k.at } ∷ drop_if (is_slot m v) k.slots;
-  calls = map (after_set m v) k.calls;
-}) a b m v w ne
-view_there k a b (Event.End p r) ne = at_end (λ k. views k b) (λ k us xs. refl) k a p r
-view_there k a b (Event.Told m q true) ne = refl
-view_there k a b (Event.Told m q false) ne = at_refused (λ k. views k b) (λ k us xs. refl) k a m q
-view_there k a b (Event.Take f) ne = held_keeps (λ k. views k b) (λ k fs. refl) k f (device_of f)
-view_there k a b (Event.Pass f) ne = pass_keeps (λ k. views k b) (λ k p. refl) k (device_of f)
-view_there k a b x ne = refl
+view_there k a b x ne = ap (map view) (moves_else k a x b ne)
 
 -- ---- events that break no rule of what is seen of migrations
 

@@ -24,13 +24,15 @@ use Rattle.hm_laws.specs.Past.{Past}
 use Rattle.hm_laws.specs.Facts.{Never, HoldsAll, Knows, facts, facts_of}
 use Rattle.hm_protocol.specs.declared.events.Event.{Event}
 use Rattle.hm_protocol.specs.Projection as project
-use Rattle.hm_protocol.specs.Projection.{events_by, in_trace, is_home, owner_of, if_device}
+use Rattle.hm_protocol.specs.Projection.{events_by}
+use Rattle.hm_protocol.proofs.Entries.{events_at}
+use Rattle.hm_protocol.proofs.Stands.{is_moves}
 use Rattle.hm_protocol.proofs.Moving.{View}
 use Rattle.hm_protocol.proofs.Unmoved.{is_still, AllBe, Comes, still_all, both_be}
 use Rattle.hm_protocol.proofs.Unmoved.{none_all, erased_be, all_erased_be}
 use Rattle.hm_protocol.proofs.Usual.{by_none}
 use Rattle.hm_protocol.proofs.Sitting.{Stays, Sits}
-use Rattle.hm_protocol.proofs.Homing.{Judges, Leads, events_at, is_moves, just_by, still_of}
+use Rattle.hm_protocol.proofs.Homing.{Judges, Leads, just_by, still_of}
 
 pub still_over : (wrong : List View → Event → Bool) → Judges wrong → (s u : After) (a : ℕ) (o : Op)
     (xs : List Migrating)

@@ -23,12 +23,12 @@ use Rattle.hm_protocol.specs.Words.{is_sole, is_write}
 use Rattle.hm_protocol.specs.Known.{Move, is_noted}
 use Rattle.hm_protocol.specs.Tests.{set_right, is_migrated_set}
 use Rattle.hm_protocol.specs.Projection as project
-use Rattle.hm_protocol.specs.Projection.{events_by, comes_to, top_of, is_home, collected}
+use Rattle.hm_protocol.specs.Projection.{events_by, comes_to, is_home, collected}
+use Rattle.hm_protocol.proofs.Entries.{events_at}
 use Rattle.hm_protocol.proofs.Moving.{View, view, view_next, views_after, CalmAt, Seen_wrong}
 use Rattle.hm_protocol.proofs.Unmoved.{AllBe, both_be, be_if}
 use Rattle.hm_protocol.proofs.Usual.{is_usual, be_when, by_be, home_none}
 use Rattle.hm_protocol.proofs.Sitting.{AllOf}
-use Rattle.hm_protocol.proofs.Homing.{events_at}
 use Rattle.hm_protocol.proofs.Rights.{Low, Right}
 
 -- ---- what was collected stays noted

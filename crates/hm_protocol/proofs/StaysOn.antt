@@ -1,7 +1,7 @@
 -- What is seen of a migration goes on as its steps do, and a frame that becomes free is one more of it.
 use Rattle.std.proofs.Common.{refl, ap, sym, subst, ◌∙◌}
 use Rattle.std.proofs.lemmas.Bool.{false≢true}
-use Rattle.std.specs.Prelude.{◌≡◌, ℕ, Bool, true, false, not, ◌&&◌, ◌||◌, ◌==◌, if◌then◌else◌}
+use Rattle.std.specs.Prelude.{◌≡◌, ℕ, Bool, true, false, ◌&&◌, ◌||◌, ◌==◌, if◌then◌else◌}
 use Rattle.std.specs.Prelude.{Option, Some, None, is_some, List, [], ◌∷◌, ◌++◌, map}
 use Rattle.std.specs.List.{list_any}
 use Rattle.hm_base.specs.declared.Frame.{Frame}
@@ -9,7 +9,7 @@ use Rattle.hm_base.specs.declared.PoolId.{PoolId}
 use Rattle.hm_base.specs.declared.ops.Op.{Op}
 use Rattle.hm_history.specs.Memory.Plain.{mirror_dev}
 use Rattle.hm_history.specs.Memory.After.{After}
-use Rattle.hm_history.specs.Kernel.Operation.{op_mirror, is_migration, is_evicting}
+use Rattle.hm_history.specs.Kernel.Operation.{op_mirror, is_migration}
 use Rattle.hm_history.specs.declared.phases.Migrating.{Migrating}
 use Rattle.hm_history.specs.declared.phases.MoveStep.{MoveStep}
 use Rattle.hm_laws.specs.Past.{Past}
@@ -19,6 +19,7 @@ use Rattle.hm_protocol.specs.declared.events.Event.{Event}
 use Rattle.hm_protocol.specs.declared.events.TraceFrame.{TraceFrame}
 use Rattle.hm_protocol.specs.Words.{is_same}
 use Rattle.hm_protocol.specs.Projection.{in_trace, is_home}
+use Rattle.hm_protocol.proofs.Entries.{not_home}
 use Rattle.hm_protocol.proofs.Moving.{View, freed_view}
 use Rattle.hm_protocol.proofs.Sitting.{Good, One, Stay, AllOf, Given, Unmoved, Stays, all_more, gone_by, is_later}
 
@@ -112,9 +113,6 @@ given_by s t a o g h e = ap (λ (p : PoolId). is_some (elim p as (λ x. Option �
       | false ↦
           PoolId.System
     ]) e)
-
-pub not_home : (o : Op) → is_migration o ≡ true → is_home o ≡ false
-not_home o h = ap (λ b. not b && not (is_evicting o)) h
 
 -- nothing is finalized here
 pub none_over : (o : Op) (p : ℕ) → is_migration o ≡ true

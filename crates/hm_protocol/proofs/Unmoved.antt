@@ -7,7 +7,6 @@ use Rattle.hm_history.specs.Memory.Words.{numbers}
 use Rattle.hm_history.specs.Memory.After.{After}
 use Rattle.hm_protocol.specs.declared.events.Event.{Event}
 use Rattle.hm_protocol.specs.Projection as project
-use Rattle.hm_protocol.specs.Projection.{events_by, comes_to, top_of, in_trace, is_home}
 use Rattle.hm_protocol.proofs.Moving.{View, view_next, views_after, CalmAt}
 
 -- it collects no pages
@@ -37,7 +36,7 @@ pub both_be : (test : Event → Bool) (xs ys : List Event) → AllBe test xs →
 both_be test [] ys h g = g
 both_be test (x ∷ xs) ys h g = (h.0, both_be test xs ys h.1 g)
 
-be_each : (test : Event → Bool) {X : Type 0} (f : X → Event) → ((x : X) → test (f x) ≡ true) → (xs : List X)
+pub be_each : (test : Event → Bool) {X : Type 0} (f : X → Event) → ((x : X) → test (f x) ≡ true) → (xs : List X)
     → AllBe test (map f xs)
 be_each test f h [] = tt
 be_each test f h (x ∷ xs) = (h x, be_each test f h xs)

@@ -22,12 +22,13 @@ use Rattle.hm_protocol.specs.declared.events.Event.{Event}
 use Rattle.hm_protocol.specs.Known.{Known, is_noted, is_look_up}
 use Rattle.hm_protocol.specs.Tests.{entry_right}
 use Rattle.hm_protocol.specs.Projection.{comes_to, entry_frame}
+use Rattle.hm_protocol.proofs.Entries.{events_at, nothing_comes}
 use Rattle.hm_protocol.proofs.Fits.{Fits, comes_ok}
 use Rattle.hm_protocol.proofs.ComesFrom.{ComesFrom}
 use Rattle.hm_protocol.proofs.Stands.{Stand, stand}
-use Rattle.hm_protocol.proofs.Migrated.{Migrates, nothing_comes}
+use Rattle.hm_protocol.proofs.Migrated.{Migrates}
 use Rattle.hm_protocol.proofs.AllMigrate.{set_by_migration}
-use Rattle.hm_protocol.proofs.FoundRights.{Right, own_events, noted_all}
+use Rattle.hm_protocol.proofs.FoundRights.{Right, noted_all}
 use Rattle.hm_protocol.proofs.Steps.{Calm, by, by_thread, through, and_more}
 
 -- ---- what is set
@@ -94,7 +95,7 @@ pub calm : (c : Program) (k : Known) (s u : After) (a i : ℕ) (o : Op) (xs : Li
     (below : List Phase) (after : Phase) (j : Kind) → due_phase c s a o xs top ≡ Do j → ComesFrom s o xs top j
     → ((step : MoveStep) → stand (top ∷ below) ≡ Stand.Moves step → Migrates o step (k.moves a) xs)
     → Right (k.looks a) (Some o) (record { index = i; stack = top ∷ below; pages = xs })
-    → is_write_set j ≡ true → Calm entry_right k (by_thread a (own_events s u a o xs (top ∷ below) after j))
+    → is_write_set j ≡ true → Calm entry_right k (by_thread a (events_at s u a o xs (top ∷ below) after j))
 calm c k s u a i o xs (Phase.Noted n since q x) below after (Kind.Set m v f TableRight.Write from) d comes moves h e =
     let z : (op_mirror o ≡ m) × (page_of (op_piece o n).0 ≡ v)
     × (writable x ≡ true) = note_set c s a o xs n since q m v from x f d in
