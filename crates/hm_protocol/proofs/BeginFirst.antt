@@ -7,7 +7,7 @@ use Rattle.hm_base.specs.Program.{Program}
 use Rattle.hm_base.specs.declared.Frame.{Frame}
 use Rattle.hm_base.specs.declared.ops.Op.{Op}
 use Rattle.hm_history.specs.Memory.After.{After}
-use Rattle.hm_history.specs.Kernel.Operation.{op_mirror, is_migration}
+use Rattle.hm_history.specs.Kernel.Operation.{op_mirror}
 use Rattle.hm_history.specs.Kernel.Stacks.{stack_after}
 use Rattle.hm_history.specs.Kernel.Going.{State, Going, op_at, state_next, going_on, going_next}
 use Rattle.hm_history.specs.Kernel.Going.{seen_at, touch_page, touch_proc}
@@ -28,7 +28,7 @@ use Rattle.hm_protocol.proofs.Fits.{Fits}
 use Rattle.hm_protocol.proofs.Steps.{GoBy, Keeps, by, by_thread, never, all_fit, watched, apart}
 use Rattle.hm_protocol.proofs.Stands.{walks}
 use Rattle.hm_protocol.proofs.DueKinds.{may}
-use Rattle.hm_protocol.proofs.Entries.{going_is, known_after, each_actor}
+use Rattle.hm_protocol.proofs.Entries.{nothing_comes, events_are, going_is, known_after, each_actor}
 use Rattle.hm_protocol.proofs.ComesFrom.{turn_may}
 use Rattle.hm_protocol.proofs.Looks.{begun_before, last_walked, ends_walk, goes_on, sets_after, begins_now}
 
@@ -56,17 +56,8 @@ AllBegun X k = (b m : ℕ) → is_begun (k.looks b m).stage ≡ true → X b m
 
 walk_moves_not : (s : After) (o : Op) (xs : List Migrating) (top : Phase) (j : Kind) → ends_walk top j ≡ true
     → (ys : List Event) → comes_to s o xs top j ++ ys ≡ ys
-walk_moves_not s o xs (Phase.Decide (Touch.Walk n since q)) j h ys = by_migration (is_migration o)
-  where
-    by_migration : (b : Bool) → (if b then [] else []) ++ ys ≡ ys
-    by_migration true = refl
-    by_migration false = refl
-walk_moves_not s o xs (Phase.GiveUp (Some (Touch.Walk n since q))) j h ys = by_migration (is_migration o)
-  where
-    by_migration : (b : Bool) → (if b then [] else []) ++ ys ≡ ys
-    by_migration true = refl
-    by_migration false = refl
-walk_moves_not s o xs top j h ys = absurd (false≢true h)
+walk_moves_not s o xs (Phase.Moves step v) j h ys = absurd (false≢true h)
+walk_moves_not s o xs top j h ys = ap (λ xs. xs ++ ys) (nothing_comes s o xs top j refl)
 
 -- its own events, if it ends a walk
 walk_ends : (s u : After) (a : ℕ) (o : Op) (xs : List Migrating) (top : Phase) (below : List Phase) (after : Phase)
@@ -116,16 +107,16 @@ abbrev KnowsBegun : Program → Known → State → Type 0
 KnowsBegun c k t = AllBegun (λ b m. WalksIn c b (t.going b) m) k
 
 -- a walk that an entry ends is not one that has begun and not walked
-ended : (t u : State) (a : ℕ) (j : Kind) (x : Option Op) (o : Op) (top : Phase) (below : List Phase) (k : Known)
-    → x ≡ Some o → (t.going a).stack ≡ top ∷ below → ends_walk top j ≡ true
-    → is_begun ((fold known_next k (by_thread a (events_in t u a j x))).looks a (op_mirror o)).stage ≡ false
-ended t u a j x o top below k io is h = let g : Going = t.going a in let after : Phase = top_of (u.going a).stack in
+ended : (c : Program) (t u : State) (a : ℕ) (j : Kind) (o : Op) (top : Phase) (below : List Phase) (k : Known)
+    → op_at c a (t.going a).index ≡ Some o → (t.going a).stack ≡ top ∷ below → ends_walk top j ≡ true
+    → is_begun ((fold known_next k (by_thread a (events_in t u a j (op_at c a (t.going a).index)))).looks a
+    (op_mirror o)).stage ≡ false
+ended c t u a j o top below k io is h = let g : Going = t.going a in let after : Phase = top_of (u.going a).stack in
     let z : (ys : List Event) × ((d : Bool)
     × (events_by t.after u.after a o g.pages (top ∷ below) after j ≡ ys ++ Event.Walked (op_mirror o) d ∷ [])) =
     walk_ends t.after u.after a o g.pages top below after j h in
-    let same : events_in t u a j x ≡ z.0 ++ Event.Walked (op_mirror o) z.1.0 ∷ [] = ap (events_in t u a j) io
-    ∙ (ap (λ st. comes_to t.after o g.pages (top_of st) j ++ events_by t.after u.after a o g.pages st after j) is
-    ∙ (walk_moves_not t.after o g.pages top j h _ ∙ z.1.1)) in
+    let same : events_in t u a j (op_at c a g.index) ≡ z.0 ++ Event.Walked (op_mirror o) z.1.0 ∷ [] =
+    events_are c t u a j o top below io is ∙ (walk_moves_not t.after o g.pages top j h _ ∙ z.1.1) in
     ap (λ ss. is_begun ((fold known_next k ss).looks a (op_mirror o)).stage)
     (ap (by_thread a) same ∙ apart a z.0 (Event.Walked (op_mirror o) z.1.0 ∷ []))
     ∙ last_walked k (by_thread a z.0) a (op_mirror o) z.1.0
@@ -194,8 +185,7 @@ keeps c t e k s kn = (
         by_end : (b : Bool) → ends_walk s.turn.top e.kind ≡ b → WalksIn c e.actor (going_after c t e) m
         by_end false i = on m (goes_on s.turn.op s.turn.top s.turn.below e.kind _ may_be i (walking m x)) mine
         by_end true i = absurd
-            (false≢true (sym (ended t (state_next c t e) e.actor e.kind
-            (op_at c e.actor (t.going e.actor).index) s.turn.op
+            (false≢true (sym (ended c t (state_next c t e) e.actor e.kind s.turn.op
             s.turn.top s.turn.below k s.turn.is_op s.turn.is_stack i)
             ∙ (ap (λ n. is_begun ((known_after c t e k).looks e.actor n).stage) (sym mine) ∙ h)))
 

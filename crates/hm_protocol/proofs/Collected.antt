@@ -39,7 +39,8 @@ use Rattle.hm_protocol.proofs.StaysOn.{gone_later}
 use Rattle.hm_protocol.proofs.EachMove.{nothing_below}
 use Rattle.hm_protocol.proofs.Rights.{Right, is_mild, Sourced, Places_fresh, right_own, mild_plain, is_between}
 use Rattle.hm_protocol.proofs.Rights.{own_between, between}
-use Rattle.hm_protocol.proofs.RightEvents.{top_source, keeps_source, source_kept, views_append, is_migrated, is_first}
+use Rattle.hm_protocol.proofs.DueKinds.{is_answer}
+use Rattle.hm_protocol.proofs.RightEvents.{top_source, keeps_source, source_kept, views_append, is_first}
 use Rattle.hm_protocol.proofs.RightEvents.{by_source, at_source, collected_on}
 use Rattle.hm_protocol.proofs.RightMoves.{Mildly, over_mild, over_stays}
 use Rattle.hm_protocol.proofs.RightSteps.{Steps_mildly, moves_mild}
@@ -64,7 +65,7 @@ none_noted s u a o xs top below after k vs n h e = subst (λ us. AllOf (Right (n
     ∙ (just_by (λ vs x. false) s u a o xs top below after k [] [] n
     (none_all (λ vs x. false) (λ x. refl) _ (by_none s u a o xs (top ∷ below) after k (λ b. h)))).is)) tt
 
-not_over : (k : Kind) → is_mild k ≡ true → is_migrated k ≡ false
+not_over : (k : Kind) → is_mild k ≡ true → is_answer k ≡ false
 not_over (Kind.Migrated n) h = absurd (false≢true h)
 not_over k h = refl
 
@@ -182,7 +183,7 @@ paged_source s o xs top = be_when keeps_source (project.is_up_to_commits top && 
 
 first_source : (s u : After) (a : ℕ) (o : Op) (xs : List Migrating) (top : Phase) (below : List Phase) (after : Phase)
     (k : Kind)
-    → is_migration o ≡ true → is_migrated k ≡ false
+    → is_migration o ≡ true → is_answer k ≡ false
     → top_source (views_after [] (events_at s u a o xs (top ∷ below) after k)) ≡ top_source
     (views_after [] (set_up s o xs top k))
 first_source s u a o xs top below after k m n =

@@ -35,7 +35,7 @@ use Rattle.hm_laws.specs.Facts.{facts, HoldsAll, is_device_access, has_piece}
 use Rattle.hm_protocol.proofs.Steps.{Step}
 use Rattle.hm_laws.proofs.Due.Good.{either}
 use Rattle.hm_protocol.specs.Words.{is_sole}
-use Rattle.hm_protocol.proofs.DueKinds.{is_plain, is_at_walk, is_setting, is_of_step, may, Passes, next_passes}
+use Rattle.hm_protocol.proofs.DueKinds.{is_set, is_plain, is_at_walk, is_setting, is_of_step, may, Passes, next_passes}
 use Rattle.hm_protocol.proofs.DueFaults.{adds, answers_piece, cpus, steps, due_may}
 
 -- a table is set by a look-up whose sequence is still the interval's, for one actor, or by a migration's step
@@ -218,10 +218,30 @@ pub turn_may : (c : Program) (s : After) (t : Past) (a : ℕ) (o : Op) (xs : Lis
 turn_may c s t a o xs top below j h d = sym (ap (next_passes (may o top)) d)
     ∙ due_may c s a o xs top (λ e. device_refuses_not o (walk_is_device s t a o xs top below h e))
 
--- the phase from which an actor's entry comes
+-- and from such a phase
+pub due_from : (c : Program) (s : After) (t : Past) (a : ℕ) (o : Op) (xs : List Migrating) (top : Phase)
+    (below : List Phase) (j : Kind) → HoldsAll s t a (facts o xs (top ∷ below)) → due_phase c s a o xs top ≡ Do j
+    → ComesFrom s o xs top j
+due_from c s t a o xs top below j h d = subst (DueFrom s o xs top) d
+    (comes_from c s a o xs top (λ w. device_refuses_not o (walk_is_device s t a o xs top below h w)))
+
+-- so does an actor's entry
 pub turn_from : (c : Program) (t : State) (e : Entry) → (s : Step c t e)
     → ComesFrom t.after s.turn.op (t.going e.actor).pages s.turn.top e.kind
-turn_from c t e s = let o : Op = s.turn.op in let xs : List Migrating = (t.going e.actor).pages in
-    subst (DueFrom t.after o xs s.turn.top) s.turn.is_due
-    (comes_from c t.after e.actor o xs s.turn.top (λ w. device_refuses_not o
-    (walk_is_device t.after s.past e.actor o xs s.turn.top s.turn.below s.turn.known w)))
+turn_from c t e s = due_from c t.after s.past e.actor s.turn.op (t.going e.actor).pages s.turn.top s.turn.below e.kind
+    s.turn.known s.turn.is_due
+
+-- a table is set from such phases alone
+abbrev pub may_set : Phase → Bool
+may_set (Phase.Noted k at q x) = true
+may_set (Phase.Decide touch) = true
+may_set (Phase.Moves step v) = true
+may_set top = false
+
+pub sets_nothing : (s : After) (o : Op) (xs : List Migrating) (top : Phase) (k : Kind) → may_set top ≡ false
+    → ComesFrom s o xs top k → is_set k ≡ false
+sets_nothing s o xs (Phase.Noted n at q x) k e h = absurd (true≢false e)
+sets_nothing s o xs (Phase.Decide touch) k e h = absurd (true≢false e)
+sets_nothing s o xs (Phase.Moves step v) k e h = absurd (true≢false e)
+sets_nothing s o xs top (Kind.Set m v f w from) e h = absurd h
+sets_nothing s o xs top k e h = refl

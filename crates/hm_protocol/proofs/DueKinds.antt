@@ -25,6 +25,16 @@ use Rattle.hm_laws.proofs.Due.Good.{either, either_option}
 
 -- ---- tests of entries
 
+-- a table is set
+abbrev pub is_set : Kind → Bool
+is_set (Kind.Set m v f w from) = true
+is_set k = false
+
+-- the answer of a migration
+abbrev pub is_answer : Kind → Bool
+is_answer (Kind.Migrated n) = true
+is_answer k = false
+
 -- neither a `Begin` nor a `Set`, nor the answer of a migration
 abbrev pub is_plain : Kind → Bool
 is_plain (Kind.Begin m q) = false

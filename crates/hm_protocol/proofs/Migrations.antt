@@ -1,5 +1,5 @@
 -- No legal history breaks `set-right`: a page that was collected for reads is not writable until all are set.
-use Rattle.std.proofs.Common.{refl, ap, sym, subst, ◌∙◌}
+use Rattle.std.proofs.Common.{refl, sym, subst}
 use Rattle.std.proofs.lemmas.Bool.{false≢true}
 use Rattle.std.specs.Prelude.{◌≡◌, ℕ, ◌+◌, true, false, Option, Some, None, ⊤, List, [], ◌∷◌, fold}
 use Rattle.hm_base.specs.Program.{Program}
@@ -26,12 +26,12 @@ use Rattle.hm_protocol.specs.Noted.{known_next}
 use Rattle.hm_protocol.specs.Tests.{set_right}
 use Rattle.hm_protocol.specs.Projection.{project, events_in, events_of, top_of}
 use Rattle.hm_protocol.specs.Laws.{IsKept}
-use Rattle.hm_protocol.proofs.Entries.{each_actor, not_home}
+use Rattle.hm_protocol.proofs.Entries.{going_is, events_are, each_actor, not_home}
 use Rattle.hm_protocol.proofs.Entries.{events_at}
 use Rattle.hm_protocol.proofs.Steps.{GoBy, Keeps, Step, never, watched}
 use Rattle.hm_protocol.proofs.Moving.{View, views, views_after, CalmAt, Went, went}
 use Rattle.hm_protocol.proofs.Sitting.{Sits, all_more}
-use Rattle.hm_protocol.proofs.Moves.{SitsOf, KnowsMoves, sits_from, goes_as, moves_next}
+use Rattle.hm_protocol.proofs.Moves.{SitsOf, KnowsMoves, sits_from, moves_next}
 use Rattle.hm_protocol.proofs.Rights.{Right, Between, between, between_facts, frozen_pages, right_other}
 use Rattle.hm_protocol.proofs.RightEvents.{right_wrong, rights_so, top_source}
 use Rattle.hm_protocol.proofs.Collected.{Noted, noted_on}
@@ -116,16 +116,14 @@ entered c t e s vs sits rights = record {
         s.turn.top e.kind))
         (recorded s.turn.top (seen_at t.after s.turn.op (t.going e.actor).pages s.turn.top e.kind).page
         (t.going e.actor).pages e.kind)
-    goes = goes_as c t.after e.actor (t.going e.actor) e.kind s.turn.op s.turn.top s.turn.below s.turn.is_op
+    goes = going_is c t.after e.actor (t.going e.actor) e.kind s.turn.op s.turn.top s.turn.below s.turn.is_op
         s.turn.is_stack
 
     evs : events_in t (state_next c t e) e.actor e.kind (op_at c e.actor (t.going e.actor).index)
         ≡ events_at t.after (state_next c t e).after e.actor s.turn.op (t.going e.actor).pages
         (s.turn.top ∷ s.turn.below)
         (top_of ((state_next c t e).going e.actor).stack) e.kind
-    evs = ap (events_in t (state_next c t e) e.actor e.kind) s.turn.is_op
-        ∙ ap (λ st. events_at t.after (state_next c t e).after e.actor s.turn.op (t.going e.actor).pages st
-        (top_of ((state_next c t e).going e.actor).stack) e.kind) s.turn.is_stack
+    evs = events_are c t (state_next c t e) e.actor e.kind s.turn.op s.turn.top s.turn.below s.turn.is_op s.turn.is_stack
 
     sits_here : Sits s.turn.op (t.going e.actor).pages (s.turn.top ∷ s.turn.below) vs
     sits_here = subst (λ st. Sits s.turn.op (t.going e.actor).pages st vs) s.turn.is_stack

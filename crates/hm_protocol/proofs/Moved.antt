@@ -31,6 +31,7 @@ use Rattle.hm_protocol.specs.Known.{Move, Known}
 use Rattle.hm_protocol.specs.Noted.{noted, known_next, with_move}
 use Rattle.hm_protocol.specs.Projection as project
 use Rattle.hm_protocol.specs.Projection.{comes_to, is_start, is_past_commits, collected, pages_of}
+use Rattle.hm_protocol.proofs.DueKinds.{is_set}
 use Rattle.hm_protocol.proofs.Steps.{by, by_thread, apart}
 use Rattle.hm_protocol.proofs.Stands.{turned}
 use Rattle.hm_protocol.proofs.Opening.{is_quiet, Quiet}
@@ -150,11 +151,6 @@ mid s o xs step n j k a m ok = subst (λ b. Mid step (is_start j) (is_past_commi
     pick MoveStep.Finish h = h
 
 -- ---- an entry at a step
-
--- the entry sets a table
-abbrev pub is_set : Kind → Bool
-is_set (Kind.Set m v f w from) = true
-is_set k = false
 
 pub all_mid : (step : MoveStep) (past : Bool) (ys : List Move) (xs : List Migrating) → Mid step false past ys xs
     → AllMoved ys xs

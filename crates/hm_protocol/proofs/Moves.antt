@@ -6,14 +6,12 @@ use Rattle.std.specs.Prelude.{◌∷◌, fold}
 use Rattle.std.specs.List.{list_any}
 use Rattle.hm_base.specs.Program.{Program, IsScript}
 use Rattle.hm_base.specs.declared.ops.Op.{Op}
-use Rattle.hm_history.specs.Memory.After.{After}
 use Rattle.hm_history.specs.Kernel.Operation.{is_to_device}
-use Rattle.hm_history.specs.Kernel.Stacks.{first_phase, after_top, stack_after}
-use Rattle.hm_history.specs.Kernel.Going.{State, Going, op_at, first_stack, going_from, going_on, going_top, going_next}
+use Rattle.hm_history.specs.Kernel.Stacks.{first_phase, after_top}
+use Rattle.hm_history.specs.Kernel.Going.{State, Going, op_at, first_stack, going_from, going_on, going_next}
 use Rattle.hm_history.specs.Kernel.Going.{recorded, seen_at, state_next}
 use Rattle.hm_history.specs.Kernel.Legal.{Legal}
 use Rattle.hm_history.specs.declared.TableRight.{TableRight}
-use Rattle.hm_history.specs.declared.Kind.{Kind}
 use Rattle.hm_history.specs.declared.Entry.{Entry}
 use Rattle.hm_history.specs.declared.phases.Migrating.{Migrating}
 use Rattle.hm_history.specs.declared.phases.MoveStep.{MoveStep}
@@ -32,7 +30,7 @@ use Rattle.hm_protocol.specs.Noted.{known_next}
 use Rattle.hm_protocol.specs.Tests.{set_moved, drop_lost, is_kept_back}
 use Rattle.hm_protocol.specs.Projection.{project, events_in, events_of, top_of}
 use Rattle.hm_protocol.specs.Laws.{IsKept}
-use Rattle.hm_protocol.proofs.Entries.{each_actor, events_at}
+use Rattle.hm_protocol.proofs.Entries.{going_is, each_actor, events_at}
 use Rattle.hm_protocol.proofs.Steps.{GoBy, Keeps, Step, never, watched, calm_left, calm_right}
 use Rattle.hm_protocol.proofs.Moving.{View, views, views_after, Went, went, move_wrong, moves_badly, moves_so}
 use Rattle.hm_protocol.proofs.Unmoved.{Comes}
@@ -79,16 +77,6 @@ sits_going c a i o xs (top ∷ below) vs e h = subst (λ x. SitsOf x xs (top ∷
 
 -- ---- an entry
 
-pub goes_as : (c : Program) (s : After) (a : ℕ) (g : Going) (k : Kind) (o : Op) (top : Phase) (below : List Phase)
-    → op_at c a g.index ≡ Some o → g.stack ≡ top ∷ below
-    → going_next c s a g k ≡ going_on c a g.index (after_top o top below k (seen_at s o g.pages top k))
-    (recorded top (seen_at s o g.pages top k).page g.pages k)
-goes_as c s a g k o top below e f = ap (λ (x : Option Op). elim x as (λ x. Going)
-    [ None ↦ g | Some o ↦ going_top c s a g o g.stack k ]) e
-    ∙ (ap (λ st. going_top c s a g o st k) f
-    ∙ ap (λ st. going_on c a g.index (stack_after o st k (seen_at s o g.pages top k))
-    (recorded top (seen_at s o g.pages top k).page g.pages k)) f)
-
 pub entry_goes : (wrong : List View → Event → Bool) → Judges wrong → (c : Program) (t : State) (e : Entry) → Step c t e
     → (vs : List View) → SitsAt c e.actor (t.going e.actor) vs
     → (ws : List View) × Comes wrong vs (events_in t (state_next c t e) e.actor e.kind
@@ -118,7 +106,7 @@ entry_goes wrong j c t e s vs h = (
         s.turn.top e.kind))
         (recorded s.turn.top (seen_at t.after s.turn.op (t.going e.actor).pages s.turn.top e.kind).page
         (t.going e.actor).pages e.kind)
-    goes = goes_as c t.after e.actor (t.going e.actor) e.kind s.turn.op s.turn.top s.turn.below s.turn.is_op
+    goes = going_is c t.after e.actor (t.going e.actor) e.kind s.turn.op s.turn.top s.turn.below s.turn.is_op
         s.turn.is_stack
 
     sits : Sits s.turn.op (t.going e.actor).pages (s.turn.top ∷ s.turn.below) vs

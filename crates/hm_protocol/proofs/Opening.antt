@@ -9,6 +9,7 @@ use Rattle.hm_history.specs.declared.phases.Migrating.{Migrating}
 use Rattle.hm_history.specs.declared.phases.Phase.{Phase}
 use Rattle.hm_protocol.specs.declared.events.Event.{Event}
 use Rattle.hm_protocol.specs.Projection.{events_by, is_home}
+use Rattle.hm_protocol.proofs.DueKinds.{is_answer}
 use Rattle.hm_protocol.proofs.Unmoved.{AllBe}
 use Rattle.hm_protocol.proofs.Usual.{Usual, by_be, home_none}
 
@@ -26,11 +27,6 @@ quiet_usual : Usual is_quiet
 quiet_usual (Event.Setup p r to_device d) h = absurd (false≢true h)
 quiet_usual (Event.Finalize p) h = absurd (false≢true h)
 quiet_usual x h = refl
-
--- the entry is the answer of a migration
-abbrev pub is_answer : Kind → Bool
-is_answer (Kind.Migrated n) = true
-is_answer k = false
 
 -- no other entry of an operation that brings no page home opens or closes a migration
 pub by_quiet : (s u : After) (a : ℕ) (o : Op) (xs : List Migrating) (stack : List Phase) (after : Phase) (k : Kind)

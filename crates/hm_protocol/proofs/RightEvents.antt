@@ -24,6 +24,7 @@ use Rattle.hm_protocol.specs.Known.{Move, is_noted}
 use Rattle.hm_protocol.specs.Tests.{set_right, is_migrated_set}
 use Rattle.hm_protocol.specs.Projection as project
 use Rattle.hm_protocol.specs.Projection.{events_by, comes_to, is_home, collected}
+use Rattle.hm_protocol.proofs.DueKinds.{is_set, is_answer}
 use Rattle.hm_protocol.proofs.Entries.{events_at}
 use Rattle.hm_protocol.proofs.Moving.{View, view, view_next, views_after, CalmAt, Seen_wrong}
 use Rattle.hm_protocol.proofs.Unmoved.{AllBe, both_be, be_if}
@@ -65,15 +66,6 @@ pub views_append : (vs : List View) (xs ys : List Event) → views_after vs (xs 
 views_append vs [] ys = refl
 views_append vs (x ∷ xs) ys = views_append (view_next vs x) xs ys
 
--- the entry sets a page, or ends a migration
-abbrev pub is_set : Kind → Bool
-is_set (Kind.Set m v f w from) = true
-is_set k = false
-
-abbrev pub is_migrated : Kind → Bool
-is_migrated (Kind.Migrated n) = true
-is_migrated k = false
-
 -- it begins the steps of a migration
 abbrev pub is_first : Phase → Bool
 is_first (Phase.Moves MoveStep.FreezeOthers v) = true
@@ -103,18 +95,18 @@ source_usual x h = refl
 
 -- an entry of a migration under way keeps what was collected, until it ends
 pub by_source : (s u : After) (a : ℕ) (o : Op) (xs : List Migrating) (stack : List Phase) (after : Phase) (k : Kind)
-    → is_home o ≡ false → is_migrated k ≡ false → AllBe keeps_source (events_by s u a o xs stack after k)
+    → is_home o ≡ false → is_answer k ≡ false → AllBe keeps_source (events_by s u a o xs stack after k)
 by_source s u a o xs stack after k h m = by_be keeps_source s u a o xs stack after k (record {
   usual = source_usual;
   home = λ e f j. home_none keeps_source s o stack f j h;
   over = λ e p. absurd (true≢false (sym e ∙ h));
-  ends = λ n p e. absurd (false≢true (sym m ∙ ap is_migrated e));
+  ends = λ n p e. absurd (false≢true (sym m ∙ ap is_answer e));
   sets = λ i v f w from g e. refl;
 })
 
 pub at_source : (s u : After) (a : ℕ) (o : Op) (xs : List Migrating) (top : Phase) (below : List Phase) (after : Phase)
     (k : Kind)
-    → is_home o ≡ false → is_migrated k ≡ false → is_first top ≡ false → AllBe keeps_source
+    → is_home o ≡ false → is_answer k ≡ false → is_first top ≡ false → AllBe keeps_source
     (events_at s u a o xs (top ∷ below) after k)
 at_source s u a o xs top below after k h m n = both_be keeps_source (comes_to s o xs top k) _
     (comes_be keeps_source (λ p. refl) s o xs top k (λ e. absurd (false≢true (sym n ∙ e))))

@@ -30,7 +30,7 @@ use Rattle.hm_laws.proofs.Migration.Records.{with_among, one_of_page, fresh_foun
 use Rattle.hm_protocol.proofs.Sitting.{is_later}
 use Rattle.hm_protocol.proofs.Homing.{due_is}
 use Rattle.hm_protocol.proofs.Rights.{is_mild, Places_fresh, Sourced, is_between, between}
-use Rattle.hm_protocol.proofs.RightEvents.{is_set}
+use Rattle.hm_protocol.proofs.DueKinds.{is_set}
 
 -- ---- records
 

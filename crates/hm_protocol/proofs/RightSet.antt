@@ -1,32 +1,23 @@
 -- A migration sets no page for writes that was collected for reads.
 use Rattle.std.proofs.Common.{refl, ap, sym, subst, ◌∙◌}
 use Rattle.std.proofs.lemmas.Bool.{true≢false, false≢true}
-use Rattle.std.specs.Prelude.{◌≡◌, ℕ, Bool, true, false, ◌&&◌, if◌then◌else◌, Option, Some, None, List, [], ◌∷◌, ◌++◌}
-use Rattle.hm_base.specs.Pages.{one_page}
+use Rattle.std.specs.Prelude.{◌≡◌, ℕ, Bool, true, false, ◌&&◌, Option, Some, None, List, [], ◌∷◌, ◌++◌}
 use Rattle.hm_base.specs.Program.{Program}
-use Rattle.hm_base.specs.declared.cause.Cause.{Cause}
 use Rattle.hm_base.specs.declared.Frame.{Frame}
-use Rattle.hm_base.specs.declared.Place.{Place}
 use Rattle.hm_base.specs.declared.ops.Op.{Op}
-use Rattle.hm_history.specs.Memory.Words.{writable, place_in}
+use Rattle.hm_history.specs.Memory.Words.{writable}
 use Rattle.hm_history.specs.Memory.Plain.{mirror_proc}
-use Rattle.hm_history.specs.Memory.Places.{lowest_direct, lowest_moving, lowest_named, lowest_free}
 use Rattle.hm_history.specs.Memory.After.{After}
 use Rattle.hm_history.specs.Kernel.Operation.{op_mirror}
 use Rattle.hm_history.specs.Kernel.Going.{coming}
-use Rattle.hm_history.specs.Kernel.Due.{due_phase, due_finish, finish_frames, settle, target_of, has_no_frame}
+use Rattle.hm_history.specs.Kernel.Due.{due_phase}
 use Rattle.hm_history.specs.Kernel.Due.{due_moves, due_step}
-use Rattle.hm_history.specs.Kernel.Due.{others_of, fetch_page, commit_page, finish_page, start_entry, skips, pool_of}
 use Rattle.hm_history.specs.Kernel.Due.{right_of}
-use Rattle.hm_history.specs.declared.KeptAt.{KeptAt}
-use Rattle.hm_history.specs.declared.KeptWhy.{KeptWhy}
 use Rattle.hm_history.specs.declared.Kind.{Kind}
-use Rattle.hm_history.specs.declared.phases.Body.{Body}
 use Rattle.hm_history.specs.declared.phases.Migrating.{Migrating}
 use Rattle.hm_history.specs.declared.phases.MoveStep.{MoveStep}
 use Rattle.hm_history.specs.declared.phases.Next.TheVariants.{Do}
 use Rattle.hm_history.specs.declared.phases.Phase.{Phase}
-use Rattle.hm_history.proofs.Tests.{no_test}
 use Rattle.hm_laws.specs.Past.{Past}
 use Rattle.hm_laws.specs.Sound.{Sound}
 use Rattle.hm_laws.specs.Facts.{HoldsAll, facts}
@@ -34,6 +25,9 @@ use Rattle.hm_protocol.specs.declared.events.Event.{Event}
 use Rattle.hm_protocol.specs.Words.{is_write}
 use Rattle.hm_protocol.specs.Known.{is_noted}
 use Rattle.hm_protocol.specs.Projection.{comes_to, entry_frame}
+use Rattle.hm_protocol.proofs.DueFaults.{steps}
+use Rattle.hm_protocol.proofs.DueKinds.{is_setting, is_of_step}
+use Rattle.hm_protocol.proofs.ComesFrom.{due_from, sets_nothing}
 use Rattle.hm_protocol.proofs.Entries.{events_at, nothing_comes}
 use Rattle.hm_protocol.proofs.Stands.{is_moves}
 use Rattle.hm_protocol.proofs.Moving.{View, CalmAt, views_after}
@@ -42,10 +36,10 @@ use Rattle.hm_protocol.proofs.Homing.{due_is}
 use Rattle.hm_protocol.proofs.EachMove.{nothing_below}
 use Rattle.hm_protocol.proofs.FoundMoves.{Found, FoundAt, found_at}
 use Rattle.hm_protocol.proofs.Rights.{Low, is_between, own_between, between}
-use Rattle.hm_protocol.proofs.RightEvents.{right_wrong, noted_low, top_source, keeps_source, source_kept, is_set}
+use Rattle.hm_protocol.proofs.DueKinds.{is_set}
+use Rattle.hm_protocol.proofs.RightEvents.{right_wrong, noted_low, top_source, keeps_source, source_kept}
 use Rattle.hm_protocol.proofs.RightEvents.{is_first}
 use Rattle.hm_protocol.proofs.RightEvents.{comes_be, comes_not, calm_all, calm_and, calm_unless, noted_is_low}
-use Rattle.hm_protocol.proofs.RightMoves.{nothing_mild, fresh_mild}
 use Rattle.hm_protocol.proofs.RightSteps.{from_between}
 use Rattle.hm_protocol.proofs.Collected.{Noted, over_none, not_two}
 
@@ -68,92 +62,18 @@ none_calm s u a o xs top below after k vs n e = calm_unless s u a o xs top below
 
 -- ---- entries that set nothing
 
-settle_unset : (s : After) (g : Frame) → is_set (settle s g) ≡ false
-settle_unset s g = by_named (lowest_named s.places g)
-  where
-    by_named : (x : Option (ℕ × ℕ)) → is_set (elim x as (λ x. Kind) [ Some x ↦ Kind.Done g | None ↦ Kind.Drop g ]) ≡
-        false
-    by_named (Some x) = refl
-    by_named None = refl
-
-finish_unset : (s : After) (f : Frame) (to : Option Frame) → is_set (due_finish s f to) ≡ false
-finish_unset s f to = by_moving (lowest_moving s.places f) to
-  where
-    by_moving : (z : Option (ℕ × ℕ)) (to : Option Frame) → is_set (elim z as (λ x. Kind) [
-      | Some x ↦ Kind.Place x.0 x.1 (place_in (target_of f to) (writable (s.places.place x.0 x.1)))
-      | None ↦ finish_frames s f to
-    ]) ≡ false
-    by_moving (Some z) to = refl
-    by_moving None None = settle_unset s f
-    by_moving None (Some g) = refl
-
 over_unset : (c : Program) (s : After) (t : Past) (a : ℕ) (o : Op) (xs : List Migrating) (top : Phase)
-    (step : MoveStep) (v : ℕ)
-    (k : Kind) → is_later step ≡ true → HoldsAll s t a (facts o xs (top ∷ Phase.Moves step v ∷ []))
-    → due_phase c s a o xs top ≡ Do k → is_set k ≡ false
-over_unset c s t a o xs (Phase.Guard q r met told (Body.Select n)) MoveStep.FreezeOthers v k l h d = absurd
-    (false≢true l)
-over_unset c s t a o xs (Phase.Guard q r met told (Body.Select n)) step v k l h d = no_test h.1.1.1.0
-over_unset c s t a o xs (Phase.Guard q r met told (Body.Freeze f)) MoveStep.FreezeOthers v k l h d = absurd
-    (false≢true l)
-over_unset c s t a o xs (Phase.Guard q r met told (Body.Freeze f)) step v k l h d = no_test h.1.1.1.0
-over_unset c s t a o xs (Phase.Guard q r met told Body.Nothing) step v k l h d =
-    (nothing_mild s a o xs q r met told step v k (due_is _ k d)).unset
-over_unset c s t a o xs (Phase.Guard q r met told (Body.Fresh f)) MoveStep.Commit v k l h d =
-    (fresh_mild s a o xs q r met told f v k h.1.1.1.1.1.1.1.1.1.1.1.0 h.1.1.1.1.1.0 (due_is _ k d)).unset
-over_unset c s t a o xs (Phase.Guard q r met told (Body.Fresh f)) step v k l h d = no_test h.1.1.1.0
-over_unset c s t a o xs (Phase.Guard q r met told (Body.Catch f)) step v k l h d = absurd h.1.1.1.1.0
-over_unset c s t a o xs (Phase.Copy f g n) step v k l h d = ap is_set (sym (due_is _ k d))
-over_unset c s t a o xs (Phase.Lost n f) step v k l h d = ap is_set (sym (due_is _ k d))
-over_unset c s t a o xs (Phase.Drop f) step v k l h d = ap is_set (sym (due_is _ k d))
-over_unset c s t a o xs (Phase.Finish f to) step v k l h d = ap is_set (sym (due_is _ k d)) ∙ finish_unset s f to
-over_unset c s t a o xs (Phase.Settle g) step v k l h d = ap is_set (sym (due_is _ k d)) ∙ settle_unset s g
-over_unset c s t a o xs (Phase.Emptying f at) step v k l h d = absurd h.1.1.1.0
-over_unset c s t a o xs (Phase.Copied f g) step v k l h d = absurd h.1.1.1.1.0
-over_unset c s t a o xs (Phase.Taken touch f Place.Zero) step v k l h d = absurd h.0
-over_unset c s t a o xs (Phase.Taken touch f over) step v k l h d = absurd h.0
-over_unset c s t a o xs top step v k l h d = absurd h.0
+    (step : MoveStep) (v : ℕ) (k : Kind) → is_moves top ≡ false
+    → HoldsAll s t a (facts o xs (top ∷ Phase.Moves step v ∷ [])) → due_phase c s a o xs top ≡ Do k → is_set k ≡ false
+over_unset c s t a o xs (Phase.Noted n at q x) step v k m h d = absurd h.0
+over_unset c s t a o xs (Phase.Decide touch) step v k m h d = absurd h.0
+over_unset c s t a o xs (Phase.Moves i w) step v k m h d = absurd (true≢false m)
+over_unset c s t a o xs top step v k m h d =
+    sets_nothing s o xs top k refl (due_from c s t a o xs top (Phase.Moves step v ∷ []) k h d)
 
-others_unset : (s : After) (source : Option Frame) → is_set (others_of s source) ≡ false
-others_unset s None = refl
-others_unset s (Some f) = by_direct (lowest_direct s.places f)
-  where
-    by_direct : (x : Option (ℕ × ℕ)) → is_set (elim x as (λ x. Kind) [
-      | Some x ↦ start_entry s x.0 (one_page x.1)
-      | None ↦ Kind.Refused Cause.Never
-    ]) ≡ false
-    by_direct (Some x) = refl
-    by_direct None = refl
-
-fetch_unset : (c : Program) (s : After) (o : Op) (n : ℕ) → is_set (fetch_page c s o n) ≡ false
-fetch_unset c s o n = by_skip (skips c o n) (lowest_free c s.places (pool_of s o))
-  where
-    by_skip : (b : Bool) (x : Option Frame) → is_set (elim b as (λ b. Kind) [
-      | true ↦ Kind.Kept (KeptAt.Page n) KeptWhy.Skipped
-      | false ↦ elim x as (λ x. Kind) [ Some g ↦ Kind.Take g | None ↦ Kind.Kept (KeptAt.Page n) KeptWhy.NoFrame ]
-    ]) ≡ false
-    by_skip true x = refl
-    by_skip false (Some g) = refl
-    by_skip false None = refl
-
-commit_unset : (s : After) (p n : ℕ) (source dest : Option Frame) → is_set (commit_page s p n source dest) ≡ false
-commit_unset s p n (Some f) (Some g) = refl
-commit_unset s p n None (Some g) = by_room (has_no_frame (s.places.place p n))
-  where
-    by_room : (b : Bool) → is_set (elim b as (λ b. Kind) [
-      | true ↦ start_entry s p (one_page n)
-      | false ↦ Kind.Kept (KeptAt.Page n) KeptWhy.Lost
-    ]) ≡ false
-    by_room true = refl
-    by_room false = refl
-commit_unset s p n None None = refl
-commit_unset s p n (Some f) None = refl
-
-finish_page_unset : (s : After) (source dest : Option Frame) (moved : Bool)
-    → is_set (finish_page s source dest moved) ≡ false
-finish_page_unset s (Some f) dest moved = finish_unset s f (if moved then dest else None)
-finish_page_unset s None (Some g) moved = refl
-finish_page_unset s None None moved = refl
+step_unset : (step : MoveStep) (k : Kind) → is_setting step ≡ false → is_of_step step k ≡ true → is_set k ≡ false
+step_unset step (Kind.Set m v f w from) e h = absurd (false≢true (sym e ∙ h))
+step_unset step k e h = refl
 
 -- ---- the driver sets a page
 
@@ -232,17 +152,9 @@ moves_calm c s u t a o xs step v after vs so old (Some (i, x)) q = here i q
   where
     here : (i : MoveStep) → coming s o xs (Phase.Moves step v) ≡ Some (i, x)
         → CalmAt right_wrong vs (events_at s u a o xs (Phase.Moves step v ∷ []) after (due_step c s o i x))
-    here MoveStep.FreezeOthers q = calm_unless s u a o xs (Phase.Moves step v) [] after (others_of s x.source) vs
-        (others_unset s x.source)
-    here MoveStep.TakeAndCopy q = calm_unless s u a o xs (Phase.Moves step v) [] after (fetch_page c s o x.page) vs
-        (fetch_unset c s o x.page)
-    here MoveStep.Commit q = calm_unless s u a o xs (Phase.Moves step v) [] after
-        (commit_page s (mirror_proc s.plain (op_mirror o)) x.page x.source x.dest) vs
-        (commit_unset s (mirror_proc s.plain (op_mirror o)) x.page x.source x.dest)
     here MoveStep.SetOwnTable q = set_calm c s u t a o xs step v after vs x so q old
-    here MoveStep.Finish q = calm_unless s u a o xs (Phase.Moves step v) [] after
-        (finish_page s x.source x.dest x.moved) vs
-        (finish_page_unset s x.source x.dest x.moved)
+    here i q = calm_unless s u a o xs (Phase.Moves step v) [] after (due_step c s o i x) vs
+        (step_unset i (due_step c s o i x) refl (steps c s o i x))
 
 -- ---- an entry anywhere
 
@@ -256,13 +168,17 @@ single_calm c s u t a o xs (Phase.Moves step v) [] after k vs so h d m old =
     (moves_calm c s u t a o xs step v after vs so old (coming s o xs (Phase.Moves step v)) refl)
 single_calm c s u t a o xs (Phase.Moves step v) (x ∷ below) after k vs so h d m old = absurd h.0
 single_calm c s u t a o xs (Phase.Copy f g i) below after k vs so h d m old =
-    calm_unless s u a o xs (Phase.Copy f g i) below after k vs (ap is_set (sym (due_is _ k d)))
+    calm_unless s u a o xs (Phase.Copy f g i) below after k vs
+    (sets_nothing s o xs (Phase.Copy f g i) k refl (due_from c s t a o xs (Phase.Copy f g i) below k h d))
 single_calm c s u t a o xs (Phase.Copied f g) below after k vs so h d m old =
-    calm_unless s u a o xs (Phase.Copied f g) below after k vs (ap is_set (sym (due_is _ k d)))
+    calm_unless s u a o xs (Phase.Copied f g) below after k vs
+    (sets_nothing s o xs (Phase.Copied f g) k refl (due_from c s t a o xs (Phase.Copied f g) below k h d))
 single_calm c s u t a o xs (Phase.Finish f to) below after k vs so h d m old =
-    calm_unless s u a o xs (Phase.Finish f to) below after k vs (ap is_set (sym (due_is _ k d)) ∙ finish_unset s f to)
+    calm_unless s u a o xs (Phase.Finish f to) below after k vs
+    (sets_nothing s o xs (Phase.Finish f to) k refl (due_from c s t a o xs (Phase.Finish f to) below k h d))
 single_calm c s u t a o xs (Phase.Settle g) below after k vs so h d m old =
-    calm_unless s u a o xs (Phase.Settle g) below after k vs (ap is_set (sym (due_is _ k d)) ∙ settle_unset s g)
+    calm_unless s u a o xs (Phase.Settle g) below after k vs
+    (sets_nothing s o xs (Phase.Settle g) k refl (due_from c s t a o xs (Phase.Settle g) below k h d))
 single_calm c s u t a o xs top below after k vs so h d m old = none_calm s u a o xs top below after k vs refl m.0
 
 over_calm : (c : Program) (s u : After) (t : Past) (a : ℕ) (o : Op) (xs : List Migrating) (top : Phase)
@@ -278,7 +194,7 @@ over_calm c s u t a o xs top step v after k vs n h d m = by_later (is_later step
     by_later false l = none_calm s u a o xs top (Phase.Moves step v ∷ []) after k vs n
         (over_none s t a o xs top step v vs l h m)
     by_later true l = calm_unless s u a o xs top (Phase.Moves step v ∷ []) after k vs
-        (over_unset c s t a o xs top step v k l h d)
+        (over_unset c s t a o xs top step v k n h d)
 
 pub calm_on : (c : Program) (s u : After) (t : Past) (a : ℕ) (o : Op) (xs : List Migrating) (top : Phase)
     (below : List Phase)

@@ -32,7 +32,7 @@ use Rattle.hm_protocol.specs.Projection.{is_start}
 use Rattle.hm_protocol.proofs.Sitting.{is_later}
 use Rattle.hm_protocol.proofs.FoundMoves.{Found, FoundAt, found_at}
 use Rattle.hm_protocol.proofs.Rights.{is_mild, Places_fresh, Sourced, is_between, between}
-use Rattle.hm_protocol.proofs.RightEvents.{is_migrated}
+use Rattle.hm_protocol.proofs.DueKinds.{is_answer}
 use Rattle.hm_protocol.proofs.RightMoves.{same_records, with_same, finish_stays}
 
 -- ---- a migration's step
@@ -40,7 +40,7 @@ use Rattle.hm_protocol.proofs.RightMoves.{same_records, with_same, finish_stays}
 -- what an entry of a step is that leads to a step in between
 pub record Steps_mildly (o : Op) (xs : List Migrating) (step : MoveStep) (k : Kind) (zs : List Migrating) : Type 0 where
   pub mild : is_mild k ≡ true
-  pub goes_on : is_migrated k ≡ false
+  pub goes_on : is_answer k ≡ false
   pub fresh : Places_fresh xs k
   pub same : Sourced xs zs
   pub from : is_later step ≡ true → is_between step ≡ true
