@@ -217,7 +217,7 @@ moves_noted c s u t a o xs step v after k vs h d m old e = by_step step h m old 
     later step f n old l y = goes_on s a o xs (recorded_at (coming_page (coming s o xs (Phase.Moves step v))) xs k) k vs
         (views_after vs (events_at s u a o xs (Phase.Moves step v ∷ []) after k)) y.mild y.fresh y.same
         (source_kept vs (events_at s u a o xs (Phase.Moves step v ∷ []) after k)
-        (at_source s u a o xs (Phase.Moves step v) [] after k (not_home o n) y.goes_on f)) (old (y.from l))
+        (at_source s u a o xs (Phase.Moves step v) [] after k (not_home o n) (not_over k y.mild) f)) (old (y.from l))
 
     by_step : (step : MoveStep) → HoldsAll s t a (facts o xs (Phase.Moves step v ∷ [])) → Stays o xs step v vs
         → (is_between step ≡ true → Noted s o xs vs)
@@ -228,7 +228,7 @@ moves_noted c s u t a o xs step v after k vs h d m old e = by_step step h m old 
         (goes_on s a o xs (recorded_at (coming_page (coming s o xs (Phase.Moves MoveStep.FreezeOthers v))) xs k) k
         (views_after [] (set_up s o xs (Phase.Moves MoveStep.FreezeOthers v) k))
         (views_after [] (events_at s u a o xs (Phase.Moves MoveStep.FreezeOthers v ∷ []) after k)) y.mild y.fresh y.same
-        (first_source s u a o xs (Phase.Moves MoveStep.FreezeOthers v) [] after k h.1.1.0 y.goes_on)
+        (first_source s u a o xs (Phase.Moves MoveStep.FreezeOthers v) [] after k h.1.1.0 (not_over k y.mild))
         (set_up_noted s t a o xs v k (y.first refl) h.1.1))
     by_step MoveStep.TakeAndCopy h m old y = later MoveStep.TakeAndCopy refl h.1.1.0 old refl y
     by_step MoveStep.Commit h m old y = later MoveStep.Commit refl h.1.1.0 old refl y

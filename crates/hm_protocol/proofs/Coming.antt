@@ -51,17 +51,20 @@ come_says s o xs (step ∷ steps) n at x e =
         z : Among xs y × ((nat_le n y.page && concerns s o step y) ≡ true)
         z = find_some (λ x. nat_le n x.page && concerns s o step x) xs y f
 
+-- from the last step it comes to no other
+pub last_only : (s : After) (o : Op) (xs : List Migrating) (v : ℕ) (i : MoveStep) (x : Migrating)
+    → coming s o xs (Phase.Moves MoveStep.Finish v) ≡ Some (i, x) → i ≡ MoveStep.Finish
+last_only s o xs v i x e = by_found (find (λ x. nat_le v x.page && concerns s o MoveStep.Finish x) xs) e
+  where
+    by_found : (r : Option Migrating) → ◌≡◌ {A = Option (MoveStep × Migrating)}
+        (elim r [ Some y ↦ Some (MoveStep.Finish, y) | None ↦ None ]) (Some (i, x))
+        → i ≡ MoveStep.Finish
+    by_found None e = cc
+    by_found (Some y) e = ap (λ (z : Option (MoveStep × Migrating)). elim z [ None ↦ MoveStep.Finish | Some w ↦ w.0 ])
+        (sym e)
+
 -- a migration in its last step sets nothing
 pub finish_sets_nothing : (s : After) (o : Op) (xs : List Migrating) (n : ℕ) (x : Migrating)
     → coming s o xs (Phase.Moves MoveStep.Finish n) ≡ Some (MoveStep.SetOwnTable, x) → ⊥
-finish_sets_nothing s o xs n x e = pick (find (λ x. nat_le n x.page && concerns s o MoveStep.Finish x) xs) e
-  where
-    pick : (y : Option Migrating)
-        → elim y as (λ y. Option (MoveStep × Migrating)) [ Some x ↦ Some (MoveStep.Finish, x) | None ↦ None ]
-        ≡ Some (MoveStep.SetOwnTable, x) → ⊥
-    pick None e = cc
-    pick (Some y) e = no_test (ap (λ (w : Option (MoveStep × Migrating)). is_own w) e)
-      where
-        is_own : Option (MoveStep × Migrating) → Bool
-        is_own None = false
-        is_own (Some w) = elim w.0 [ MoveStep.SetOwnTable ↦ true | _ ↦ false ]
+finish_sets_nothing s o xs n x e = no_test (ap (λ (i : MoveStep). elim i [ MoveStep.Finish ↦ true | _ ↦ false ])
+    (last_only s o xs n MoveStep.SetOwnTable x e))

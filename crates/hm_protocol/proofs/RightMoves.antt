@@ -30,7 +30,6 @@ use Rattle.hm_laws.proofs.Migration.Records.{with_among, one_of_page, fresh_foun
 use Rattle.hm_protocol.proofs.Sitting.{is_later}
 use Rattle.hm_protocol.proofs.Homing.{due_is}
 use Rattle.hm_protocol.proofs.Rights.{is_mild, Places_fresh, Sourced, is_between, between}
-use Rattle.hm_protocol.proofs.DueKinds.{is_set}
 
 -- ---- records
 
@@ -57,7 +56,6 @@ with_same xs x y i p q z j = by_page (with_among y xs z j)
 pub record Mildly (s : After) (o : Op) (xs : List Migrating) (top : Phase) (step : MoveStep) (v : ℕ) (k : Kind) : Type
     0 where
   pub mild : is_mild k ≡ true
-  pub unset : is_set k ≡ false
   pub fresh : Places_fresh xs k
   pub same : Sourced xs (recorded top (seen_at s o xs top k).page xs k)
   pub stays : between (after_top o top (Phase.Moves step v ∷ []) k (seen_at s o xs top k)) ≡ true
@@ -73,8 +71,8 @@ nothing_mild s a o xs q r met told step v k e = subst (Mildly s o xs (Phase.Guar
       | Some m ↦ Kind.Told m r (s.sequences.seq q)
       | None ↦ body_or_end s q r (due_body s a o q r (s.places.place q r.first) Body.Nothing)
     ])
-    by_told (Some m) = record { mild = refl; unset = refl; fresh = tt; same = same_records xs; stays = λ e. e }
-    by_told None = record { mild = refl; unset = refl; fresh = tt; same = same_records xs; stays = λ e. e }
+    by_told (Some m) = record { mild = refl; fresh = tt; same = same_records xs; stays = λ e. e }
+    by_told None = record { mild = refl; fresh = tt; same = same_records xs; stays = λ e. e }
 
 pub fresh_mild : (s : After) (a : ℕ) (o : Op) (xs : List Migrating) (q : ℕ) (r : Pages) (met : Bool) (told : Option ℕ)
     (g : Frame)
@@ -94,7 +92,6 @@ fresh_mild s a o xs q r met told g v k w h e = subst (Mildly s o xs (Phase.Guard
         ]))
     by_room true = record {
       mild = refl;
-      unset = refl;
       fresh = λ x i e. ap (λ (x : Migrating). x.source) (one_of_page xs x (fresh_found r.first g xs h).0 w i
           (fresh_found r.first g xs h).1 (e ∙ sym (fresh_found r.first g xs h).2))
           ∙ (fresh_found r.first g xs h).3;
@@ -103,20 +100,20 @@ fresh_mild s a o xs q r met told g v k w h e = subst (Mildly s o xs (Phase.Guard
           (fresh_found r.first g xs h).1 (sym (fresh_found r.first g xs h).2) (sym (fresh_found r.first g xs h).3);
       stays = λ e. refl;
     }
-    by_room false = record { mild = refl; unset = refl; fresh = tt; same = same_records xs; stays = λ e. refl }
+    by_room false = record { mild = refl; fresh = tt; same = same_records xs; stays = λ e. refl }
 
     by_told : (x : Option ℕ) → Mildly s o xs (Phase.Guard q r met told (Body.Fresh g)) MoveStep.Commit v
         (elim x as (λ x. Kind) [
           | Some m ↦ Kind.Told m r (s.sequences.seq q)
           | None ↦ body_or_end s q r (due_body s a o q r (s.places.place q r.first) (Body.Fresh g))
         ])
-    by_told (Some m) = record { mild = refl; unset = refl; fresh = tt; same = same_records xs; stays = λ e. refl }
+    by_told (Some m) = record { mild = refl; fresh = tt; same = same_records xs; stays = λ e. refl }
     by_told None = by_room (has_no_frame (s.places.place q r.first))
 
 copy_mild : (s : After) (o : Op) (xs : List Migrating) (f g : Frame) (n : ℕ) (step : MoveStep) (v : ℕ)
     → Mildly s o xs (Phase.Copy f g n) step v (Kind.Copied f g (Some n))
 copy_mild s o xs f g n step v = record
-    { mild = refl; unset = refl; fresh = tt; same = same_records xs; stays = by_bool (nat_lt n 7) }
+    { mild = refl; fresh = tt; same = same_records xs; stays = by_bool (nat_lt n 7) }
   where
     by_bool : (b : Bool) → between (if b then Phase.Copy f g (n + 1) ∷ Phase.Moves step v ∷ [] else Phase.Moves step v
         ∷ []) ≡ true
@@ -143,9 +140,9 @@ over_mild c s t a o xs (Phase.Guard q r met told (Body.Catch f)) step v k l h d 
 over_mild c s t a o xs (Phase.Copy f g n) step v k l h d =
     subst (Mildly s o xs (Phase.Copy f g n) step v) (due_is _ k d) (copy_mild s o xs f g n step v)
 over_mild c s t a o xs (Phase.Lost n f) step v k l h d = subst (Mildly s o xs (Phase.Lost n f) step v) (due_is _ k d)
-    (record { mild = refl; unset = refl; fresh = tt; same = same_records xs; stays = λ e. e })
+    (record { mild = refl; fresh = tt; same = same_records xs; stays = λ e. e })
 over_mild c s t a o xs (Phase.Drop f) step v k l h d = subst (Mildly s o xs (Phase.Drop f) step v) (due_is _ k d)
-    (record { mild = refl; unset = refl; fresh = tt; same = same_records xs; stays = λ e. e })
+    (record { mild = refl; fresh = tt; same = same_records xs; stays = λ e. e })
 over_mild c s t a o xs (Phase.Finish f None) MoveStep.Finish v k l h d = absurd (false≢true l)
 over_mild c s t a o xs (Phase.Finish f None) step v k l h d = no_test h.1.1.1.1.0
 over_mild c s t a o xs (Phase.Finish f (Some g)) MoveStep.Finish v k l h d = absurd (false≢true l)

@@ -1,9 +1,9 @@
 -- The entries of a migration's step that lead to one between its set-up and its end are mild.
 use Rattle.std.proofs.Common.{refl, ap, sym, subst, ◌∙◌}
 use Rattle.std.proofs.lemmas.Bool.{true≢false, false≢true}
-use Rattle.std.specs.Prelude.{◌≡◌, ℕ, ◌+◌, Bool, true, false, ◌&&◌, nat_le, if◌then◌else◌, Option, Some}
+use Rattle.std.specs.Prelude.{◌≡◌, ℕ, ◌+◌, Bool, true, false, if◌then◌else◌, Option, Some}
 use Rattle.std.specs.Prelude.{None}
-use Rattle.std.specs.Prelude.{List, [], ◌∷◌, find}
+use Rattle.std.specs.Prelude.{List, [], ◌∷◌}
 use Rattle.hm_base.specs.Pages.{one_page}
 use Rattle.hm_base.specs.Program.{Program}
 use Rattle.hm_base.specs.declared.cause.Cause.{Cause}
@@ -15,7 +15,7 @@ use Rattle.hm_history.specs.Memory.Places.{lowest_direct, lowest_moving, lowest_
 use Rattle.hm_history.specs.Memory.After.{After}
 use Rattle.hm_history.specs.Kernel.Operation.{op_mirror}
 use Rattle.hm_history.specs.Kernel.Stacks.{after_finish, after_moves, after_migration, finishing}
-use Rattle.hm_history.specs.Kernel.Going.{recorded_at, coming, coming_page, concerns}
+use Rattle.hm_history.specs.Kernel.Going.{recorded_at, coming, coming_page}
 use Rattle.hm_history.specs.Kernel.Due.{target_of}
 use Rattle.hm_history.specs.Kernel.Due.{has_no_frame, due_moves, due_step, others_of, fetch_page, commit_page}
 use Rattle.hm_history.specs.Kernel.Due.{finish_page, start_entry, skips, pool_of}
@@ -29,10 +29,10 @@ use Rattle.hm_laws.specs.Records.{Among}
 use Rattle.hm_laws.proofs.Migration.EachStep.{from_first}
 use Rattle.hm_laws.proofs.Migration.Good.{seen_moves}
 use Rattle.hm_protocol.specs.Projection.{is_start}
+use Rattle.hm_protocol.proofs.Coming.{last_only}
 use Rattle.hm_protocol.proofs.Sitting.{is_later}
 use Rattle.hm_protocol.proofs.FoundMoves.{Found, FoundAt, found_at}
 use Rattle.hm_protocol.proofs.Rights.{is_mild, Places_fresh, Sourced, is_between, between}
-use Rattle.hm_protocol.proofs.DueKinds.{is_answer}
 use Rattle.hm_protocol.proofs.RightMoves.{same_records, with_same, finish_stays}
 
 -- ---- a migration's step
@@ -40,7 +40,6 @@ use Rattle.hm_protocol.proofs.RightMoves.{same_records, with_same, finish_stays}
 -- what an entry of a step is that leads to a step in between
 pub record Steps_mildly (o : Op) (xs : List Migrating) (step : MoveStep) (k : Kind) (zs : List Migrating) : Type 0 where
   pub mild : is_mild k ≡ true
-  pub goes_on : is_answer k ≡ false
   pub fresh : Places_fresh xs k
   pub same : Sourced xs zs
   pub from : is_later step ≡ true → is_between step ≡ true
@@ -64,18 +63,6 @@ finishing_not step x k e = by_source x.source (if x.moved then x.dest else None)
     ]) ≡ true → ⊥
     by_source None to k e = false≢true e
     by_source (Some f) to k e = ends f to k e
-
--- from the last step it comes to no other
-last_only : (s : After) (o : Op) (xs : List Migrating) (v : ℕ) (i : MoveStep) (x : Migrating)
-    → coming s o xs (Phase.Moves MoveStep.Finish v) ≡ Some (i, x) → i ≡ MoveStep.Finish
-last_only s o xs v i x e = by_found (find (λ x. nat_le v x.page && concerns s o MoveStep.Finish x) xs) e
-  where
-    by_found : (r : Option Migrating) → ◌≡◌ {A = Option (MoveStep × Migrating)}
-        (elim r [ Some y ↦ Some (MoveStep.Finish, y) | None ↦ None ]) (Some (i, x))
-        → i ≡ MoveStep.Finish
-    by_found None e = cc
-    by_found (Some y) e = ap (λ (z : Option (MoveStep × Migrating)). elim z [ None ↦ MoveStep.Finish | Some w ↦ w.0 ])
-        (sym e)
 
 pub from_between : (s : After) (o : Op) (xs : List Migrating) (step : MoveStep) (v : ℕ) (i : MoveStep) (x : Migrating)
     → coming s o xs (Phase.Moves step v) ≡ Some (i, x) → is_between i ≡ true → is_later step ≡ true
@@ -121,7 +108,6 @@ take_step c s o xs step v x q i e = by_skip (skips c o x.page) (lowest_free c s.
     ]))
     by_skip true y = record {
       mild = refl;
-      goes_on = refl;
       fresh = tt;
       same = same_records xs;
       from = from_between s o
@@ -130,7 +116,6 @@ take_step c s o xs step v x q i e = by_skip (skips c o x.page) (lowest_free c s.
     }
     by_skip false None = record {
       mild = refl;
-      goes_on = refl;
       fresh = tt;
       same = same_records xs;
       from = from_between
@@ -139,7 +124,6 @@ take_step c s o xs step v x q i e = by_skip (skips c o x.page) (lowest_free c s.
     }
     by_skip false (Some g) = record {
       mild = refl;
-      goes_on = refl;
       fresh = tt;
       same = with_same xs x (record x { dest = Some g }) i refl refl;
       from = from_between s o xs step v MoveStep.TakeAndCopy x q refl;
@@ -171,7 +155,6 @@ commit_step s o xs step v n source None moved q f e =
     no_dest (Some f) e = e
 commit_step s o xs step v n (Some h) (Some g) moved q f e = record {
   mild = refl;
-  goes_on = refl;
   fresh = tt;
   same = with_same xs (record { page = n; source = Some h; dest = Some g; moved = moved })
       (record { page = n; source = Some h; dest = Some g; moved = true })
@@ -192,7 +175,6 @@ commit_step s o xs step v n None (Some g) moved q f e = by_room (has_no_frame
         ]))
     by_room true = record {
       mild = refl;
-      goes_on = refl;
       fresh = tt;
       same = same_records xs;
       from = from_between s o xs step v MoveStep.Commit
@@ -201,7 +183,6 @@ commit_step s o xs step v n None (Some g) moved q f e = by_room (has_no_frame
     }
     by_room false = record {
       mild = refl;
-      goes_on = refl;
       fresh = tt;
       same = same_records xs;
       from = from_between s o xs step v MoveStep.Commit
@@ -267,7 +248,6 @@ moves_mild c s o xs step v (Some (i, x)) q e = here i q e
         commit_step s o xs step v x.page x.source x.dest x.moved q f e
     here MoveStep.SetOwnTable q e = record {
       mild = refl;
-      goes_on = refl;
       fresh = tt;
       same = same_records xs;
       from = from_between s o xs step v MoveStep.SetOwnTable x q refl;
