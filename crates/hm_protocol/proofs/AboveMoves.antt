@@ -24,8 +24,8 @@ use Rattle.hm_laws.specs.Past.{Past}
 use Rattle.hm_laws.specs.Facts.{HoldsAll, facts}
 use Rattle.hm_protocol.specs.declared.events.Event.{Event}
 use Rattle.hm_protocol.specs.Projection.{in_trace, is_home, owner_of, if_device}
-use Rattle.hm_protocol.proofs.Moving.{View, freed_view}
-use Rattle.hm_protocol.proofs.Unmoved.{Comes, one_more, no_more}
+use Rattle.hm_protocol.proofs.MigrationViews.{View, freed_view}
+use Rattle.hm_protocol.proofs.StillEvents.{Comes, one_more, no_more}
 use Rattle.hm_protocol.proofs.Sitting.{Stays, Over}
 use Rattle.hm_protocol.proofs.Homing.{Judges, Leads, just_by, due_is}
 use Rattle.hm_protocol.proofs.OverMoves.{Then, nothing_on, select_on, freeze_on}

@@ -20,12 +20,12 @@ use Rattle.hm_protocol.proofs.MmapLock.{mmap_lock_kept}
 use Rattle.hm_protocol.proofs.Devices.{own_device_kept}
 use Rattle.hm_protocol.proofs.Frames.{take_from_there_kept, withdraw_first_kept, evict_first_kept, wait_for_locked_kept}
 use Rattle.hm_protocol.proofs.Invalidations.{detach_waits_kept, exclusive_waits_kept, set_unless_invalidated_kept, begin_waits_kept, compare_kept, set_sequence_kept, own_events_kept, own_sequence_kept, own_by}
-use Rattle.hm_protocol.proofs.Commits.{stale_commit_kept, compare_sequence_kept}
+use Rattle.hm_protocol.proofs.StaleCommits.{stale_commit_kept, compare_sequence_kept}
 use Rattle.hm_protocol.proofs.Detached.{stop_at_detach_kept}
 use Rattle.hm_protocol.proofs.BeginFirst.{begin_first_kept}
 use Rattle.hm_protocol.proofs.EntryRight.{entry_right_kept}
-use Rattle.hm_protocol.proofs.Moves.{set_moved_kept, drop_lost_kept}
-use Rattle.hm_protocol.proofs.Migrations.{set_right_kept}
+use Rattle.hm_protocol.proofs.SetMoved.{set_moved_kept, drop_lost_kept}
+use Rattle.hm_protocol.proofs.SetRight.{set_right_kept}
 use Rattle.hm_protocol.proofs.Tables.{write_entry_kept, look_again_kept, erase_kept, erase_all_kept, erase_in_time_kept, own_entries_kept, kept_by, none_left_behind}
 
 no_blame : (n : ℕ) → is_blame (if_asked n) ≡ false

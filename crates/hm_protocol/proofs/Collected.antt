@@ -30,9 +30,9 @@ use Rattle.hm_protocol.specs.Projection.{events_by, comes_to, set_up, paged, is_
 use Rattle.hm_protocol.proofs.Entries.{not_home}
 use Rattle.hm_protocol.proofs.Entries.{events_at}
 use Rattle.hm_protocol.proofs.Stands.{is_moves}
-use Rattle.hm_protocol.proofs.Moving.{View, views_after, set_up_view}
-use Rattle.hm_protocol.proofs.Unmoved.{AllBe, none_all}
-use Rattle.hm_protocol.proofs.Usual.{by_none, be_when}
+use Rattle.hm_protocol.proofs.MigrationViews.{View, views_after, set_up_view}
+use Rattle.hm_protocol.proofs.StillEvents.{AllBe, none_all}
+use Rattle.hm_protocol.proofs.EntryEvents.{by_none, be_when}
 use Rattle.hm_protocol.proofs.Sitting.{AllOf, Homes, homes, Stays, Over, Single, Sits, is_later, all_more}
 use Rattle.hm_protocol.proofs.Homing.{just_by, due_is}
 use Rattle.hm_protocol.proofs.StaysOn.{gone_later}

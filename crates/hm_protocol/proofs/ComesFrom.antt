@@ -1,5 +1,4 @@
--- Which phase the entries come from that set a table, begin a look-up, or answer a migration; and what is due to an
--- actor.
+-- From which phases entries come that set a table, begin a look-up or answer a migration, and which are due at all.
 use Rattle.std.proofs.Common.{refl, ap, sym, subst, ◌∙◌, arith}
 use Rattle.std.proofs.lemmas.Bool.{true≢false, false≢true, and_parts, eqb-true}
 use Rattle.std.specs.Prelude.{◌≡◌, ℕ, Bool, true, false, not, ◌||◌, ◌==◌, [], ◌∷◌}
@@ -36,7 +35,7 @@ use Rattle.hm_protocol.proofs.Steps.{Step}
 use Rattle.hm_laws.proofs.Due.Good.{either}
 use Rattle.hm_protocol.specs.Words.{is_sole}
 use Rattle.hm_protocol.proofs.DueKinds.{is_set, is_plain, is_at_walk, is_setting, is_of_step, may, Passes, next_passes}
-use Rattle.hm_protocol.proofs.DueFaults.{adds, answers_piece, cpus, steps, due_may}
+use Rattle.hm_protocol.proofs.MayBeDue.{adds, answers_piece, cpus, steps, due_may}
 
 -- a table is set by a look-up whose sequence is still the interval's, for one actor, or by a migration's step
 abbrev pub SetAt : After → Op → List Migrating → Phase → ℕ → ℕ → TableRight → Type 0

@@ -29,8 +29,8 @@ use Rattle.hm_protocol.specs.declared.events.TraceFrame.{TraceFrame}
 use Rattle.hm_protocol.specs.Projection as project
 use Rattle.hm_protocol.specs.Projection.{events_by, entry_frame, comes_to, set_up, is_start, is_up_to_commits}
 use Rattle.hm_protocol.specs.Projection.{is_past_commits, collected, pages_of, in_trace, is_home, owner_of, if_device}
-use Rattle.hm_protocol.proofs.Moving.{View}
-use Rattle.hm_protocol.proofs.Unmoved.{Comes, one_more, no_more, still_all}
+use Rattle.hm_protocol.proofs.MigrationViews.{View}
+use Rattle.hm_protocol.proofs.StillEvents.{Comes, one_more, no_more, still_all}
 use Rattle.hm_protocol.proofs.Sitting.{Good, One, Given, Unmoved, Stays, Sits, gone_by, is_later}
 use Rattle.hm_protocol.proofs.Homing.{Judges, Leads, still_of}
 use Rattle.hm_protocol.proofs.LostMoves.{unmoved_with, stay_more}

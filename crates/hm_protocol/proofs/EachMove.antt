@@ -38,8 +38,8 @@ use Rattle.hm_laws.proofs.Migration.EachStep.{from_first}
 use Rattle.hm_laws.specs.Sound.{Sound}
 use Rattle.hm_protocol.specs.declared.events.Event.{Event}
 use Rattle.hm_protocol.specs.Projection.{events_by, is_start, in_trace, owner_of, if_device}
-use Rattle.hm_protocol.proofs.Moving.{View, freed_view}
-use Rattle.hm_protocol.proofs.Unmoved.{Comes, one_more, no_more}
+use Rattle.hm_protocol.proofs.MigrationViews.{View, freed_view}
+use Rattle.hm_protocol.proofs.StillEvents.{Comes, one_more, no_more}
 use Rattle.hm_protocol.proofs.Sitting.{Single, Unmoved, Stays, Sits, gone_by, is_later}
 use Rattle.hm_protocol.proofs.Homing.{Judges, Leads, due_is}
 use Rattle.hm_protocol.proofs.FoundMoves.{Found, FoundAt, found_at}

@@ -24,7 +24,7 @@ use Rattle.hm_protocol.proofs.Leading.{notes_none}
 use Rattle.hm_protocol.proofs.Stands.{stand, has_noted}
 use Rattle.hm_protocol.proofs.Entries.{each_actor, events_at, first_rests, going_is, known_after, events_are}
 use Rattle.hm_protocol.proofs.ComesFrom.{turn_from}
-use Rattle.hm_protocol.proofs.AllMigrate.{AllMigrate, all_migrate, none_migrate}
+use Rattle.hm_protocol.proofs.MigrationSets.{AllMigrate, all_migrate, none_migrate}
 use Rattle.hm_protocol.proofs.FoundRights.{Right, settled, noted_all, others, right_on, at_passing, at_walk}
 use Rattle.hm_protocol.proofs.WriteSets.{is_write_set, harmless, calm}
 use Rattle.hm_protocol.proofs.Steps.{Calm, Keeps, by_thread, never, all_fit, watched}

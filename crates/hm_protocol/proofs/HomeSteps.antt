@@ -31,10 +31,10 @@ use Rattle.hm_protocol.specs.declared.events.Event.{Event}
 use Rattle.hm_protocol.specs.Projection as project
 use Rattle.hm_protocol.specs.Projection.{events_by, in_trace, is_home, if_device}
 use Rattle.hm_protocol.proofs.Stands.{is_moves}
-use Rattle.hm_protocol.proofs.Moving.{View}
-use Rattle.hm_protocol.proofs.Unmoved.{is_still, Comes, no_more, and_on, still_all}
-use Rattle.hm_protocol.proofs.Unmoved.{be_if, none_all, all_erased_be}
-use Rattle.hm_protocol.proofs.Usual.{by_none}
+use Rattle.hm_protocol.proofs.MigrationViews.{View}
+use Rattle.hm_protocol.proofs.StillEvents.{is_still, Comes, no_more, and_on, still_all}
+use Rattle.hm_protocol.proofs.StillEvents.{be_if, none_all, all_erased_be}
+use Rattle.hm_protocol.proofs.EntryEvents.{by_none}
 use Rattle.hm_protocol.proofs.Sitting.{AllPlain, Homes, homes, CopiedOn, Single, Sits, is_plain, single_sits}
 use Rattle.hm_protocol.proofs.Sitting.{plain_sits, plain_after, plain_guard}
 use Rattle.hm_protocol.proofs.Homing.{Judges, still_of, Leads, just_by, due_is, home_freed, home_ends}

@@ -24,8 +24,8 @@ use Rattle.hm_protocol.specs.Projection as project
 use Rattle.hm_protocol.specs.Projection.{events_by, in_trace, is_home, owner_of, if_device}
 use Rattle.hm_protocol.proofs.Entries.{events_at, nothing_comes}
 use Rattle.hm_protocol.proofs.Stands.{is_moves}
-use Rattle.hm_protocol.proofs.Moving.{View, freed_view, set_up_view}
-use Rattle.hm_protocol.proofs.Unmoved.{Comes, Still_calm, one_more, no_more}
+use Rattle.hm_protocol.proofs.MigrationViews.{View, freed_view, set_up_view}
+use Rattle.hm_protocol.proofs.StillEvents.{Comes, Still_calm, one_more, no_more}
 use Rattle.hm_protocol.proofs.Sitting.{Good, Homes, homes, Sits}
 
 -- only a `Set` and the end of a migration can be wrong

@@ -1,5 +1,4 @@
--- Where an entry leads, at a phase that does not pass on: a look-up goes on or begins or notes a place, or a migration
--- begins.
+-- Where an entry leads at a phase that does not pass on: to a look-up, to a place that it notes, or to a migration.
 use Rattle.std.proofs.Common.{refl, ap, sym, subst, ◌∙◌, inl, inr}
 use Rattle.std.proofs.lemmas.Bool.{true≢false}
 use Rattle.std.specs.Prelude.{◌≡◌, ℕ, ◌+◌, ◌⊎◌, Bool, true, false, nat_lt, if◌then◌else◌, Option, Some, None, length, ⊤}

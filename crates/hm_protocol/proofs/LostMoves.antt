@@ -33,9 +33,9 @@ use Rattle.hm_laws.proofs.Migration.Records.{with_among, one_of_page, fresh_foun
 use Rattle.hm_protocol.specs.declared.events.Event.{Event}
 use Rattle.hm_protocol.specs.Words.{is_same}
 use Rattle.hm_protocol.specs.Projection.{in_trace, owner_of, if_device}
-use Rattle.hm_protocol.proofs.Moving.{View, freed_view}
-use Rattle.hm_protocol.proofs.Unmoved.{is_still, Comes, one_more, no_more, and_on}
-use Rattle.hm_protocol.proofs.Unmoved.{all_erased_be}
+use Rattle.hm_protocol.proofs.MigrationViews.{View, freed_view}
+use Rattle.hm_protocol.proofs.StillEvents.{is_still, Comes, one_more, no_more, and_on}
+use Rattle.hm_protocol.proofs.StillEvents.{all_erased_be}
 use Rattle.hm_protocol.proofs.Sitting.{Good, One, Stay, Given, Unmoved, Stays, Over, Sits, all_more, gone_by}
 use Rattle.hm_protocol.proofs.Homing.{Judges, Leads, just_by}
 use Rattle.hm_protocol.proofs.OverMoves.{still_over, told_still}

@@ -27,9 +27,9 @@ use Rattle.hm_protocol.specs.declared.events.Event.{Event}
 use Rattle.hm_protocol.specs.Projection as project
 use Rattle.hm_protocol.specs.Projection.{events_by, comes_to, set_up, is_start, is_up_to_commits, is_past_commits}
 use Rattle.hm_protocol.specs.Projection.{collected, pages_of, in_trace, is_home, owner_of, if_device}
-use Rattle.hm_protocol.proofs.Moving.{View}
-use Rattle.hm_protocol.proofs.Unmoved.{is_still, Comes, no_more, still_all}
-use Rattle.hm_protocol.proofs.Unmoved.{be_there}
+use Rattle.hm_protocol.proofs.MigrationViews.{View}
+use Rattle.hm_protocol.proofs.StillEvents.{is_still, Comes, no_more, still_all}
+use Rattle.hm_protocol.proofs.StillEvents.{be_there}
 use Rattle.hm_protocol.proofs.Sitting.{Good, One, Stays, Sits, gone_by}
 use Rattle.hm_protocol.proofs.Homing.{Judges, Leads, still_of}
 use Rattle.hm_protocol.proofs.ReachedMoves.{paged_at, by_came, reach}

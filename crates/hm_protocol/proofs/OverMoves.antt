@@ -27,10 +27,10 @@ use Rattle.hm_protocol.specs.Projection as project
 use Rattle.hm_protocol.specs.Projection.{events_by}
 use Rattle.hm_protocol.proofs.Entries.{events_at}
 use Rattle.hm_protocol.proofs.Stands.{is_moves}
-use Rattle.hm_protocol.proofs.Moving.{View}
-use Rattle.hm_protocol.proofs.Unmoved.{is_still, AllBe, Comes, still_all, both_be}
-use Rattle.hm_protocol.proofs.Unmoved.{none_all, erased_be, all_erased_be}
-use Rattle.hm_protocol.proofs.Usual.{by_none}
+use Rattle.hm_protocol.proofs.MigrationViews.{View}
+use Rattle.hm_protocol.proofs.StillEvents.{is_still, AllBe, Comes, still_all, both_be}
+use Rattle.hm_protocol.proofs.StillEvents.{none_all, erased_be, all_erased_be}
+use Rattle.hm_protocol.proofs.EntryEvents.{by_none}
 use Rattle.hm_protocol.proofs.Sitting.{Stays, Sits}
 use Rattle.hm_protocol.proofs.Homing.{Judges, Leads, just_by, still_of}
 

@@ -18,8 +18,8 @@ use Rattle.hm_laws.proofs.Migration.Good.{seen_moves}
 use Rattle.hm_protocol.specs.declared.events.Event.{Event}
 use Rattle.hm_protocol.specs.Projection.{events_by, comes_to, set_up, is_start, is_up_to_commits, is_past_commits}
 use Rattle.hm_protocol.specs.Projection.{collected, pages_of}
-use Rattle.hm_protocol.proofs.Moving.{View, set_up_view}
-use Rattle.hm_protocol.proofs.Unmoved.{is_still, AllBe, Comes, one_more, no_more, and_on, still_all, be_if}
+use Rattle.hm_protocol.proofs.MigrationViews.{View, set_up_view}
+use Rattle.hm_protocol.proofs.StillEvents.{is_still, AllBe, Comes, one_more, no_more, and_on, still_all, be_if}
 use Rattle.hm_protocol.proofs.Sitting.{Good, One, Stay, AllOf, Stays, Sits, gone_by, is_later}
 use Rattle.hm_protocol.proofs.Homing.{Judges, Leads, still_of}
 use Rattle.hm_protocol.proofs.StaysOn.{one_map, good_on}

@@ -26,9 +26,9 @@ use Rattle.hm_protocol.specs.Projection as project
 use Rattle.hm_protocol.specs.Projection.{events_by, comes_to, is_home, collected}
 use Rattle.hm_protocol.proofs.DueKinds.{is_set, is_answer}
 use Rattle.hm_protocol.proofs.Entries.{events_at}
-use Rattle.hm_protocol.proofs.Moving.{View, view, view_next, views_after, CalmAt, Seen_wrong}
-use Rattle.hm_protocol.proofs.Unmoved.{AllBe, both_be, be_if}
-use Rattle.hm_protocol.proofs.Usual.{is_usual, be_when, by_be, home_none}
+use Rattle.hm_protocol.proofs.MigrationViews.{View, view, view_next, views_after, CalmAt, Seen_wrong}
+use Rattle.hm_protocol.proofs.StillEvents.{AllBe, both_be, be_if}
+use Rattle.hm_protocol.proofs.EntryEvents.{is_usual, be_when, by_be, home_none}
 use Rattle.hm_protocol.proofs.Sitting.{AllOf}
 use Rattle.hm_protocol.proofs.Rights.{Low, Right}
 

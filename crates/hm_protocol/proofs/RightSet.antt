@@ -25,12 +25,12 @@ use Rattle.hm_protocol.specs.declared.events.Event.{Event}
 use Rattle.hm_protocol.specs.Words.{is_write}
 use Rattle.hm_protocol.specs.Known.{is_noted}
 use Rattle.hm_protocol.specs.Projection.{comes_to, entry_frame}
-use Rattle.hm_protocol.proofs.DueFaults.{steps}
+use Rattle.hm_protocol.proofs.MayBeDue.{steps}
 use Rattle.hm_protocol.proofs.DueKinds.{is_setting, is_of_step}
 use Rattle.hm_protocol.proofs.ComesFrom.{due_from, sets_nothing}
 use Rattle.hm_protocol.proofs.Entries.{events_at, nothing_comes}
 use Rattle.hm_protocol.proofs.Stands.{is_moves}
-use Rattle.hm_protocol.proofs.Moving.{View, CalmAt, views_after}
+use Rattle.hm_protocol.proofs.MigrationViews.{View, CalmAt, views_after}
 use Rattle.hm_protocol.proofs.Sitting.{Over, Single, Sits, is_later}
 use Rattle.hm_protocol.proofs.Homing.{due_is}
 use Rattle.hm_protocol.proofs.EachMove.{nothing_below}

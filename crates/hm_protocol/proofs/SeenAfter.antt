@@ -31,10 +31,10 @@ use Rattle.hm_protocol.proofs.ComesFrom.{turn_from, ComesFrom, SetAt}
 use Rattle.hm_protocol.proofs.Stands.{Stand, stand, seq_at}
 use Rattle.hm_protocol.proofs.Unmet.{Unmet, AllBefore}
 use Rattle.hm_protocol.proofs.Seeing.{begun_unmet, Seen, Sets, seen_next, unheard}
-use Rattle.hm_protocol.proofs.Moved.{in_turn}
-use Rattle.hm_protocol.proofs.Migrated.{Migrates}
+use Rattle.hm_protocol.proofs.MovedRecords.{in_turn}
+use Rattle.hm_protocol.proofs.RecordsKept.{Migrates}
 use Rattle.hm_protocol.proofs.Entries.{known_after, events_are}
-use Rattle.hm_protocol.proofs.AllMigrate.{AllMigrate, set_by_migration}
+use Rattle.hm_protocol.proofs.MigrationSets.{AllMigrate, set_by_migration}
 
 -- a look-up under way: its sequence is below that of its process, and as long as it is the interval's it meets none
 pub record Held (s : After) (k : Known) (a : ℕ) (o : Op) (q : ℕ) : Type 0 where

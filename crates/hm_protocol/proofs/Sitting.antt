@@ -26,7 +26,7 @@ use Rattle.hm_laws.specs.Records.{Among}
 use Rattle.hm_protocol.specs.declared.events.TraceFrame.{TraceFrame}
 use Rattle.hm_protocol.specs.Words.{is_same, is_empty}
 use Rattle.hm_protocol.specs.Projection.{in_trace, is_home, owner_of}
-use Rattle.hm_protocol.proofs.Moving.{View}
+use Rattle.hm_protocol.proofs.MigrationViews.{View}
 
 -- ---- a page that stayed
 

@@ -20,7 +20,7 @@ use Rattle.hm_protocol.specs.declared.events.TraceFrame.{TraceFrame}
 use Rattle.hm_protocol.specs.Words.{is_same}
 use Rattle.hm_protocol.specs.Projection.{in_trace, is_home}
 use Rattle.hm_protocol.proofs.Entries.{not_home}
-use Rattle.hm_protocol.proofs.Moving.{View, freed_view}
+use Rattle.hm_protocol.proofs.MigrationViews.{View, freed_view}
 use Rattle.hm_protocol.proofs.Sitting.{Good, One, Stay, AllOf, Given, Unmoved, Stays, all_more, gone_by, is_later}
 
 -- ---- what is seen of a migration goes on

@@ -26,8 +26,8 @@ use Rattle.hm_protocol.proofs.Entries.{events_at, nothing_comes}
 use Rattle.hm_protocol.proofs.Fits.{Fits, comes_ok}
 use Rattle.hm_protocol.proofs.ComesFrom.{ComesFrom}
 use Rattle.hm_protocol.proofs.Stands.{Stand, stand}
-use Rattle.hm_protocol.proofs.Migrated.{Migrates}
-use Rattle.hm_protocol.proofs.AllMigrate.{set_by_migration}
+use Rattle.hm_protocol.proofs.RecordsKept.{Migrates}
+use Rattle.hm_protocol.proofs.MigrationSets.{set_by_migration}
 use Rattle.hm_protocol.proofs.FoundRights.{Right, noted_all}
 use Rattle.hm_protocol.proofs.Steps.{Calm, by, by_thread, through, and_more}
 

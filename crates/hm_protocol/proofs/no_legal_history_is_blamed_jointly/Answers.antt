@@ -1,4 +1,4 @@
-use Rattle.hm_protocol.proofs.Commits.{stale_commit_kept}
+use Rattle.hm_protocol.proofs.StaleCommits.{stale_commit_kept}
 use Rattle.hm_protocol.proofs.Invalidations.{own_sequence_left_kept}
 use Rattle.hm_protocol.proofs.Tables.{entries_left_kept}
 use Rattle.hm_protocol.proofs.no_legal_history_is_blamed_jointly.Goals as goal

@@ -10,8 +10,8 @@ use Rattle.hm_history.specs.declared.phases.Phase.{Phase}
 use Rattle.hm_protocol.specs.declared.events.Event.{Event}
 use Rattle.hm_protocol.specs.Projection.{events_by, is_home}
 use Rattle.hm_protocol.proofs.DueKinds.{is_answer}
-use Rattle.hm_protocol.proofs.Unmoved.{AllBe}
-use Rattle.hm_protocol.proofs.Usual.{Usual, by_be, home_none}
+use Rattle.hm_protocol.proofs.StillEvents.{AllBe}
+use Rattle.hm_protocol.proofs.EntryEvents.{Usual, by_be, home_none}
 
 -- no migration begins or ends with the event
 abbrev pub is_quiet : Event → Bool

@@ -25,7 +25,7 @@ use Rattle.hm_history.specs.declared.phases.Phase.{Phase}
 use Rattle.hm_protocol.specs.declared.events.Event.{Event}
 use Rattle.hm_protocol.specs.Projection as project
 use Rattle.hm_protocol.specs.Projection.{events_by, comes_to, top_of, in_trace, is_home}
-use Rattle.hm_protocol.proofs.Unmoved.{sets_none, AllBe, both_be, be_there, erased_be, all_erased_be}
+use Rattle.hm_protocol.proofs.StillEvents.{sets_none, AllBe, both_be, be_there, erased_be, all_erased_be}
 
 -- any event but a `Set`, and those with which a migration begins and ends
 abbrev pub is_usual : Event → Bool

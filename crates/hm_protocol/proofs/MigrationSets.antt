@@ -28,10 +28,10 @@ use Rattle.hm_protocol.specs.Projection.{is_past_commits}
 use Rattle.hm_protocol.proofs.Steps.{Step, by_thread}
 use Rattle.hm_protocol.proofs.ComesFrom.{SetAt, turn_from}
 use Rattle.hm_protocol.proofs.Stands.{Stand, stand}
-use Rattle.hm_protocol.proofs.Inner.{is_paged, has_moved, others_moves}
+use Rattle.hm_protocol.proofs.InnerMigration.{is_paged, has_moved, others_moves}
 use Rattle.hm_protocol.proofs.Coming.{come_says, finish_sets_nothing}
-use Rattle.hm_protocol.proofs.Moved.{Mid, all_mid, paged_mid, mid}
-use Rattle.hm_protocol.proofs.Migrated.{Migrates, rests_not, after_own}
+use Rattle.hm_protocol.proofs.MovedRecords.{Mid, all_mid, paged_mid, mid}
+use Rattle.hm_protocol.proofs.RecordsKept.{Migrates, rests_not, after_own}
 use Rattle.hm_protocol.proofs.Entries.{each_actor, first_rests, going_is, going_holds, known_after, events_are}
 
 -- each actor in a migration is known to be

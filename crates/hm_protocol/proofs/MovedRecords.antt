@@ -34,9 +34,9 @@ use Rattle.hm_protocol.specs.Projection.{comes_to, is_start, is_past_commits, co
 use Rattle.hm_protocol.proofs.DueKinds.{is_set}
 use Rattle.hm_protocol.proofs.Steps.{by, by_thread, apart}
 use Rattle.hm_protocol.proofs.Stands.{turned}
-use Rattle.hm_protocol.proofs.Opening.{is_quiet, Quiet}
-use Rattle.hm_protocol.proofs.Unmoved.{both_be, be_each, be_if}
-use Rattle.hm_protocol.proofs.Inner.{is_open, is_paged, has_moved, Grows, grows}
+use Rattle.hm_protocol.proofs.QuietEvents.{is_quiet, Quiet}
+use Rattle.hm_protocol.proofs.StillEvents.{both_be, be_each, be_if}
+use Rattle.hm_protocol.proofs.InnerMigration.{is_open, is_paged, has_moved, Grows, grows}
 
 -- no record was moved
 abbrev pub AllFresh : List Migrating → Type 0

@@ -35,12 +35,12 @@ use Rattle.hm_protocol.proofs.ComesFrom.{ComesFrom}
 use Rattle.hm_protocol.proofs.Stands.{Stand, stand, is_passing, is_moves, passes, passing, turned, turns}
 use Rattle.hm_protocol.proofs.Leading.{Leads, leads}
 use Rattle.hm_protocol.proofs.DueKinds.{is_answer}
-use Rattle.hm_protocol.proofs.Opening.{by_quiet}
-use Rattle.hm_protocol.proofs.Inner.{is_open, has_moved, Grows, grows}
+use Rattle.hm_protocol.proofs.QuietEvents.{by_quiet}
+use Rattle.hm_protocol.proofs.InnerMigration.{is_open, has_moved, Grows, grows}
 use Rattle.hm_protocol.proofs.Coming.{come_says, finish_sets_nothing}
 use Rattle.hm_protocol.proofs.DueKinds.{is_set}
-use Rattle.hm_protocol.proofs.Moved.{AllFresh, AllMoved, MoveOk, grown, in_turn, mid, turned_ok, recorded_same}
-use Rattle.hm_protocol.proofs.Moved.{recorded_moved, moved_now, is_fresh, body_fresh, body_moved}
+use Rattle.hm_protocol.proofs.MovedRecords.{AllFresh, AllMoved, MoveOk, grown, in_turn, mid, turned_ok, recorded_same}
+use Rattle.hm_protocol.proofs.MovedRecords.{recorded_moved, moved_now, is_fresh, body_fresh, body_moved}
 
 -- an actor in a migration: what its inner migration says of its records
 abbrev pub Migrates : Op → MoveStep → List Move → List Migrating → Type 0

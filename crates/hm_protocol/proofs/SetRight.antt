@@ -29,9 +29,9 @@ use Rattle.hm_protocol.specs.Laws.{IsKept}
 use Rattle.hm_protocol.proofs.Entries.{going_is, events_are, each_actor, not_home}
 use Rattle.hm_protocol.proofs.Entries.{events_at}
 use Rattle.hm_protocol.proofs.Steps.{GoBy, Keeps, Step, never, watched}
-use Rattle.hm_protocol.proofs.Moving.{View, views, views_after, CalmAt, Went, went}
+use Rattle.hm_protocol.proofs.MigrationViews.{View, views, views_after, CalmAt, Went, went}
 use Rattle.hm_protocol.proofs.Sitting.{Sits, all_more}
-use Rattle.hm_protocol.proofs.Moves.{SitsOf, KnowsMoves, sits_from, moves_next}
+use Rattle.hm_protocol.proofs.SetMoved.{SitsOf, KnowsMoves, sits_from, moves_next}
 use Rattle.hm_protocol.proofs.Rights.{Right, Between, between, between_facts, frozen_pages, right_other}
 use Rattle.hm_protocol.proofs.RightEvents.{right_wrong, rights_so, top_source}
 use Rattle.hm_protocol.proofs.Collected.{Noted, noted_on}

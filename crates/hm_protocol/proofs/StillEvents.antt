@@ -7,7 +7,7 @@ use Rattle.hm_history.specs.Memory.Words.{numbers}
 use Rattle.hm_history.specs.Memory.After.{After}
 use Rattle.hm_protocol.specs.declared.events.Event.{Event}
 use Rattle.hm_protocol.specs.Projection as project
-use Rattle.hm_protocol.proofs.Moving.{View, view_next, views_after, CalmAt}
+use Rattle.hm_protocol.proofs.MigrationViews.{View, view_next, views_after, CalmAt}
 
 -- it collects no pages
 abbrev pub sets_up : Event → Bool

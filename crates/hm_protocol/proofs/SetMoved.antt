@@ -32,8 +32,8 @@ use Rattle.hm_protocol.specs.Projection.{project, events_in, events_of, top_of}
 use Rattle.hm_protocol.specs.Laws.{IsKept}
 use Rattle.hm_protocol.proofs.Entries.{going_is, each_actor, events_at}
 use Rattle.hm_protocol.proofs.Steps.{GoBy, Keeps, Step, never, watched, calm_left, calm_right}
-use Rattle.hm_protocol.proofs.Moving.{View, views, views_after, Went, went, move_wrong, moves_badly, moves_so}
-use Rattle.hm_protocol.proofs.Unmoved.{Comes}
+use Rattle.hm_protocol.proofs.MigrationViews.{View, views, views_after, Went, went, move_wrong, moves_badly, moves_so}
+use Rattle.hm_protocol.proofs.StillEvents.{Comes}
 use Rattle.hm_protocol.proofs.Sitting.{Sits, Good, Stay, AllOf, AllPlain, plain_sits}
 use Rattle.hm_protocol.proofs.Homing.{Judges, Leads, is_judged}
 use Rattle.hm_protocol.proofs.EachMove.{sits_on}

@@ -12,7 +12,7 @@ use Rattle.hm_protocol.specs.Known.{Move, Known, is_slot, is_look_up}
 use Rattle.hm_protocol.specs.Noted.{noted, known_next, commit, moving, with_move, freed, after_set}
 use Rattle.hm_protocol.proofs.Fields.{moves_else, at_end, at_refused, held_keeps, pass_keeps}
 use Rattle.hm_protocol.proofs.Steps.{by, by_thread}
-use Rattle.hm_protocol.proofs.Opening.{is_quiet, Quiet}
+use Rattle.hm_protocol.proofs.QuietEvents.{is_quiet, Quiet}
 
 -- a thread has an inner migration
 abbrev pub is_open : List Move → Bool
