@@ -24,11 +24,12 @@ use Rattle.hm_history.specs.declared.phases.MoveStep.{MoveStep}
 use Rattle.hm_history.specs.declared.phases.Phase.{Phase}
 use Rattle.hm_laws.specs.Records.{Among}
 use Rattle.hm_laws.proofs.Migration.Good.{seen_moves}
+use Rattle.hm_laws.proofs.Migration.PagePast.{now_before}
 use Rattle.hm_protocol.specs.declared.events.Event.{Event}
 use Rattle.hm_protocol.specs.declared.events.TraceFrame.{TraceFrame}
 use Rattle.hm_protocol.specs.Projection as project
-use Rattle.hm_protocol.specs.Projection.{events_by, entry_frame, comes_to, set_up, is_start, is_up_to_commits}
-use Rattle.hm_protocol.specs.Projection.{is_past_commits, collected, pages_of, in_trace, is_home, owner_of, if_device}
+use Rattle.hm_protocol.specs.Projection.{events_by, entry_frame, set_up, is_start}
+use Rattle.hm_protocol.specs.Projection.{in_trace}
 use Rattle.hm_protocol.proofs.MigrationViews.{View}
 use Rattle.hm_protocol.proofs.StillEvents.{Comes, one_more, no_more, still_all}
 use Rattle.hm_protocol.proofs.Sitting.{Good, One, Given, Unmoved, Stays, Sits, gone_by, is_later}
@@ -41,9 +42,6 @@ use Rattle.hm_protocol.proofs.StaysOn.{one_map, good_on}
 
 before_next : (n u : ℕ) → nat_lt u n ≡ true → nat_lt u (n + 1) ≡ true
 before_next n u h = grind (arith, nat_tests)
-
-next_of : (n : ℕ) → nat_lt n (n + 1) ≡ true
-next_of n = grind (arith, nat_tests)
 
 not_before : (n u : ℕ) → nat_lt u n ≡ true → n ≡ u → ⊥
 not_before n u h e = grind (arith, nat_tests)
@@ -157,7 +155,7 @@ commit_fresh wrong j s u a o xs step v after vs n g moved e m l w un gi h = by_r
             first
             (one_more wrong (y ∷ []) _ _ (Event.Stayed n (in_trace g)) []
             (j.only (y ∷ []) (Event.Stayed n (in_trace g)) refl) refl (no_more wrong _))
-            (refl, (stay_more o xs MoveStep.Commit (n + 1) n g y (next_of n) un (past_page o xs n [] y k), gi))
+            (refl, (stay_more o xs MoveStep.Commit (n + 1) n g y (now_before n) un (past_page o xs n [] y k), gi))
         stays (y ∷ z ∷ us) first k = absurd k
 
 -- ---- the driver's table

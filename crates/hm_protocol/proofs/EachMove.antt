@@ -1,7 +1,6 @@
 -- Every entry of a migration's step, and so of an actor anywhere.
-use Rattle.std.proofs.Common.{refl, ap, sym, subst, ◌∙◌, arith}
+use Rattle.std.proofs.Common.{refl, ap, sym, subst, ◌∙◌}
 use Rattle.std.proofs.lemmas.Bool.{true≢false, false≢true, and_parts}
-use Rattle.std.proofs.lemmas.Bool.Decides.{nat_tests}
 use Rattle.std.specs.Prelude.{◌≡◌, ℕ, ◌+◌, Bool, true, false, not, ◌&&◌, ◌||◌, nat_lt, if◌then◌else◌}
 use Rattle.std.specs.Prelude.{Option, Some, None, is_some, List, [], ◌∷◌, ◌++◌, map, count_by}
 use Rattle.hm_base.specs.declared.cause.Cause.{Cause}
@@ -36,6 +35,7 @@ use Rattle.hm_laws.proofs.Migration.PagePast.{stage_says}
 use Rattle.hm_laws.proofs.Migration.Coming.{came_to}
 use Rattle.hm_laws.proofs.Migration.EachStep.{from_first}
 use Rattle.hm_laws.specs.Sound.{Sound}
+use Rattle.hm_laws.proofs.Migration.PagePast.{not_before}
 use Rattle.hm_protocol.specs.declared.events.Event.{Event}
 use Rattle.hm_protocol.specs.Projection.{events_by, is_start, in_trace, owner_of, if_device}
 use Rattle.hm_protocol.proofs.MigrationViews.{View, freed_view}
@@ -162,14 +162,11 @@ finish_step wrong j s u a o xs step v after vs n None None moved e m h =
 
 -- ---- a commit
 
-not_less_itself : (n : ℕ) → nat_lt n n ≡ false
-not_less_itself n = grind (arith, nat_tests)
-
 -- no record of a page that is to be committed was moved
 unmoved_at : (s : After) (t : Past) (a : ℕ) (o : Op) (xs : List Migrating) (n : ℕ) (x : Migrating)
     → Came s t a o xs MoveStep.Commit x → x.page ≡ n → Unmoved xs n
 unmoved_at s t a o xs n x came p y i mo e = by_moved y.moved (nat_lt y.page x.page) mo
-    (ap (λ m. nat_lt m x.page) (e ∙ sym p) ∙ not_less_itself x.page)
+    (ap (λ m. nat_lt m x.page) (e ∙ sym p) ∙ not_before x.page)
     (stage_says o true (nat_lt y.page x.page) y
     (records_each s t a o MoveStep.Commit x.page None xs came.knows.1.1.1 y i).0).committed
   where
@@ -202,7 +199,7 @@ commit_step wrong j s u t a o xs step v after vs n None (Some g) true e m l w d 
 commit_step wrong j s u t a o xs step v after vs n None (Some g) false e m l w d came h =
     commit_fresh wrong j s u a o xs step v after vs n g false e m l w
     (unmoved_at s t a o xs n (record { page = n; source = None; dest = Some g; moved = false }) came refl)
-    (given_by s t a o g (lands (nat_lt n n) (not_less_itself n) (records_each s t a o MoveStep.Commit n None xs
+    (given_by s t a o g (lands (nat_lt n n) (not_before n) (records_each s t a o MoveStep.Commit n None xs
     came.knows.1.1.1
     (record { page = n; source = None; dest = Some g; moved = false }) came.among))) h
   where

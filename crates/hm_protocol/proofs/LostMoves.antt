@@ -9,7 +9,7 @@ use Rattle.hm_base.specs.Pages.{Pages}
 use Rattle.hm_base.specs.declared.Frame.{Frame}
 use Rattle.hm_base.specs.declared.Place.{Place}
 use Rattle.hm_base.specs.declared.ops.Op.{Op}
-use Rattle.hm_history.specs.Memory.Words.{place_in, names}
+use Rattle.hm_history.specs.Memory.Words.{place_in}
 use Rattle.hm_history.specs.Memory.Plain.{is_read_write, rights_of}
 use Rattle.hm_history.specs.Memory.Places.{places_next}
 use Rattle.hm_history.specs.Memory.Sequences.{seq_ended}
@@ -27,9 +27,9 @@ use Rattle.hm_history.specs.declared.phases.Body.{Body}
 use Rattle.hm_history.specs.declared.phases.Migrating.{Migrating}
 use Rattle.hm_history.specs.declared.phases.MoveStep.{MoveStep}
 use Rattle.hm_history.specs.declared.phases.Phase.{Phase}
-use Rattle.hm_history.proofs.Tests.{no_test}
 use Rattle.hm_laws.specs.Records.{Among, WellListed, has_fresh}
 use Rattle.hm_laws.proofs.Migration.Records.{with_among, one_of_page, fresh_found}
+use Rattle.hm_laws.proofs.Kept.Frames.{untouched_unnamed}
 use Rattle.hm_protocol.specs.declared.events.Event.{Event}
 use Rattle.hm_protocol.specs.Words.{is_same}
 use Rattle.hm_protocol.specs.Projection.{in_trace, owner_of, if_device}
@@ -90,15 +90,7 @@ fresh_unmoved xs n g w h x i m e = let y : (y : Migrating) × Among xs y × (y.p
 pub none_orphan : (s : After) (q v : ℕ) (x : Place) → has_no_frame (s.places.place q v) ≡ true
     → orphan s.locks s.places (Kind.Place q v x) ≡ None
 none_orphan s q v x h = ap (left_behind s.locks (places_next s.places (Kind.Place q v x)))
-    (none_named (s.places.place q v) h)
-  where
-    none_named : (y : Place) → has_no_frame y ≡ true → names y ≡ None
-    none_named Place.Empty h = refl
-    none_named Place.Zero h = refl
-    none_named (Place.Sys n w) h = no_test h
-    none_named (Place.Own d n w) h = no_test h
-    none_named (Place.Moving f w) h = no_test h
-    none_named (Place.Exclusive n b) h = no_test h
+    (untouched_unnamed (s.places.place q v) h)
 
 pub fresh_on : (wrong : List View → Event → Bool) → Judges wrong → (s u : After) (a : ℕ) (o : Op) (xs : List Migrating)
     (q : ℕ) (r : Pages) (met : Bool) (told : Option ℕ) (g : Frame) (v : ℕ) (after : Phase) (k : Kind) (vs : List View)

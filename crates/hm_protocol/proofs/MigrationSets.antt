@@ -1,6 +1,6 @@
 -- Each entry keeps what is known of migrations, and a page that a migration sets is one that has moved.
 use Rattle.std.proofs.Common.{refl, ap, sym, subst, ◌∙◌}
-use Rattle.std.proofs.lemmas.Bool.{false≢true, and_parts}
+use Rattle.std.proofs.lemmas.Bool.{false≢true, and_parts, and_right}
 use Rattle.std.specs.Prelude.{◌≡◌, ℕ, Bool, true, false, not, ◌&&◌, ◌||◌, ◌==◌, Option, Some}
 use Rattle.std.specs.Prelude.{List, [], ◌∷◌, fold}
 use Rattle.std.specs.List.{list_any}
@@ -88,11 +88,7 @@ migrated (y ∷ ys) v p h = ap (λ b. b && (list_any (λ u. u == v) y.moved || l
     ∙ ap (λ b. b || list_any (λ u. u.0 == v) y.stayed) h
 
 no_look_up : (k : Known) (a v : ℕ) (w : TableRight) → is_migrated (k.moves a) v ≡ true → is_look_up k a v w ≡ false
-no_look_up k a v w h = ap (λ b. not (is_sole w) && not b) h ∙ pick (not (is_sole w))
-  where
-    pick : (b : Bool) → (b && false) ≡ false
-    pick true = refl
-    pick false = refl
+no_look_up k a v w h = ap (λ b. not (is_sole w) && not b) h ∙ and_right (not (is_sole w)) false refl
 
 moved_now_known : (step : MoveStep) (past : Bool) (ys : List Move) (xs : List Migrating) (x : Migrating) → past ≡ true
     → (step ≡ MoveStep.Finish → ⊥) → Among xs x → x.moved ≡ true → Mid step false past ys xs

@@ -1,6 +1,6 @@
 -- A migration sets no page for writes that was collected for reads.
 use Rattle.std.proofs.Common.{refl, ap, sym, subst, ◌∙◌}
-use Rattle.std.proofs.lemmas.Bool.{true≢false, false≢true}
+use Rattle.std.proofs.lemmas.Bool.{true≢false, false≢true, and_right}
 use Rattle.std.specs.Prelude.{◌≡◌, ℕ, Bool, true, false, ◌&&◌, Option, Some, None, List, [], ◌∷◌, ◌++◌}
 use Rattle.hm_base.specs.Program.{Program}
 use Rattle.hm_base.specs.declared.Frame.{Frame}
@@ -53,11 +53,7 @@ none_calm s u a o xs top below after (Kind.Set m v f w from) vs n e =
     subst (λ vs. CalmAt right_wrong vs (events_at s u a o xs (top ∷ below) after (Kind.Set m v f w from))) (sym e)
     (subst (λ es. CalmAt right_wrong [] (es ++ Event.Set m v (entry_frame f) w ∷ []))
     (sym (nothing_comes s o xs top (Kind.Set m v f w from) n))
-    (no_low (is_write w), tt))
-  where
-    no_low : (b : Bool) → (b && false) ≡ false
-    no_low true = refl
-    no_low false = refl
+    (and_right (is_write w) false refl, tt))
 none_calm s u a o xs top below after k vs n e = calm_unless s u a o xs top below after k vs refl
 
 -- ---- entries that set nothing

@@ -6,7 +6,7 @@ use Rattle.hm_base.specs.Program.{Program}
 use Rattle.hm_base.specs.declared.Frame.{Frame}
 use Rattle.hm_base.specs.declared.Place.{Place}
 use Rattle.hm_base.specs.declared.ops.Op.{Op}
-use Rattle.hm_history.specs.Memory.Words.{writable, moving_frame, is_empty_place}
+use Rattle.hm_history.specs.Memory.Words.{writable, moving_frame}
 use Rattle.hm_history.specs.Memory.Plain.{Plain, rights_of, is_read_write, mirror_proc, plain_next}
 use Rattle.hm_history.specs.Memory.Places.{with_place}
 use Rattle.hm_history.specs.Memory.Lookups.{loses}
@@ -27,6 +27,7 @@ use Rattle.hm_laws.specs.Facts.{HoldsAll, Holds, Frozen_at, facts, known_of, rec
 use Rattle.hm_laws.proofs.Kept.Areas.{placed_cases}
 use Rattle.hm_laws.proofs.Other.Processes.{rights_other, there_other}
 use Rattle.hm_laws.proofs.Migration.Records.{records_each}
+use Rattle.hm_history.proofs.Pages.{no_empty_writable}
 use Rattle.hm_protocol.proofs.Sitting.{moves_in}
 use Rattle.hm_protocol.proofs.EachMove.{nothing_below}
 
@@ -65,14 +66,6 @@ moving_other c s t a b p v f so ne (Kind.Place q u x) ok l m w = by_page (placed
     freezes (Place.Own i j r) z g e n d = cc
     freezes (Place.Exclusive j i) z g e n d = cc
 
-    emptied : (y : Place) → is_empty_place y ≡ true → writable y ≡ false
-    emptied Place.Empty e = refl
-    emptied Place.Zero e = absurd (false≢true e)
-    emptied (Place.Sys j r) e = absurd (false≢true e)
-    emptied (Place.Own i j r) e = absurd (false≢true e)
-    emptied (Place.Moving h r) e = absurd (false≢true e)
-    emptied (Place.Exclusive j i) e = absurd (false≢true e)
-
     at : moving_frame (s.places.place q u) ≡ Some f → writable (s.places.place q u) ≡ false → LeavesByItsLocker s a x f
         → writable x ≡ false
     at m w (inl d) = let y : (is_moving (s.places.place q u) ≡ true) × ((loses (s.places.place q u) x ≡ false)
@@ -80,7 +73,7 @@ moving_other c s t a b p v f so ne (Kind.Place q u x) ok l m w = by_page (placed
         freezes (s.places.place q u) x f m w d in
         absurd (true≢false (sym y.1.1 ∙ (ok.mirrors.lands y.0 y.1.0).1))
     at m w (inr (inl d)) = absurd (ne (clash a b (s.locks.frame f) l d))
-    at m w (inr (inr d)) = emptied x d
+    at m w (inr (inr d)) = no_empty_writable x d
 
     by_page : ((p ≡ q) × (v ≡ u) × (with_place s.places.place q u x p v ≡ x))
         ⊎ (with_place s.places.place q u x p v ≡ s.places.place p v) → writable (with_place s.places.place q u x p v) ≡

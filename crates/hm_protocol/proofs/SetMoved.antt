@@ -1,6 +1,6 @@
 -- No legal history breaks `set-moved` or `drop-lost`: a page that stayed was not moved, and its frame was dropped.
 use Rattle.std.proofs.Common.{refl, ap, sym, subst, ◌∙◌}
-use Rattle.std.proofs.lemmas.Bool.{true≢false, eqb-true}
+use Rattle.std.proofs.lemmas.Bool.{true≢false, eqb-true, and_right}
 use Rattle.std.specs.Prelude.{◌≡◌, ℕ, ◌+◌, Bool, true, false, not, ◌&&◌, ◌||◌, ◌==◌, Option, Some, None, List, []}
 use Rattle.std.specs.Prelude.{◌∷◌, fold}
 use Rattle.std.specs.List.{list_any}
@@ -149,12 +149,8 @@ all_freed o xs step v frames (u ∷ us) d h =
 pub judged : Judges move_wrong
 judged = record { none = none; only = only; home = home; ends = ends; sets = sets }
   where
-    no_set : (b : Bool) → (b && false) ≡ false
-    no_set true = refl
-    no_set false = refl
-
     none : (x : Event) → move_wrong [] x ≡ false
-    none (Event.Set m v f w) = no_set (not (is_sole w))
+    none (Event.Set m v f w) = and_right (not (is_sole w)) false refl
     none (Event.Finalize p) = refl
     none x = refl
 
@@ -179,7 +175,7 @@ judged = record { none = none; only = only; home = home; ends = ends; sets = set
         → move_wrong (y ∷ []) (Event.Set m x.page f w) ≡ false
     sets o xs v x y m f w h i mo = ap (λ b. not (is_sole w) && b) (none_stays o xs MoveStep.SetOwnTable v y.freed
         y.stayed x i mo h.1)
-        ∙ no_set (not (is_sole w))
+        ∙ and_right (not (is_sole w)) false refl
 
 -- each entry keeps what is seen of migrations
 pub moves_next : (c : Program) (t : State) (e : Entry) (k l : Known) → Step c t e → KnowsMoves c k t
