@@ -56,7 +56,8 @@ pub others : (k : Known) (a b : ℕ) (x : Option Op) (g : Going) → (b ≡ a �
 others k a b x g ne [] h = h
 others k a b x g ne (e ∷ es) h = others (known_next k (by a e)) a b x g ne es (record {
   noted = λ q n y d. let z : (is_passing (top_of g.stack) ≡ false)
-      × (writable y ≡ true → is_noted (piece_page x n) false (k.looks b (mirror_of x)).found ≡ false) = h.noted q n y d in
+      × (writable y ≡ true → is_noted (piece_page x n) false (k.looks b (mirror_of x)).found ≡ false) =
+      h.noted q n y d in
       (z.0, λ w. other_found k a e b (mirror_of x) (piece_page x n) false ne (z.1 w));
 })
 

@@ -131,9 +131,11 @@ goes_on o (Phase.Armed touch g x) below k seen h e d =
 goes_on o (Phase.GiveUp (Some (Touch.Walk n since q))) below (Kind.Failed x at len why) seen h e d = absurd
     (true≢false e)
 goes_on o (Phase.GiveUp (Some (Touch.Walk n since q))) below k seen h e d = absurd (false≢true h)
-goes_on o (Phase.Guard p r met told body) below k seen h e d = ap is_walking (passes o (Phase.Guard p r met told body) below k seen refl) ∙ d
+goes_on o (Phase.Guard p r met told body) below k seen h e d =
+    ap is_walking (passes o (Phase.Guard p r met told body) below k seen refl) ∙ d
 goes_on o (Phase.Drop f) below k seen h e d = ap is_walking (passes o (Phase.Drop f) below k seen refl) ∙ d
-goes_on o (Phase.Emptying f what) below k seen h e d = ap is_walking (passes o (Phase.Emptying f what) below k seen refl) ∙ d
+goes_on o (Phase.Emptying f what) below k seen h e d =
+    ap is_walking (passes o (Phase.Emptying f what) below k seen refl) ∙ d
 goes_on o (Phase.Copy f g n) below k seen h e d = ap is_walking (passes o (Phase.Copy f g n) below k seen refl) ∙ d
 goes_on o (Phase.Copied f g) below k seen h e d = ap is_walking (passes o (Phase.Copied f g) below k seen refl) ∙ d
 goes_on o (Phase.Finish f to) below k seen h e d = ap is_walking (passes o (Phase.Finish f to) below k seen refl) ∙ d

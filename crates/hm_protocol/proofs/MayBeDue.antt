@@ -32,8 +32,7 @@ use Rattle.hm_laws.proofs.Due.Good.{either, either_option}
 use Rattle.hm_laws.proofs.Migration.Setup.{at_itself}
 use Rattle.hm_protocol.proofs.DueKinds as kinds
 use Rattle.hm_protocol.proofs.DueKinds.{is_plain, is_of_piece, is_rlock, is_of_walk, is_of_fault, is_commit}
-use Rattle.hm_protocol.proofs.DueKinds.{is_giving_up}
-use Rattle.hm_protocol.proofs.DueKinds.{is_failed, is_at_walk}
+use Rattle.hm_protocol.proofs.DueKinds.{is_giving_up, is_failed, is_at_walk}
 use Rattle.hm_protocol.proofs.DueKinds.{is_inner, is_of_move, is_of_step, may, Passes, Is, If, locks}
 
 -- ---- accesses and faults
@@ -257,13 +256,16 @@ others step s None = refl
 others step s (Some f) = either_option (Is (is_of_step step)) (lowest_direct s.places f) _ _ (λ n. refl) (λ x n. refl)
 
 -- an entry of a migration's step
-pub steps : (c : Program) (s : After) (o : Op) (step : MoveStep) (x : Migrating) → Is (is_of_step step) (due.due_step c s o step x)
+pub steps : (c : Program) (s : After) (o : Op) (step : MoveStep) (x : Migrating)
+    → Is (is_of_step step) (due.due_step c s o step x)
 steps c s o MoveStep.FreezeOthers x = others MoveStep.FreezeOthers s x.source
-steps c s o MoveStep.TakeAndCopy x = either (Is (is_of_step MoveStep.TakeAndCopy)) (due.skips c o x.page) _ _ (λ e. refl)
-    (λ e. either_option (Is (is_of_step MoveStep.TakeAndCopy)) (lowest_free c s.places (due.pool_of s o)) _ _ (λ n. refl) (λ g n. refl))
+steps c s o MoveStep.TakeAndCopy x = either (Is (is_of_step MoveStep.TakeAndCopy)) (due.skips c o x.page) _ _
+    (λ e. refl) (λ e. either_option (Is (is_of_step MoveStep.TakeAndCopy)) (lowest_free c s.places (due.pool_of s o))
+    _ _ (λ n. refl) (λ g n. refl))
 steps c s o MoveStep.Commit x = commits x.source x.dest
   where
-    commits : (f g : Option Frame) → Is (is_of_step MoveStep.Commit) (due.commit_page s (mirror_proc s.plain (op_mirror o)) x.page f g)
+    commits : (f g : Option Frame) → Is (is_of_step MoveStep.Commit)
+        (due.commit_page s (mirror_proc s.plain (op_mirror o)) x.page f g)
     commits (Some f) (Some g) = refl
     commits None (Some g) = either (Is (is_of_step MoveStep.Commit))
         (has_no_frame (s.places.place (mirror_proc s.plain (op_mirror o)) x.page)) _ _ (λ e. refl) (λ e. refl)

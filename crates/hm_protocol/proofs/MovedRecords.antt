@@ -126,7 +126,8 @@ set_up_moved s o xs k a p false past h =
   where
     quiet : Quiet (collects s o xs)
     quiet = let p : ℕ = mirror_proc s.plain (op_mirror o) in
-        both_be is_quiet (map (collected s p) xs) (Event.Ready p ∷ []) (be_each is_quiet (collected s p) (λ x. refl) xs) (refl, tt)
+        both_be is_quiet (map (collected s p) xs) (Event.Ready p ∷ []) (be_each is_quiet (collected s p) (λ x. refl) xs)
+        (refl, tt)
 
 -- what is known after that
 pub mid : (s : After) (o : Op) (xs : List Migrating) (step : MoveStep) (n : ℕ) (j : Kind) (k : Known) (a : ℕ)

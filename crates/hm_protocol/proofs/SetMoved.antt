@@ -183,7 +183,8 @@ pub moves_next : (c : Program) (t : State) (e : Entry) (k l : Known) → Step c 
     (events_in t (state_next c t e) e.actor e.kind (op_at c e.actor (t.going e.actor).index)))
     → KnowsMoves c l (state_next c t e)
 moves_next c t e k l s kn gone = each_actor c t e (λ b g. SitsAt c b g (views l b))
-    (subst (SitsAt c e.actor (going_next c t.after e.actor (t.going e.actor) e.kind)) (sym (gone.here ∙ led.1.is)) led.2)
+    (subst (SitsAt c e.actor (going_next c t.after e.actor (t.going e.actor) e.kind))
+    (sym (gone.here ∙ led.1.is)) led.2)
     (λ b ne. subst (SitsAt c b (t.going b)) (sym (gone.there b ne)) (kn b))
   where
     led : (ws : List View) × Comes move_wrong (views k e.actor) (events_in t (state_next c t e) e.actor e.kind

@@ -123,7 +123,8 @@ entered c t e s vs sits rights = record {
         ≡ events_at t.after (state_next c t e).after e.actor s.turn.op (t.going e.actor).pages
         (s.turn.top ∷ s.turn.below)
         (top_of ((state_next c t e).going e.actor).stack) e.kind
-    evs = events_are c t (state_next c t e) e.actor e.kind s.turn.op s.turn.top s.turn.below s.turn.is_op s.turn.is_stack
+    evs = events_are c t (state_next c t e) e.actor e.kind s.turn.op s.turn.top s.turn.below s.turn.is_op
+        s.turn.is_stack
 
     sits_here : Sits s.turn.op (t.going e.actor).pages (s.turn.top ∷ s.turn.below) vs
     sits_here = subst (λ st. Sits s.turn.op (t.going e.actor).pages st vs) s.turn.is_stack
