@@ -4,9 +4,10 @@ use Rattle.std.specs.Prelude.{◌≡◌, ℕ, Bool, true, false, ◌&&◌, if◌
 use Rattle.hm_base.specs.Pages.{Pages}
 use Rattle.hm_history.specs.Memory.Words.{with_at}
 use Rattle.hm_history.specs.declared.TableRight.{TableRight}
+use Rattle.hm_history.proofs.Updates.{other_at}
 use Rattle.hm_protocol.specs.declared.events.TraceFrame.{TraceFrame}
 use Rattle.hm_protocol.specs.declared.events.Event.{Event}
-use Rattle.hm_protocol.specs.Words.{is_sole, drop_if}
+use Rattle.hm_protocol.specs.Words.{device_of, is_sole, drop_if}
 use Rattle.hm_protocol.specs.Known.{Slot, Inside, Call, Move, Known, is_look_up, is_slot, is_current}
 use Rattle.hm_protocol.specs.Noted.{noted, over, commit, moving, set_by, held_more, pass_over, after_set, began}
 
@@ -64,3 +65,33 @@ pub at_refused : {X : Type 0} (F : Known → X)
     → (k : Known) (t m q : ℕ) → F (noted k t (Event.Told m q false)) ≡ F k
 at_refused F h k t m q = let l : Known = record k { calls = drop_if (is_current t m) k.calls } in
     over_keeps F h l t (began (find (is_current t m) k.calls)) ∙ h k k.under l.calls
+
+-- an event of another thread leaves a thread's migrations
+pub moves_else : (k : Known) (b : ℕ) (x : Event) (a : ℕ) → (a ≡ b → ⊥) → (noted k b x).moves a ≡ k.moves a
+moves_else k b (Event.Setup p r to_device d) a ne = other_at k.moves b a _ ne
+moves_else k b (Event.Finalize p) a ne = other_at k.moves b a _ ne
+moves_else k b (Event.From v f w) a ne = other_at k.moves b a _ ne
+moves_else k b (Event.Moved v f) a ne = other_at k.moves b a _ ne
+moves_else k b (Event.Stayed v f) a ne = other_at k.moves b a _ ne
+moves_else k b (Event.Paged p) a ne = other_at k.moves b a _ ne
+moves_else k b (Event.Free f) a ne = other_at k.moves b a _ ne
+moves_else k b (Event.Set m v f w) a ne = pick (is_look_up k b v w) (is_sole w)
+  where
+    l : Known
+    l = record k {
+      slots = record { mirror = m; page = v; right = w; at = k.at } ∷ drop_if (is_slot m v) k.slots;
+      calls = map (after_set m v) k.calls;
+    }
+
+    pick : (x y : Bool)
+        → (if x then commit l b m else if y then l else moving l b (λ y. record y { set = v ∷ y.set })).moves a
+        ≡ k.moves a
+    pick true y = refl
+    pick false true = refl
+    pick false false = other_at k.moves b a _ ne
+moves_else k b (Event.End p r) a ne = at_end (λ k. k.moves a) (λ k us xs. refl) k b p r
+moves_else k b (Event.Told m q true) a ne = refl
+moves_else k b (Event.Told m q false) a ne = at_refused (λ k. k.moves a) (λ k us xs. refl) k b m q
+moves_else k b (Event.Take f) a ne = held_keeps (λ k. k.moves a) (λ k fs. refl) k f (device_of f)
+moves_else k b (Event.Pass f) a ne = pass_keeps (λ k. k.moves a) (λ k p. refl) k (device_of f)
+moves_else k b x a ne = refl

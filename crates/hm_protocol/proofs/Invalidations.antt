@@ -61,7 +61,7 @@ free_number : (c : Program) (s : After) (t : Past) (a n d p : ℕ) (r : Pages) (
 free_number c s t a n d p r z so ok = no_interval (s.plain.mirrors n) (s.sequences.interval n) (s.places.device n)
     (and_parts (s.plain.there p) (is_none (s.plain.mirrors n)) ok.1).1 (so.mirrors.paired n)
 
-below_itself : (n m k : ℕ) → n ≡ k → m ≡ k → n < m → ⊥
+pub below_itself : (n m k : ℕ) → n ≡ k → m ≡ k → n < m → ⊥
 below_itself n m k e g l = omega (arith, e, g, l)
 
 -- while a mirror is told nothing is set in its table
