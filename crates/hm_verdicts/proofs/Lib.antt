@@ -1,0 +1,4 @@
+pub mod Defaults
+pub mod Looked
+pub mod Mapping
+pub mod Reversed

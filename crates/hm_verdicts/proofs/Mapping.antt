@@ -1,0 +1,32 @@
+-- A list that is changed item by item.
+use Rattle.std.proofs.Common.{refl, ap, ◌∙◌, arith, ◌<◌, get_or, set, length, suc, zero}
+use Rattle.std.specs.Prelude.{◌≡◌, ℕ, ◌+◌, List, [], ◌∷◌, map}
+
+-- the first n items are changed
+abbrev pub mapped_to : {X : Type 0} → (X → X) → ℕ → List X → List X
+mapped_to f zero xs = xs
+mapped_to f (suc n) [] = []
+mapped_to f (suc n) (x ∷ xs) = f x ∷ mapped_to f n xs
+
+mapped_next : {X : Type 0} → (f : X → X) (n : ℕ) (xs : List X) (d y : X) → n < length xs → y ≡ f (get_or (mapped_to f n xs) n d)
+    → set (mapped_to f n xs) n y ≡ mapped_to f (suc n) xs
+mapped_next f n [] d y l e = absurd (omega (arith, l))
+mapped_next f zero (x ∷ xs) d y l e = ap (λ z. z ∷ xs) e
+mapped_next f (suc n) (x ∷ xs) d y l e = ap (λ zs. f x ∷ zs) (mapped_next f n xs d y (omega (arith, l)) e)
+
+-- one more is
+pub mapped_more : {X : Type 0} → (f : X → X) (n : ℕ) (xs : List X) (d y : X) → n < length xs → y ≡ f (get_or (mapped_to f n xs) n d)
+    → set (mapped_to f n xs) n y ≡ mapped_to f (n + 1) xs
+mapped_more f n xs d y l e = let more : suc n ≡ n + 1 = omega arith in
+    mapped_next f n xs d y l e ∙ ap (λ k. mapped_to f k xs) more
+
+-- all are
+pub mapped_all : {X : Type 0} → (f : X → X) (xs : List X) → mapped_to f (length xs) xs ≡ map f xs
+mapped_all f [] = refl
+mapped_all f (x ∷ xs) = ap (λ zs. f x ∷ zs) (mapped_all f xs)
+
+-- there are as many
+pub mapped_length : {X : Type 0} → (f : X → X) (n : ℕ) (xs : List X) → length (mapped_to f n xs) ≡ length xs
+mapped_length f zero xs = refl
+mapped_length f (suc n) [] = refl
+mapped_length f (suc n) (x ∷ xs) = ap suc (mapped_length f n xs)
