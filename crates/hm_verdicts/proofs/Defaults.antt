@@ -37,3 +37,7 @@ set_twice {X} f k v w = fun_ext (λ q. by_bool (q == k) q)
     by_bool : (b : Bool) (q : ℕ) → (if b then w else if b then v else f q) ≡ (if b then w else f q)
     by_bool true q = refl
     by_bool false q = refl
+
+-- what is taken away, changed and put back
+pub put_back : {X : Type 0} → (f g h : ℕ → X) (k : ℕ) (d v w : X) → g ≡ with_at f k d → h ≡ with_at g k v → v ≡ w → h ≡ with_at f k w
+put_back f g h k d v w a b c = b ∙ (ap (λ g. with_at g k v) a ∙ (set_twice f k d v ∙ ap (with_at f k) c))

@@ -1,6 +1,7 @@
 -- A list that is changed item by item.
-use Rattle.std.proofs.Common.{refl, ap, ◌∙◌, arith, ◌<◌, get_or, set, length, suc, zero}
-use Rattle.std.specs.Prelude.{◌≡◌, ℕ, ◌+◌, List, [], ◌∷◌, map}
+use Rattle.std.proofs.Common.{refl, ap, sym, ◌∙◌, arith, ◌<◌, get_or, set, length, suc, zero}
+use Rattle.std.proofs.lemmas.List.{map-append, reverse-append}
+use Rattle.std.specs.Prelude.{◌≡◌, ℕ, ◌+◌, List, [], ◌∷◌, ◌++◌, map, reverse, Bool, count_by, if◌then◌else◌, true, false}
 
 -- the first n items are changed
 abbrev pub mapped_to : {X : Type 0} → (X → X) → ℕ → List X → List X
@@ -30,3 +31,18 @@ pub mapped_length : {X : Type 0} → (f : X → X) (n : ℕ) (xs : List X) → l
 mapped_length f zero xs = refl
 mapped_length f (suc n) [] = refl
 mapped_length f (suc n) (x ∷ xs) = ap suc (mapped_length f n xs)
+
+-- in either order
+pub map_reversed : {X : Type 0} → (f : X → X) (xs : List X) → reverse (map f xs) ≡ map f (reverse xs)
+map_reversed f [] = refl
+map_reversed f (x ∷ xs) = reverse-append (f x ∷ []) (map f xs) ∙ (ap (λ ys. ys ++ f x ∷ []) (map_reversed f xs)
+    ∙ (sym (map-append f (reverse xs) (x ∷ [])) ∙ ap (map f) (sym (reverse-append (x ∷ []) xs))))
+
+-- a test that the change leaves is passed as often
+pub counted_same : {X : Type 0} → (p : X → Bool) (f : X → X) → ((x : X) → p (f x) ≡ p x) → (n : ℕ) (xs : List X)
+    → count_by p (mapped_to f n xs) ≡ count_by p xs
+counted_same p f h zero xs = refl
+counted_same p f h (suc n) [] = refl
+counted_same p f h (suc n) (x ∷ xs) = is_count_by_cons p (f x) (mapped_to f n xs)
+    ∙ (ap (λ b. (if b then 1 else 0) + count_by p (mapped_to f n xs)) (h x)
+    ∙ (ap (λ k. (if p x then 1 else 0) + k) (counted_same p f h n xs) ∙ sym (is_count_by_cons p x xs)))

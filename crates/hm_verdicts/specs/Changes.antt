@@ -1,14 +1,36 @@
 -- What an event makes of a callback, by the parts of what is known that it looks at.
-use Rattle.std.specs.Prelude.{ℕ, ◌+◌, Bool, false, not, ◌&&◌, ◌||◌, ◌==◌, nat_lt, if◌then◌else◌, Option, Some, None}
-use Rattle.std.specs.Prelude.{is_some, is_none, List, [], filter, count_by}
+use Rattle.std.specs.Prelude.{ℕ, ◌+◌, Bool, true, false, not, ◌&&◌, ◌||◌, ◌==◌, nat_lt, if◌then◌else◌, Option, Some, None}
+use Rattle.std.specs.Prelude.{is_some, is_none, List, [], filter, count_by, option_map}
 use Rattle.std.specs.List.{list_any}
 use Rattle.hm_protocol.specs.Words.{is_it, drop_if}
 use Rattle.hm_base.specs.Pages.{Pages, overlap}
-use Rattle.hm_protocol.specs.Known.{Call, Move, is_slot, is_current}
+use Rattle.hm_protocol.specs.Known.{Slot, Inside, Call, Move, is_slot, is_current}
 
 -- the mirror was told of a migration by its own device
 abbrev pub own_by : (ℕ → Option ℕ) → Call → Bool
 own_by device x = elim x.owner [ None ↦ false | Some d ↦ is_it (device x.mirror) d ]
+
+-- a callback that begins, in an invalidation of its thread or in none, with these entries in its span
+abbrev pub call_with : ℕ → ℕ → Pages → ℕ → Option Inside → ℕ → List Slot → Call
+call_with t m r q within i had = record {
+  thread = t;
+  mirror = m;
+  span = r;
+  seq = q;
+  of = option_map (λ y. y.at) within;
+  owner = elim within [ None ↦ None | Some y ↦ y.owner ];
+  ended = None;
+  at = i;
+  after = None;
+  alone = true;
+  had = had;
+  here = had;
+  left = [];
+  erased = false;
+  late = 0;
+  copied = 0;
+  stale = None;
+}
 
 -- an entry of its span was erased by a thread, which is in a callback or is not, and has these migrations
 abbrev pub lost_by : (ℕ → Option ℕ) → Bool → List Move → ℕ → Call → Call

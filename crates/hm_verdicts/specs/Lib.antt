@@ -1,5 +1,6 @@
 pub mod AllLooks
 pub mod Changes
+pub mod Inner
 pub mod Numbers
 pub mod Stages
 pub mod State

@@ -1,5 +1,5 @@
 // All callbacks, in their order, and what events make of them.
-ghost use Rattle.std.specs.Prelude.{◌≡◌, ◌==◌, ◌&&◌, ◌||◌, map, not, count_by, is_none, OnOk, reverse, find, option_map};
+ghost use Rattle.std.specs.Prelude.{◌≡◌, ◌==◌, ◌&&◌, ◌||◌, map, not, length, ◌<◌, slice_set, slice_index_or, count_by, is_none, OnOk, reverse, find, option_map};
 ghost use Rattle.std.specs.List.{list_any, list_all};
 ghost use Rattle.hm_protocol.specs.Words.{drop_if, is_it};
 ghost use Rattle.hm_protocol.specs.Known as known;
@@ -12,27 +12,9 @@ use crate::failed::Failed;
 use crate::looks::Look;
 use crate::moves::{Move, are_placing};
 use crate::numbered::Numbered;
+use crate::stack::{Changes, change_items};
 use hm_protocol::TraceSpan;
 use std::alloc::Global;
-
-/// What an event makes of a callback.
-trait Change {
-    ghost use Rattle.hm_protocol.specs.Known.{Call};
-
-    ghost made: { Self → Call → Call };
-
-    fn change(&self, alloc: Global, call: &mut Call) -> Result<(), Failed>
-        ensures { OnOk result (call.new ≡ made self.now call.old) };
-}
-
-fn change_all<C: Change>(alloc: Global, calls: &mut Vec<Call>, how: &C) -> Result<(), Failed>
-    ensures { OnOk result (calls.new.items ≡ map (C.made how.now) calls.old.items) }
-{
-    for call in calls.iter_mut() {
-        how.change(alloc, call)?;
-    }
-    Ok(())
-}
 
 // An invalidation that began and ended there.
 #[derive(Drop)]
@@ -41,10 +23,10 @@ struct Ended {
     at: u64,
 }
 
-impl Change for Ended {
+impl Changes<Call> for Ended {
     ghost made = { λ s. after_end s.begun s.at };
 
-    fn change(&self, _: Global, call: &mut Call) -> Result<(), Failed> {
+    fn change(&self, call: &mut Call) -> Result<(), Failed> {
         call.end(self.begun, self.at);
         Ok(())
     }
@@ -57,10 +39,10 @@ struct SetOver {
     page: u64,
 }
 
-impl Change for SetOver {
+impl Changes<Call> for SetOver {
     ghost made = { λ s. after_set s.mirror s.page };
 
-    fn change(&self, _: Global, call: &mut Call) -> Result<(), Failed> {
+    fn change(&self, call: &mut Call) -> Result<(), Failed> {
         call.set_over(self.mirror, self.page);
         Ok(())
     }
@@ -74,7 +56,7 @@ struct Erased<'a> {
     page: u64,
 }
 
-impl<'a> Change for Erased<'a> {
+impl<'a> Changes<Call> for Erased<'a> {
     ghost use Rattle.std.specs.Prelude.{reverse};
     ghost use Rattle.hm_verdicts.specs.Numbers.{values_in};
     ghost use Rattle.hm_verdicts.specs.Changes.{erased_by};
@@ -82,7 +64,7 @@ impl<'a> Change for Erased<'a> {
     ghost made = { λ s. erased_by (values_in s.by.devices.now) s.by.in_callback (reverse s.by.moves.now)
         s.by.thread s.mirror s.page };
 
-    fn change(&self, _: Global, call: &mut Call) -> Result<(), Failed> {
+    fn change(&self, call: &mut Call) -> Result<(), Failed> {
         call.erase(&self.by, self.mirror, self.page)
     }
 }
@@ -90,44 +72,39 @@ impl<'a> Change for Erased<'a> {
 // A migration that knows what moved.
 #[derive(Drop)]
 struct Paged<'a> {
+    alloc: Global,
     devices: &'a Numbered<u64>,
     thread: u64,
     of: &'a Move,
 }
 
-impl<'a> Change for Paged<'a> {
+impl<'a> Changes<Call> for Paged<'a> {
     ghost use Rattle.hm_verdicts.specs.Numbers.{values_in};
     ghost use Rattle.hm_verdicts.specs.Changes.{paged_by};
 
     ghost made = { λ s. paged_by (values_in s.devices.now) s.thread s.of.now };
 
-    fn change(&self, alloc: Global, call: &mut Call) -> Result<(), Failed> {
-        call.know(alloc, self.devices, self.thread, self.of)
+    fn change(&self, call: &mut Call) -> Result<(), Failed> {
+        call.know(self.alloc, self.devices, self.thread, self.of)
     }
 }
 
 /// The invalidation that began there has ended here.
-pub(crate) fn end(alloc: Global, calls: &mut Vec<Call>, begun: u64, at: u64) -> Result<(), Failed>
+pub(crate) fn end(calls: &mut Vec<Call>, begun: u64, at: u64) -> Result<(), Failed>
     ensures { OnOk result (calls.new.items ≡ map (after_end begun at) calls.old.items) }
 {
-    change_all(alloc, calls, &Ended { begun, at })
+    change_items(calls, &Ended { begun, at })
 }
 
 /// Another entry is set.
-pub(crate) fn set_over(
-    alloc: Global,
-    calls: &mut Vec<Call>,
-    mirror: u64,
-    page: u64,
-) -> Result<(), Failed>
+pub(crate) fn set_over(calls: &mut Vec<Call>, mirror: u64, page: u64) -> Result<(), Failed>
     ensures { OnOk result (calls.new.items ≡ map (after_set mirror page) calls.old.items) }
 {
-    change_all(alloc, calls, &SetOver { mirror, page })
+    change_items(calls, &SetOver { mirror, page })
 }
 
 /// A thread, which has these migrations, the oldest first, erases the entry of a page.
 pub(crate) fn erase(
-    alloc: Global,
     calls: &mut Vec<Call>,
     thread: u64,
     devices: &Numbered<u64>,
@@ -145,7 +122,7 @@ pub(crate) fn erase(
         devices,
         moves,
     };
-    change_all(alloc, calls, &Erased { by, mirror, page })
+    change_items(calls, &Erased { by, mirror, page })
 }
 
 /// A migration of a thread knows what moved.
@@ -158,15 +135,58 @@ pub(crate) fn know(
 ) -> Result<(), Failed>
     ensures { OnOk result (calls.new.items ≡ map (paged_by (values_in devices.now) thread of.now) calls.old.items) }
 {
-    change_all(
-        alloc,
+    change_items(
         calls,
         &Paged {
+            alloc,
             devices,
             thread,
             of,
         },
     )
+}
+
+/// Each callback returns that the thread is in, which has these migrations, the oldest first.
+pub(crate) fn return_all(
+    alloc: Global,
+    calls: &mut Vec<Call>,
+    moves: &[Move],
+    thread: u64,
+    mirror: u64,
+    at: u64,
+    seq: u64,
+) -> Result<(), Failed>
+    ensures { OnOk result (calls.new.items
+        ≡ map (returned_in at seq calls.old.items (reverse moves.now) thread mirror) calls.old.items) }
+{
+    for number in 0..calls.len() {
+        return_one(alloc, calls, number, moves, thread, mirror, at, seq)?;
+    }
+    Ok(())
+}
+
+// One of them, if the thread is in it.
+fn return_one(
+    alloc: Global,
+    calls: &mut Vec<Call>,
+    number: usize,
+    moves: &[Move],
+    thread: u64,
+    mirror: u64,
+    at: u64,
+    seq: u64,
+) -> Result<(), Failed>
+    requires { number < length calls.old.items }
+    ensures { OnOk result ((d : known.Call) → calls.new.items ≡ slice_set calls.old.items number
+        (returned_in at seq calls.old.items (reverse moves.now) thread mirror (slice_index_or calls.old.items number d))) }
+{
+    if !calls[number].is_current(thread, mirror) {
+        return Ok(());
+    }
+    let is_alone = given(calls, mirror, calls[number].seq()) == 1;
+    let is_placing = are_placing(moves, calls[number].span());
+    let call = &mut calls[number];
+    call.return_at(alloc, at, seq, is_alone, is_placing)
 }
 
 // Whether the thread is in one.

@@ -4,10 +4,11 @@ ghost use Rattle.hm_protocol.specs.Words.{is_it};
 ghost use Rattle.std.specs.List.{list_any};
 ghost use Rattle.hm_protocol.specs.Known as known;
 ghost use Rattle.hm_verdicts.specs.Numbers.{values_in};
-ghost use Rattle.hm_verdicts.specs.Changes.{own_by, lost_by, erased_by, returned_by, paged_by};
+ghost use Rattle.hm_verdicts.specs.Changes.{own_by, call_with, lost_by, erased_by, returned_by, paged_by};
 ghost use Rattle.hm_protocol.specs.Noted.{after_end, after_set};
 
 use crate::failed::Failed;
+use crate::insides::Inside;
 use crate::moves::{Move, are_later, are_placing};
 use crate::numbered::Numbered;
 use crate::pages::overlap;
@@ -80,6 +81,45 @@ impl Model for Call {
 }
 
 impl Call {
+    /// It begins, in an invalidation of its thread or in none, with these entries in its span.
+    pub(crate) fn new(
+        alloc: Global,
+        thread: u64,
+        mirror: u64,
+        span: TraceSpan,
+        seq: u64,
+        within: Option<Inside>,
+        at: u64,
+        had: Vec<Slot>,
+    ) -> Result<Call, Failed>
+        ensures { IfOk result (λ x. x ≡ call_with thread mirror span seq within at had.items) }
+    {
+        let here = Vec::from_slice(alloc, &had)?;
+        let (of, owner) = match within {
+            None => (None, None),
+            Some(within) => (Some(within.at()), within.owner()),
+        };
+        Ok(Call {
+            thread,
+            mirror,
+            span,
+            seq,
+            of,
+            owner,
+            ended: None,
+            at,
+            after: None,
+            alone: true,
+            had,
+            here,
+            left: Vec::new(alloc),
+            erased: false,
+            late: 0,
+            copied: 0,
+            stale: None,
+        })
+    }
+
     pub(crate) fn mirror(&self) -> u64
         ensures { result ≡ self.now.mirror }
     {
@@ -90,6 +130,12 @@ impl Call {
         ensures { result ≡ self.now.seq }
     {
         self.seq
+    }
+
+    pub(crate) fn span(&self) -> TraceSpan
+        ensures { result ≡ self.now.span }
+    {
+        self.span
     }
 
     pub(crate) fn of(&self) -> Option<u64>

@@ -22,3 +22,9 @@ impl From<AllocError> for Failed {
         Failed::NoMemory
     }
 }
+
+impl<T: Drop> From<AllocFailed<T>> for Failed {
+    fn from(_: AllocFailed<T>) -> Failed {
+        Failed::NoMemory
+    }
+}

@@ -47,4 +47,17 @@ impl<V: Drop> Numbered<V> {
     {
         self.values.remove(&key)
     }
+
+    /// It has this value from now on, or none.
+    pub(crate) fn set_or_take(&mut self, key: u64, value: Option<V>) -> Result<(), NoMemory>
+        ensures { OnOk result (values_in self.new ≡ with_at (values_in self.old) key value) }
+    {
+        match value {
+            None => {
+                let _ = self.take(key);
+                Ok(())
+            }
+            Some(value) => self.set(key, value),
+        }
+    }
 }
