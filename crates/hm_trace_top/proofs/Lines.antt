@@ -11,28 +11,21 @@ use Rattle.hm_trace.specs.declared.line.TraceLine.{TraceLine}
 use Rattle.hm_trace.specs.declared.reader.Fault.{Fault}
 use Rattle.hm_trace.specs.declared.reader.Progress.{Progress}
 use Rattle.hm_trace.specs.declared.reader.Refused.{Refused}
+use Rattle.hm_trace.proofs.TracesAgain.{told_of, went_of}
 use Rattle.hm_trace_top.specs.Reading.{IsTrace, IsUnread, Read, Stops, number_of, number_told, numbers_of, opening, read_more, read_on}
 use Rattle.hm_trace_top.specs.declared.reading.Trace.{Trace}
 use Rattle.hm_trace_top.specs.declared.reading.Unread.{Unread}
 
 -- ---- numbers
 
--- a line after others, by what it tells
-abbrev next_of : Progress → Result TraceLine Reason → Result (Progress × TraceLine) Refused
-next_of p r = elim r [ Ok x ↦ read_told p x | Err why ↦ Err (refused p (Fault.Line why)) ]
-
--- the same, by how far reading has come after it
-abbrev told_of : Progress → TraceLine → Result Progress Fault → Result (Progress × TraceLine) Refused
-told_of p x r = elim r [ Ok q ↦ Ok (q, x) | Err f ↦ Err (refused p f) ]
-
 abbrev number_in : Result TraceLine Reason → List ℕ
 number_in r = elim r [ Ok x ↦ number_told x | Err why ↦ [] ]
 
-told_same : (p q : Progress) (x z : TraceLine) (r : Result Progress Fault) → told_of p z r ≡ Ok (q, x) → z ≡ x
+told_same : (p q : Progress) (x z : TraceLine) (r : Result Progress Fault) → went_of p z r ≡ Ok (q, x) → z ≡ x
 told_same p q x z (Ok y) e = let same : (y, z) ≡ (q, x) = cc in ap (λ (t : Progress × TraceLine). t.1) same
 told_same p q x z (Err f) e = absurd (let no : Err (refused p f) ≡ Ok (q, x) = e in cc)
 
-number_same : (p q : Progress) (x : TraceLine) (r : Result TraceLine Reason) → next_of p r ≡ Ok (q, x) → number_in r ≡ number_told x
+number_same : (p q : Progress) (x : TraceLine) (r : Result TraceLine Reason) → told_of p r ≡ Ok (q, x) → number_in r ≡ number_told x
 number_same p q x (Ok z) e = ap number_told (told_same p q x z (progress_next p z) e)
 number_same p q x (Err why) e = absurd (let no : Err (refused p (Fault.Line why)) ≡ Ok (q, x) = e in cc)
 
