@@ -1,6 +1,7 @@
 pub mod AllLooks
 pub mod Changes
 pub mod Inner
+pub mod Looking
 pub mod Numbers
 pub mod Stages
 pub mod State

@@ -1,7 +1,7 @@
 // Entries of mirrors' tables, with the positions of their `Set`.
 ghost use Rattle.std.specs.Prelude.{◌≡◌, filter, IfOk, OnOk};
 ghost use Rattle.std.specs.List.{list_any};
-ghost use Rattle.hm_protocol.specs.Words.{drop_if};
+ghost use Rattle.hm_protocol.specs.Words.{drop_if, is_sole};
 ghost use Rattle.hm_protocol.specs.Known.{is_slot, in_span};
 
 use crate::pages::covers;
@@ -87,4 +87,11 @@ pub(crate) fn drop_page(slots: &mut Vec<Slot>, mirror: u64, page: u64)
     ensures { slots.new.items ≡ drop_if (is_slot mirror page) slots.old.items }
 {
     slots.retain(|slot| !slot.is_at(mirror, page));
+}
+
+/// Whether an entry with this right is for one actor.
+pub(crate) fn is_sole(right: TableRight) -> bool
+    ensures { result ≡ is_sole right }
+{
+    right == TableRight::Sole
 }
