@@ -1,4 +1,5 @@
 pub mod Defaults
+pub mod Inner
 pub mod Looked
 pub mod Mapping
 pub mod Reversed

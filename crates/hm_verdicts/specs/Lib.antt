@@ -1,5 +1,7 @@
 pub mod AllLooks
+pub mod Asking
 pub mod Changes
+pub mod Inner
 pub mod Numbers
 pub mod Stages
 pub mod State

@@ -3,9 +3,12 @@
 
 mod all_calls;
 mod all_looks;
+mod asking;
 mod calls;
+mod counting;
 mod failed;
 mod flags;
+mod frames;
 mod insides;
 mod looks;
 mod moves;
