@@ -1,4 +1,5 @@
 pub mod AllLooks
+pub mod Asking
 pub mod Changes
 pub mod Inner
 pub mod Looking

@@ -5,6 +5,7 @@ ghost use Rattle.hm_protocol.specs.Words.{drop_if, is_it};
 ghost use Rattle.hm_protocol.specs.Known as known;
 ghost use Rattle.hm_protocol.specs.Noted.{after_end, after_set, is_past, began};
 ghost use Rattle.hm_verdicts.specs.Changes.{erased_by, returned_in, paged_by, paged_in};
+ghost use Rattle.hm_verdicts.specs.Asking.{are_over_since};
 ghost use Rattle.hm_verdicts.specs.Numbers.{values_in};
 
 use crate::calls::{Call, Eraser};
@@ -236,6 +237,15 @@ pub(crate) fn are_early(calls: &[Call], mirror: u64, seq: u64) -> bool
     calls
         .iter()
         .any(|call| call.is_telling(mirror) && call.seq() == seq)
+}
+
+/// Whether some of the mirror has returned, and its invalidation has ended after this position.
+pub(crate) fn are_over_since(calls: &[Call], mirror: u64, last: u64) -> bool
+    ensures { result ≡ are_over_since mirror last calls.now }
+{
+    calls
+        .iter()
+        .any(|call| call.mirror() == mirror && call.is_over_since(last))
 }
 
 // How many of the mirror were given this sequence.

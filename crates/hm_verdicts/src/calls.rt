@@ -7,6 +7,8 @@ ghost use Rattle.hm_verdicts.specs.Numbers.{values_in};
 ghost use Rattle.hm_verdicts.specs.Changes.{own_by, call_with, lost_by, erased_by, returned_by, paged_by};
 ghost use Rattle.hm_protocol.specs.Noted.{after_end, after_set};
 
+mod asked;
+
 use crate::failed::Failed;
 use crate::insides::Inside;
 use crate::moves::{Move, are_later, are_placing};

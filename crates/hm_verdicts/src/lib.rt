@@ -3,7 +3,9 @@
 
 mod all_calls;
 mod all_looks;
+mod asking;
 mod calls;
+mod counting;
 mod failed;
 mod flags;
 mod frames;

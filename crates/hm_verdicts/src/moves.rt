@@ -1,15 +1,20 @@
 // Migrations of threads.
-ghost use Rattle.std.specs.Prelude.{◌≡◌, ◌∷◌, [], ◌==◌, true, false, nat_lt, ◌&&◌, ◌||◌, OnOk, option_map, reverse};
+ghost use Rattle.std.specs.Prelude.{◌≡◌, ◌∷◌, [], ◌==◌, true, false, nat_lt, OnOk, reverse};
 ghost use Rattle.std.specs.List.{list_any};
 ghost use Rattle.hm_protocol.specs.Known as known;
 ghost use Rattle.hm_protocol.specs.Noted as noted;
 ghost use Rattle.hm_verdicts.specs.Changes.{is_placing};
-ghost use Rattle.hm_verdicts.specs.Inner.{inner_of};
+
+mod inner;
 
 use crate::failed::Failed;
 use crate::pages::overlap;
 use crate::stack::Stack;
 use hm_protocol::{TraceFrame, TraceSpan};
+pub(crate) use inner::{
+    freed_stayed, inner, is_migrated, keeps_lost, leaves_moved, sets, sets_read, sets_stayed,
+    unset_stayed,
+};
 use std::alloc::Global;
 use std::marker::Model;
 
@@ -86,37 +91,6 @@ pub(crate) fn are_later(moves: &[Move], at: u64) -> bool
     some_later(moves, at)
 }
 
-// Whether one of them is this page.
-fn has_stayed(pages: &[(u64, TraceFrame)], page: u64) -> bool
-    ensures { result ≡ list_any (λ u. u.0 == page) pages.now }
-{
-    pages.iter().any(|x| x.0 == page)
-}
-
-// The same.
-fn has_number(pages: &[u64], page: u64) -> bool
-    ensures { result ≡ list_any (λ u. u == page) pages.now }
-{
-    pages.iter().any(|x| *x == page)
-}
-
-/// The inner one of migrations that are kept the oldest first.
-pub(crate) fn inner(moves: &[Move]) -> Option<&Move>
-    ensures { option_map (λ y. y.now) result ≡ inner_of (reverse moves.now) }
-{
-    moves.last()
-}
-
-/// Whether the page is one that the inner one has moved, or could not move.
-pub(crate) fn are_migrated(moves: &[Move], page: u64) -> bool
-    ensures { result ≡ known.is_migrated (reverse moves.now) page }
-{
-    match inner(moves) {
-        None => false,
-        Some(one) => one.has_said(page),
-    }
-}
-
 impl Move {
     /// One that has collected nothing yet.
     pub(crate) fn new(alloc: Global, at: u64, span: TraceSpan, to_device: bool) -> Move
@@ -169,30 +143,6 @@ impl Move {
         ensures { result ≡ is_placing span self.now }
     {
         !self.paged && overlap(self.span, span)
-    }
-
-    /// Whether it has moved the page, or could not move it, and has said what it moved.
-    pub(crate) fn has_said(&self, page: u64) -> bool
-        ensures { result ≡ self.now.paged
-            && (list_any (λ u. u == page) self.now.moved || list_any (λ u. u.0 == page) self.now.stayed) }
-    {
-        self.paged && (self.has_moved(page) || self.has_kept(page))
-    }
-
-    /// Whether it has moved the page.
-    #[tactic(auto, using(crate::proofs::Reversed::any_reversed))]
-    pub(crate) fn has_moved(&self, page: u64) -> bool
-        ensures { result ≡ list_any (λ u. u == page) self.now.moved }
-    {
-        has_number(self.moved.oldest_first(), page)
-    }
-
-    /// Whether it could not move the page.
-    #[tactic(auto, using(crate::proofs::Reversed::any_reversed))]
-    pub(crate) fn has_kept(&self, page: u64) -> bool
-        ensures { result ≡ list_any (λ u. u.0 == page) self.now.stayed }
-    {
-        has_stayed(self.stayed.oldest_first(), page)
     }
 
     /// Whether it has collected the page.

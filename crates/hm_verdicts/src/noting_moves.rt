@@ -3,13 +3,14 @@ ghost use Rattle.std.specs.Prelude.{◌≡◌, OnOk, false};
 ghost use Rattle.hm_history.specs.declared.TableRight.{TableRight as AnyRight};
 ghost use Rattle.hm_protocol.specs.declared.events.Event.{Event as AnyEvent};
 ghost use Rattle.hm_protocol.specs.Noted.{noted};
-ghost use Rattle.hm_protocol.specs.Known.{is_look_up};
 ghost use Rattle.hm_verdicts.specs.State.{known_of};
 
+use crate::asking::is_look_up;
 use crate::failed::Failed;
-use crate::moves::{Move, are_migrated};
+use crate::frames::is_sole;
+use crate::moves::Move;
 use crate::moving::{Collected, Freed, Known, Moved, PageSet, Stayed};
-use crate::slots::{Slot, is_sole};
+use crate::slots::Slot;
 use crate::state::State;
 use crate::{all_calls, frames, table};
 use hm_history::TableRight;
@@ -88,13 +89,6 @@ impl State {
         self.moves.change_all(self.alloc, thread, &Freed(frame))
     }
 
-    // Whether an entry of a page with this right is set by a look-up.
-    fn is_look_up(&self, thread: u64, page: u64, right: TableRight) -> bool
-        ensures { result ≡ is_look_up (known_of self.now) thread page right }
-    {
-        !is_sole(right) && !are_migrated(self.moves.oldest_first(thread), page)
-    }
-
     // An entry is set.
     pub(crate) fn set(
         &mut self,
@@ -107,7 +101,7 @@ impl State {
         ensures { OnOk result
             (known_of self.new ≡ noted (known_of self.old) thread (AnyEvent.Set mirror page frame right)) }
     {
-        let is_look_up = self.is_look_up(thread, page, right);
+        let is_look_up = is_look_up(self, thread, page, right);
         table::set(&mut self.slots, Slot::new(mirror, page, right, self.at))?;
         all_calls::set_over(&mut self.calls, mirror, page)?;
         if is_look_up {
