@@ -2,6 +2,7 @@ pub mod Defaults
 pub mod Fields
 pub mod Filtered
 pub mod Inner
+pub mod Judged
 pub mod Looked
 pub mod LookedUp
 pub mod Mapping

@@ -2,6 +2,7 @@ pub mod AllLooks
 pub mod Asking
 pub mod Changes
 pub mod Inner
+pub mod Judging
 pub mod Looking
 pub mod Numbers
 pub mod Stages
