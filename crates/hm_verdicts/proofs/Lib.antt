@@ -3,3 +3,4 @@ pub mod Inner
 pub mod Looked
 pub mod Mapping
 pub mod Reversed
+pub mod Verdicts

@@ -1,7 +1,9 @@
 pub mod AllLooks
 pub mod Asking
 pub mod Changes
+pub mod Ending
 pub mod Inner
 pub mod Numbers
+pub mod Saying
 pub mod Stages
 pub mod State

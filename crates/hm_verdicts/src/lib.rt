@@ -4,20 +4,25 @@
 mod all_calls;
 mod all_looks;
 mod asking;
+mod blaming;
 mod calls;
 mod counting;
+mod ending;
 mod failed;
 mod flags;
 mod frames;
 mod insides;
+mod keeping;
 mod looks;
 mod moves;
 mod numbered;
 mod pages;
+mod saying;
 mod slots;
 mod stack;
 mod stacks;
 mod state;
+mod suspecting;
 
 pub use all_looks::{AllLooks, MirrorLooks};
 pub use calls::Call;
