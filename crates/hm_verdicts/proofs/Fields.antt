@@ -1,5 +1,5 @@
 -- What is known with some of its fields changed, field by field.
-use Rattle.std.proofs.Common.{refl, ap, ◌∙◌}
+use Rattle.std.proofs.Common.{ap, ◌∙◌}
 use Rattle.std.specs.Prelude.{◌≡◌, ℕ, Bool, Option, List}
 use Rattle.hm_protocol.specs.Known.{Known, Slot, Look, Early}
 

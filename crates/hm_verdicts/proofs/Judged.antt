@@ -5,10 +5,10 @@ use Rattle.hm_protocol.specs.declared.events.Traced.{Traced}
 use Rattle.hm_protocol.specs.declared.rules.Rule.{Rule}
 use Rattle.hm_protocol.specs.Known.{Known, known_start}
 use Rattle.hm_protocol.specs.Noted.{known, known_next}
-use Rattle.hm_protocol.specs.Rules.{first_wrong, all_rules}
+use Rattle.hm_protocol.specs.Rules.{first_wrong}
 use Rattle.hm_protocol.specs.Verdicts.{asks, asked}
 use Rattle.hm_verdicts.specs.Asking.{breaks_at}
-use Rattle.hm_verdicts.specs.Judging.{count_of, count_next, broken_by}
+use Rattle.hm_verdicts.specs.Judging.{count_of, count_next}
 
 -- what is known after one event more
 pub known_more : (k : Known) (es : List Traced) (s : Traced)

@@ -8,3 +8,4 @@ pub mod LookedUp
 pub mod Mapping
 pub mod Reversed
 pub mod Returned
+pub mod Said

@@ -2,7 +2,7 @@
 use Rattle.std.proofs.Common.{refl, ap, sym, ◌∙◌, arith, ◌<◌, get_or, set, length, suc, zero}
 use Rattle.std.proofs.lemmas.List.Sums.{sum_by-cons}
 use Rattle.std.proofs.lemmas.List.{map-append, reverse-append}
-use Rattle.std.specs.Prelude.{◌≡◌, ℕ, ◌+◌, List, [], ◌∷◌, ◌++◌, map, reverse, Bool, count_by, if◌then◌else◌, true, false}
+use Rattle.std.specs.Prelude.{◌≡◌, ℕ, ◌+◌, List, [], ◌∷◌, ◌++◌, map, reverse, Bool, count_by, if◌then◌else◌}
 
 -- the first n items are changed
 abbrev pub mapped_to : {X : Type 0} → (X → X) → ℕ → List X → List X

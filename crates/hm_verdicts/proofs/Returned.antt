@@ -1,6 +1,6 @@
 -- Callbacks that return one after the other: each is what it would be if all returned at once.
-use Rattle.std.proofs.Common.{refl, ap, ◌∙◌}
-use Rattle.std.specs.Prelude.{◌≡◌, ℕ, Bool, true, false, ◌&&◌, ◌==◌, if◌then◌else◌, List, count_by}
+use Rattle.std.proofs.Common.{refl, ap}
+use Rattle.std.specs.Prelude.{◌≡◌, ℕ, Bool, true, false, ◌&&◌, ◌==◌, if◌then◌else◌, List}
 use Rattle.std.specs.List.{list_any}
 use Rattle.hm_protocol.specs.Known.{Call, Move, is_current}
 use Rattle.hm_verdicts.specs.Changes.{returned_in, returned_by, is_placing}

@@ -1,5 +1,5 @@
 -- What a look-up makes of what is known, by the parts that it looks at.
-use Rattle.std.specs.Prelude.{ℕ, Bool, false, not, ◌&&◌, ◌||◌, ◌==◌, if◌then◌else◌, Option, Some, None, is_some, is_none}
+use Rattle.std.specs.Prelude.{ℕ, Bool, false, not, ◌&&◌, ◌||◌, ◌==◌, if◌then◌else◌, Some, None, is_some, is_none}
 use Rattle.std.specs.Prelude.{List, [], ◌∷◌}
 use Rattle.std.specs.List.{list_any, list_all}
 use Rattle.hm_protocol.specs.Known.{Call, Look, Early, is_telling, goes_on, meets}

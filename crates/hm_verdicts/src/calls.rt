@@ -15,6 +15,7 @@ use crate::moves::{Move, are_later, are_placing};
 use crate::numbered::Numbered;
 use crate::pages::overlap;
 use crate::slots::{Slot, drop_page, has};
+pub(crate) use asked::at;
 use hm_protocol::TraceSpan;
 use std::alloc::Global;
 use std::marker::Model;

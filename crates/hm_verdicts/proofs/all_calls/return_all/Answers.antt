@@ -1,4 +1,4 @@
-use Rattle.std.proofs.Common.{refl, None, [], ◌≡◌, ◌∙◌, ap, sym, arith, ◌<◌, length, set, get_or, reverse}
+use Rattle.std.proofs.Common.{refl, None, [], ◌≡◌, ◌∙◌, ap, arith, ◌<◌, length, set, get_or, reverse}
 use Rattle.hm_protocol.specs.Known.{Call}
 use Rattle.hm_verdicts.specs.Changes.{call_with, returned_in}
 use Rattle.hm_verdicts.proofs.Mapping.{mapped_to, mapped_more, mapped_all, mapped_length}

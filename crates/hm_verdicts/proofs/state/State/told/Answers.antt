@@ -1,5 +1,5 @@
 use Rattle.std.proofs.Common.{ap, ◌∙◌}
-use Rattle.std.specs.Prelude.{map, reverse}
+use Rattle.std.specs.Prelude.{map}
 use Rattle.hm_protocol.specs.Known.{Known}
 use Rattle.hm_verdicts.specs.State.{known_of}
 use Rattle.hm_verdicts.specs.Changes.{returned_in}
