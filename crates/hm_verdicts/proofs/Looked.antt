@@ -2,10 +2,10 @@
 use Rattle.std.proofs.Common.{refl, ap, sym, ◌∙◌}
 use Rattle.std.proofs.Math.Path.{fun_ext}
 use Rattle.std.proofs.lemmas.Bool.{eqb-true}
-use Rattle.std.specs.Prelude.{◌≡◌, ℕ, Bool, ◌==◌, ◌&&◌, true, false, if◌then◌else◌, Option, Some, None}
+use Rattle.std.specs.Prelude.{◌≡◌, ℕ, Bool, ◌==◌, ◌&&◌, true, false, if◌then◌else◌, Option, None}
 use Rattle.hm_history.specs.Memory.Words.{with_at}
 use Rattle.hm_protocol.specs.Known.{Look, no_look}
-use Rattle.hm_verdicts.specs.AllLooks.{looks_of, looks_among, with_look, without}
+use Rattle.hm_verdicts.specs.AllLooks.{looks_among, with_look, without}
 use Rattle.hm_verdicts.specs.declared.all_looks.MirrorLooks.{MirrorLooks}
 
 -- those of each mirror

@@ -1,7 +1,8 @@
 -- A list that is changed item by item.
 use Rattle.std.proofs.Common.{refl, ap, sym, ◌∙◌, arith, ◌<◌, get_or, set, length, suc, zero}
+use Rattle.std.proofs.lemmas.List.Sums.{sum_by-cons}
 use Rattle.std.proofs.lemmas.List.{map-append, reverse-append}
-use Rattle.std.specs.Prelude.{◌≡◌, ℕ, ◌+◌, List, [], ◌∷◌, ◌++◌, map, reverse, Bool, count_by, if◌then◌else◌, true, false}
+use Rattle.std.specs.Prelude.{◌≡◌, ℕ, ◌+◌, List, [], ◌∷◌, ◌++◌, map, reverse, Bool, count_by, if◌then◌else◌}
 
 -- the first n items are changed
 abbrev pub mapped_to : {X : Type 0} → (X → X) → ℕ → List X → List X
@@ -43,6 +44,6 @@ pub counted_same : {X : Type 0} → (p : X → Bool) (f : X → X) → ((x : X) 
     → count_by p (mapped_to f n xs) ≡ count_by p xs
 counted_same p f h zero xs = refl
 counted_same p f h (suc n) [] = refl
-counted_same p f h (suc n) (x ∷ xs) = is_count_by_cons p (f x) (mapped_to f n xs)
+counted_same p f h (suc n) (x ∷ xs) = sum_by-cons (λ x. if p x then 1 else 0) (f x) (mapped_to f n xs)
     ∙ (ap (λ b. (if b then 1 else 0) + count_by p (mapped_to f n xs)) (h x)
-    ∙ (ap (λ k. (if p x then 1 else 0) + k) (counted_same p f h n xs) ∙ sym (is_count_by_cons p x xs)))
+    ∙ (ap (λ k. (if p x then 1 else 0) + k) (counted_same p f h n xs) ∙ sym (sum_by-cons (λ x. if p x then 1 else 0) x xs)))

@@ -2,11 +2,12 @@
 use Rattle.std.proofs.Common.{refl, sym, ap, ◌∙◌}
 use Rattle.std.proofs.lemmas.List.{reverse-append}
 use Rattle.std.proofs.lemmas.List.Folds.{list_any-append}
-use Rattle.std.specs.Prelude.{◌≡◌, ℕ, ◌+◌, Bool, true, false, ◌||◌, not, if◌then◌else◌, List, [], ◌∷◌, ◌++◌, reverse, filter, count_by}
+use Rattle.std.proofs.lemmas.List.Sorted.{sum_by-IsPermutation, IsPermutation-reverse}
+use Rattle.std.specs.Prelude.{◌≡◌, Bool, true, false, ◌||◌, if◌then◌else◌, List, [], ◌∷◌, ◌++◌, reverse, filter, count_by}
 use Rattle.std.specs.List.{list_any}
-use Rattle.hm_protocol.specs.Words.{drop_if}
 
-reverse_cons : {X : Type 0} → (x : X) (xs : List X) → reverse (x ∷ xs) ≡ reverse xs ++ x ∷ []
+-- the first comes last
+pub reverse_cons : {X : Type 0} → (x : X) (xs : List X) → reverse (x ∷ xs) ≡ reverse xs ++ x ∷ []
 reverse_cons x xs = reverse-append (x ∷ []) xs
 
 last_or : (b d : Bool) → (d || (b || false)) ≡ (b || d)
@@ -43,3 +44,7 @@ push_passed p x xs false e h = drop_last p x false e (reverse xs) ∙ (h
 pub filter_reversed : {X : Type 0} (p : X → Bool) → (xs : List X) → filter p (reverse xs) ≡ reverse (filter p xs)
 filter_reversed p [] = refl
 filter_reversed p (x ∷ xs) = ap (filter p) (reverse_cons x xs) ∙ push_passed p x xs (p x) refl (filter_reversed p xs)
+
+-- how many pass
+pub count_reversed : {X : Type 0} (p : X → Bool) → (xs : List X) → count_by p (reverse xs) ≡ count_by p xs
+count_reversed p xs = sum_by-IsPermutation (λ x. if p x then 1 else 0) xs (reverse xs) (IsPermutation-reverse xs)

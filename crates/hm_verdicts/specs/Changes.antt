@@ -1,6 +1,6 @@
 -- What an event makes of a callback, by the parts of what is known that it looks at.
 use Rattle.std.specs.Prelude.{ℕ, ◌+◌, Bool, true, false, not, ◌&&◌, ◌||◌, ◌==◌, nat_lt, if◌then◌else◌, Option, Some, None}
-use Rattle.std.specs.Prelude.{is_some, is_none, List, [], filter, count_by, option_map}
+use Rattle.std.specs.Prelude.{is_some, is_none, List, [], ◌∷◌, map, filter, count_by, option_map}
 use Rattle.std.specs.List.{list_any}
 use Rattle.hm_protocol.specs.Words.{is_it, drop_if}
 use Rattle.hm_base.specs.Pages.{Pages, overlap}
@@ -74,3 +74,8 @@ abbrev pub paged_by : (ℕ → Option ℕ) → ℕ → Move → Call → Call
 paged_by device t y x = if (x.thread == t) && (own_by device x
     && (is_none x.stale && (nat_lt x.at y.at && overlap y.span x.span)))
     then record x { stale = Some (filter (λ s. list_any (λ u. u.0 == s.page) y.source) x.here, y.to_device) } else x
+
+-- the inner one of these migrations of a thread knows what moved
+abbrev pub paged_in : (ℕ → Option ℕ) → ℕ → List Move → List Call → List Call
+paged_in device t [] cs = cs
+paged_in device t (y ∷ ys) cs = map (paged_by device t y) cs

@@ -4,13 +4,14 @@ ghost use Rattle.std.specs.List.{list_any, list_all};
 ghost use Rattle.hm_protocol.specs.Words.{drop_if, is_it};
 ghost use Rattle.hm_protocol.specs.Known as known;
 ghost use Rattle.hm_protocol.specs.Noted.{after_end, after_set, is_past, began};
-ghost use Rattle.hm_verdicts.specs.Changes.{erased_by, returned_in, paged_by};
+ghost use Rattle.hm_verdicts.specs.Changes.{erased_by, returned_in, paged_by, paged_in};
+ghost use Rattle.hm_verdicts.specs.Asking.{are_over_since};
 ghost use Rattle.hm_verdicts.specs.Numbers.{values_in};
 
 use crate::calls::{Call, Eraser};
 use crate::failed::Failed;
 use crate::looks::Look;
-use crate::moves::{Move, are_placing};
+use crate::moves::{Move, are_placing, inner};
 use crate::numbered::Numbered;
 use crate::stack::{Changes, change_items};
 use hm_protocol::TraceSpan;
@@ -146,6 +147,23 @@ pub(crate) fn know(
     )
 }
 
+/// The inner migration of a thread, of those that are kept the oldest first, knows what moved.
+pub(crate) fn know_inner(
+    alloc: Global,
+    calls: &mut Vec<Call>,
+    devices: &Numbered<u64>,
+    thread: u64,
+    moves: &[Move],
+) -> Result<(), Failed>
+    ensures { OnOk result (calls.new.items
+        ≡ paged_in (values_in devices.now) thread (reverse moves.now) calls.old.items) }
+{
+    match inner(moves) {
+        None => Ok(()),
+        Some(of) => know(alloc, calls, devices, thread, of),
+    }
+}
+
 /// Each callback returns that the thread is in, which has these migrations, the oldest first.
 pub(crate) fn return_all(
     alloc: Global,
@@ -219,6 +237,15 @@ pub(crate) fn are_early(calls: &[Call], mirror: u64, seq: u64) -> bool
     calls
         .iter()
         .any(|call| call.is_telling(mirror) && call.seq() == seq)
+}
+
+/// Whether some of the mirror has returned, and its invalidation has ended after this position.
+pub(crate) fn are_over_since(calls: &[Call], mirror: u64, last: u64) -> bool
+    ensures { result ≡ are_over_since mirror last calls.now }
+{
+    calls
+        .iter()
+        .any(|call| call.mirror() == mirror && call.is_over_since(last))
 }
 
 // How many of the mirror were given this sequence.

@@ -1,11 +1,12 @@
 // The look-ups of all threads in all mirrors.
 ghost use Rattle.std.specs.Prelude.{◌≡◌, OnOk, IfOk};
 ghost use Rattle.hm_history.specs.Memory.Words.{with_at};
-ghost use Rattle.hm_protocol.specs.Known.{no_look};
+ghost use Rattle.hm_protocol.specs.Known.{no_look, is_noted};
 ghost use Rattle.hm_verdicts.specs.AllLooks.{look_in, looks_of, looks_at, with_look, without};
+ghost use Rattle.hm_verdicts.specs.Stages.{stage_of};
 
 use crate::failed::Failed;
-use crate::looks::Look;
+use crate::looks::{Look, Stage};
 use crate::numbered::Numbered;
 use hm_base::NoMemory;
 use std::alloc::Global;
@@ -37,6 +38,26 @@ impl MirrorLooks {
         }
     }
 
+    /// What that of a thread has done last.
+    fn stage(&self, thread: u64) -> Stage
+        ensures { stage_of result ≡ (looks_of self.now thread).stage }
+    {
+        match self.looks.get(thread) {
+            None => Stage::Unbegun,
+            Some(look) => look.stage(),
+        }
+    }
+
+    /// Whether what that of a thread found of a page last is this.
+    fn has_found(&self, thread: u64, page: u64, writes: bool) -> bool
+        ensures { result ≡ is_noted page writes (looks_of self.now thread).found }
+    {
+        match self.looks.get(thread) {
+            None => false,
+            Some(look) => look.has_found(page, writes),
+        }
+    }
+
     /// That of a thread is this one from now on.
     fn put(&mut self, thread: u64, look: Look) -> Result<(), NoMemory>
         ensures { OnOk result (looks_of self.new ≡ with_at (looks_of self.old) thread look) }
@@ -58,6 +79,26 @@ impl AllLooks {
     {
         AllLooks {
             mirrors: Numbered::new(alloc),
+        }
+    }
+
+    /// What the look-up of a thread in a mirror has done last.
+    pub(crate) fn stage(&self, thread: u64, mirror: u64) -> Stage
+        ensures { stage_of result ≡ (look_in self.now thread mirror).stage }
+    {
+        match self.mirrors.get(mirror) {
+            None => Stage::Unbegun,
+            Some(looks) => looks.stage(thread),
+        }
+    }
+
+    /// Whether what it found of a page last is this.
+    pub(crate) fn has_found(&self, thread: u64, mirror: u64, page: u64, writes: bool) -> bool
+        ensures { result ≡ is_noted page writes (look_in self.now thread mirror).found }
+    {
+        match self.mirrors.get(mirror) {
+            None => false,
+            Some(looks) => looks.has_found(thread, page, writes),
         }
     }
 

@@ -7,12 +7,15 @@ ghost use Rattle.hm_verdicts.specs.Numbers.{values_in};
 ghost use Rattle.hm_verdicts.specs.Changes.{own_by, call_with, lost_by, erased_by, returned_by, paged_by};
 ghost use Rattle.hm_protocol.specs.Noted.{after_end, after_set};
 
+mod asked;
+
 use crate::failed::Failed;
 use crate::insides::Inside;
 use crate::moves::{Move, are_later, are_placing};
 use crate::numbered::Numbered;
 use crate::pages::overlap;
 use crate::slots::{Slot, drop_page, has};
+pub(crate) use asked::at;
 use hm_protocol::TraceSpan;
 use std::alloc::Global;
 use std::marker::Model;

@@ -1,28 +1,39 @@
-// Frames of devices: which are held, and whose they are.
+// Frames of events, which of them are held, and rights of entries.
 ghost use Rattle.std.specs.Prelude.{◌≡◌, ◌∷◌, OnOk, reverse};
 ghost use Rattle.std.specs.List.{list_any};
-ghost use Rattle.hm_protocol.specs.Words.{device_of, is_same, is_it, drop_if};
+ghost use Rattle.hm_protocol.specs.Words as words;
 
 use hm_base::NoMemory;
+use hm_history::TableRight;
 use hm_protocol::TraceFrame;
 
 /// The device whose memory has the frame.
 pub(crate) fn device_of(frame: TraceFrame) -> Option<u64>
-    ensures { result ≡ device_of frame }
+    ensures { result ≡ words.device_of frame }
 {
     match frame {
-        TraceFrame::Nothing | TraceFrame::ZeroPage | TraceFrame::System(_) => None,
         TraceFrame::Private { device, .. } | TraceFrame::Coherent { device, .. } => Some(device),
+        TraceFrame::Nothing | TraceFrame::ZeroPage | TraceFrame::System(_) => None,
     }
 }
 
-/// Whether two frames are the same one.
+/// The device that alone reaches it.
+pub(crate) fn private_to(frame: TraceFrame) -> Option<u64>
+    ensures { result ≡ words.private_to frame }
+{
+    match frame {
+        TraceFrame::Private { device, .. } => Some(device),
+        _ => None,
+    }
+}
+
+/// Whether it is the same frame.
 pub(crate) fn is_same(one: TraceFrame, other: TraceFrame) -> bool
-    ensures { result ≡ is_same one other }
+    ensures { result ≡ words.is_same one other }
 {
     match (one, other) {
-        (TraceFrame::Nothing, TraceFrame::Nothing) => true,
-        (TraceFrame::ZeroPage, TraceFrame::ZeroPage) => true,
+        (TraceFrame::Nothing, TraceFrame::Nothing) | (TraceFrame::ZeroPage, TraceFrame::ZeroPage) =>
+            true,
         (TraceFrame::System(n), TraceFrame::System(k)) => n == k,
         (
             TraceFrame::Private {
@@ -33,8 +44,8 @@ pub(crate) fn is_same(one: TraceFrame, other: TraceFrame) -> bool
                 device: e,
                 number: k,
             },
-        ) => { d == e && n == k }
-        (
+        )
+        | (
             TraceFrame::Coherent {
                 device: d,
                 number: n,
@@ -43,31 +54,64 @@ pub(crate) fn is_same(one: TraceFrame, other: TraceFrame) -> bool
                 device: e,
                 number: k,
             },
-        ) => { d == e && n == k }
+        ) => d == e && n == k,
         _ => false,
     }
 }
 
-/// Whether the frame is in the memory of the device.
+/// Whether the device's memory has the frame.
 pub(crate) fn is_of(frame: TraceFrame, device: u64) -> bool
-    ensures { result ≡ is_it (device_of frame) device }
+    ensures { result ≡ words.is_it (words.device_of frame) device }
 {
-    device_of(frame).is_some_and(|owner| owner == device)
+    match device_of(frame) {
+        None => false,
+        Some(other) => other == device,
+    }
 }
 
-// Whether one of these frames is in the memory of the device.
-fn some_of(held: &[TraceFrame], device: u64) -> bool
-    ensures { result ≡ list_any (λ f. is_it (device_of f) device) held.now }
+/// Whether the entry is for reads.
+pub(crate) fn is_read(right: TableRight) -> bool
+    ensures { result ≡ words.is_read right }
 {
-    held.iter().any(|frame| is_of(*frame, device))
+    match right {
+        TableRight::Read => true,
+        _ => false,
+    }
+}
+
+/// Whether it is for writes.
+pub(crate) fn is_write(right: TableRight) -> bool
+    ensures { result ≡ words.is_write right }
+{
+    match right {
+        TableRight::Write => true,
+        _ => false,
+    }
+}
+
+/// Whether it is for one actor.
+pub(crate) fn is_sole(right: TableRight) -> bool
+    ensures { result ≡ words.is_sole right }
+{
+    match right {
+        TableRight::Sole => true,
+        _ => false,
+    }
+}
+
+// Whether the device's memory has one of them.
+fn some_of(frames: &[TraceFrame], device: u64) -> bool
+    ensures { result ≡ list_any (λ f. words.is_it (words.device_of f) device) frames.now }
+{
+    frames.iter().any(|frame| is_of(*frame, device))
 }
 
 /// The same of frames that are kept the oldest first.
 #[tactic(auto, using(crate::proofs::Reversed::any_reversed))]
-pub(crate) fn are_of(held: &[TraceFrame], device: u64) -> bool
-    ensures { result ≡ list_any (λ f. is_it (device_of f) device) (reverse held.now) }
+pub(crate) fn are_of(frames: &[TraceFrame], device: u64) -> bool
+    ensures { result ≡ list_any (λ f. words.is_it (words.device_of f) device) (reverse frames.now) }
 {
-    some_of(held, device)
+    some_of(frames, device)
 }
 
 /// The frame is held.
@@ -80,7 +124,7 @@ pub(crate) fn hold(held: &mut Vec<TraceFrame>, frame: TraceFrame) -> Result<(), 
 
 // The frame is not among them any more.
 fn drop_frame(held: &mut Vec<TraceFrame>, frame: TraceFrame)
-    ensures { held.new.items ≡ drop_if (is_same frame) held.old.items }
+    ensures { held.new.items ≡ words.drop_if (words.is_same frame) held.old.items }
 {
     held.retain(|other| !is_same(frame, *other));
 }
@@ -88,7 +132,7 @@ fn drop_frame(held: &mut Vec<TraceFrame>, frame: TraceFrame)
 /// The frame is free.
 #[tactic(auto, using(crate::proofs::Reversed::filter_reversed))]
 pub(crate) fn free(held: &mut Vec<TraceFrame>, frame: TraceFrame)
-    ensures { reverse held.new.items ≡ drop_if (is_same frame) (reverse held.old.items) }
+    ensures { reverse held.new.items ≡ words.drop_if (words.is_same frame) (reverse held.old.items) }
 {
     drop_frame(held, frame);
 }

@@ -1,8 +1,9 @@
 // Look-ups of threads in mirrors.
-ghost use Rattle.std.specs.Prelude.{◌≡◌, ◌∷◌, [], ◌||◌, true, false, not, Some, None, is_none, if◌then◌else◌, OnOk, reverse, find, ◌==◌};
+ghost use Rattle.std.specs.Prelude.{◌≡◌, ◌∷◌, [], ◌&&◌, ◌||◌, is_some, true, false, not, Some, None, is_none, if◌then◌else◌, OnOk, reverse, find, ◌==◌};
 ghost use Rattle.hm_protocol.specs.Known as known;
 ghost use Rattle.hm_protocol.specs.Noted as noted;
 ghost use Rattle.hm_verdicts.specs.Stages.{stage_of};
+ghost use Rattle.hm_verdicts.specs.Looking.{reads_itself, walked_by};
 
 use crate::calls::Call;
 use crate::failed::Failed;
@@ -125,6 +126,44 @@ impl Look {
         self.begun = Some(at);
         self.seq = seq;
         self.itself = false;
+        self.set = false;
+    }
+
+    /// Whether its last walk went through, it has set nothing since, and it has done no more.
+    pub(crate) fn is_open(&self) -> bool
+        ensures { result ≡ noted.is_walked self.now.stage && (is_some self.now.walked && not self.now.set) }
+    {
+        self.stage == Stage::Walked && self.walked.is_some() && !self.set
+    }
+
+    /// Whether it has walked last, with a sequence of its own since the last `Begin`.
+    pub(crate) fn walks_itself(&self) -> bool
+        ensures { result ≡ noted.is_walked self.now.stage && self.now.itself }
+    {
+        self.stage == Stage::Walked && self.itself
+    }
+
+    /// Whether a walk with this sequence has one that its driver has read itself.
+    pub(crate) fn reads_itself(&self, seq: u64) -> bool
+        ensures { result ≡ reads_itself seq self.now }
+    {
+        self.begun.is_none() || seq != self.seq
+    }
+
+    /// A walk begins, at this position, with this sequence.
+    pub(crate) fn walk(&mut self, alloc: Global, at: u64, seq: u64)
+        ensures { self.new ≡ walked_by at seq self.old }
+    {
+        let reads_itself = self.reads_itself(seq);
+        if reads_itself || self.stage == Stage::Begun || self.set {
+            self.found = Stack::new(alloc);
+        }
+        if reads_itself {
+            self.begun = Some(at);
+            self.itself = true;
+        }
+        self.seq = seq;
+        self.walked = None;
         self.set = false;
     }
 

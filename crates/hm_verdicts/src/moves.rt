@@ -5,10 +5,16 @@ ghost use Rattle.hm_protocol.specs.Known as known;
 ghost use Rattle.hm_protocol.specs.Noted as noted;
 ghost use Rattle.hm_verdicts.specs.Changes.{is_placing};
 
+mod inner;
+
 use crate::failed::Failed;
 use crate::pages::overlap;
 use crate::stack::Stack;
 use hm_protocol::{TraceFrame, TraceSpan};
+pub(crate) use inner::{
+    freed_stayed, inner, is_migrated, keeps_lost, leaves_moved, sets, sets_read, sets_stayed,
+    unset_stayed,
+};
 use std::alloc::Global;
 use std::marker::Model;
 

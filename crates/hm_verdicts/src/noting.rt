@@ -12,7 +12,12 @@ use hm_protocol::{Event, Reason, TraceFrame, TraceSpan, Traced};
 
 impl State {
     // An interval is about to be inserted.
-    fn insert(&mut self, mirror: u64, window: TraceSpan, device: Option<u64>) -> Result<(), Failed>
+    pub(crate) fn insert(
+        &mut self,
+        mirror: u64,
+        window: TraceSpan,
+        device: Option<u64>,
+    ) -> Result<(), Failed>
         ensures { OnOk result
             (known_of self.new ≡ noted (known_of self.old) 0 (AnyEvent.Insert mirror 0 window device)) }
     {
@@ -25,7 +30,7 @@ impl State {
     }
 
     // One is about to be removed.
-    fn remove(&mut self, mirror: u64) -> Result<(), Failed>
+    pub(crate) fn remove(&mut self, mirror: u64) -> Result<(), Failed>
         ensures { OnOk result (known_of self.new ≡ noted (known_of self.old) 0 (AnyEvent.Remove mirror)) }
     {
         let is_leaving = all_calls::are_telling(&self.calls, mirror);
@@ -34,7 +39,7 @@ impl State {
     }
 
     // It is removed.
-    fn removed(&mut self, mirror: u64) -> Result<(), Failed>
+    pub(crate) fn removed(&mut self, mirror: u64) -> Result<(), Failed>
         ensures { OnOk result (known_of self.new ≡ noted (known_of self.old) 0 (AnyEvent.Removed mirror)) }
     {
         self.gone.set(mirror, true)?;
@@ -42,7 +47,7 @@ impl State {
     }
 
     // A device gives out no frame any more.
-    fn withdraw(&mut self, device: u64) -> Result<(), Failed>
+    pub(crate) fn withdraw(&mut self, device: u64) -> Result<(), Failed>
         ensures { OnOk result (known_of self.new ≡ withdraw (known_of self.old) device) }
     {
         let is_held = frames::are_of(&self.held, device);
@@ -53,7 +58,7 @@ impl State {
     }
 
     // A removal passes over a frame.
-    fn pass(&mut self, frame: TraceFrame) -> Result<(), Failed>
+    pub(crate) fn pass(&mut self, frame: TraceFrame) -> Result<(), Failed>
         ensures { OnOk result (known_of self.new ≡ noted (known_of self.old) 0 (AnyEvent.Pass frame)) }
     {
         if let Some(device) = frames::device_of(frame) {
@@ -65,7 +70,7 @@ impl State {
     }
 
     // A frame is given out.
-    fn take(&mut self, frame: TraceFrame) -> Result<(), Failed>
+    pub(crate) fn take(&mut self, frame: TraceFrame) -> Result<(), Failed>
         ensures { OnOk result (known_of self.new ≡ noted (known_of self.old) 0 (AnyEvent.Take frame)) }
     {
         if let Some(device) = frames::device_of(frame) {

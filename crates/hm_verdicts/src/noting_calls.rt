@@ -59,7 +59,7 @@ impl Passes<Inside> for BegunAt {
 
 impl State {
     // An invalidation begins.
-    fn start(
+    pub(crate) fn start(
         &mut self,
         thread: u64,
         proc: u64,
@@ -76,7 +76,7 @@ impl State {
     }
 
     // One is over, that began there.
-    fn over(&mut self, thread: u64, begun: Option<u64>) -> Result<(), Failed>
+    pub(crate) fn over(&mut self, thread: u64, begun: Option<u64>) -> Result<(), Failed>
         ensures { OnOk result (known_of self.new ≡ over (known_of self.old) thread begun) }
     {
         let Some(begun) = begun else {
@@ -88,7 +88,7 @@ impl State {
     }
 
     // One ends.
-    fn end(&mut self, thread: u64, proc: u64, span: TraceSpan) -> Result<(), Failed>
+    pub(crate) fn end(&mut self, thread: u64, proc: u64, span: TraceSpan) -> Result<(), Failed>
         ensures { OnOk result (known_of self.new ≡ noted (known_of self.old) thread (AnyEvent.End proc span)) }
     {
         let begun = begun_of(self.under.oldest_first(thread), proc, span);
@@ -96,7 +96,13 @@ impl State {
     }
 
     // A callback begins.
-    fn tell(&mut self, thread: u64, mirror: u64, span: TraceSpan, seq: u64) -> Result<(), Failed>
+    pub(crate) fn tell(
+        &mut self,
+        thread: u64,
+        mirror: u64,
+        span: TraceSpan,
+        seq: u64,
+    ) -> Result<(), Failed>
         ensures { OnOk result
             (known_of self.new ≡ noted (known_of self.old) thread (AnyEvent.Tell mirror span seq)) }
     {
@@ -108,7 +114,7 @@ impl State {
     }
 
     // It returns.
-    fn told(&mut self, thread: u64, mirror: u64, seq: u64) -> Result<(), Failed>
+    pub(crate) fn told(&mut self, thread: u64, mirror: u64, seq: u64) -> Result<(), Failed>
         ensures { OnOk result
             (known_of self.new ≡ noted (known_of self.old) thread (AnyEvent.Told mirror seq true)) }
     {
@@ -121,11 +127,12 @@ impl State {
             mirror,
             self.at,
             seq,
-        )
+        )?;
+        Ok(())
     }
 
     // It would have had to sleep, and the invalidation is given up.
-    fn not_told(&mut self, thread: u64, mirror: u64, seq: u64) -> Result<(), Failed>
+    pub(crate) fn not_told(&mut self, thread: u64, mirror: u64, seq: u64) -> Result<(), Failed>
         ensures { OnOk result
             (known_of self.new ≡ noted (known_of self.old) thread (AnyEvent.Told mirror seq false)) }
     {
@@ -135,7 +142,7 @@ impl State {
     }
 
     // An entry is erased.
-    fn erase(&mut self, thread: u64, mirror: u64, page: u64) -> Result<(), Failed>
+    pub(crate) fn erase(&mut self, thread: u64, mirror: u64, page: u64) -> Result<(), Failed>
         ensures { OnOk result (known_of self.new ≡ noted (known_of self.old) thread (AnyEvent.Erase mirror page)) }
     {
         table::erase(&mut self.slots, mirror, page);

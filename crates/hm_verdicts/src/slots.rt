@@ -1,9 +1,11 @@
 // Entries of mirrors' tables, with the positions of their `Set`.
-ghost use Rattle.std.specs.Prelude.{◌≡◌, filter, IfOk, OnOk};
+ghost use Rattle.std.specs.Prelude.{◌≡◌, ◌&&◌, not, reverse, count_by, filter, IfOk, OnOk};
 ghost use Rattle.std.specs.List.{list_any};
+ghost use Rattle.hm_protocol.specs.Words as words;
 ghost use Rattle.hm_protocol.specs.Words.{drop_if};
 ghost use Rattle.hm_protocol.specs.Known.{is_slot, in_span};
 
+use crate::frames::{is_read, is_sole};
 use crate::pages::covers;
 use hm_base::NoMemory;
 use hm_history::TableRight;
@@ -87,4 +89,56 @@ pub(crate) fn drop_page(slots: &mut Vec<Slot>, mirror: u64, page: u64)
     ensures { slots.new.items ≡ drop_if (is_slot mirror page) slots.old.items }
 {
     slots.retain(|slot| !slot.is_at(mirror, page));
+}
+
+// Whether some entry of a mirror's span is for reads.
+fn some_read(slots: &[Slot], mirror: u64, span: TraceSpan) -> bool
+    ensures { result ≡ list_any (λ x. in_span mirror span x && words.is_read x.right) slots.now }
+{
+    slots
+        .iter()
+        .any(|slot| slot.in_span(mirror, span) && is_read(slot.right()))
+}
+
+// Whether the entry of a page is for one actor.
+fn some_sole(slots: &[Slot], mirror: u64, page: u64) -> bool
+    ensures { result ≡ list_any (λ x. is_slot mirror page x && words.is_sole x.right) slots.now }
+{
+    slots
+        .iter()
+        .any(|slot| slot.is_at(mirror, page) && is_sole(slot.right()))
+}
+
+// How many entries of a mirror's span are not for reads.
+fn count_writable(slots: &[Slot], mirror: u64, span: TraceSpan) -> u64
+    ensures { result ≡ count_by (λ x. in_span mirror span x && not (words.is_read x.right)) slots.now }
+{
+    slots
+        .iter()
+        .filter(|slot| slot.in_span(mirror, span) && !is_read(slot.right()))
+        .count() as u64
+}
+
+/// Whether some entry of a mirror's span is for reads, of entries that are kept the oldest first.
+#[tactic(auto, using(crate::proofs::Reversed::any_reversed))]
+pub(crate) fn are_read(slots: &[Slot], mirror: u64, span: TraceSpan) -> bool
+    ensures { result ≡ list_any (λ x. in_span mirror span x && words.is_read x.right) (reverse slots.now) }
+{
+    some_read(slots, mirror, span)
+}
+
+/// Whether that of a page is for one actor.
+#[tactic(auto, using(crate::proofs::Reversed::any_reversed))]
+pub(crate) fn are_sole(slots: &[Slot], mirror: u64, page: u64) -> bool
+    ensures { result ≡ list_any (λ x. is_slot mirror page x && words.is_sole x.right) (reverse slots.now) }
+{
+    some_sole(slots, mirror, page)
+}
+
+/// How many of a mirror's span are not for reads.
+#[tactic(auto, using(crate::proofs::Reversed::count_reversed))]
+pub(crate) fn writable(slots: &[Slot], mirror: u64, span: TraceSpan) -> u64
+    ensures { result ≡ count_by (λ x. in_span mirror span x && not (words.is_read x.right)) (reverse slots.now) }
+{
+    count_writable(slots, mirror, span)
 }

@@ -1,6 +1,6 @@
-use Rattle.std.proofs.Common.{rules, ◌≡◌, ◌∙◌, ap, arith, ◌<◌, length, set, get_or}
+use Rattle.std.proofs.Common.{◌≡◌, ◌∙◌, ap, arith, ◌<◌, length, set, get_or}
 use Rattle.std.proofs.lemmas.List.{with_items_is}
-use Rattle.hm_verdicts.proofs.Mapping.{mapped_to, mapped_more, mapped_all, mapped_length}
+use Rattle.hm_verdicts.proofs.Mapping.{mapped_to, mapped_more, mapped_all}
 use Rattle.hm_verdicts.proofs.stack.change_items.Goals as goal
 
 pub loop-item-preserved : goal.loop-item-preserved
