@@ -78,6 +78,21 @@ RUNS = [
 ]
 
 
+def read(*names):
+    with open(os.path.join(TOP, *names), 'rb') as file:
+        return file.read()
+
+
+def traces():
+    """A run of each trace of examples/traces, whose verdicts lie beside it."""
+    folder = os.path.join('examples', 'traces')
+    for name in sorted(os.listdir(os.path.join(TOP, folder))):
+        if name.endswith('.trace'):
+            verdicts = read(folder, name.replace('.trace', '.verdicts'))
+            broken = b' broken ' in verdicts
+            yield 'hmmtrace', '', read(folder, name), int(broken), verdicts, 'a rule is broken' if broken else ''
+
+
 def feed(pipe, given):
     """Writes the input, or that many bytes piece by piece, as far as the program reads."""
     try:
@@ -109,7 +124,8 @@ def agrees(path, case):
     got_code, written, said = run(path, words, given, wanted)
     line = f'{name}: {message}\n' if message else ''
     same = got_code == code and said == line and (wanted in (ANY, FULL) or written == wanted)
-    size = f'{given} bytes' if isinstance(given, int) else repr(given.decode())
+    count = given if isinstance(given, int) else len(given)
+    size = f'{count} bytes' if count > 60 else repr(given.decode())
     print('ok     ' if same else 'differs', code, name, words, '<', size, '' if same else (got_code, written, said))
     return same
 
@@ -119,7 +135,7 @@ def main():
     for name in ('hmmrun', 'hmmraces', 'hmmview', 'hmmjudge', 'hmmtrace'):
         parser.add_argument(f'--{name}', default=os.path.join(TOP, 'crates', name, 'out', name), metavar='PATH')
     paths = vars(parser.parse_args())
-    results = [agrees(paths[case[0]], case) for case in RUNS]
+    results = [agrees(paths[case[0]], case) for case in RUNS + list(traces())]
     sys.exit(0 if all(results) else 1)
 
 

@@ -29,7 +29,7 @@ number_same : (p q : Progress) (x : TraceLine) (r : Result TraceLine Reason) →
 number_same p q x (Ok z) e = ap number_told (told_same p q x z (progress_next p z) e)
 number_same p q x (Err why) e = absurd (let no : Err (refused p (Fault.Line why)) ≡ Ok (q, x) = e in cc)
 
-number_is : (p q : Progress) (l : List ℕ) (x : TraceLine) → read_next p l ≡ Ok (q, x) → number_of l ≡ number_told x
+pub number_is : (p q : Progress) (l : List ℕ) (x : TraceLine) → read_next p l ≡ Ok (q, x) → number_of l ≡ number_told x
 number_is p q l x e = number_same p q x (line_at l) e
 
 -- ---- lines

@@ -5,3 +5,4 @@ pub mod Endings
 pub mod Judging
 pub mod Exits
 pub mod Theorem
+pub mod Laws

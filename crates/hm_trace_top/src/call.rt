@@ -10,13 +10,13 @@ ghost use Rattle.hm_trace_top.specs.Texts.{recorded_in, verdicts};
 
 use crate::ended::Ended;
 use crate::reading::{Trace, Unread, read_trace};
-use crate::stand_in::{Failed, verdicts_of};
 use crate::text::lines_text;
 use hm_base::MOST_REPORT_BYTES;
 use hm_edge::{Input, read_all};
 use hm_io::{Sink, Source};
 use hm_protocol::{Recorded, Verdict};
 use hm_report::{Written, write_text};
+use hm_verdicts::{Failed, verdicts_of};
 use std::alloc::Global;
 
 /// What is recorded of a driver if no line says it.

@@ -7,12 +7,11 @@ mod laws;
 mod names;
 mod process;
 mod reading;
-mod stand_in;
 mod text;
 
 pub use call::judge;
 pub use ended::{Ended, NAME, USAGE};
-pub use laws::users_are_told;
+pub use laws::{events_are_named, users_are_told};
 pub use names::rule_name;
 pub use process::program;
 pub use reading::{Trace, Unread, read_trace};
