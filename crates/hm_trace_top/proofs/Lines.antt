@@ -5,7 +5,7 @@ use Rattle.hm_protocol.specs.declared.events.Traced.{Traced}
 use Rattle.hm_script.specs.Automaton.{lines}
 use Rattle.hm_script.specs.declared.reason.Reason.{Reason}
 use Rattle.hm_trace.specs.Lines.{line_at}
-use Rattle.hm_trace.specs.Progress.{progress_next, read_next, read_told, refused}
+use Rattle.hm_trace.specs.Progress.{progress_next, read_next, refused}
 use Rattle.hm_trace.specs.Traces.{events_told, read_lines, read_trace, with_front}
 use Rattle.hm_trace.specs.declared.line.TraceLine.{TraceLine}
 use Rattle.hm_trace.specs.declared.reader.Fault.{Fault}
@@ -58,7 +58,8 @@ on_front r l ls q x is (Err why) = refl
 abbrev then_on : Read → List (List ℕ) → Result (Progress × TraceLine) Refused → Result Read Refused
 then_on r ls z = elim (elim z as (λ k. Result Read Refused) [ Ok x ↦ Ok (read_more r x.0 x.1) | Err why ↦ Err why ]) [ Ok s ↦ read_on s ls | Err why ↦ Err why ]
 
-abbrev then_lines : List (List ℕ) → Result (Progress × TraceLine) Refused → Result (Progress × List Traced) Refused
+-- the lines behind one, by what that one tells
+abbrev pub then_lines : List (List ℕ) → Result (Progress × TraceLine) Refused → Result (Progress × List Traced) Refused
 then_lines ls z = elim z [ Ok x ↦ with_front (events_told x.1) (read_lines x.0 ls) | Err why ↦ Err why ]
 
 one_on : (r : Read) (l : List ℕ) (ls : List (List ℕ)) → ((s : Read) → read_on s ls ≡ read_after s ls (read_lines s.progress ls)) → (z : Result (Progress × TraceLine) Refused) → read_next r.progress l ≡ z

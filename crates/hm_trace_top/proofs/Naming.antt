@@ -1,36 +1,38 @@
 -- What a verdict names is an event of the trace, and each event has a number.
-use Rattle.std.proofs.Common.{◌≡◌, ℕ, ◌+◌, ◌<◌, ◌||◌, Bool, true, false, not, Option, Some, None, List, [], ◌∷◌, ◌++◌, length, Result, Ok, Err, refl, sym, ap, ◌∙◌, subst, arith, length-append}
+use Rattle.std.proofs.Common.{◌≡◌, ℕ, ◌+◌, ◌<◌, ◌&&◌, ◌||◌, Bool, true, false, not, is_none, Option, Some, None, List, [], ◌∷◌, ◌++◌, length, Result, Ok, Err, refl, ap, ◌∙◌, subst, arith, length-append}
 use Rattle.std.specs.Prelude.{if◌then◌else◌, is_some, nat_lt}
 use Rattle.std.specs.List.{flat_map}
 use Rattle.hm_protocol.specs.declared.events.Recorded.{Recorded}
 use Rattle.hm_protocol.specs.declared.events.Traced.{Traced}
 use Rattle.hm_protocol.specs.declared.rules.Rule.{Rule}
 use Rattle.hm_protocol.specs.declared.rules.Verdict.{Verdict}
-use Rattle.hm_protocol.specs.Known.{Call, Early, Known, known_start}
+use Rattle.hm_protocol.specs.Callbacks.{left_first, own_sequence_left}
+use Rattle.hm_protocol.specs.Known.{Call, Early, Known, is_own, known_start}
 use Rattle.hm_protocol.specs.Noted.{known, known_next}
 use Rattle.hm_protocol.specs.Rules.{Test, broken, compare, fails, first_call, first_commit, first_wrong, test_of}
-use Rattle.hm_protocol.specs.Verdicts.{if_asked, is_recorded, joined, kept, may_break, none_broken, suspect, verdict}
+use Rattle.hm_protocol.specs.Verdicts.{if_asked, is_recorded, joined, kept, may_break, may_leave, none_broken, suspect, verdict}
 use Rattle.hm_protocol.specs.Words.{is_empty}
 use Rattle.hm_script.specs.Automaton.{lines}
 use Rattle.hm_trace.specs.Progress.{read_next, start}
-use Rattle.hm_trace.specs.Traces.{events_told, read_lines, read_trace, with_front}
+use Rattle.hm_trace.specs.Traces.{events_told, read_lines, with_front}
 use Rattle.hm_trace.specs.declared.line.TraceLine.{TraceLine}
 use Rattle.hm_trace.specs.declared.reader.Progress.{Progress}
 use Rattle.hm_trace.specs.declared.reader.Refused.{Refused}
 use Rattle.hm_trace_top.specs.Laws.{EventsAreNamed, IsNamed}
 use Rattle.hm_trace_top.specs.Reading.{number_of, number_told, numbers_of}
-use Rattle.hm_trace_top.proofs.Lines.{number_is}
+use Rattle.hm_trace_top.proofs.Lines.{number_is, then_lines}
 use Rattle.hm_trace_top.proofs.Positions.{Past, are_found, known_past}
 
 -- ---- where a test is failed
 
+one_wrong : (b : Bool) (here : ℕ) (o : Option ℕ) (n i : ℕ) → here < n → (o ≡ Some i → i < n) → elim b as (λ c. Option ℕ) [ true ↦ Some here | false ↦ o ] ≡ Some i → i < n
+one_wrong true here o n i h g e = let same : here ≡ i = cc in subst (λ k. k < n) same h
+one_wrong false here o n i h g e = g e
+
 wrong_in : (test : Known → Traced → Bool) (es : List Traced) (k : Known) (n i : ℕ) → n ≡ k.at + length es → first_wrong test k es ≡ Some i → i < n
 wrong_in test [] k n i e f = absurd (let no : None ≡ Some i = f in cc)
-wrong_in test (s ∷ es) k n i e f = by (test k s) f
-  where
-    by : (b : Bool) → elim b as (λ c. Option ℕ) [ true ↦ Some k.at | false ↦ first_wrong test (known_next k s) es ] ≡ Some i → i < n
-    by true f = let same : k.at ≡ i = cc in omega arith
-    by false f = wrong_in test es (known_next k s) n i (omega arith) f
+wrong_in test (s ∷ es) k n i e f =
+    one_wrong (test k s) k.at (first_wrong test (known_next k s) es) n i (omega arith) (wrong_in test es (known_next k s) n i (omega arith)) f
 
 -- what a test of all that is known says is the position of an event
 abbrev EndIn : Test → Type 0
@@ -64,13 +66,13 @@ fails_in (Test.End test) h es i e = h (known es) (length es) i (known_past es) e
 suspect_in : (r : Rule) (es : List Traced) (i : ℕ) → suspect r es ≡ Some i → i < length es
 suspect_in Rule.Compare es i e = commit_in (λ goes_on. true) (known es) (length es) i (known_past es) e
 suspect_in Rule.CompareSequence es i e = commit_in (λ goes_on. true) (known es) (length es) i (known_past es) e
-suspect_in Rule.Erase es i e = call_in _ (known es) (length es) i (known_past es) e
-suspect_in Rule.EraseAll es i e = call_in _ (known es) (length es) i (known_past es) e
-suspect_in Rule.EraseInTime es i e = call_in _ (known es) (length es) i (known_past es) e
-suspect_in Rule.OwnEntries es i e = call_in _ (known es) (length es) i (known_past es) e
-suspect_in Rule.SetSequence es i e = call_in _ (known es) (length es) i (known_past es) e
-suspect_in Rule.OwnEvents es i e = call_in _ (known es) (length es) i (known_past es) e
-suspect_in Rule.OwnSequence es i e = call_in _ (known es) (length es) i (known_past es) e
+suspect_in Rule.Erase es i e = call_in may_leave (known es) (length es) i (known_past es) e
+suspect_in Rule.EraseAll es i e = call_in (λ k x. may_leave k x && (not (is_own k x) && not (left_first k x))) (known es) (length es) i (known_past es) e
+suspect_in Rule.EraseInTime es i e = call_in (λ k x. may_leave k x && (is_own k x || is_none x.ended)) (known es) (length es) i (known_past es) e
+suspect_in Rule.OwnEntries es i e = call_in (λ k x. may_leave k x && is_own k x) (known es) (length es) i (known_past es) e
+suspect_in Rule.SetSequence es i e = call_in (λ k x. own_sequence_left k x && is_empty x.had) (known es) (length es) i (known_past es) e
+suspect_in Rule.OwnEvents es i e = call_in own_sequence_left (known es) (length es) i (known_past es) e
+suspect_in Rule.OwnSequence es i e = call_in own_sequence_left (known es) (length es) i (known_past es) e
 suspect_in r es i e = absurd (let no : None ≡ Some i = e in cc)
 
 may_in : (b : Bool) (o : Option ℕ) (n i : ℕ) → (o ≡ Some i → i < n) → (if b then o else None) ≡ Some i → i < n
@@ -107,11 +109,8 @@ front_counts : (ns ms : List ℕ) (es : List Traced) (y : Result (Progress × Li
 front_counts ns ms es (Ok y) e h = omega (arith, length-append ns ms, length-append es y.1, h)
 front_counts ns ms es (Err why) e h = tt
 
-abbrev lines_of : List (List ℕ) → Result (Progress × TraceLine) Refused → Result (Progress × List Traced) Refused
-lines_of ls z = elim z [ Ok x ↦ with_front (events_told x.1) (read_lines x.0 ls) | Err why ↦ Err why ]
-
 one_counts : (p : Progress) (l : List ℕ) (ls : List (List ℕ)) → ((q : Progress) → Counts (length (flat_map number_of ls)) (read_lines q ls)) → (z : Result (Progress × TraceLine) Refused) → read_next p l ≡ z
-    → Counts (length (number_of l ++ flat_map number_of ls)) (lines_of ls z)
+    → Counts (length (number_of l ++ flat_map number_of ls)) (then_lines ls z)
 one_counts p l ls rest (Ok x) e =
     front_counts (number_of l) (flat_map number_of ls) (events_told x.1) (read_lines x.0 ls) (ap length (number_is p x.0 l x.1 e) ∙ told_counts x.1) (rest x.0)
 one_counts p l ls rest (Err why) e = tt

@@ -27,25 +27,25 @@ are_append : {X : Type 0} (at : X → ℕ) (n : ℕ) (xs ys : List X) → Are at
 are_append at n [] ys h k = k
 are_append at n (x ∷ xs) ys h k = (h.0, are_append at n xs ys h.1 k)
 
+one_kept : {X : Type 0} (at : X → ℕ) (n : ℕ) (b : Bool) (x : X) (xs : List X) → at x < n → Are at n xs → Are at n (cond b (x ∷ xs) xs)
+one_kept at n true x xs h g = (h, g)
+one_kept at n false x xs h g = g
+
 are_filter : {X : Type 0} (at : X → ℕ) (n : ℕ) (test : X → Bool) (xs : List X) → Are at n xs → Are at n (filter test xs)
 are_filter at n test [] h = tt
-are_filter at n test (x ∷ xs) h = by (test x)
-  where
-    by : (b : Bool) → Are at n (cond b (x ∷ filter test xs) (filter test xs))
-    by true = (h.0, are_filter at n test xs h.1)
-    by false = are_filter at n test xs h.1
+are_filter at n test (x ∷ xs) h = one_kept at n (test x) x (filter test xs) h.0 (are_filter at n test xs h.1)
 
 are_more : {X : Type 0} (at : X → ℕ) (n : ℕ) (xs : List X) → Are at n xs → Are at (n + 1) xs
 are_more at n [] h = tt
 are_more at n (x ∷ xs) h = (omega (arith, h.0), are_more at n xs h.1)
 
+one_found : {X : Type 0} (at : X → ℕ) (n : ℕ) (b : Bool) (x : X) (o : Option X) (i : ℕ) → at x < n → (option_map at o ≡ Some i → i < n) → option_map at (cond b (Some x) o) ≡ Some i → i < n
+one_found at n true x o i h g e = let same : at x ≡ i = cc in subst (λ k. k < n) same h
+one_found at n false x o i h g e = g e
+
 pub are_found : {X : Type 0} (at : X → ℕ) (n : ℕ) (test : X → Bool) (xs : List X) (i : ℕ) → Are at n xs → option_map at (find test xs) ≡ Some i → i < n
 are_found at n test [] i h e = absurd (let no : None ≡ Some i = e in cc)
-are_found at n test (x ∷ xs) i h e = by (test x) e
-  where
-    by : (b : Bool) → option_map at (cond b (Some x) (find test xs)) ≡ Some i → i < n
-    by true e = let same : at x ≡ i = cc in subst (λ k. k < n) same h.0
-    by false e = are_found at n test xs i h.1 e
+are_found at n test (x ∷ xs) i h e = one_found at n (test x) x (find test xs) i h.0 (are_found at n test xs i h.1) e
 
 -- ---- what is known
 
