@@ -6,8 +6,8 @@
 #   ./hmmrun.sh --ready WORD .. [FILE]    the proved one if it is built, or else the unproved one; never proves
 #
 # Words are looked at before anything is built. What this script says itself goes to standard error. The program is
-# hmmrun; with `--program NAME` first it is that of the crate NAME, as hmmraces.sh, hmmwithout.sh, hmmview.sh and
-# hmmjudge.sh call it.
+# hmmrun; with `--program NAME` first it is that of the crate NAME, as hmmraces.sh, hmmwithout.sh, hmmview.sh,
+# hmmjudge.sh and hmmtrace.sh call it.
 set -u
 top=$(cd "$(dirname "$(realpath "${BASH_SOURCE[0]}")")" && pwd)
 logic=dac8208d650f15bf              # of the kits that prove this repository
@@ -89,12 +89,19 @@ words_hmmjudge() {
 END
 }
 
+words_hmmtrace() {
+    cat <<'END'
+  (no word)            reads a trace of a driver: a line for each rule, whether it is kept, broken, or not tested
+END
+}
+
 usage() {
     local takes='WORD ..'
     [ "$name" = hmmraces ] && takes='[MOST] [--table | --script N | --expect CONDITION .. | --expect-file LINES]'
     [ "$name" = hmmwithout ] && takes='RULE | none | --all [--answers] [--most MOST]'
     [ "$name" = hmmview ] && takes='[FROM TO]'
     [ "$name" = hmmjudge ] && takes='[--standing | --all]'
+    [ "$name" = hmmtrace ] && takes=
     cat <<END
 usage: ./$name.sh [--quick | --ready] ${takes:+$takes }[FILE]
 
@@ -114,6 +121,7 @@ END
         hmmwithout) echo 'docs/BROKEN.md explains the rules; docs/TUTORIAL.md scripts. All tools: docs/TOOLS.md.' ;;
         hmmview) echo 'docs/VIEW.md explains a page; docs/REPORT.md each line of a report.' ;;
         hmmjudge) echo 'docs/JUDGE.md explains what is said; docs/REPORT.md each line of a report.' ;;
+        hmmtrace) echo 'docs/TRACE.md explains what is read and said; docs/BROKEN.md the rules.' ;;
         *) echo 'Scripts: docs/TUTORIAL.md; tools/hmm.py explains one that is refused. All tools: docs/TOOLS.md.' ;;
     esac
 }
@@ -266,6 +274,8 @@ read_words() {
                 shift
             fi
             is_number "${1-}" && refuse 'no word but --standing or --all, and FILE' ;;
+        hmmtrace)
+            is_number "${1-}" && refuse 'no word, and FILE' ;;
         *)
             while [ $# -gt 0 ] && [[ $1 =~ ^[0-9]+$ ]]; do
                 need_numbers "$1"
@@ -365,7 +375,9 @@ run() {
     "$1" "${words[@]}"
     status=$?
     [ "$text" = - ] && text=/dev/stdin
-    if [ $status -eq 3 ]; then
+    if [ "$name" = hmmtrace ]; then
+        :
+    elif [ $status -eq 3 ]; then
         "$top/tools/hmm.py" --explain "$text" | tail -n +2 >&2
     elif [ "$name" = hmmraces ] || [ "$name" = hmmwithout ]; then
         :

@@ -2,6 +2,7 @@
 """Runs the built programs, and compares their exit codes, what they write and what they say with the documents.
 
     tools/program_runs.py [--hmmrun PATH] [--hmmraces PATH] [--hmmview PATH] [--hmmjudge PATH]
+                          [--hmmtrace PATH]
 
 A path is crates/NAME/out/NAME unless it is given. Each run has a line, `ok` or `differs`. Ends with 1 if one differs.
 A report that is too long has 268,435,457 bytes, so such a run takes some seconds and some hundred MiB of memory.
@@ -22,9 +23,12 @@ RUN_USAGE = ('usage: hmmrun replay | threads | race | generate N | trial N | upg
 RACE_USAGE = 'usage: hmmraces [[--most] MOST] [--table | --script N | --expect CONDITION ..]'
 VIEW_USAGE = 'usage: hmmview [FROM TO]'
 JUDGE_USAGE = 'usage: hmmjudge [--standing | --all]'
+TRACE_USAGE = 'usage: hmmtrace'
 NOTHING = 'nothing is left to race after drain: end the schedule where the race is to begin'
 NO_ROWS = 'no such rows: FROM is after TO, or after the end of the report'
 REFUSED = 'script line 1: bad header'
+EVENT = b'0 a0 remove m0\n'
+UNLOCKED = b'0 a0 walk m0 16 1 1 unlocked -\n'
 ANY = object()          # what a run writes, where it is not compared
 FULL = object()         # standard output is the full device
 
@@ -64,7 +68,29 @@ RUNS = [
     ('hmmjudge', 'all', EMPTY_REPORT, 2, b'', JUDGE_USAGE),
     ('hmmjudge', '', EMPTY_REPORT, 5, FULL, 'write fault'),
     ('hmmjudge', '', REPORT_BYTES + 1, 8, b'', 'report too long'),
+    ('hmmtrace', '', EVENT, 0, ANY, ''),
+    ('hmmtrace', '', UNLOCKED, 1, ANY, 'a rule is broken'),
+    ('hmmtrace', 'all', EVENT, 2, b'', TRACE_USAGE),
+    ('hmmtrace', '', EVENT + EVENT, 3, b'', 'trace line 2: not the next number'),
+    ('hmmtrace', '', EVENT[:-1], 3, b'', 'trace line 1: bad line end or byte'),
+    ('hmmtrace', '', EVENT, 5, FULL, 'write fault'),
+    ('hmmtrace', '', REPORT_BYTES + 1, 8, b'', 'trace too long'),
 ]
+
+
+def read(*names):
+    with open(os.path.join(TOP, *names), 'rb') as file:
+        return file.read()
+
+
+def traces():
+    """A run of each trace of examples/traces, whose verdicts lie beside it."""
+    folder = os.path.join('examples', 'traces')
+    for name in sorted(os.listdir(os.path.join(TOP, folder))):
+        if name.endswith('.trace'):
+            verdicts = read(folder, name.replace('.trace', '.verdicts'))
+            broken = b' broken ' in verdicts
+            yield 'hmmtrace', '', read(folder, name), int(broken), verdicts, 'a rule is broken' if broken else ''
 
 
 def feed(pipe, given):
@@ -98,17 +124,18 @@ def agrees(path, case):
     got_code, written, said = run(path, words, given, wanted)
     line = f'{name}: {message}\n' if message else ''
     same = got_code == code and said == line and (wanted in (ANY, FULL) or written == wanted)
-    size = f'{given} bytes' if isinstance(given, int) else repr(given.decode())
+    count = given if isinstance(given, int) else len(given)
+    size = f'{count} bytes' if count > 60 else repr(given.decode())
     print('ok     ' if same else 'differs', code, name, words, '<', size, '' if same else (got_code, written, said))
     return same
 
 
 def main():
     parser = argparse.ArgumentParser(description=__doc__, formatter_class=argparse.RawDescriptionHelpFormatter)
-    for name in ('hmmrun', 'hmmraces', 'hmmview', 'hmmjudge'):
+    for name in ('hmmrun', 'hmmraces', 'hmmview', 'hmmjudge', 'hmmtrace'):
         parser.add_argument(f'--{name}', default=os.path.join(TOP, 'crates', name, 'out', name), metavar='PATH')
     paths = vars(parser.parse_args())
-    results = [agrees(paths[case[0]], case) for case in RUNS]
+    results = [agrees(paths[case[0]], case) for case in RUNS + list(traces())]
     sys.exit(0 if all(results) else 1)
 
 

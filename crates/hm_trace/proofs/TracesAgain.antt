@@ -77,10 +77,10 @@ abbrev after_event : Progress → ℕ → ℕ → Progress
 after_event p first n = record (with_line p) { numbers = at_number first (n + 1) }
 
 -- a line after others, step by step
-abbrev told_of : Progress → Result TraceLine Reason → Result (Progress × TraceLine) Refused
+abbrev pub told_of : Progress → Result TraceLine Reason → Result (Progress × TraceLine) Refused
 told_of p r = elim r [ Ok x ↦ read_told p x | Err r ↦ Err (refused p (Fault.Line r)) ]
 
-abbrev went_of : Progress → TraceLine → Result Progress Fault → Result (Progress × TraceLine) Refused
+abbrev pub went_of : Progress → TraceLine → Result Progress Fault → Result (Progress × TraceLine) Refused
 went_of p x r = elim r [ Ok q ↦ Ok (q, x) | Err f ↦ Err (refused p f) ]
 
 abbrev goes_of : Progress → ℕ → Option Numbers → Result Progress Fault

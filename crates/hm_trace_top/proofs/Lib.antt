@@ -1,0 +1,5 @@
+mod Lines
+mod Judged
+mod Users
+mod Positions
+mod Naming

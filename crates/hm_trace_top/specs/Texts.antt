@@ -1,0 +1,58 @@
+-- The text of the verdicts on a trace.
+use Rattle.std.specs.Prelude.{ℕ, List, [], ◌∷◌, ◌++◌, false, if◌then◌else◌, Option, Some, None, codes, map, slice_get}
+use Rattle.std.specs.Fmt.{decimal}
+use Rattle.hm_protocol.specs.declared.events.Recorded.{Recorded}
+use Rattle.hm_protocol.specs.declared.events.Traced.{Traced}
+use Rattle.hm_protocol.specs.declared.rules.Rule.{Rule}
+use Rattle.hm_protocol.specs.declared.rules.Verdict.{Verdict}
+use Rattle.hm_protocol.specs.Rules.{all_rules}
+use Rattle.hm_protocol.specs.Verdicts.{verdict}
+use Rattle.hm_trace.specs.Progress.{is_whole}
+use Rattle.hm_trace.specs.declared.reader.Progress.{Progress}
+use Rattle.hm_trace_top.specs.Names.{rule_name}
+
+-- ---- verdicts
+
+-- what is recorded of a driver if no line says it: nothing but the kernel's own events
+abbrev pub nothing : Recorded
+nothing = record { set = false; erase = false; uses = false; take = false; free = false; model = false }
+
+-- what was recorded, as a line of the trace says it
+abbrev pub recorded_in : Option Recorded → Recorded
+recorded_in None = nothing
+recorded_in (Some r) = r
+
+-- the verdicts on the events of a trace, one for each rule
+unfoldable pub verdicts : Option Recorded → List Traced → List Verdict
+verdicts x es = map (λ r. verdict (recorded_in x) r es) all_rules
+
+-- ---- their text
+
+-- the number of the event at a position, by the numbers of all events
+abbrev pub number_at : List ℕ → ℕ → ℕ
+number_at ns i = elim (slice_get ns i) [ None ↦ i | Some n ↦ n ]
+
+-- what is said of a rule after its word
+abbrev pub verdict_text : List ℕ → Verdict → List ℕ
+verdict_text ns (Verdict.Kept n) = codes " kept " ++ decimal n
+verdict_text ns Verdict.Unseen = codes " unseen"
+verdict_text ns (Verdict.Maybe i) = codes " maybe " ++ decimal (number_at ns i)
+verdict_text ns (Verdict.Broken i) = codes " broken " ++ decimal (number_at ns i)
+
+-- the line of a rule
+abbrev pub rule_line : List ℕ → Rule → Verdict → List ℕ
+rule_line ns r v = rule_name r ++ (verdict_text ns v ++ 10 ∷ [])
+
+-- the lines of some rules, each with its verdict
+abbrev pub rule_lines : List ℕ → List Rule → List Verdict → List ℕ
+rule_lines ns [] vs = []
+rule_lines ns (r ∷ rs) [] = []
+rule_lines ns (r ∷ rs) (v ∷ vs) = rule_line ns r v ++ rule_lines ns rs vs
+
+-- the first line: how many events there are, and whether all are there from number 0 on
+abbrev pub events_line : Progress → ℕ → List ℕ
+events_line p n = codes "events " ++ (decimal n ++ (if is_whole p then codes " whole\n" else codes " part\n"))
+
+-- all of it, of a trace with so many events, which have these numbers, by its verdicts
+unfoldable pub lines_text : Progress → ℕ → List ℕ → List Verdict → List ℕ
+lines_text p n ns vs = events_line p n ++ rule_lines ns all_rules vs

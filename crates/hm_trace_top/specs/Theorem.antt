@@ -1,0 +1,73 @@
+-- The theorem of the program hmmtrace: what its user is told.
+use Rattle.std.specs.Prelude.{◌≡◌, ◌⊎◌, ℕ, ◌<◌, Bool, true, false, List, [], ◌∷◌, length, Option, Ok, Err}
+use Rattle.hm_edge.specs.Traffic.{IsUntouched, Traffic}
+use Rattle.hm_edge.specs.Users.{CutShort, GoesOut, IsStarted, NothingOut}
+use Rattle.hm_io.specs.Streams.{SinkState}
+use Rattle.hm_protocol.specs.declared.events.Traced.{Traced}
+use Rattle.hm_trace.specs.Traces.{read_trace}
+use Rattle.hm_trace.specs.declared.reader.Progress.{Progress}
+use Rattle.hm_trace.specs.declared.reader.Refused.{Refused}
+use Rattle.hm_trace_top.specs.Endings.{Says, code_of}
+use Rattle.hm_trace_top.specs.Exits.{Exits}
+use Rattle.hm_trace_top.specs.Judging.{has_broken, verdicts_text}
+use Rattle.hm_trace_top.specs.Reading.{numbers_of}
+use Rattle.hm_trace_top.specs.Texts.{verdicts}
+use Rattle.hm_trace_top.specs.declared.ended.Ended.{Ended}
+
+-- The bytes are a trace with these events, and the verdicts on them went out. They say that a rule is broken, or that
+-- none is.
+pub record TellsVerdicts (broken : Bool) (bytes held : List ℕ) (io : Traffic) : Type 0 where
+  pub progress : Progress
+  pub events : List Traced
+  pub read : read_trace bytes ≡ Ok (progress, events)
+  pub says : has_broken (verdicts progress.recorded events) ≡ broken
+  pub out : GoesOut held (verdicts_text progress events (numbers_of bytes)) io
+
+-- the text has the verdicts on the trace that the bytes are
+abbrev pub IsOfTrace : List ℕ → List ℕ → Type 0
+IsOfTrace bytes t =
+    (p : Progress) × (es : List Traced) × (read_trace bytes ≡ Ok (p, es)) × (t ≡ verdicts_text p es (numbers_of bytes))
+
+-- The bytes are a trace, and nothing is written: a verdict counts more than a number of 64 bits.
+pub record IsUncounted (bytes held : List ℕ) (io : Traffic) : Type 0 where
+  pub progress : Progress
+  pub events : List Traced
+  pub read : read_trace bytes ≡ Ok (progress, events)
+  pub nothing : NothingOut held io
+
+-- The bytes are no trace. Their first bad line is named, with what is wrong with it, and nothing is written.
+pub record IsNoTrace (refused : Refused) (bytes held : List ℕ) (io : Traffic) : Type 0 where
+  pub read : read_trace bytes ≡ Err refused
+  pub nothing : NothingOut held io
+
+-- by how it ends; it ends in no other way
+abbrev pub ToldTrace : List ℕ → List ℕ → Traffic → Ended → Type 0
+ToldTrace bytes held io Ended.Done = TellsVerdicts false bytes held io
+ToldTrace bytes held io Ended.Broken = TellsVerdicts true bytes held io
+ToldTrace bytes held io (Ended.Refused refused) = IsNoTrace refused bytes held io
+ToldTrace bytes held io Ended.TooLong =
+    ((268435456 < length bytes) × NothingOut held io) ⊎ IsUncounted bytes held io
+ToldTrace bytes held io Ended.NoMemory = CutShort (IsOfTrace bytes) held io
+ToldTrace bytes held io _ = ⊥
+
+-- words: the usage line is said, and nothing is read or written
+abbrev pub ToldUsage : Traffic → Ended → Type 0
+ToldUsage io ended = ((ended ≡ Ended.Usage) ⊎ (ended ≡ Ended.NoMemory)) × IsUntouched io
+
+-- by whether there are words
+abbrev pub ToldBy : List (List ℕ) → List ℕ → List ℕ → Traffic → Ended → Type 0
+ToldBy [] bytes held io ended = ToldTrace bytes held io ended
+ToldBy (w ∷ ws) bytes held io ended = ToldUsage io ended
+
+-- It ends with the exit code of such an end, and writes its line to the error stream.
+pub record EndsSo (At : Ended → Type 0) (errors errors_after : SinkState) (code : ℕ) : Type 0 where
+  pub ended : Ended
+  pub code_is : code ≡ code_of ended
+  pub says : Says ended errors errors_after
+  pub told : At ended
+
+-- Whoever starts the program with words after its name, an input and an output that do not fail, is told this.
+abbrev pub Theorem : Type 0
+Theorem = (words : List (List ℕ)) (bytes held : List ℕ) (args : Option (List (List ℕ))) (io : Traffic)
+    (errors errors_after : SinkState) (code : ℕ) → IsStarted words bytes held args io
+    → Exits args io errors errors_after code → EndsSo (ToldBy words bytes held io) errors errors_after code

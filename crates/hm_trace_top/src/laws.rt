@@ -1,0 +1,15 @@
+// What holds of every trace, and what the user of the program is told: laws in the contracts of functions that do
+// nothing.
+ghost use Rattle.hm_trace_top.specs.Laws.{EventsAreNamed};
+ghost use Rattle.hm_trace_top.specs.Theorem.{Theorem};
+
+/// A trace has a number for each of its events, and no verdict names an event that is not there.
+pub fn events_are_named()
+    ensures { EventsAreNamed }
+{}
+
+/// What the user of the program is told follows from how it ends. Every field of the records of its call is used here,
+/// so none of them can be left out unseen.
+pub fn users_are_told()
+    ensures { Theorem }
+{}

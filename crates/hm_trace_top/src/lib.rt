@@ -1,0 +1,18 @@
+// Judges a trace of a driver: reads its events, and says of each rule of the protocol whether they keep it.
+#![tactic(auto)]
+
+mod call;
+mod ended;
+mod laws;
+mod names;
+mod process;
+mod reading;
+mod text;
+
+pub use call::judge;
+pub use ended::{Ended, NAME, USAGE};
+pub use laws::{events_are_named, users_are_told};
+pub use names::rule_name;
+pub use process::program;
+pub use reading::{Trace, Unread, read_trace};
+pub use text::lines_text;

@@ -1,0 +1,156 @@
+// The text of the verdicts on a trace.
+ghost use Rattle.std.specs.Prelude.{◌≡◌, ◌+◌, ◌≤◌, ◌∷◌, ◌++◌, [], length, IfOk, OnOk};
+ghost use Rattle.hm_protocol.specs.Rules.{all_rules};
+ghost use Rattle.hm_trace_top.specs.Texts.{events_line, lines_text, number_at, rule_line, rule_lines, verdict_text};
+
+use crate::names::rule_name;
+use crate::reading::Trace;
+use hm_base::{NoMemory, Text};
+use hm_protocol::{Rule, Verdict};
+use hm_report::{Buffer, put_decimal};
+use hm_trace::Progress;
+use std::alloc::Global;
+
+/// All rules, in the order of their lines.
+const RULES: [Rule; 27] = [
+    Rule::Compare,
+    Rule::CompareSequence,
+    Rule::EntryRight,
+    Rule::MmapLock,
+    Rule::OwnDevice,
+    Rule::BeginWaits,
+    Rule::BeginFirst,
+    Rule::SetSequence,
+    Rule::Erase,
+    Rule::EraseAll,
+    Rule::EraseInTime,
+    Rule::OwnEvents,
+    Rule::OwnSequence,
+    Rule::OwnEntries,
+    Rule::StopAtDetach,
+    Rule::WriteEntry,
+    Rule::DetachWaits,
+    Rule::SetMoved,
+    Rule::SetRight,
+    Rule::SetUnlessInvalidated,
+    Rule::DropLost,
+    Rule::TakeFromThere,
+    Rule::EvictFirst,
+    Rule::WithdrawFirst,
+    Rule::WaitForLocked,
+    Rule::ExclusiveWaits,
+    Rule::LookAgain,
+];
+
+fn all_rules() -> [Rule; 27]
+    ensures { result ≡ all_rules }
+{
+    RULES
+}
+
+/// The number of the event at a position.
+fn number_at(numbers: &[u64], at: u64) -> u64
+    ensures { result ≡ number_at numbers.now at }
+{
+    match numbers.get(at as usize) {
+        Some(number) => *number,
+        None => at,
+    }
+}
+
+/// Adds what is said of a rule after its word.
+fn put_verdict(out: &mut Buffer, numbers: &[u64], verdict: Verdict)
+    requires { length out.old ≤ 100 }
+    ensures text { out.new ≡ out.old ++ verdict_text numbers.now verdict }
+    ensures room { length out.new ≤ length out.old + 100 }
+{
+    match verdict {
+        Verdict::Kept(times) => put_decimal(out, b" kept ", times),
+        Verdict::Unseen => out.put(b" unseen"),
+        Verdict::Maybe(at) => put_decimal(out, b" maybe ", number_at(numbers, at)),
+        Verdict::Broken(at) => put_decimal(out, b" broken ", number_at(numbers, at)),
+    }
+}
+
+/// Adds the line of a rule. The buffer is written over.
+#[tactic(auto, using(std::proofs::Common::append_assoc))]
+fn add_rule_line(
+    text: &mut Text,
+    out: &mut Buffer,
+    numbers: &[u64],
+    rule: Rule,
+    verdict: Verdict,
+) -> Result<(), NoMemory>
+    ensures { OnOk result (text.new ≡ text.old ++ rule_line numbers.now rule verdict) }
+{
+    out.clear();
+    put_verdict(out, numbers, verdict);
+    out.push(b'\n');
+    text.extend(rule_name(rule).as_bytes())?;
+    text.extend(out.as_slice())
+}
+
+/// Adds the lines of some rules. The buffer is written over.
+#[tactic(auto, using(std::proofs::Common::append_assoc))]
+fn add_rule_lines(
+    text: &mut Text,
+    out: &mut Buffer,
+    numbers: &[u64],
+    rules: &[Rule],
+    verdicts: &[Verdict],
+) -> Result<(), NoMemory>
+    ensures { OnOk result (text.new ≡ text.old ++ rule_lines numbers.now rules.now verdicts.now) }
+{
+    let mut left = rules;
+    let mut said = verdicts;
+    while let [rule, more @ ..] = left {
+        let [verdict, others @ ..] = said else {
+            return Ok(());
+        };
+        add_rule_line(text, out, numbers, *rule, *verdict)?;
+        left = more;
+        said = others;
+    }
+    Ok(())
+}
+
+/// Adds the first line, of a trace with so many events. The buffer is written over.
+#[tactic(auto, using(std::proofs::Common::append_assoc))]
+fn add_events_line(
+    text: &mut Text,
+    out: &mut Buffer,
+    progress: &Progress,
+    count: u64,
+) -> Result<(), NoMemory>
+    ensures { OnOk result (text.new ≡ text.old ++ events_line progress.now count) }
+{
+    out.clear();
+    put_decimal(out, b"events ", count);
+    if progress.is_whole() {
+        out.put(b" whole\n");
+    } else {
+        out.put(b" part\n");
+    }
+    text.extend(out.as_slice())
+}
+
+/// The lines on a trace with these verdicts: how many events it has, and a line for each rule.
+#[tactic(auto, using(std::proofs::Common::append_assoc), unfolding(crate::specs::Texts::lines_text))]
+pub fn lines_text(alloc: Global, trace: &Trace, verdicts: &[Verdict]) -> Result<Text, NoMemory>
+    ensures { IfOk result (λ t. t ≡ lines_text trace.now.progress (length trace.now.events.items)
+        trace.now.numbers.items verdicts.now) }
+{
+    let mut text = Text::new(alloc);
+    let mut out = Buffer::new(alloc)?;
+    let events = trace.events.as_slice();
+    add_events_line(&mut text, &mut out, &trace.progress, events.len() as u64)?;
+    let rules = all_rules();
+    add_rule_lines(
+        &mut text,
+        &mut out,
+        trace.numbers.as_slice(),
+        &rules,
+        verdicts,
+    )?;
+    Ok(text)
+}

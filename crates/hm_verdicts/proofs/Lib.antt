@@ -1,0 +1,11 @@
+pub mod Defaults
+pub mod Fields
+pub mod Filtered
+pub mod Inner
+pub mod Judged
+pub mod Looked
+pub mod LookedUp
+pub mod Mapping
+pub mod Reversed
+pub mod Returned
+pub mod Said

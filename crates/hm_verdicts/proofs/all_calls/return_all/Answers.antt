@@ -1,0 +1,36 @@
+use Rattle.std.proofs.Common.{refl, None, [], ◌≡◌, ◌∙◌, ap, arith, ◌<◌, length, set, get_or, reverse}
+use Rattle.hm_protocol.specs.Known.{Call}
+use Rattle.hm_verdicts.specs.Changes.{call_with, returned_in}
+use Rattle.hm_verdicts.proofs.Mapping.{mapped_to, mapped_more, mapped_all, mapped_length}
+use Rattle.hm_verdicts.proofs.Returned.{returns_alike}
+use Rattle.hm_verdicts.proofs.all_calls.return_all.Goals as goal
+
+pub return_one-requires : goal.return_one-requires
+return_one-requires c =
+    let many : length c.loop-number.calls.items ≡ length c.args.calls.now.items = ap length c.loop-number.invariant
+    ∙ mapped_length _ c.loop-number.number c.args.calls.now.items in
+    omega (arith, c.loop-number-test.true, c.len-number-end.ensures, many, c.args.calls.now.ok)
+
+pub loop-number-preserved : goal.loop-number-preserved
+loop-number-preserved c =
+    let i = c.args.at in
+    let q = c.args.seq in
+    let cs = c.args.calls.now.items in
+    let ys = reverse c.args.moves.now in
+    let t = c.args.thread in
+    let m = c.args.mirror in
+    let n = c.loop-number.number in
+    let f = returned_in i q cs ys t m in
+    let d : Call = call_with 0 0 (record { first = 0; count = 0 }) 0 None 0 [] in
+    let below : n < length cs = omega (arith, c.loop-number-test.true, c.len-number-end.ensures, c.args.calls.now.ok) in
+    c.in_ok-return_one.ensures d
+    ∙ (ap (λ zs. set zs n (returned_in i q zs ys t m (get_or zs n d))) c.loop-number.invariant
+    ∙ (ap (set (mapped_to f n cs) n) (returns_alike i q cs ys t m n (get_or (mapped_to f n cs) n d))
+    ∙ mapped_more f n cs d (f (get_or (mapped_to f n cs) n d)) below refl))
+
+pub returns : goal.returns
+returns c =
+    let f = returned_in c.args.at c.args.seq c.args.calls.now.items (reverse c.args.moves.now) c.args.thread c.args.mirror in
+    let whole : c.loop-number.number ≡ length c.args.calls.now.items =
+    omega (arith, c.loop-number-test.false, c.loop-number.auto.number-end, c.len-number-end.ensures, c.args.calls.now.ok) in
+    c.loop-number.invariant ∙ (ap (λ n. mapped_to f n c.args.calls.now.items) whole ∙ mapped_all f c.args.calls.now.items)

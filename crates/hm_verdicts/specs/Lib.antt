@@ -1,0 +1,11 @@
+pub mod AllLooks
+pub mod Asking
+pub mod Changes
+pub mod Ending
+pub mod Inner
+pub mod Judging
+pub mod Looking
+pub mod Numbers
+pub mod Saying
+pub mod Stages
+pub mod State

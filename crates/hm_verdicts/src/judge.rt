@@ -1,0 +1,131 @@
+// A trace judged, event by event.
+ghost use Rattle.std.specs.Prelude.{◌≡◌, ◌++◌, ◌∷◌, [], map, IfOk, OnOk};
+ghost use Rattle.hm_protocol.specs.Rules.{all_rules};
+ghost use Rattle.hm_protocol.specs.declared.events.Traced.{Traced as AnyTraced};
+ghost use Rattle.std.specs.Prelude.{List};
+ghost use Rattle.hm_verdicts.specs.Judging.{count_start, count_next, Follows};
+ghost use Rattle.hm_verdicts.specs.State.{known_of};
+
+use crate::asking::breaks;
+use crate::counting::asks;
+use crate::failed::Failed;
+use crate::stack::{Changes, change_items};
+use crate::state::State;
+use hm_protocol::{Rule, Traced};
+use std::alloc::Global;
+
+/// The rules, as docs/BROKEN.md has them.
+const ALL_RULES: [Rule; 27] = [
+    Rule::Compare,
+    Rule::CompareSequence,
+    Rule::EntryRight,
+    Rule::MmapLock,
+    Rule::OwnDevice,
+    Rule::BeginWaits,
+    Rule::BeginFirst,
+    Rule::SetSequence,
+    Rule::Erase,
+    Rule::EraseAll,
+    Rule::EraseInTime,
+    Rule::OwnEvents,
+    Rule::OwnSequence,
+    Rule::OwnEntries,
+    Rule::StopAtDetach,
+    Rule::WriteEntry,
+    Rule::DetachWaits,
+    Rule::SetMoved,
+    Rule::SetRight,
+    Rule::SetUnlessInvalidated,
+    Rule::DropLost,
+    Rule::TakeFromThere,
+    Rule::EvictFirst,
+    Rule::WithdrawFirst,
+    Rule::WaitForLocked,
+    Rule::ExclusiveWaits,
+    Rule::LookAgain,
+];
+
+/// What is kept of a rule: the first event that breaks it, and how often events put it to the test.
+#[derive(Clone, Copy)]
+pub struct Count {
+    pub(crate) rule: Rule,
+    pub(crate) broken: Option<u64>,
+    pub(crate) asked: u64,
+}
+
+// An event, after what is known.
+#[derive(Drop)]
+struct Next<'a> {
+    state: &'a State,
+    event: &'a Traced,
+}
+
+impl<'a> Changes<Count> for Next<'a> {
+    ghost use Rattle.hm_verdicts.specs.Judging.{count_next};
+    ghost use Rattle.hm_verdicts.specs.State.{known_of};
+
+    ghost made = { λ s. count_next (known_of s.state.now) s.event.now };
+
+    fn change(&self, count: &mut Count) -> Result<(), Failed> {
+        let Some(asked) = count
+            .asked
+            .checked_add(asks(self.state, count.rule, self.event))
+        else {
+            return Err(Failed::TooLong);
+        };
+        if count.broken.is_none() && breaks(self.state, count.rule, self.event) {
+            count.broken = Some(self.state.at);
+        }
+        count.asked = asked;
+        Ok(())
+    }
+}
+
+/// Judges a trace, event by event.
+#[derive(Drop)]
+pub struct Judge {
+    pub(crate) state: State,
+    pub(crate) counts: Vec<Count>,
+}
+
+// What is kept of each rule before the first event.
+fn counts_start(alloc: Global) -> Result<Vec<Count>, Failed>
+    ensures { IfOk result (λ xs. xs.items ≡ map count_start all_rules) }
+{
+    let counts = ALL_RULES
+        .iter()
+        .map(|rule| Count {
+            rule: *rule,
+            broken: None,
+            asked: 0,
+        })
+        .collect(alloc)?;
+    Ok(counts)
+}
+
+impl Judge {
+    /// Before the first event.
+    pub fn new(alloc: Global) -> Result<Judge, Failed>
+        ensures { IfOk result (λ judge. Follows judge []) }
+    {
+        let counts = counts_start(alloc)?;
+        Ok(Judge {
+            state: State::new(alloc),
+            counts,
+        })
+    }
+
+    /// One event more. After a failure it says nothing.
+    pub fn add(&mut self, event: &Traced) -> Result<(), Failed>
+        ensures { (es : List AnyTraced) → Follows self.old es
+            → OnOk result (Follows self.new (es ++ event.now ∷ [])) }
+    {
+        let next = Next {
+            state: &self.state,
+            event,
+        };
+        change_items(&mut self.counts, &next)?;
+        self.state.note(event)?;
+        Ok(())
+    }
+}

@@ -1,0 +1,120 @@
+// The verdicts on a trace.
+ghost use Rattle.std.specs.Prelude.{◌≡◌, ◌++◌, List, map, is_none, IfOk};
+ghost use Rattle.std.specs.List.{list_all};
+ghost use Rattle.hm_protocol.specs.Rules.{all_rules};
+ghost use Rattle.hm_protocol.specs.Verdicts.{joined, verdict};
+ghost use Rattle.hm_protocol.specs.declared.events.Traced.{Traced as AnyTraced};
+ghost use Rattle.hm_verdicts.specs.Ending.{fails_at_end};
+ghost use Rattle.hm_verdicts.specs.Judging.{said_of, unbroken_at_end, Follows};
+ghost use Rattle.hm_verdicts.specs.State.{known_of};
+
+use crate::ending::fails_in_end;
+use crate::failed::Failed;
+use crate::judge::{Count, Judge};
+use crate::saying::verdict_of;
+use crate::state::State;
+use hm_protocol::{Recorded, Rule, Traced, Verdict};
+use std::alloc::Global;
+
+// Whether none of these rules is broken in the end.
+fn are_unbroken(state: &State, rules: &[Rule]) -> bool
+    ensures { result ≡ unbroken_at_end rules.now (known_of state.now) }
+{
+    rules
+        .iter()
+        .all(|rule| fails_in_end(state, *rule).is_none())
+}
+
+// Whether none is of the rules of which one is broken if it is not said which.
+fn joined_unbroken(state: &State, rule: Rule) -> bool
+    ensures { result ≡ unbroken_at_end (joined rule) (known_of state.now) }
+{
+    match rule {
+        Rule::Compare | Rule::CompareSequence => {
+            are_unbroken(state, &[Rule::Compare, Rule::CompareSequence])
+        }
+        Rule::Erase | Rule::EraseAll | Rule::EraseInTime => {
+            are_unbroken(state, &[Rule::Erase, Rule::EraseAll, Rule::EraseInTime])
+        }
+        Rule::OwnEntries => are_unbroken(
+            state,
+            &[
+                Rule::Erase,
+                Rule::EraseAll,
+                Rule::EraseInTime,
+                Rule::OwnEntries,
+            ],
+        ),
+        Rule::SetSequence | Rule::OwnEvents | Rule::OwnSequence => are_unbroken(
+            state,
+            &[Rule::SetSequence, Rule::OwnEvents, Rule::OwnSequence],
+        ),
+        _ => true,
+    }
+}
+
+// The verdict on a rule, of which this is kept.
+fn verdict_on(state: &State, recorded: Recorded, count: Count) -> Verdict
+    ensures { result ≡ said_of recorded (known_of state.now) count }
+{
+    let broken = count.broken.or(fails_in_end(state, count.rule));
+    let none_joined_broken = joined_unbroken(state, count.rule);
+    verdict_of(
+        recorded,
+        count.rule,
+        state,
+        broken,
+        none_joined_broken,
+        count.asked,
+    )
+}
+
+// The verdicts on rules, of which this is kept.
+fn verdicts_on(
+    alloc: Global,
+    state: &State,
+    recorded: Recorded,
+    counts: &[Count],
+) -> Result<Vec<Verdict>, Failed>
+    ensures { IfOk result (λ vs. vs.items ≡ map (said_of recorded (known_of state.now)) counts.now) }
+{
+    let verdicts = counts
+        .iter()
+        .map(|count| verdict_on(state, recorded, *count))
+        .collect(alloc)?;
+    Ok(verdicts)
+}
+
+impl Judge {
+    /// The verdicts on the events so far, in the order of the rules; what was recorded beside the kernel's own.
+    pub fn verdicts(&self, alloc: Global, recorded: Recorded) -> Result<Vec<Verdict>, Failed>
+        ensures { (es : List AnyTraced) → Follows self.now es
+            → IfOk result (λ vs. vs.items ≡ map (λ r. verdict recorded r es) all_rules) }
+    {
+        let verdicts = verdicts_on(alloc, &self.state, recorded, &self.counts)?;
+        Ok(verdicts)
+    }
+}
+
+// The judge, after these events.
+fn judged(alloc: Global, events: &[Traced]) -> Result<Judge, Failed>
+    ensures { IfOk result (λ judge. Follows judge events.now) }
+{
+    let mut judge = Judge::new(alloc)?;
+    for event in events {
+        judge.add(event)?;
+    }
+    Ok(judge)
+}
+
+/// The verdicts on a trace, in the order of the rules; what was recorded beside the kernel's own events.
+pub fn verdicts_of(
+    alloc: Global,
+    recorded: Recorded,
+    events: &[Traced],
+) -> Result<Vec<Verdict>, Failed>
+    ensures { IfOk result (λ vs. vs.items ≡ map (λ r. verdict recorded r events.now) all_rules) }
+{
+    let judge = judged(alloc, events)?;
+    judge.verdicts(alloc, recorded)
+}
