@@ -9,4 +9,4 @@ pub mod Looking
 pub mod Numbers
 pub mod Saying
 pub mod Stages
-pub mod State
+pub mod Knowledge

@@ -1,5 +1,6 @@
 // All callbacks, in their order, and what events make of them.
-ghost use Rattle.std.specs.Prelude.{◌≡◌, ◌<◌, ◌==◌, ◌&&◌, ◌||◌, not, is_none, OnOk, option_map, length, map, reverse, find};
+ghost use Rattle.std.specs.Prelude.{◌≡◌, ◌<◌, ◌==◌, ◌&&◌, ◌||◌, not, is_none, OnOk, option_map};
+ghost use Rattle.std.specs.Prelude.{length, map, reverse, find};
 ghost use Rattle.std.specs.Prelude.{count_by, slice_set, slice_index_or};
 ghost use Rattle.std.specs.List.{list_any, list_all};
 ghost use Rattle.hm_protocol.specs.Words.{drop_if, is_it};
@@ -13,8 +14,8 @@ use crate::calls::{Call, Eraser};
 use crate::failed::Failed;
 use crate::looks::Look;
 use crate::moves::{Move, are_placing, inner};
+use crate::newest_first::{Changes, change_items};
 use crate::numbered::Numbered;
-use crate::stack::{Changes, change_items};
 use hm_protocol::TraceSpan;
 use std::alloc::Global;
 
