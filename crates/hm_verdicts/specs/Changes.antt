@@ -1,5 +1,6 @@
 -- What an event makes of a callback, by the parts of what is known that it looks at.
-use Rattle.std.specs.Prelude.{ℕ, ◌+◌, Bool, true, false, not, ◌&&◌, ◌||◌, ◌==◌, nat_lt, if◌then◌else◌, Option, Some, None}
+use Rattle.std.specs.Prelude.{ℕ, ◌+◌, Bool, true, false, not, ◌&&◌}
+use Rattle.std.specs.Prelude.{◌||◌, ◌==◌, nat_lt, if◌then◌else◌, Option, Some, None}
 use Rattle.std.specs.Prelude.{is_some, is_none, List, [], ◌∷◌, map, filter, count_by, option_map}
 use Rattle.std.specs.List.{list_any}
 use Rattle.hm_protocol.specs.Words.{is_it, drop_if}

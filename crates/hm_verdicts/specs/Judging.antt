@@ -47,4 +47,5 @@ unbroken_at_end rs k = list_all (λ r. is_none (fails_at_end r k)) rs
 
 -- the verdict on a rule, of which this is kept
 abbrev pub said_of : Recorded → Known → Count → Verdict
-said_of x k c = verdict_by x c.rule k (option_or c.broken (fails_at_end c.rule k)) (unbroken_at_end (joined c.rule) k) c.asked
+said_of x k c =
+    verdict_by x c.rule k (option_or c.broken (fails_at_end c.rule k)) (unbroken_at_end (joined c.rule) k) c.asked

@@ -4,6 +4,7 @@ pub mod Changes
 pub mod Ending
 pub mod Inner
 pub mod Judging
+pub mod Kinds
 pub mod Looking
 pub mod Numbers
 pub mod Saying

@@ -1,5 +1,6 @@
 // All callbacks, in their order, and what events make of them.
-ghost use Rattle.std.specs.Prelude.{◌≡◌, ◌==◌, ◌&&◌, ◌||◌, map, not, length, ◌<◌, slice_set, slice_index_or, count_by, is_none, OnOk, reverse, find, option_map};
+ghost use Rattle.std.specs.Prelude.{◌≡◌, ◌<◌, ◌==◌, ◌&&◌, ◌||◌, not, is_none, OnOk, option_map, length, map, reverse, find};
+ghost use Rattle.std.specs.Prelude.{count_by, slice_set, slice_index_or};
 ghost use Rattle.std.specs.List.{list_any, list_all};
 ghost use Rattle.hm_protocol.specs.Words.{drop_if, is_it};
 ghost use Rattle.hm_protocol.specs.Known as known;
@@ -114,8 +115,8 @@ pub(crate) fn erase(
     page: u64,
 ) -> Result<(), Failed>
     ensures { OnOk result (calls.new.items ≡ map (erased_by (values_in devices.now)
-        (list_any (λ y. (y.thread == thread) && is_none y.after) calls.old.items) (reverse moves.now) thread mirror page)
-        calls.old.items) }
+        (list_any (λ y. (y.thread == thread) && is_none y.after) calls.old.items)
+        (reverse moves.now) thread mirror page) calls.old.items) }
 {
     let by = Eraser {
         thread,
@@ -196,7 +197,8 @@ fn return_one(
 ) -> Result<(), Failed>
     requires { number < length calls.old.items }
     ensures { OnOk result ((d : known.Call) → calls.new.items ≡ slice_set calls.old.items number
-        (returned_in at seq calls.old.items (reverse moves.now) thread mirror (slice_index_or calls.old.items number d))) }
+        (returned_in at seq calls.old.items (reverse moves.now) thread mirror
+        (slice_index_or calls.old.items number d))) }
 {
     if !calls[number].is_current(thread, mirror) {
         return Ok(());

@@ -34,17 +34,6 @@ mod suspecting;
 mod table;
 mod verdicts;
 
-pub use all_looks::{AllLooks, MirrorLooks};
-pub use calls::Call;
 pub use failed::Failed;
-pub use flags::{Flags, Positions};
-pub use insides::{Early, Inside};
-pub use judge::{Count, Judge};
-pub use looks::{Look, Stage};
-pub use moves::Move;
-pub use numbered::Numbered;
-pub use slots::Slot;
-pub use stack::Stack;
-pub use stacks::Stacks;
-pub use state::State;
+pub use judge::Judge;
 pub use verdicts::verdicts_of;

@@ -1,5 +1,6 @@
 // Look-ups of threads in mirrors.
-ghost use Rattle.std.specs.Prelude.{◌≡◌, ◌∷◌, [], ◌&&◌, ◌||◌, is_some, true, false, not, Some, None, is_none, if◌then◌else◌, OnOk, reverse, find, ◌==◌};
+ghost use Rattle.std.specs.Prelude.{◌≡◌, ◌∷◌, [], ◌&&◌, ◌||◌, is_some, true, false};
+ghost use Rattle.std.specs.Prelude.{not, Some, None, is_none, if◌then◌else◌, OnOk, reverse, find, ◌==◌};
 ghost use Rattle.hm_protocol.specs.Known as known;
 ghost use Rattle.hm_protocol.specs.Noted as noted;
 ghost use Rattle.hm_verdicts.specs.Stages.{stage_of};

@@ -1,4 +1,4 @@
-use Rattle.hm_verdicts.proofs.state.State.note_event.Goals as goal
+use Rattle.hm_verdicts.proofs.state.State.note_table.Goals as goal
 
 pub returns-in-Walk : goal.returns-in-Walk
 returns-in-Walk c = rw c.in-Walk.is c.walk.ensures
