@@ -28,7 +28,8 @@ abbrev pub IsOfTrace : List ℕ → List ℕ → Type 0
 IsOfTrace bytes t =
     (p : Progress) × (es : List Traced) × (read_trace bytes ≡ Ok (p, es)) × (t ≡ verdicts_text p es (numbers_of bytes))
 
--- The bytes are a trace, and nothing is written: a verdict counts more than a number of 64 bits.
+-- The bytes are a trace, and nothing is written. The program ends so if a number of 64 bits cannot count what a rule
+-- counts; that it ends so for nothing else is not said.
 pub record IsUncounted (bytes held : List ℕ) (io : Traffic) : Type 0 where
   pub progress : Progress
   pub events : List Traced
