@@ -65,6 +65,7 @@ fn erases(state: &State, mirror: u64) -> bool
 {
     state
         .calls
+        .all()
         .iter()
         .any(|call| call.mirror() == mirror && call.has_erased())
 }
@@ -120,24 +121,29 @@ pub(crate) fn own_entries(state: &State, call: &Call) -> bool
 
 /// Whether some breaks `set-sequence`.
 pub(crate) fn some_set_sequence(state: &State) -> bool
-    ensures { result ≡ list_any (callbacks.set_sequence (known_of state.now)) state.now.calls.items }
+    ensures { result ≡ list_any (callbacks.set_sequence (known_of state.now)) state.now.calls }
 {
-    state.calls.iter().any(|call| set_sequence(state, call))
+    state
+        .calls
+        .all()
+        .iter()
+        .any(|call| set_sequence(state, call))
 }
 
 /// Whether all that some left was erased later.
 pub(crate) fn some_late(state: &State) -> bool
-    ensures { result ≡ list_any callbacks.is_late state.now.calls.items }
+    ensures { result ≡ list_any callbacks.is_late state.now.calls }
 {
-    state.calls.iter().any(|call| call.is_late())
+    state.calls.all().iter().any(|call| call.is_late())
 }
 
 /// Whether some breaks `own-events`, if this is so of all callbacks.
 pub(crate) fn some_own_events_if(is_so: bool, state: &State) -> bool
-    ensures { result ≡ list_any (own_events_if is_so (known_of state.now)) state.now.calls.items }
+    ensures { result ≡ list_any (own_events_if is_so (known_of state.now)) state.now.calls }
 {
     state
         .calls
+        .all()
         .iter()
         .any(|call| own_events_if(is_so, state, call))
 }

@@ -6,7 +6,6 @@ ghost use Rattle.hm_protocol.specs.declared.rules.Rule as rule;
 ghost use Rattle.hm_verdicts.specs.Stages.{stage_of};
 ghost use Rattle.hm_verdicts.specs.State.{known_of};
 
-use crate::all_calls::are_over_since;
 use crate::asking::is_look_up;
 use crate::frames::{is_read, is_sole, private_to};
 use crate::looks::Stage;
@@ -107,11 +106,11 @@ fn begin_waits(state: &State, event: &Traced) -> u64
     ensures { result ≡ asks rule.Rule.BeginWaits (known_of state.now) event.now.thread event.now.event }
 {
     match event.event {
-        Event::Begin { mirror, .. } => one_if(are_over_since(
-            &state.calls,
-            mirror,
-            state.last.at(event.thread),
-        )),
+        Event::Begin { mirror, .. } => one_if(
+            state
+                .calls
+                .are_over_since(mirror, state.last.at(event.thread)),
+        ),
         _ => 0,
     }
 }

@@ -79,6 +79,7 @@ fn set_sequence(state: &State) -> Option<u64>
 {
     state
         .calls
+        .all()
         .iter()
         .find(|call| blaming::set_sequence(state, call))
         .map(|call| call.at())
@@ -90,6 +91,7 @@ fn erase_in(is_so: bool, state: &State) -> Option<u64>
 {
     state
         .calls
+        .all()
         .iter()
         .find(|call| blaming::erase_if(is_so, state, call))
         .map(|call| call.at())
@@ -108,6 +110,7 @@ fn erase_some(state: &State) -> Option<u64>
 {
     state
         .calls
+        .all()
         .iter()
         .find(|call| blaming::erase_some(state, call))
         .map(|call| call.at())
@@ -127,6 +130,7 @@ fn erase_in_time(state: &State) -> Option<u64>
 {
     state
         .calls
+        .all()
         .iter()
         .find(|call| call.is_late())
         .map(|call| call.at())
@@ -138,6 +142,7 @@ fn own_events_in(is_so: bool, state: &State) -> Option<u64>
 {
     state
         .calls
+        .all()
         .iter()
         .find(|call| blaming::own_events_if(is_so, state, call))
         .map(|call| call.at())
@@ -156,6 +161,7 @@ fn own_sequence_in(is_so: bool, is_other: bool, state: &State) -> Option<u64>
 {
     state
         .calls
+        .all()
         .iter()
         .find(|call| blaming::own_sequence_if(is_so, is_other, state, call))
         .map(|call| call.at())
@@ -175,6 +181,7 @@ fn own_entries(state: &State) -> Option<u64>
 {
     state
         .calls
+        .all()
         .iter()
         .find(|call| blaming::own_entries(state, call))
         .map(|call| call.at())

@@ -57,10 +57,11 @@ fn sets_sequence(state: &State, call: &Call) -> bool
 
 // How many have.
 fn sequences(state: &State) -> u64
-    ensures { result ≡ count_by (verdicts.sets_sequence (known_of state.now)) state.now.calls.items }
+    ensures { result ≡ count_by (verdicts.sets_sequence (known_of state.now)) state.now.calls }
 {
     state
         .calls
+        .all()
         .iter()
         .filter(|call| sets_sequence(state, call))
         .count() as u64
@@ -75,10 +76,11 @@ fn is_erased(than: u64, state: &State, call: &Call) -> bool
 
 // How many have.
 fn erased(state: &State, than: u64) -> u64
-    ensures { result ≡ count_by (verdicts.is_erased than (known_of state.now)) state.now.calls.items }
+    ensures { result ≡ count_by (verdicts.is_erased than (known_of state.now)) state.now.calls }
 {
     state
         .calls
+        .all()
         .iter()
         .filter(|call| is_erased(than, state, call))
         .count() as u64
@@ -97,10 +99,11 @@ fn is_own_kept(state: &State, call: &Call) -> bool
 
 // How many have.
 fn own(state: &State) -> u64
-    ensures { result ≡ count_by (verdicts.is_own_kept (known_of state.now)) state.now.calls.items }
+    ensures { result ≡ count_by (verdicts.is_own_kept (known_of state.now)) state.now.calls }
 {
     state
         .calls
+        .all()
         .iter()
         .filter(|call| is_own_kept(state, call))
         .count() as u64

@@ -14,6 +14,7 @@ mod frames;
 mod insides;
 mod judge;
 mod keeping;
+mod kept_calls;
 mod looking;
 mod looks;
 mod moves;

@@ -70,6 +70,7 @@ fn first_left(state: &State) -> Option<u64>
 {
     state
         .calls
+        .all()
         .iter()
         .find(|call| may_leave(state, call))
         .map(|call| call.at())
@@ -81,6 +82,7 @@ fn first_some(state: &State) -> Option<u64>
 {
     state
         .calls
+        .all()
         .iter()
         .find(|call| may_leave_some(state, call))
         .map(|call| call.at())
@@ -92,6 +94,7 @@ fn first_late(state: &State) -> Option<u64>
 {
     state
         .calls
+        .all()
         .iter()
         .find(|call| may_leave_late(state, call))
         .map(|call| call.at())
@@ -103,6 +106,7 @@ fn first_own(state: &State) -> Option<u64>
 {
     state
         .calls
+        .all()
         .iter()
         .find(|call| may_leave_own(state, call))
         .map(|call| call.at())
@@ -114,6 +118,7 @@ fn first_without(state: &State) -> Option<u64>
 {
     state
         .calls
+        .all()
         .iter()
         .find(|call| leaves_without(state, call))
         .map(|call| call.at())
@@ -125,6 +130,7 @@ fn first_sequence(state: &State) -> Option<u64>
 {
     state
         .calls
+        .all()
         .iter()
         .find(|call| own_sequence_left(state, call))
         .map(|call| call.at())
