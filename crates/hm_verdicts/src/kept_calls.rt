@@ -14,6 +14,7 @@ use crate::failed::Failed;
 use crate::looks::Look;
 use crate::moves::Move;
 use crate::numbered::Numbered;
+use crate::over::{Over, rest, settle};
 use std::alloc::Global;
 use std::marker::Model;
 
@@ -21,15 +22,19 @@ use std::marker::Model;
 #[derive(Drop)]
 pub struct Calls {
     items: Vec<Call>,
+    over: Over,
 }
 
 impl Model for Calls {
     ghost use Rattle.std.specs.Prelude.{List};
     ghost use Rattle.hm_protocol.specs.Known as known;
+    ghost use Rattle.hm_verdicts.specs.Settled.{First, IsOver};
 
     ghost Value = { List known.Call };
 
     ghost view = { λ s. s.items.items };
+
+    ghost invariant = { λ s. First (IsOver s.over) s.over.count s.items.items };
 }
 
 impl Calls {
@@ -39,6 +44,7 @@ impl Calls {
     {
         Calls {
             items: Vec::new(alloc),
+            over: Over::new(),
         }
     }
 
@@ -53,7 +59,10 @@ impl Calls {
     pub(crate) fn push(&mut self, call: Call) -> Result<(), Failed>
         ensures { OnOk result (self.new ≡ self.old ++ call ∷ []) }
     {
+        let over = self.over;
+        self.over = over.none();
         self.items.push(call)?;
+        self.over = over;
         Ok(())
     }
 
@@ -63,14 +72,20 @@ impl Calls {
     pub(crate) fn end(&mut self, begun: u64, at: u64) -> Result<(), Failed>
         ensures { OnOk result (self.new ≡ map (after_end begun at) self.old) }
     {
-        all_calls::end(&mut self.items, begun, at)
+        let over = self.over;
+        self.over = over.none();
+        self.over = all_calls::end(&mut self.items, over, begun, at)?;
+        Ok(())
     }
 
     /// Another entry is set.
     pub(crate) fn set_over(&mut self, mirror: u64, page: u64) -> Result<(), Failed>
         ensures { OnOk result (self.new ≡ map (after_set mirror page) self.old) }
     {
-        all_calls::set_over(&mut self.items, mirror, page)
+        let over = self.over;
+        self.over = over.none();
+        self.over = all_calls::set_over(&mut self.items, over, mirror, page)?;
+        Ok(())
     }
 
     /// A thread, which has these migrations, the oldest first, erases the entry of a page.
@@ -86,7 +101,10 @@ impl Calls {
             (list_any (λ y. (y.thread == thread) && is_none y.after) self.old)
             (reverse moves.now) thread mirror page) self.old) }
     {
-        all_calls::erase(&mut self.items, thread, devices, moves, mirror, page)
+        let over = self.over;
+        self.over = over.none();
+        self.over = all_calls::erase(&mut self.items, over, thread, devices, moves, mirror, page)?;
+        Ok(())
     }
 
     /// The inner migration of a thread, of those that are kept the oldest first, knows what moved.
@@ -99,7 +117,11 @@ impl Calls {
     ) -> Result<(), Failed>
         ensures { OnOk result (self.new ≡ paged_in (values_in devices.now) thread (reverse moves.now) self.old) }
     {
-        all_calls::know_inner(alloc, &mut self.items, devices, thread, moves)
+        let over = self.over;
+        self.over = over.none();
+        all_calls::know_inner(alloc, &mut self.items, devices, thread, moves)?;
+        self.over = over;
+        Ok(())
     }
 
     /// Each callback returns that the thread is in, which has these migrations, the oldest first.
@@ -115,7 +137,11 @@ impl Calls {
         ensures { OnOk result (self.new
             ≡ map (returned_in at seq self.old (reverse moves.now) thread mirror) self.old) }
     {
-        all_calls::return_all(alloc, &mut self.items, moves, thread, mirror, at, seq)
+        let over = self.over;
+        self.over = over.none();
+        all_calls::return_all(alloc, &mut self.items, over, moves, thread, mirror, at, seq)?;
+        self.over = settle(&self.items, over);
+        Ok(())
     }
 
     /// The callback that the thread is in was none.
@@ -131,55 +157,67 @@ impl Calls {
     pub(crate) fn begun(&self, thread: u64, mirror: u64) -> Option<u64>
         ensures { result ≡ began (find (known.is_current thread mirror) self.now) }
     {
-        all_calls::begun(&self.items, thread, mirror)
+        all_calls::begun(rest(&self.items, self.over.count), thread, mirror)
     }
 
     /// Whether some has returned in this mirror, and its invalidation is under way.
     pub(crate) fn are_telling(&self, mirror: u64) -> bool
         ensures { result ≡ list_any (known.is_telling mirror) self.now }
     {
-        all_calls::are_telling(&self.items, mirror)
+        all_calls::are_telling(rest(&self.items, self.over.count), mirror)
     }
 
     /// Whether the mirror is being invalidated, and its interval has that sequence.
     pub(crate) fn are_invalidating(&self, mirror: u64) -> bool
         ensures { result ≡ list_any (λ x. known.is_telling mirror x && is_it x.after x.seq) self.now }
     {
-        all_calls::are_invalidating(&self.items, mirror)
+        all_calls::are_invalidating(rest(&self.items, self.over.count), mirror)
     }
 
     /// Whether some invalidation of the mirror under way has this sequence.
     pub(crate) fn are_early(&self, mirror: u64, seq: u64) -> bool
         ensures { result ≡ list_any (λ x. known.is_telling mirror x && (x.seq == seq)) self.now }
     {
-        all_calls::are_early(&self.items, mirror, seq)
+        all_calls::are_early(rest(&self.items, self.over.count), mirror, seq)
     }
 
     /// Whether some of the mirror has returned, and its invalidation has ended after this position.
     pub(crate) fn are_over_since(&self, mirror: u64, last: u64) -> bool
         ensures { result ≡ are_over_since mirror last self.now }
     {
-        all_calls::are_over_since(&self.items, mirror, last)
+        all_calls::are_over_since(rest(&self.items, self.over.ended_by(last)), mirror, last)
     }
 
     /// Whether the look-up meets some callback.
     pub(crate) fn are_met(&self, mirror: u64, look: &Look) -> bool
         ensures { result ≡ list_any (known.meets look.now mirror) self.now }
     {
-        all_calls::are_met(&self.items, mirror, look)
+        all_calls::are_met(
+            rest(&self.items, self.over.until(look.begun())),
+            mirror,
+            look,
+        )
     }
 
     /// Whether it meets one whose invalidation is under way.
     pub(crate) fn are_met_under_way(&self, mirror: u64, look: &Look) -> bool
         ensures { result ≡ list_any (λ x. known.meets look.now mirror x && known.goes_on x) self.now }
     {
-        all_calls::are_met_under_way(&self.items, mirror, look)
+        all_calls::are_met_under_way(
+            rest(&self.items, self.over.until(look.begun())),
+            mirror,
+            look,
+        )
     }
 
     /// Whether each that it meets was over when its last walk ended.
     pub(crate) fn are_past(&self, mirror: u64, look: &Look) -> bool
         ensures { result ≡ list_all (λ x. not (known.meets look.now mirror x) || is_past look.now x) self.now }
     {
-        all_calls::are_past(&self.items, mirror, look)
+        all_calls::are_past(
+            rest(&self.items, self.over.until(look.begun())),
+            mirror,
+            look,
+        )
     }
 }

@@ -25,6 +25,7 @@ mod noting_calls;
 mod noting_looks;
 mod noting_moves;
 mod numbered;
+mod over;
 mod pages;
 mod saying;
 mod slots;
