@@ -13,7 +13,7 @@ use Rattle.hm_protocol.specs.Verdicts.{asks, asked, joined}
 use Rattle.hm_verdicts.specs.Asking.{breaks_at}
 use Rattle.hm_verdicts.specs.Ending.{fails_at_end}
 use Rattle.hm_verdicts.specs.Saying.{verdict_by}
-use Rattle.hm_verdicts.specs.State.{known_of}
+use Rattle.hm_verdicts.specs.Knowledge.{known_of}
 use Rattle.hm_verdicts.specs.declared.judge.Count.{Count}
 use Rattle.hm_verdicts.specs.declared.judge.Judge.{Judge}
 
@@ -38,7 +38,7 @@ count_next k s c = record c { broken = broken_by k s c; asked = c.asked + asks c
 
 -- the judge has gone on by these events
 pub record Follows (j : Judge) (es : List Traced) : Type 0 where
-  pub state : known_of j.state ≡ known es
+  pub knowledge : known_of j.knowledge ≡ known es
   pub counts : j.counts.items ≡ map (count_of es) all_rules
 
 -- none of these rules is broken in the end

@@ -10,4 +10,4 @@ pub mod Numbers
 pub mod Saying
 pub mod Settled
 pub mod Stages
-pub mod State
+pub mod Knowledge

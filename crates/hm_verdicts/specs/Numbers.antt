@@ -5,7 +5,7 @@ use Rattle.std.specs.BTreeMap as tree
 use Rattle.hm_verdicts.specs.declared.numbered.Numbered.{Numbered}
 use Rattle.hm_verdicts.specs.declared.flags.Flags.{Flags}
 use Rattle.hm_verdicts.specs.declared.flags.Positions.{Positions}
-use Rattle.hm_verdicts.specs.declared.stacks.Stacks.{Stacks}
+use Rattle.hm_verdicts.specs.declared.of_threads.OfThreads.{OfThreads}
 
 -- the value of a number
 abbrev pub values_in : {V : Type 0} → Numbered V → ℕ → Option V
@@ -20,5 +20,5 @@ abbrev pub positions_in : Positions → ℕ → ℕ
 positions_in x k = unwrap_or (values_in x.positions k) 0
 
 -- the stack of a number
-abbrev pub stacks_in : {T : Type 0} → Stacks T → ℕ → List T
-stacks_in x k = unwrap_or (values_in x.stacks k) []
+abbrev pub of_threads_in : {T : Type 0} → OfThreads T → ℕ → List T
+of_threads_in x k = unwrap_or (values_in x.threads k) []

@@ -14,9 +14,9 @@ use crate::calls::{Call, Eraser};
 use crate::failed::Failed;
 use crate::looks::Look;
 use crate::moves::{Move, are_placing, inner};
+use crate::newest_first::{Changes, change_items};
 use crate::numbered::Numbered;
 use crate::over::{Over, change, rest};
-use crate::stack::{Changes, change_items};
 use hm_protocol::TraceSpan;
 use std::alloc::Global;
 

@@ -6,47 +6,47 @@ ghost use Rattle.hm_protocol.specs.Tests as tests;
 ghost use Rattle.hm_protocol.specs.Words as words;
 ghost use Rattle.hm_verdicts.specs.Asking.{breaks_at};
 ghost use Rattle.hm_verdicts.specs.Stages.{stage_of};
-ghost use Rattle.hm_verdicts.specs.State.{known_of};
+ghost use Rattle.hm_verdicts.specs.Knowledge.{known_of};
 
 use crate::frames::{are_of, device_of, is_sole, is_write, private_to};
+use crate::knowledge::Knowledge;
 use crate::looks::Stage;
 use crate::moves::{is_migrated, keeps_lost, sets, sets_read, sets_stayed};
 use crate::slots::{are_read, are_sole};
-use crate::state::State;
 use hm_history::TableRight;
 use hm_protocol::{Event, Rule, Traced};
 
 /// Whether the event breaks the rule.
-pub(crate) fn breaks(state: &State, rule: Rule, event: &Traced) -> bool
-    ensures { result ≡ breaks_at rule (known_of state.now) event.now }
+pub(crate) fn breaks(knowledge: &Knowledge, rule: Rule, event: &Traced) -> bool
+    ensures { result ≡ breaks_at rule (known_of knowledge.now) event.now }
 {
     match rule {
-        Rule::EntryRight => entry_right(state, event),
+        Rule::EntryRight => entry_right(knowledge, event),
         Rule::MmapLock => mmap_lock(event),
-        Rule::OwnDevice => own_device(state, event),
-        Rule::BeginFirst => begin_first(state, event),
-        Rule::StopAtDetach => stop_at_detach(state, event),
-        Rule::WriteEntry => write_entry(state, event),
-        Rule::DetachWaits => detach_waits(state, event),
-        Rule::SetMoved => set_moved(state, event),
-        Rule::SetRight => set_right(state, event),
-        Rule::SetUnlessInvalidated => set_unless_invalidated(state, event),
-        Rule::DropLost => drop_lost(state, event),
-        Rule::TakeFromThere => take_from_there(state, event),
-        Rule::EvictFirst => evict_first(state, event),
-        Rule::WithdrawFirst => withdraw_first(state, event),
-        Rule::WaitForLocked => wait_for_locked(state, event),
-        Rule::ExclusiveWaits => exclusive_waits(state, event),
-        Rule::LookAgain => look_again(state, event),
+        Rule::OwnDevice => own_device(knowledge, event),
+        Rule::BeginFirst => begin_first(knowledge, event),
+        Rule::StopAtDetach => stop_at_detach(knowledge, event),
+        Rule::WriteEntry => write_entry(knowledge, event),
+        Rule::DetachWaits => detach_waits(knowledge, event),
+        Rule::SetMoved => set_moved(knowledge, event),
+        Rule::SetRight => set_right(knowledge, event),
+        Rule::SetUnlessInvalidated => set_unless_invalidated(knowledge, event),
+        Rule::DropLost => drop_lost(knowledge, event),
+        Rule::TakeFromThere => take_from_there(knowledge, event),
+        Rule::EvictFirst => evict_first(knowledge, event),
+        Rule::WithdrawFirst => withdraw_first(knowledge, event),
+        Rule::WaitForLocked => wait_for_locked(knowledge, event),
+        Rule::ExclusiveWaits => exclusive_waits(knowledge, event),
+        Rule::LookAgain => look_again(knowledge, event),
         _ => false,
     }
 }
 
 /// Whether a thread's `Set` of this page, with this right, is by its look-up.
-pub(crate) fn is_look_up(state: &State, thread: u64, page: u64, right: TableRight) -> bool
-    ensures { result ≡ known.is_look_up (known_of state.now) thread page right }
+pub(crate) fn is_look_up(knowledge: &Knowledge, thread: u64, page: u64, right: TableRight) -> bool
+    ensures { result ≡ known.is_look_up (known_of knowledge.now) thread page right }
 {
-    !is_sole(right) && !is_migrated(state.moves.oldest_first(thread), page)
+    !is_sole(right) && !is_migrated(knowledge.moves.oldest_first(thread), page)
 }
 
 // Whether a look-up has begun, and not walked since.
@@ -69,8 +69,8 @@ fn is_other(it: Option<u64>, other: u64) -> bool
 // ---- look-ups
 
 // A look-up is committed that has not walked since its `Begin`.
-fn begin_first(state: &State, event: &Traced) -> bool
-    ensures { result ≡ tests.begin_first (known_of state.now) event.now }
+fn begin_first(knowledge: &Knowledge, event: &Traced) -> bool
+    ensures { result ≡ tests.begin_first (known_of knowledge.now) event.now }
 {
     match event.event {
         Event::Set {
@@ -79,8 +79,8 @@ fn begin_first(state: &State, event: &Traced) -> bool
             right,
             ..
         } => {
-            is_look_up(state, event.thread, page, right)
-                && is_begun(state.looks.stage(event.thread, mirror))
+            is_look_up(knowledge, event.thread, page, right)
+                && is_begun(knowledge.looks.stage(event.thread, mirror))
         }
         _ => false,
     }
@@ -97,8 +97,8 @@ fn mmap_lock(event: &Traced) -> bool
 }
 
 // A page that was found for reads is set for writes.
-fn entry_right(state: &State, event: &Traced) -> bool
-    ensures { result ≡ tests.entry_right (known_of state.now) event.now }
+fn entry_right(knowledge: &Knowledge, event: &Traced) -> bool
+    ensures { result ≡ tests.entry_right (known_of knowledge.now) event.now }
 {
     match event.event {
         Event::Set {
@@ -108,21 +108,21 @@ fn entry_right(state: &State, event: &Traced) -> bool
             ..
         } => {
             is_write(right)
-                && is_look_up(state, event.thread, page, right)
-                && state.looks.has_found(event.thread, mirror, page, false)
+                && is_look_up(knowledge, event.thread, page, right)
+                && knowledge.looks.has_found(event.thread, mirror, page, false)
         }
         _ => false,
     }
 }
 
 // Another device's private frame is set.
-fn own_device(state: &State, event: &Traced) -> bool
-    ensures { result ≡ tests.own_device (known_of state.now) event.now }
+fn own_device(knowledge: &Knowledge, event: &Traced) -> bool
+    ensures { result ≡ tests.own_device (known_of knowledge.now) event.now }
 {
     match event.event {
         Event::Set { mirror, frame, .. } => match private_to(frame) {
             None => false,
-            Some(device) => is_other(state.device.get(mirror).copied(), device),
+            Some(device) => is_other(knowledge.device.get(mirror).copied(), device),
         },
         _ => false,
     }
@@ -131,59 +131,59 @@ fn own_device(state: &State, event: &Traced) -> bool
 // ---- the table
 
 // A write goes through an entry for reads.
-fn write_entry(state: &State, event: &Traced) -> bool
-    ensures { result ≡ tests.write_entry (known_of state.now) event.now }
+fn write_entry(knowledge: &Knowledge, event: &Traced) -> bool
+    ensures { result ≡ tests.write_entry (known_of knowledge.now) event.now }
 {
     match event.event {
         Event::Use {
             mirror,
             span,
             writes,
-        } => writes && are_read(&state.slots, mirror, span),
+        } => writes && are_read(&knowledge.slots, mirror, span),
         _ => false,
     }
 }
 
 // The table is set or used after the removal.
-fn stop_at_detach(state: &State, event: &Traced) -> bool
-    ensures { result ≡ tests.stop_at_detach (known_of state.now) event.now }
+fn stop_at_detach(knowledge: &Knowledge, event: &Traced) -> bool
+    ensures { result ≡ tests.stop_at_detach (known_of knowledge.now) event.now }
 {
     match event.event {
         Event::Use { mirror, .. } | Event::Set { mirror, .. } | Event::Add { mirror, .. } => {
-            state.gone.has(mirror)
+            knowledge.gone.has(mirror)
         }
         _ => false,
     }
 }
 
 // A removal returns while the mirror is told of an invalidation.
-fn detach_waits(state: &State, event: &Traced) -> bool
-    ensures { result ≡ tests.detach_waits (known_of state.now) event.now }
+fn detach_waits(knowledge: &Knowledge, event: &Traced) -> bool
+    ensures { result ≡ tests.detach_waits (known_of knowledge.now) event.now }
 {
     match event.event {
-        Event::Removed { mirror } => state.calls.are_telling(mirror),
+        Event::Removed { mirror } => knowledge.calls.are_telling(mirror),
         _ => false,
     }
 }
 
 // A page for one actor is set while the mirror is invalidated.
-fn exclusive_waits(state: &State, event: &Traced) -> bool
-    ensures { result ≡ tests.exclusive_waits (known_of state.now) event.now }
+fn exclusive_waits(knowledge: &Knowledge, event: &Traced) -> bool
+    ensures { result ≡ tests.exclusive_waits (known_of knowledge.now) event.now }
 {
     match event.event {
         Event::Set { mirror, right, .. } => {
-            is_sole(right) && state.calls.are_invalidating(mirror)
+            is_sole(right) && knowledge.calls.are_invalidating(mirror)
         }
         _ => false,
     }
 }
 
 // An addition to an entry that is not there for one actor.
-fn look_again(state: &State, event: &Traced) -> bool
-    ensures { result ≡ tests.look_again (known_of state.now) event.now }
+fn look_again(knowledge: &Knowledge, event: &Traced) -> bool
+    ensures { result ≡ tests.look_again (known_of knowledge.now) event.now }
 {
     match event.event {
-        Event::Add { mirror, page } => !are_sole(&state.slots, mirror, page),
+        Event::Add { mirror, page } => !are_sole(&knowledge.slots, mirror, page),
         _ => false,
     }
 }
@@ -191,32 +191,32 @@ fn look_again(state: &State, event: &Traced) -> bool
 // ---- migrations
 
 // The new frame of a page that stayed is set.
-fn set_moved(state: &State, event: &Traced) -> bool
-    ensures { result ≡ tests.set_moved (known_of state.now) event.now }
+fn set_moved(knowledge: &Knowledge, event: &Traced) -> bool
+    ensures { result ≡ tests.set_moved (known_of knowledge.now) event.now }
 {
     match event.event {
         Event::Set { page, right, .. } => {
-            sets_stayed(state.moves.oldest_first(event.thread), page, right)
+            sets_stayed(knowledge.moves.oldest_first(event.thread), page, right)
         }
         _ => false,
     }
 }
 
 // A page that was collected for reads is set for writes.
-fn set_right(state: &State, event: &Traced) -> bool
-    ensures { result ≡ tests.set_right (known_of state.now) event.now }
+fn set_right(knowledge: &Knowledge, event: &Traced) -> bool
+    ensures { result ≡ tests.set_right (known_of knowledge.now) event.now }
 {
     match event.event {
         Event::Set { page, right, .. } => {
-            is_write(right) && sets_read(state.moves.oldest_first(event.thread), page, right)
+            is_write(right) && sets_read(knowledge.moves.oldest_first(event.thread), page, right)
         }
         _ => false,
     }
 }
 
 // A page that moved is set while the mirror is invalidated.
-fn set_unless_invalidated(state: &State, event: &Traced) -> bool
-    ensures { result ≡ tests.set_unless_invalidated (known_of state.now) event.now }
+fn set_unless_invalidated(knowledge: &Knowledge, event: &Traced) -> bool
+    ensures { result ≡ tests.set_unless_invalidated (known_of knowledge.now) event.now }
 {
     match event.event {
         Event::Set {
@@ -225,19 +225,19 @@ fn set_unless_invalidated(state: &State, event: &Traced) -> bool
             right,
             ..
         } => {
-            sets(state.moves.oldest_first(event.thread), page, right)
-                && state.calls.are_invalidating(mirror)
+            sets(knowledge.moves.oldest_first(event.thread), page, right)
+                && knowledge.calls.are_invalidating(mirror)
         }
         _ => false,
     }
 }
 
 // A migration to a device ends, and has not freed the frame of a page that stayed.
-fn drop_lost(state: &State, event: &Traced) -> bool
-    ensures { result ≡ tests.drop_lost (known_of state.now) event.now }
+fn drop_lost(knowledge: &Knowledge, event: &Traced) -> bool
+    ensures { result ≡ tests.drop_lost (known_of knowledge.now) event.now }
 {
     match event.event {
-        Event::Finalize { .. } => keeps_lost(state.moves.oldest_first(event.thread)),
+        Event::Finalize { .. } => keeps_lost(knowledge.moves.oldest_first(event.thread)),
         _ => false,
     }
 }
@@ -245,51 +245,51 @@ fn drop_lost(state: &State, event: &Traced) -> bool
 // ---- devices
 
 // A frame of a withdrawn device is taken.
-fn take_from_there(state: &State, event: &Traced) -> bool
-    ensures { result ≡ tests.take_from_there (known_of state.now) event.now }
+fn take_from_there(knowledge: &Knowledge, event: &Traced) -> bool
+    ensures { result ≡ tests.take_from_there (known_of knowledge.now) event.now }
 {
     match event.event {
         Event::Take { frame } => match device_of(frame) {
             None => false,
-            Some(device) => state.withdrawn.has(device),
+            Some(device) => knowledge.withdrawn.has(device),
         },
         _ => false,
     }
 }
 
 // A withdrawn device goes with frames held.
-fn goes_held(state: &State, device: u64) -> bool
-    ensures { result ≡ tests.goes_held (known_of state.now) device }
+fn goes_held(knowledge: &Knowledge, device: u64) -> bool
+    ensures { result ≡ tests.goes_held (known_of knowledge.now) device }
 {
-    state.withdrawn.has(device) && are_of(&state.held, device)
+    knowledge.withdrawn.has(device) && are_of(&knowledge.held, device)
 }
 
 // None of them was passed over.
-fn evict_first(state: &State, event: &Traced) -> bool
-    ensures { result ≡ tests.evict_first (known_of state.now) event.now }
+fn evict_first(knowledge: &Knowledge, event: &Traced) -> bool
+    ensures { result ≡ tests.evict_first (known_of knowledge.now) event.now }
 {
     match event.event {
-        Event::Gone { device } => !state.passed.has(device) && goes_held(state, device),
+        Event::Gone { device } => !knowledge.passed.has(device) && goes_held(knowledge, device),
         _ => false,
     }
 }
 
 // Some were.
-fn wait_for_locked(state: &State, event: &Traced) -> bool
-    ensures { result ≡ tests.wait_for_locked (known_of state.now) event.now }
+fn wait_for_locked(knowledge: &Knowledge, event: &Traced) -> bool
+    ensures { result ≡ tests.wait_for_locked (known_of knowledge.now) event.now }
 {
     match event.event {
-        Event::Gone { device } => state.passed.has(device) && goes_held(state, device),
+        Event::Gone { device } => knowledge.passed.has(device) && goes_held(knowledge, device),
         _ => false,
     }
 }
 
 // A device goes that was not withdrawn.
-fn withdraw_first(state: &State, event: &Traced) -> bool
-    ensures { result ≡ tests.withdraw_first (known_of state.now) event.now }
+fn withdraw_first(knowledge: &Knowledge, event: &Traced) -> bool
+    ensures { result ≡ tests.withdraw_first (known_of knowledge.now) event.now }
 {
     match event.event {
-        Event::Gone { device } => !state.withdrawn.has(device),
+        Event::Gone { device } => !knowledge.withdrawn.has(device),
         _ => false,
     }
 }

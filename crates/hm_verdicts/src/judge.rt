@@ -4,13 +4,13 @@ ghost use Rattle.hm_protocol.specs.Rules.{all_rules};
 ghost use Rattle.hm_protocol.specs.declared.events.Traced.{Traced as AnyTraced};
 ghost use Rattle.std.specs.Prelude.{List};
 ghost use Rattle.hm_verdicts.specs.Judging.{count_start, count_next, Follows};
-ghost use Rattle.hm_verdicts.specs.State.{known_of};
+ghost use Rattle.hm_verdicts.specs.Knowledge.{known_of};
 
 use crate::asking::breaks;
 use crate::counting::asks;
 use crate::failed::Failed;
-use crate::stack::{Changes, change_items};
-use crate::state::State;
+use crate::knowledge::Knowledge;
+use crate::newest_first::{Changes, change_items};
 use hm_protocol::{Rule, Traced};
 use std::alloc::Global;
 
@@ -56,25 +56,25 @@ pub struct Count {
 // An event, after what is known.
 #[derive(Drop)]
 struct Next<'a> {
-    state: &'a State,
+    knowledge: &'a Knowledge,
     event: &'a Traced,
 }
 
 impl<'a> Changes<Count> for Next<'a> {
     ghost use Rattle.hm_verdicts.specs.Judging.{count_next};
-    ghost use Rattle.hm_verdicts.specs.State.{known_of};
+    ghost use Rattle.hm_verdicts.specs.Knowledge.{known_of};
 
-    ghost made = { λ s. count_next (known_of s.state.now) s.event.now };
+    ghost made = { λ s. count_next (known_of s.knowledge.now) s.event.now };
 
     fn change(&self, count: &mut Count) -> Result<(), Failed> {
         let Some(asked) = count
             .asked
-            .checked_add(asks(self.state, count.rule, self.event))
+            .checked_add(asks(self.knowledge, count.rule, self.event))
         else {
             return Err(Failed::TooLong);
         };
-        if count.broken.is_none() && breaks(self.state, count.rule, self.event) {
-            count.broken = Some(self.state.at);
+        if count.broken.is_none() && breaks(self.knowledge, count.rule, self.event) {
+            count.broken = Some(self.knowledge.at);
         }
         count.asked = asked;
         Ok(())
@@ -84,7 +84,7 @@ impl<'a> Changes<Count> for Next<'a> {
 /// Judges a trace, event by event.
 #[derive(Drop)]
 pub struct Judge {
-    pub(crate) state: State,
+    pub(crate) knowledge: Knowledge,
     pub(crate) counts: Vec<Count>,
 }
 
@@ -110,7 +110,7 @@ impl Judge {
     {
         let counts = counts_start(alloc)?;
         Ok(Judge {
-            state: State::new(alloc),
+            knowledge: Knowledge::new(alloc),
             counts,
         })
     }
@@ -121,11 +121,11 @@ impl Judge {
             → OnOk result (Follows self.new (es ++ event.now ∷ [])) }
     {
         let next = Next {
-            state: &self.state,
+            knowledge: &self.knowledge,
             event,
         };
         change_items(&mut self.counts, &next)?;
-        self.state.note(event)?;
+        self.knowledge.note(event)?;
         Ok(())
     }
 }

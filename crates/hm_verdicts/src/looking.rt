@@ -10,8 +10,8 @@ use crate::failed::Failed;
 use crate::insides::Early;
 use crate::kept_calls::Calls;
 use crate::looks::Look;
+use crate::newest_first::{Changes, change_items};
 use crate::numbered::Numbered;
-use crate::stack::{Changes, change_items};
 
 /// The look-up is given up by the next one, if it has walked and set nothing, and its mirror was told.
 pub(crate) fn give_up(

@@ -8,8 +8,8 @@ ghost use Rattle.hm_verdicts.specs.Looking.{reads_itself, walked_by};
 
 use crate::calls::Call;
 use crate::failed::Failed;
+use crate::newest_first::NewestFirst;
 use crate::numbered::Numbered;
-use crate::stack::Stack;
 use std::alloc::Global;
 use std::marker::Model;
 
@@ -33,7 +33,7 @@ pub struct Look {
     /// Where the last walk went through.
     walked: Option<u64>,
     /// The pages that it found, and whether for writes.
-    found: Stack<(u64, bool)>,
+    found: NewestFirst<(u64, bool)>,
     /// One of them was set.
     set: bool,
 }
@@ -67,7 +67,7 @@ impl Look {
             seq: 0,
             itself: false,
             walked: None,
-            found: Stack::new(alloc),
+            found: NewestFirst::new(alloc),
             set: false,
         }
     }
@@ -164,7 +164,7 @@ impl Look {
     {
         let reads_itself = self.reads_itself(seq);
         if reads_itself || self.stage == Stage::Begun || self.set {
-            self.found = Stack::new(alloc);
+            self.found = NewestFirst::new(alloc);
         }
         if reads_itself {
             self.begun = Some(at);

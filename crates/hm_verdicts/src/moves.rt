@@ -8,8 +8,8 @@ ghost use Rattle.hm_verdicts.specs.Changes.{is_placing};
 mod inner;
 
 use crate::failed::Failed;
+use crate::newest_first::NewestFirst;
 use crate::pages::overlap;
-use crate::stack::Stack;
 use hm_protocol::{TraceFrame, TraceSpan};
 pub(crate) use inner::{
     freed_stayed, inner, is_migrated, keeps_lost, leaves_moved, sets, sets_read, sets_stayed,
@@ -26,14 +26,14 @@ pub struct Move {
     span: TraceSpan,
     to_device: bool,
     /// The pages, and whether for writes.
-    source: Stack<(u64, bool)>,
-    moved: Stack<u64>,
-    stayed: Stack<(u64, TraceFrame)>,
+    source: NewestFirst<(u64, bool)>,
+    moved: NewestFirst<u64>,
+    stayed: NewestFirst<(u64, TraceFrame)>,
     /// What moved is known.
     paged: bool,
     /// The pages that were set after that.
-    set: Stack<u64>,
-    freed: Stack<TraceFrame>,
+    set: NewestFirst<u64>,
+    freed: NewestFirst<TraceFrame>,
 }
 
 impl Model for Move {
@@ -110,12 +110,12 @@ impl Move {
             at,
             span,
             to_device,
-            source: Stack::new(alloc),
-            moved: Stack::new(alloc),
-            stayed: Stack::new(alloc),
+            source: NewestFirst::new(alloc),
+            moved: NewestFirst::new(alloc),
+            stayed: NewestFirst::new(alloc),
             paged: false,
-            set: Stack::new(alloc),
-            freed: Stack::new(alloc),
+            set: NewestFirst::new(alloc),
+            freed: NewestFirst::new(alloc),
         }
     }
 

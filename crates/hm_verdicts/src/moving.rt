@@ -4,7 +4,7 @@ ghost use Rattle.hm_protocol.specs.Known as known;
 
 use crate::failed::Failed;
 use crate::moves::Move;
-use crate::stack::Changes;
+use crate::newest_first::Changes;
 use hm_protocol::TraceFrame;
 
 /// A page that was collected, and whether for writes.

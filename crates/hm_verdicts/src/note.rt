@@ -2,13 +2,13 @@
 ghost use Rattle.std.specs.Prelude.{◌≡◌, false, OnOk};
 ghost use Rattle.hm_protocol.specs.Noted.{noted, known_next};
 ghost use Rattle.hm_verdicts.specs.Kinds.{is_of_notifiers, is_of_mirrors};
-ghost use Rattle.hm_verdicts.specs.State.{known_of};
+ghost use Rattle.hm_verdicts.specs.Knowledge.{known_of};
 
 use crate::failed::Failed;
-use crate::state::State;
+use crate::knowledge::Knowledge;
 use hm_protocol::{Event, Traced};
 
-impl State {
+impl Knowledge {
     // What an event of a migration or of a frame makes of what is known, or one that makes nothing of it.
     fn note_other(&mut self, thread: u64, event: &Event) -> Result<(), Failed>
         requires { is_of_mirrors event.now ≡ false }

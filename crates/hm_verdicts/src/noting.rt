@@ -2,15 +2,15 @@
 ghost use Rattle.std.specs.Prelude.{◌≡◌, OnOk};
 ghost use Rattle.hm_protocol.specs.declared.events.Event.{Event as AnyEvent};
 ghost use Rattle.hm_protocol.specs.Noted.{noted, known_next, withdraw, pass_over, held_more, over};
-ghost use Rattle.hm_verdicts.specs.State.{known_of};
+ghost use Rattle.hm_verdicts.specs.Knowledge.{known_of};
 
 use crate::failed::Failed;
 use crate::insides::Inside;
-use crate::state::State;
+use crate::knowledge::Knowledge;
 use crate::{frames, table};
 use hm_protocol::{Event, Reason, TraceFrame, TraceSpan, Traced};
 
-impl State {
+impl Knowledge {
     // An interval is about to be inserted.
     pub(crate) fn insert(
         &mut self,

@@ -2,13 +2,13 @@
 ghost use Rattle.std.specs.Prelude.{◌≡◌, true, false, OnOk, reverse, find, option_map, ◌==◌, ◌&&◌};
 ghost use Rattle.hm_protocol.specs.declared.events.Event.{Event as AnyEvent};
 ghost use Rattle.hm_protocol.specs.Noted.{noted, over, inside, migrates_for};
-ghost use Rattle.hm_verdicts.specs.State.{known_of};
+ghost use Rattle.hm_verdicts.specs.Knowledge.{known_of};
 
 use crate::calls::Call;
 use crate::failed::Failed;
 use crate::insides::Inside;
-use crate::stack::Passes;
-use crate::state::State;
+use crate::knowledge::Knowledge;
+use crate::newest_first::Passes;
 use crate::table;
 use hm_protocol::{Reason, TraceSpan};
 
@@ -57,7 +57,7 @@ impl Passes<Inside> for BegunAt {
     }
 }
 
-impl State {
+impl Knowledge {
     // An invalidation begins.
     pub(crate) fn start(
         &mut self,

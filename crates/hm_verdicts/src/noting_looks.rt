@@ -3,13 +3,13 @@ ghost use Rattle.std.specs.Prelude.{◌≡◌, OnOk};
 ghost use Rattle.hm_protocol.specs.declared.events.Event.{Event as AnyEvent};
 ghost use Rattle.hm_protocol.specs.declared.events.TraceFrame.{TraceFrame};
 ghost use Rattle.hm_protocol.specs.Noted.{noted, begin, walk, commit};
-ghost use Rattle.hm_verdicts.specs.State.{known_of};
+ghost use Rattle.hm_verdicts.specs.Knowledge.{known_of};
 
 use crate::failed::Failed;
+use crate::knowledge::Knowledge;
 use crate::looking::{follow, give_up, give_up_by_walk, learn_device, note_early, note_stale};
-use crate::state::State;
 
-impl State {
+impl Knowledge {
     // A look-up begins.
     pub(crate) fn begin(&mut self, thread: u64, mirror: u64, seq: u64) -> Result<(), Failed>
         ensures { OnOk result (known_of self.new ≡ begin (known_of self.old) thread mirror seq) }

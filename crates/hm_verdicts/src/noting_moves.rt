@@ -3,20 +3,20 @@ ghost use Rattle.std.specs.Prelude.{◌≡◌, OnOk, false};
 ghost use Rattle.hm_history.specs.declared.TableRight.{TableRight as AnyRight};
 ghost use Rattle.hm_protocol.specs.declared.events.Event.{Event as AnyEvent};
 ghost use Rattle.hm_protocol.specs.Noted.{noted};
-ghost use Rattle.hm_verdicts.specs.State.{known_of};
+ghost use Rattle.hm_verdicts.specs.Knowledge.{known_of};
 
 use crate::asking::is_look_up;
 use crate::failed::Failed;
 use crate::frames::is_sole;
+use crate::knowledge::Knowledge;
 use crate::moves::Move;
 use crate::moving::{Collected, Freed, Known, Moved, PageSet, Stayed};
 use crate::slots::Slot;
-use crate::state::State;
 use crate::{frames, table};
 use hm_history::TableRight;
 use hm_protocol::{TraceFrame, TraceSpan};
 
-impl State {
+impl Knowledge {
     // A migration has collected its pages.
     pub(crate) fn set_up(
         &mut self,

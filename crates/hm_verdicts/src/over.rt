@@ -6,7 +6,7 @@ ghost use Rattle.hm_verdicts.specs.Settled.{First, IsOver, is_settled};
 
 use crate::calls::Call;
 use crate::failed::Failed;
-use crate::stack::{Changes, change_from};
+use crate::newest_first::{Changes, change_from};
 
 /// How many of the first callbacks are over, and bounds of their numbers.
 #[derive(Clone, Copy)]

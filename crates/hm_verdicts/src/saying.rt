@@ -2,10 +2,10 @@
 ghost use Rattle.std.specs.Prelude.{◌≡◌};
 ghost use Rattle.hm_protocol.specs.Verdicts as verdicts;
 ghost use Rattle.hm_verdicts.specs.Saying.{kept_by, may_break_by, unbroken_by, verdict_by};
-ghost use Rattle.hm_verdicts.specs.State.{known_of};
+ghost use Rattle.hm_verdicts.specs.Knowledge.{known_of};
 
 use crate::keeping::kept_in_end;
-use crate::state::State;
+use crate::knowledge::Knowledge;
 use crate::suspecting::suspect;
 use hm_protocol::{Recorded, Rule, Verdict};
 
@@ -14,18 +14,18 @@ use hm_protocol::{Recorded, Rule, Verdict};
 pub(crate) fn verdict_of(
     recorded: Recorded,
     rule: Rule,
-    state: &State,
+    knowledge: &Knowledge,
     broken: Option<u64>,
     none_joined_broken: bool,
     asked: u64,
 ) -> Verdict
-    ensures { result ≡ verdict_by recorded rule (known_of state.now) broken none_joined_broken asked }
+    ensures { result ≡ verdict_by recorded rule (known_of knowledge.now) broken none_joined_broken asked }
 {
     if !is_recorded(recorded, rule) {
         return Verdict::Unseen;
     }
     match broken {
-        None => unbroken(rule, state, none_joined_broken, asked),
+        None => unbroken(rule, knowledge, none_joined_broken, asked),
         Some(at) => Verdict::Broken(at),
     }
 }
@@ -52,29 +52,29 @@ fn is_recorded(recorded: Recorded, rule: Rule) -> bool
 }
 
 // The verdict on a rule that is not broken.
-fn unbroken(rule: Rule, state: &State, none_joined_broken: bool, asked: u64) -> Verdict
-    ensures { result ≡ unbroken_by rule (known_of state.now) none_joined_broken asked }
+fn unbroken(rule: Rule, knowledge: &Knowledge, none_joined_broken: bool, asked: u64) -> Verdict
+    ensures { result ≡ unbroken_by rule (known_of knowledge.now) none_joined_broken asked }
 {
-    match may_break(rule, state, none_joined_broken) {
-        None => if_asked(kept(rule, state, asked)),
+    match may_break(rule, knowledge, none_joined_broken) {
+        None => if_asked(kept(rule, knowledge, asked)),
         Some(at) => Verdict::Maybe(at),
     }
 }
 
 // The event that may break it.
-fn may_break(rule: Rule, state: &State, none_joined_broken: bool) -> Option<u64>
-    ensures { result ≡ may_break_by rule (known_of state.now) none_joined_broken }
+fn may_break(rule: Rule, knowledge: &Knowledge, none_joined_broken: bool) -> Option<u64>
+    ensures { result ≡ may_break_by rule (known_of knowledge.now) none_joined_broken }
 {
     if none_joined_broken {
-        suspect(state, rule)
+        suspect(knowledge, rule)
     } else {
         None
     }
 }
 
 // How often it was kept.
-fn kept(rule: Rule, state: &State, asked: u64) -> u64
-    ensures { result ≡ kept_by rule (known_of state.now) asked }
+fn kept(rule: Rule, knowledge: &Knowledge, asked: u64) -> u64
+    ensures { result ≡ kept_by rule (known_of knowledge.now) asked }
 {
     match rule {
         Rule::Compare
@@ -85,7 +85,7 @@ fn kept(rule: Rule, state: &State, asked: u64) -> u64
         | Rule::EraseInTime
         | Rule::OwnEvents
         | Rule::OwnSequence
-        | Rule::OwnEntries => kept_in_end(state, rule),
+        | Rule::OwnEntries => kept_in_end(knowledge, rule),
         _ => asked,
     }
 }

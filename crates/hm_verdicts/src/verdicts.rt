@@ -6,38 +6,38 @@ ghost use Rattle.hm_protocol.specs.Verdicts.{joined, verdict};
 ghost use Rattle.hm_protocol.specs.declared.events.Traced.{Traced as AnyTraced};
 ghost use Rattle.hm_verdicts.specs.Ending.{fails_at_end};
 ghost use Rattle.hm_verdicts.specs.Judging.{said_of, unbroken_at_end, Follows};
-ghost use Rattle.hm_verdicts.specs.State.{known_of};
+ghost use Rattle.hm_verdicts.specs.Knowledge.{known_of};
 
 use crate::ending::fails_in_end;
 use crate::failed::Failed;
 use crate::judge::{Count, Judge};
+use crate::knowledge::Knowledge;
 use crate::saying::verdict_of;
-use crate::state::State;
 use hm_protocol::{Recorded, Rule, Traced, Verdict};
 use std::alloc::Global;
 
 // Whether none of these rules is broken in the end.
-fn are_unbroken(state: &State, rules: &[Rule]) -> bool
-    ensures { result ≡ unbroken_at_end rules.now (known_of state.now) }
+fn are_unbroken(knowledge: &Knowledge, rules: &[Rule]) -> bool
+    ensures { result ≡ unbroken_at_end rules.now (known_of knowledge.now) }
 {
     rules
         .iter()
-        .all(|rule| fails_in_end(state, *rule).is_none())
+        .all(|rule| fails_in_end(knowledge, *rule).is_none())
 }
 
 // Whether none is of the rules of which one is broken if it is not said which.
-fn joined_unbroken(state: &State, rule: Rule) -> bool
-    ensures { result ≡ unbroken_at_end (joined rule) (known_of state.now) }
+fn joined_unbroken(knowledge: &Knowledge, rule: Rule) -> bool
+    ensures { result ≡ unbroken_at_end (joined rule) (known_of knowledge.now) }
 {
     match rule {
         Rule::Compare | Rule::CompareSequence => {
-            are_unbroken(state, &[Rule::Compare, Rule::CompareSequence])
+            are_unbroken(knowledge, &[Rule::Compare, Rule::CompareSequence])
         }
         Rule::Erase | Rule::EraseAll | Rule::EraseInTime => {
-            are_unbroken(state, &[Rule::Erase, Rule::EraseAll, Rule::EraseInTime])
+            are_unbroken(knowledge, &[Rule::Erase, Rule::EraseAll, Rule::EraseInTime])
         }
         Rule::OwnEntries => are_unbroken(
-            state,
+            knowledge,
             &[
                 Rule::Erase,
                 Rule::EraseAll,
@@ -46,7 +46,7 @@ fn joined_unbroken(state: &State, rule: Rule) -> bool
             ],
         ),
         Rule::SetSequence | Rule::OwnEvents | Rule::OwnSequence => are_unbroken(
-            state,
+            knowledge,
             &[Rule::SetSequence, Rule::OwnEvents, Rule::OwnSequence],
         ),
         _ => true,
@@ -54,15 +54,15 @@ fn joined_unbroken(state: &State, rule: Rule) -> bool
 }
 
 // The verdict on a rule, of which this is kept.
-fn verdict_on(state: &State, recorded: Recorded, count: Count) -> Verdict
-    ensures { result ≡ said_of recorded (known_of state.now) count }
+fn verdict_on(knowledge: &Knowledge, recorded: Recorded, count: Count) -> Verdict
+    ensures { result ≡ said_of recorded (known_of knowledge.now) count }
 {
-    let broken = count.broken.or(fails_in_end(state, count.rule));
-    let none_joined_broken = joined_unbroken(state, count.rule);
+    let broken = count.broken.or(fails_in_end(knowledge, count.rule));
+    let none_joined_broken = joined_unbroken(knowledge, count.rule);
     verdict_of(
         recorded,
         count.rule,
-        state,
+        knowledge,
         broken,
         none_joined_broken,
         count.asked,
@@ -72,15 +72,15 @@ fn verdict_on(state: &State, recorded: Recorded, count: Count) -> Verdict
 // The verdicts on rules, of which this is kept.
 fn verdicts_on(
     alloc: Global,
-    state: &State,
+    knowledge: &Knowledge,
     recorded: Recorded,
     counts: &[Count],
 ) -> Result<Vec<Verdict>, Failed>
-    ensures { IfOk result (λ vs. vs.items ≡ map (said_of recorded (known_of state.now)) counts.now) }
+    ensures { IfOk result (λ vs. vs.items ≡ map (said_of recorded (known_of knowledge.now)) counts.now) }
 {
     let verdicts = counts
         .iter()
-        .map(|count| verdict_on(state, recorded, *count))
+        .map(|count| verdict_on(knowledge, recorded, *count))
         .collect(alloc)?;
     Ok(verdicts)
 }
@@ -91,7 +91,7 @@ impl Judge {
         ensures { (es : List AnyTraced) → Follows self.now es
             → IfOk result (λ vs. vs.items ≡ map (λ r. verdict recorded r es) all_rules) }
     {
-        let verdicts = verdicts_on(alloc, &self.state, recorded, &self.counts)?;
+        let verdicts = verdicts_on(alloc, &self.knowledge, recorded, &self.counts)?;
         Ok(verdicts)
     }
 }

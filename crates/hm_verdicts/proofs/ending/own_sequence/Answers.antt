@@ -2,12 +2,12 @@ use Rattle.std.proofs.Common.{ap, ◌∙◌, not}
 use Rattle.std.specs.List.{list_any}
 use Rattle.hm_protocol.specs.Rules.{first_call}
 use Rattle.hm_verdicts.specs.Ending.{own_events_if, own_sequence_if}
-use Rattle.hm_verdicts.specs.State.{known_of}
+use Rattle.hm_verdicts.specs.Knowledge.{known_of}
 use Rattle.hm_verdicts.proofs.ending.own_sequence.Goals as goal
 
 pub returns : goal.returns
 returns c =
-    let s = c.args.state.now in
+    let s = c.args.knowledge.now in
     let k = known_of s in
     let is_so = not c.some_set_sequence-is_so.result in
     let e = ap not c.some_set_sequence-is_so.ensures in

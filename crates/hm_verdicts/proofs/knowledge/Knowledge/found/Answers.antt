@@ -1,0 +1,12 @@
+use Rattle.std.proofs.Common.{ap, ◌∙◌}
+use Rattle.std.specs.Prelude.{◌∷◌}
+use Rattle.hm_protocol.specs.Known.{Known, Look}
+use Rattle.hm_verdicts.specs.Knowledge.{known_of}
+use Rattle.hm_verdicts.proofs.LookedUp.{look_back}
+use Rattle.hm_verdicts.proofs.knowledge.Knowledge.found.Goals as goal
+
+pub returns : goal.returns
+returns c =
+    let k : Known = known_of c.args.self.now in
+    ap (λ f. record k { looks = f }) (look_back _ _ _ _ _ _ _ c.in_ok-look.ensures.none c.in_ok-put.ensures
+    (c.in_ok-find.ensures ∙ ap (λ (l : Look). record l { found = (c.args.page, c.args.writes) ∷ l.found }) c.in_ok-look.ensures.had))
