@@ -1,3 +1,4 @@
+pub mod AreOver
 pub mod Defaults
 pub mod Fields
 pub mod Filtered
@@ -9,3 +10,4 @@ pub mod Mapping
 pub mod Reversed
 pub mod Returned
 pub mod Said
+pub mod Settled

@@ -2,13 +2,8 @@
 use Rattle.std.proofs.Common.{refl, ap, sym, ◌∙◌, arith, ◌<◌, get_or, set, length, suc, zero}
 use Rattle.std.proofs.lemmas.List.Sums.{sum_by-cons}
 use Rattle.std.proofs.lemmas.List.{map-append, reverse-append}
-use Rattle.std.specs.Prelude.{◌≡◌, ℕ, ◌+◌, List, [], ◌∷◌, ◌++◌, map, reverse, Bool, count_by, if◌then◌else◌}
-
--- the first n items are changed
-abbrev pub mapped_to : {X : Type 0} → (X → X) → ℕ → List X → List X
-mapped_to f zero xs = xs
-mapped_to f (suc n) [] = []
-mapped_to f (suc n) (x ∷ xs) = f x ∷ mapped_to f n xs
+pub use Rattle.hm_verdicts.specs.Settled.{mapped_to}
+use Rattle.std.specs.Prelude.{◌≡◌, ℕ, ◌+◌, ◌≤◌, List, [], ◌∷◌, ◌++◌, map, reverse, Bool, count_by, if◌then◌else◌}
 
 mapped_next : {X : Type 0} → (f : X → X) (n : ℕ) (xs : List X) (d y : X) → n < length xs → y ≡ f (get_or (mapped_to f n xs) n d)
     → set (mapped_to f n xs) n y ≡ mapped_to f (suc n) xs
@@ -26,6 +21,13 @@ mapped_more f n xs d y l e = let more : suc n ≡ n + 1 = omega arith in
 pub mapped_all : {X : Type 0} → (f : X → X) (xs : List X) → mapped_to f (length xs) xs ≡ map f xs
 mapped_all f [] = refl
 mapped_all f (x ∷ xs) = ap (λ zs. f x ∷ zs) (mapped_all f xs)
+
+-- so they are by more
+pub mapped_past : {X : Type 0} → (f : X → X) (n : ℕ) (xs : List X) → length xs ≤ n → mapped_to f n xs ≡ map f xs
+mapped_past f zero [] l = refl
+mapped_past f zero (x ∷ xs) l = absurd (omega (arith, l))
+mapped_past f (suc n) [] l = refl
+mapped_past f (suc n) (x ∷ xs) l = ap (λ zs. f x ∷ zs) (mapped_past f n xs (omega (arith, l)))
 
 -- there are as many
 pub mapped_length : {X : Type 0} → (f : X → X) (n : ℕ) (xs : List X) → length (mapped_to f n xs) ≡ length xs

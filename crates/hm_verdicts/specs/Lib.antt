@@ -8,5 +8,6 @@ pub mod Kinds
 pub mod Looking
 pub mod Numbers
 pub mod Saying
+pub mod Settled
 pub mod Stages
 pub mod Knowledge

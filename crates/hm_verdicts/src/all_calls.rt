@@ -1,7 +1,6 @@
-// All callbacks, in their order, and what events make of them.
-ghost use Rattle.std.specs.Prelude.{◌≡◌, ◌<◌, ◌==◌, ◌&&◌, ◌||◌, not, is_none, OnOk, option_map};
-ghost use Rattle.std.specs.Prelude.{length, map, reverse, find};
-ghost use Rattle.std.specs.Prelude.{count_by, slice_set, slice_index_or};
+// All callbacks, in their order, and what events make of them; some of the first are known to be over.
+ghost use Rattle.std.specs.Prelude.{◌≡◌, ◌<◌, ◌==◌, ◌&&◌, ◌||◌, not, is_none, OnOk, option_map, length, map, reverse};
+ghost use Rattle.std.specs.Prelude.{IfOk, find, count_by, slice_set, slice_index_or};
 ghost use Rattle.std.specs.List.{list_any, list_all};
 ghost use Rattle.hm_protocol.specs.Words.{drop_if, is_it};
 ghost use Rattle.hm_protocol.specs.Known as known;
@@ -9,6 +8,7 @@ ghost use Rattle.hm_protocol.specs.Noted.{after_end, after_set, is_past, began};
 ghost use Rattle.hm_verdicts.specs.Changes.{erased_by, returned_in, paged_by, paged_in};
 ghost use Rattle.hm_verdicts.specs.Asking.{are_over_since};
 ghost use Rattle.hm_verdicts.specs.Numbers.{values_in};
+ghost use Rattle.hm_verdicts.specs.Settled.{First, IsOver};
 
 use crate::calls::{Call, Eraser};
 use crate::failed::Failed;
@@ -16,6 +16,7 @@ use crate::looks::Look;
 use crate::moves::{Move, are_placing, inner};
 use crate::newest_first::{Changes, change_items};
 use crate::numbered::Numbered;
+use crate::over::{Over, change, rest};
 use hm_protocol::TraceSpan;
 use std::alloc::Global;
 
@@ -93,39 +94,51 @@ impl<'a> Changes<Call> for Paged<'a> {
 }
 
 /// The invalidation that began there has ended here.
-pub(crate) fn end(calls: &mut Vec<Call>, begun: u64, at: u64) -> Result<(), Failed>
-    ensures { OnOk result (calls.new.items ≡ map (after_end begun at) calls.old.items) }
+pub(crate) fn end(calls: &mut Vec<Call>, over: Over, begun: u64, at: u64) -> Result<Over, Failed>
+    requires { First (IsOver over) over.count calls.old.items }
+    ensures { IfOk result (λ o. (calls.new.items ≡ map (after_end begun at) calls.old.items)
+        × First (IsOver o) o.count calls.new.items) }
 {
-    change_items(calls, &Ended { begun, at })
+    change(calls, over.before_end(begun), &Ended { begun, at })
 }
 
 /// Another entry is set.
-pub(crate) fn set_over(calls: &mut Vec<Call>, mirror: u64, page: u64) -> Result<(), Failed>
-    ensures { OnOk result (calls.new.items ≡ map (after_set mirror page) calls.old.items) }
+pub(crate) fn set_over(
+    calls: &mut Vec<Call>,
+    over: Over,
+    mirror: u64,
+    page: u64,
+) -> Result<Over, Failed>
+    requires { First (IsOver over) over.count calls.old.items }
+    ensures { IfOk result (λ o. (calls.new.items ≡ map (after_set mirror page) calls.old.items)
+        × First (IsOver o) o.count calls.new.items) }
 {
-    change_items(calls, &SetOver { mirror, page })
+    change(calls, over, &SetOver { mirror, page })
 }
 
 /// A thread, which has these migrations, the oldest first, erases the entry of a page.
 pub(crate) fn erase(
     calls: &mut Vec<Call>,
+    over: Over,
     thread: u64,
     devices: &Numbered<u64>,
     moves: &[Move],
     mirror: u64,
     page: u64,
-) -> Result<(), Failed>
-    ensures { OnOk result (calls.new.items ≡ map (erased_by (values_in devices.now)
+) -> Result<Over, Failed>
+    requires { First (IsOver over) over.count calls.old.items }
+    ensures { IfOk result (λ o. (calls.new.items ≡ map (erased_by (values_in devices.now)
         (list_any (λ y. (y.thread == thread) && is_none y.after) calls.old.items)
-        (reverse moves.now) thread mirror page) calls.old.items) }
+        (reverse moves.now) thread mirror page) calls.old.items)
+        × First (IsOver o) o.count calls.new.items) }
 {
     let by = Eraser {
         thread,
-        in_callback: are_in(calls, thread),
+        in_callback: are_in(rest(calls, over.count), thread),
         devices,
         moves,
     };
-    change_items(calls, &Erased { by, mirror, page })
+    change(calls, over, &Erased { by, mirror, page })
 }
 
 /// A migration of a thread knows what moved.
@@ -170,17 +183,19 @@ pub(crate) fn know_inner(
 pub(crate) fn return_all(
     alloc: Global,
     calls: &mut Vec<Call>,
+    over: Over,
     moves: &[Move],
     thread: u64,
     mirror: u64,
     at: u64,
     seq: u64,
 ) -> Result<(), Failed>
+    requires { First (IsOver over) over.count calls.old.items }
     ensures { OnOk result (calls.new.items
         ≡ map (returned_in at seq calls.old.items (reverse moves.now) thread mirror) calls.old.items) }
 {
-    for number in 0..calls.len() {
-        return_one(alloc, calls, number, moves, thread, mirror, at, seq)?;
+    for number in over.count..calls.len() {
+        return_one(alloc, calls, over, number, moves, thread, mirror, at, seq)?;
     }
     Ok(())
 }
@@ -189,6 +204,7 @@ pub(crate) fn return_all(
 fn return_one(
     alloc: Global,
     calls: &mut Vec<Call>,
+    over: Over,
     number: usize,
     moves: &[Move],
     thread: u64,
@@ -196,7 +212,8 @@ fn return_one(
     at: u64,
     seq: u64,
 ) -> Result<(), Failed>
-    requires { number < length calls.old.items }
+    requires there { number < length calls.old.items }
+    requires held { First (IsOver over) over.count calls.old.items }
     ensures { OnOk result ((d : known.Call) → calls.new.items ≡ slice_set calls.old.items number
         (returned_in at seq calls.old.items (reverse moves.now) thread mirror
         (slice_index_or calls.old.items number d))) }
@@ -204,7 +221,7 @@ fn return_one(
     if !calls[number].is_current(thread, mirror) {
         return Ok(());
     }
-    let is_alone = given(calls, mirror, calls[number].seq()) == 1;
+    let is_alone = given_of(calls, over, mirror, calls[number].seq()) == 1;
     let is_placing = are_placing(moves, calls[number].span());
     let call = &mut calls[number];
     call.return_at(alloc, at, seq, is_alone, is_placing)
@@ -259,6 +276,14 @@ fn given(calls: &[Call], mirror: u64, seq: u64) -> usize
         .iter()
         .filter(|call| call.mirror() == mirror && call.seq() == seq)
         .count()
+}
+
+// The same, if these are over.
+fn given_of(calls: &[Call], over: Over, mirror: u64, seq: u64) -> usize
+    requires { First (IsOver over) over.count calls.now }
+    ensures { result ≡ count_by (λ y. (y.mirror == mirror) && (y.seq == seq)) calls.now }
+{
+    given(rest(calls, over.below_seq(seq)), mirror, seq)
 }
 
 /// Where the invalidation began of the callback that the thread is in; none if it is in none.

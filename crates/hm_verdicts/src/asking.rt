@@ -8,7 +8,6 @@ ghost use Rattle.hm_verdicts.specs.Asking.{breaks_at};
 ghost use Rattle.hm_verdicts.specs.Stages.{stage_of};
 ghost use Rattle.hm_verdicts.specs.Knowledge.{known_of};
 
-use crate::all_calls::{are_invalidating, are_telling};
 use crate::frames::{are_of, device_of, is_sole, is_write, private_to};
 use crate::knowledge::Knowledge;
 use crate::looks::Stage;
@@ -162,7 +161,7 @@ fn detach_waits(knowledge: &Knowledge, event: &Traced) -> bool
     ensures { result ≡ tests.detach_waits (known_of knowledge.now) event.now }
 {
     match event.event {
-        Event::Removed { mirror } => are_telling(&knowledge.calls, mirror),
+        Event::Removed { mirror } => knowledge.calls.are_telling(mirror),
         _ => false,
     }
 }
@@ -173,7 +172,7 @@ fn exclusive_waits(knowledge: &Knowledge, event: &Traced) -> bool
 {
     match event.event {
         Event::Set { mirror, right, .. } => {
-            is_sole(right) && are_invalidating(&knowledge.calls, mirror)
+            is_sole(right) && knowledge.calls.are_invalidating(mirror)
         }
         _ => false,
     }
@@ -227,7 +226,7 @@ fn set_unless_invalidated(knowledge: &Knowledge, event: &Traced) -> bool
             ..
         } => {
             sets(knowledge.moves.oldest_first(event.thread), page, right)
-                && are_invalidating(&knowledge.calls, mirror)
+                && knowledge.calls.are_invalidating(mirror)
         }
         _ => false,
     }

@@ -65,6 +65,7 @@ fn erases(knowledge: &Knowledge, mirror: u64) -> bool
 {
     knowledge
         .calls
+        .all()
         .iter()
         .any(|call| call.mirror() == mirror && call.has_erased())
 }
@@ -125,27 +126,29 @@ pub(crate) fn own_entries(knowledge: &Knowledge, call: &Call) -> bool
 
 /// Whether some breaks `set-sequence`.
 pub(crate) fn some_set_sequence(knowledge: &Knowledge) -> bool
-    ensures { result ≡ list_any (callbacks.set_sequence (known_of knowledge.now)) knowledge.now.calls.items }
+    ensures { result ≡ list_any (callbacks.set_sequence (known_of knowledge.now)) knowledge.now.calls }
 {
     knowledge
         .calls
+        .all()
         .iter()
         .any(|call| set_sequence(knowledge, call))
 }
 
 /// Whether all that some left was erased later.
 pub(crate) fn some_late(knowledge: &Knowledge) -> bool
-    ensures { result ≡ list_any callbacks.is_late knowledge.now.calls.items }
+    ensures { result ≡ list_any callbacks.is_late knowledge.now.calls }
 {
-    knowledge.calls.iter().any(|call| call.is_late())
+    knowledge.calls.all().iter().any(|call| call.is_late())
 }
 
 /// Whether some breaks `own-events`, if this is so of all callbacks.
 pub(crate) fn some_own_events_if(is_so: bool, knowledge: &Knowledge) -> bool
-    ensures { result ≡ list_any (own_events_if is_so (known_of knowledge.now)) knowledge.now.calls.items }
+    ensures { result ≡ list_any (own_events_if is_so (known_of knowledge.now)) knowledge.now.calls }
 {
     knowledge
         .calls
+        .all()
         .iter()
         .any(|call| own_events_if(is_so, knowledge, call))
 }

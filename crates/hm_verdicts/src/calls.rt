@@ -6,6 +6,7 @@ ghost use Rattle.hm_protocol.specs.Known as known;
 ghost use Rattle.hm_verdicts.specs.Numbers.{values_in};
 ghost use Rattle.hm_verdicts.specs.Changes.{own_by, call_with, lost_by, erased_by, returned_by, paged_by};
 ghost use Rattle.hm_protocol.specs.Noted.{after_end, after_set};
+ghost use Rattle.hm_verdicts.specs.Settled.{is_settled};
 
 mod asked;
 
@@ -184,6 +185,13 @@ impl Call {
         ensures { result ≡ known.is_telling mirror self.now }
     {
         self.mirror == mirror && self.goes_on() && self.after.is_some()
+    }
+
+    /// Whether it has returned, its invalidation is not under way, and none of the entries of its span is there.
+    pub(crate) fn is_settled(&self) -> bool
+        ensures { result ≡ is_settled self.now }
+    {
+        self.after.is_some() && !self.goes_on() && self.here.is_empty()
     }
 
     /// Whether it returned, and the interval had another sequence than it was given.

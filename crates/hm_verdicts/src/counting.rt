@@ -6,7 +6,6 @@ ghost use Rattle.hm_protocol.specs.declared.rules.Rule as rule;
 ghost use Rattle.hm_verdicts.specs.Stages.{stage_of};
 ghost use Rattle.hm_verdicts.specs.Knowledge.{known_of};
 
-use crate::all_calls::are_over_since;
 use crate::asking::is_look_up;
 use crate::frames::{is_read, is_sole, private_to};
 use crate::knowledge::Knowledge;
@@ -107,11 +106,11 @@ fn begin_waits(knowledge: &Knowledge, event: &Traced) -> u64
     ensures { result ≡ asks rule.Rule.BeginWaits (known_of knowledge.now) event.now.thread event.now.event }
 {
     match event.event {
-        Event::Begin { mirror, .. } => one_if(are_over_since(
-            &knowledge.calls,
-            mirror,
-            knowledge.last.at(event.thread),
-        )),
+        Event::Begin { mirror, .. } => one_if(
+            knowledge
+                .calls
+                .are_over_since(mirror, knowledge.last.at(event.thread)),
+        ),
         _ => 0,
     }
 }

@@ -79,6 +79,7 @@ fn set_sequence(knowledge: &Knowledge) -> Option<u64>
 {
     knowledge
         .calls
+        .all()
         .iter()
         .find(|call| blaming::set_sequence(knowledge, call))
         .map(|call| call.at())
@@ -90,6 +91,7 @@ fn erase_in(is_so: bool, knowledge: &Knowledge) -> Option<u64>
 {
     knowledge
         .calls
+        .all()
         .iter()
         .find(|call| blaming::erase_if(is_so, knowledge, call))
         .map(|call| call.at())
@@ -108,6 +110,7 @@ fn erase_some(knowledge: &Knowledge) -> Option<u64>
 {
     knowledge
         .calls
+        .all()
         .iter()
         .find(|call| blaming::erase_some(knowledge, call))
         .map(|call| call.at())
@@ -127,6 +130,7 @@ fn erase_in_time(knowledge: &Knowledge) -> Option<u64>
 {
     knowledge
         .calls
+        .all()
         .iter()
         .find(|call| call.is_late())
         .map(|call| call.at())
@@ -138,6 +142,7 @@ fn own_events_in(is_so: bool, knowledge: &Knowledge) -> Option<u64>
 {
     knowledge
         .calls
+        .all()
         .iter()
         .find(|call| blaming::own_events_if(is_so, knowledge, call))
         .map(|call| call.at())
@@ -156,6 +161,7 @@ fn own_sequence_in(is_so: bool, is_other: bool, knowledge: &Knowledge) -> Option
 {
     knowledge
         .calls
+        .all()
         .iter()
         .find(|call| blaming::own_sequence_if(is_so, is_other, knowledge, call))
         .map(|call| call.at())
@@ -175,6 +181,7 @@ fn own_entries(knowledge: &Knowledge) -> Option<u64>
 {
     knowledge
         .calls
+        .all()
         .iter()
         .find(|call| blaming::own_entries(knowledge, call))
         .map(|call| call.at())

@@ -57,10 +57,11 @@ fn sets_sequence(knowledge: &Knowledge, call: &Call) -> bool
 
 // How many have.
 fn sequences(knowledge: &Knowledge) -> u64
-    ensures { result ≡ count_by (verdicts.sets_sequence (known_of knowledge.now)) knowledge.now.calls.items }
+    ensures { result ≡ count_by (verdicts.sets_sequence (known_of knowledge.now)) knowledge.now.calls }
 {
     knowledge
         .calls
+        .all()
         .iter()
         .filter(|call| sets_sequence(knowledge, call))
         .count() as u64
@@ -75,10 +76,11 @@ fn is_erased(than: u64, knowledge: &Knowledge, call: &Call) -> bool
 
 // How many have.
 fn erased(knowledge: &Knowledge, than: u64) -> u64
-    ensures { result ≡ count_by (verdicts.is_erased than (known_of knowledge.now)) knowledge.now.calls.items }
+    ensures { result ≡ count_by (verdicts.is_erased than (known_of knowledge.now)) knowledge.now.calls }
 {
     knowledge
         .calls
+        .all()
         .iter()
         .filter(|call| is_erased(than, knowledge, call))
         .count() as u64
@@ -97,10 +99,11 @@ fn is_own_kept(knowledge: &Knowledge, call: &Call) -> bool
 
 // How many have.
 fn own(knowledge: &Knowledge) -> u64
-    ensures { result ≡ count_by (verdicts.is_own_kept (known_of knowledge.now)) knowledge.now.calls.items }
+    ensures { result ≡ count_by (verdicts.is_own_kept (known_of knowledge.now)) knowledge.now.calls }
 {
     knowledge
         .calls
+        .all()
         .iter()
         .filter(|call| is_own_kept(knowledge, call))
         .count() as u64

@@ -5,9 +5,9 @@ ghost use Rattle.hm_protocol.specs.Noted as noted;
 ghost use Rattle.hm_verdicts.specs.Knowledge.{known_of};
 
 use crate::all_looks::AllLooks;
-use crate::calls::Call;
 use crate::flags::{Flags, Positions};
 use crate::insides::{Early, Inside};
+use crate::kept_calls::Calls;
 use crate::moves::Move;
 use crate::numbered::Numbered;
 use crate::of_threads::OfThreads;
@@ -34,7 +34,7 @@ pub struct Knowledge {
     pub(crate) under: OfThreads<Inside>,
     // The oldest first.
     pub(crate) slots: Vec<Slot>,
-    pub(crate) calls: Vec<Call>,
+    pub(crate) calls: Calls,
     pub(crate) looks: AllLooks,
     pub(crate) early: Vec<Early>,
     /// Commits of stale look-ups; whether an invalidation is under way.
@@ -67,7 +67,7 @@ impl Knowledge {
             leaving: Flags::new(alloc),
             under: OfThreads::new(alloc),
             slots: Vec::new(alloc),
-            calls: Vec::new(alloc),
+            calls: Calls::new(alloc),
             looks: AllLooks::new(alloc),
             early: Vec::new(alloc),
             stale: Vec::new(alloc),

@@ -6,10 +6,9 @@ ghost use Rattle.hm_verdicts.specs.Looking.{given_up_by, early_by, reads_itself,
 ghost use Rattle.hm_verdicts.specs.Numbers.{values_in};
 ghost use Rattle.hm_history.specs.Memory.Words.{with_at};
 
-use crate::all_calls::{are_early, are_met, are_met_under_way, are_past};
-use crate::calls::Call;
 use crate::failed::Failed;
 use crate::insides::Early;
+use crate::kept_calls::Calls;
 use crate::looks::Look;
 use crate::newest_first::{Changes, change_items};
 use crate::numbered::Numbered;
@@ -17,14 +16,14 @@ use crate::numbered::Numbered;
 /// The look-up is given up by the next one, if it has walked and set nothing, and its mirror was told.
 pub(crate) fn give_up(
     given_up: &mut Vec<bool>,
-    calls: &[Call],
+    calls: &Calls,
     mirror: u64,
     look: &Look,
 ) -> Result<(), Failed>
     ensures { OnOk result (given_up.new.items ≡ given_up.old.items ++ given_up_by calls.now mirror look.now) }
 {
-    if look.is_open() && are_met(calls, mirror, look) {
-        given_up.push(are_past(calls, mirror, look))?;
+    if look.is_open() && calls.are_met(mirror, look) {
+        given_up.push(calls.are_past(mirror, look))?;
     }
     Ok(())
 }
@@ -32,7 +31,7 @@ pub(crate) fn give_up(
 /// So it is by a walk with this sequence, if that has one that its driver has read itself.
 pub(crate) fn give_up_by_walk(
     given_up: &mut Vec<bool>,
-    calls: &[Call],
+    calls: &Calls,
     mirror: u64,
     look: &Look,
     seq: u64,
@@ -65,7 +64,7 @@ pub(crate) fn learn_device(
 /// A `Begin` or walk is too early, if its sequence is that of an invalidation under way.
 pub(crate) fn note_early(
     early: &mut Vec<Early>,
-    calls: &[Call],
+    calls: &Calls,
     thread: u64,
     mirror: u64,
     seq: u64,
@@ -75,7 +74,7 @@ pub(crate) fn note_early(
     ensures { OnOk result
         (early.new.items ≡ early.old.items ++ early_by calls.now at thread mirror seq walks) }
 {
-    if are_early(calls, mirror, seq) {
+    if calls.are_early(mirror, seq) {
         early.push(Early::new(thread, mirror, walks, at))?;
     }
     Ok(())
@@ -126,15 +125,15 @@ pub(crate) fn follow(
 /// A commit of a look-up is stale, if it meets a callback.
 pub(crate) fn note_stale(
     stale: &mut Vec<(u64, bool)>,
-    calls: &[Call],
+    calls: &Calls,
     mirror: u64,
     look: &Look,
     at: u64,
 ) -> Result<(), Failed>
     ensures { OnOk result (stale.new.items ≡ stale.old.items ++ stale_by calls.now at mirror look.now) }
 {
-    if are_met(calls, mirror, look) {
-        stale.push((at, are_met_under_way(calls, mirror, look)))?;
+    if calls.are_met(mirror, look) {
+        stale.push((at, calls.are_met_under_way(mirror, look)))?;
     }
     Ok(())
 }

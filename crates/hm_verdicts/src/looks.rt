@@ -93,6 +93,13 @@ impl Look {
         is_noted(self.found.oldest_first(), page, writes)
     }
 
+    /// Where it has read its sequence.
+    pub(crate) fn begun(&self) -> Option<u64>
+        ensures { result ≡ self.now.begun }
+    {
+        self.begun
+    }
+
     /// The mirror was told since it began, and has another sequence by that.
     pub(crate) fn meets(&self, mirror: u64, call: &Call) -> bool
         ensures { result ≡ known.meets self.now mirror call.now }

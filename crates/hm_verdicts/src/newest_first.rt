@@ -2,6 +2,7 @@
 ghost use Rattle.std.specs.Prelude.{◌≡◌, ℕ, ◌∷◌, [], OnOk, reverse, map, MatchOption};
 ghost use Rattle.hm_protocol.specs.Words.{drop_if};
 ghost use Rattle.hm_verdicts.specs.Inner.{outer, with_inner};
+ghost use Rattle.hm_verdicts.specs.Settled.{mapped_to};
 
 use crate::failed::Failed;
 use hm_base::NoMemory;
@@ -127,6 +128,21 @@ pub(crate) fn change_items<T: Drop, C: Changes<T>>(
 {
     for item in items.iter_mut() {
         how.change(item)?;
+    }
+    Ok(())
+}
+
+/// All are changed, from this one on if those before it stay as they are.
+pub(crate) fn change_from<T: Drop, C: Changes<T>>(
+    items: &mut Vec<T>,
+    from: usize,
+    how: &C,
+) -> Result<(), Failed>
+    requires { mapped_to (C.made how.now) from items.old.items ≡ items.old.items }
+    ensures { OnOk result (items.new.items ≡ map (C.made how.now) items.old.items) }
+{
+    for number in from..items.len() {
+        how.change(&mut items[number])?;
     }
     Ok(())
 }

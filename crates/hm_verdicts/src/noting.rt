@@ -7,7 +7,7 @@ ghost use Rattle.hm_verdicts.specs.Knowledge.{known_of};
 use crate::failed::Failed;
 use crate::insides::Inside;
 use crate::knowledge::Knowledge;
-use crate::{all_calls, frames, table};
+use crate::{frames, table};
 use hm_protocol::{Event, Reason, TraceFrame, TraceSpan, Traced};
 
 impl Knowledge {
@@ -33,7 +33,7 @@ impl Knowledge {
     pub(crate) fn remove(&mut self, mirror: u64) -> Result<(), Failed>
         ensures { OnOk result (known_of self.new ≡ noted (known_of self.old) 0 (AnyEvent.Remove mirror)) }
     {
-        let is_leaving = all_calls::are_telling(&self.calls, mirror);
+        let is_leaving = self.calls.are_telling(mirror);
         self.leaving.set(mirror, is_leaving)?;
         Ok(())
     }

@@ -9,7 +9,7 @@ use crate::failed::Failed;
 use crate::insides::Inside;
 use crate::knowledge::Knowledge;
 use crate::newest_first::Passes;
-use crate::{all_calls, table};
+use crate::table;
 use hm_protocol::{Reason, TraceSpan};
 
 // The device whose migration an invalidation is for.
@@ -83,7 +83,7 @@ impl Knowledge {
             return Ok(());
         };
         self.under.drop_if(self.alloc, thread, &BegunAt(begun))?;
-        all_calls::end(&mut self.calls, begun, self.at)?;
+        self.calls.end(begun, self.at)?;
         Ok(())
     }
 
@@ -119,15 +119,8 @@ impl Knowledge {
             (known_of self.new ≡ noted (known_of self.old) thread (AnyEvent.Told mirror seq true)) }
     {
         let moves = self.moves.oldest_first(thread);
-        all_calls::return_all(
-            self.alloc,
-            &mut self.calls,
-            moves,
-            thread,
-            mirror,
-            self.at,
-            seq,
-        )?;
+        self.calls
+            .return_all(self.alloc, moves, thread, mirror, self.at, seq)?;
         Ok(())
     }
 
@@ -136,8 +129,8 @@ impl Knowledge {
         ensures { OnOk result
             (known_of self.new ≡ noted (known_of self.old) thread (AnyEvent.Told mirror seq false)) }
     {
-        let begun = all_calls::begun(&self.calls, thread, mirror);
-        all_calls::drop_current(&mut self.calls, thread, mirror);
+        let begun = self.calls.begun(thread, mirror);
+        self.calls.drop_current(thread, mirror);
         self.over(thread, begun)
     }
 
@@ -147,6 +140,6 @@ impl Knowledge {
     {
         table::erase(&mut self.slots, mirror, page);
         let moves = self.moves.oldest_first(thread);
-        all_calls::erase(&mut self.calls, thread, &self.device, moves, mirror, page)
+        self.calls.erase(thread, &self.device, moves, mirror, page)
     }
 }

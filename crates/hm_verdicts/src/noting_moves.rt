@@ -12,7 +12,7 @@ use crate::knowledge::Knowledge;
 use crate::moves::Move;
 use crate::moving::{Collected, Freed, Known, Moved, PageSet, Stayed};
 use crate::slots::Slot;
-use crate::{all_calls, frames, table};
+use crate::{frames, table};
 use hm_history::TableRight;
 use hm_protocol::{TraceFrame, TraceSpan};
 
@@ -69,7 +69,8 @@ impl Knowledge {
         ensures { OnOk result (known_of self.new ≡ noted (known_of self.old) thread (AnyEvent.Paged proc)) }
     {
         let moves = self.moves.oldest_first(thread);
-        all_calls::know_inner(self.alloc, &mut self.calls, &self.device, thread, moves)?;
+        self.calls
+            .know_inner(self.alloc, &self.device, thread, moves)?;
         self.moves.change_newest(self.alloc, thread, &Known)
     }
 
@@ -103,7 +104,7 @@ impl Knowledge {
     {
         let is_look_up = is_look_up(self, thread, page, right);
         table::set(&mut self.slots, Slot::new(mirror, page, right, self.at))?;
-        all_calls::set_over(&mut self.calls, mirror, page)?;
+        self.calls.set_over(mirror, page)?;
         if is_look_up {
             return self.commit(thread, mirror);
         }

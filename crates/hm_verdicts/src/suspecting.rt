@@ -71,6 +71,7 @@ fn first_left(knowledge: &Knowledge) -> Option<u64>
 {
     knowledge
         .calls
+        .all()
         .iter()
         .find(|call| may_leave(knowledge, call))
         .map(|call| call.at())
@@ -82,6 +83,7 @@ fn first_some(knowledge: &Knowledge) -> Option<u64>
 {
     knowledge
         .calls
+        .all()
         .iter()
         .find(|call| may_leave_some(knowledge, call))
         .map(|call| call.at())
@@ -93,6 +95,7 @@ fn first_late(knowledge: &Knowledge) -> Option<u64>
 {
     knowledge
         .calls
+        .all()
         .iter()
         .find(|call| may_leave_late(knowledge, call))
         .map(|call| call.at())
@@ -104,6 +107,7 @@ fn first_own(knowledge: &Knowledge) -> Option<u64>
 {
     knowledge
         .calls
+        .all()
         .iter()
         .find(|call| may_leave_own(knowledge, call))
         .map(|call| call.at())
@@ -115,6 +119,7 @@ fn first_without(knowledge: &Knowledge) -> Option<u64>
 {
     knowledge
         .calls
+        .all()
         .iter()
         .find(|call| leaves_without(knowledge, call))
         .map(|call| call.at())
@@ -126,6 +131,7 @@ fn first_sequence(knowledge: &Knowledge) -> Option<u64>
 {
     knowledge
         .calls
+        .all()
         .iter()
         .find(|call| own_sequence_left(knowledge, call))
         .map(|call| call.at())

@@ -1,15 +1,37 @@
-use Rattle.std.proofs.Common.{refl, None, [], ◌≡◌, ◌∙◌, ap, arith, ◌<◌, length, set, get_or, reverse}
+use Rattle.std.proofs.Common.{refl, None, [], ◌≡◌, ◌∙◌, ap, sym, subst, arith, ◌<◌, ◌≤◌, length, set, get_or, reverse}
 use Rattle.hm_protocol.specs.Known.{Call}
 use Rattle.hm_verdicts.specs.Changes.{call_with, returned_in}
-use Rattle.hm_verdicts.proofs.Mapping.{mapped_to, mapped_more, mapped_all, mapped_length}
+use Rattle.hm_verdicts.proofs.Mapping.{mapped_to, mapped_more, mapped_past, mapped_length}
+use Rattle.hm_verdicts.specs.Settled.{First, IsOver}
+use Rattle.hm_verdicts.proofs.AreOver.{return_same}
 use Rattle.hm_verdicts.proofs.Returned.{returns_alike}
+use Rattle.hm_verdicts.proofs.Settled.{first_fixed, first_weaker, first_mapped_to}
 use Rattle.hm_verdicts.proofs.all_calls.return_all.Goals as goal
 
-pub return_one-requires : goal.return_one-requires
-return_one-requires c =
+pub loop-number-init : goal.loop-number-init
+loop-number-init c =
+    let o = c.args.over in
+    let cs = c.args.calls.now.items in
+    let f = returned_in c.args.at c.args.seq cs (reverse c.args.moves.now) c.args.thread c.args.mirror in
+    sym (first_fixed f o.count cs (first_weaker (IsOver o) (λ x. f x ≡ x)
+    (return_same c.args.at c.args.seq cs (reverse c.args.moves.now) c.args.thread c.args.mirror o) o.count cs c.requires))
+
+pub return_one-requires-clause-there : goal.return_one-requires-clause-there
+return_one-requires-clause-there c =
     let many : length c.loop-number.calls.items ≡ length c.args.calls.now.items = ap length c.loop-number.invariant
     ∙ mapped_length _ c.loop-number.number c.args.calls.now.items in
     omega (arith, c.loop-number-test.true, c.len-number-end.ensures, many, c.args.calls.now.ok)
+
+pub return_one-requires-clause-held : goal.return_one-requires-clause-held
+return_one-requires-clause-held c =
+    let o = c.args.over in
+    let cs = c.args.calls.now.items in
+    let ys = reverse c.args.moves.now in
+    let f = returned_in c.args.at c.args.seq cs ys c.args.thread c.args.mirror in
+    subst (First (IsOver o) o.count) (sym c.loop-number.invariant)
+    (first_mapped_to (IsOver o) f
+    (λ x s. subst (IsOver o) (sym (return_same c.args.at c.args.seq cs ys c.args.thread c.args.mirror o x s)) s)
+    c.loop-number.number o.count cs c.requires)
 
 pub loop-number-preserved : goal.loop-number-preserved
 loop-number-preserved c =
@@ -31,6 +53,6 @@ loop-number-preserved c =
 pub returns : goal.returns
 returns c =
     let f = returned_in c.args.at c.args.seq c.args.calls.now.items (reverse c.args.moves.now) c.args.thread c.args.mirror in
-    let whole : c.loop-number.number ≡ length c.args.calls.now.items =
-    omega (arith, c.loop-number-test.false, c.loop-number.auto.number-end, c.len-number-end.ensures, c.args.calls.now.ok) in
-    c.loop-number.invariant ∙ (ap (λ n. mapped_to f n c.args.calls.now.items) whole ∙ mapped_all f c.args.calls.now.items)
+    let past : length c.args.calls.now.items ≤ c.loop-number.number =
+    omega (arith, c.loop-number-test.false, c.len-number-end.ensures, c.args.calls.now.ok) in
+    c.loop-number.invariant ∙ mapped_past f c.loop-number.number c.args.calls.now.items past

@@ -8,7 +8,5 @@ use Rattle.hm_verdicts.proofs.counting.begin_waits.Goals as goal
 pub returns-in-Begin : goal.returns-in-Begin
 returns-in-Begin c = let s = c.args.knowledge.now in let m = c.in-Begin.mirror in
     c.one_if.ensures
-    ∙ (ap one_if (c.are_over_since.ensures
-    ∙ (ap (λ i. are_over_since m i c.deref.result.now) c.at.ensures
-    ∙ ap (are_over_since m _) c.deref.ensures.value))
+    ∙ (ap one_if (c.are_over_since.ensures ∙ ap (λ i. are_over_since m i s.calls) c.at.ensures)
     ∙ sym (ap (asks Rule.BeginWaits (known_of s) c.args.event.now.thread) c.in-Begin.is))

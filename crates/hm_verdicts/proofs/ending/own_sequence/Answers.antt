@@ -13,4 +13,4 @@ returns c =
     let e = ap not c.some_set_sequence-is_so.ensures in
     c.own_sequence_in.ensures
     ∙ (ap (λ d. first_call (own_sequence_if is_so (not d)) k) c.some_own_events_if.ensures
-    ∙ ap (λ b. first_call (own_sequence_if b (not (list_any (own_events_if b k) s.calls.items))) k) e)
+    ∙ ap (λ b. first_call (own_sequence_if b (not (list_any (own_events_if b k) s.calls))) k) e)

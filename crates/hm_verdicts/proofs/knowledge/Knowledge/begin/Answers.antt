@@ -16,12 +16,11 @@ returns c =
     let q = c.args.seq in
     let l : Look = k.looks t m in
     begun_all k _ _ _ _ _ _
-    (c.in_ok-give_up.ensures ∙ (ap (λ cs. k.given_up ++ given_up_by cs m c.in_ok-look.look) c.deref.ensures.value
+    (c.in_ok-give_up.ensures
     ∙ (ap (λ l. k.given_up ++ given_up_by k.calls m l) c.in_ok-look.ensures.had
-    ∙ ap (λ bs. k.given_up ++ bs) (given_up_is k m l))))
-    (c.in_ok-note_early.ensures ∙ (ap (λ cs. c.follow.new.early.items ++ early_by cs k.at t m q false) c.deref-2.ensures.value
-    ∙ (ap (λ es. es ++ early_by k.calls k.at t m q false) (c.in_ok-follow.ensures
-    ∙ ap (λ l. begun_last t m l k.early) c.in_ok-look.ensures.had))))
+    ∙ ap (λ bs. k.given_up ++ bs) (given_up_is k m l)))
+    (c.in_ok-note_early.ensures ∙ (ap (λ es. es ++ early_by k.calls k.at t m q false) (c.in_ok-follow.ensures
+    ∙ ap (λ l. begun_last t m l k.early) c.in_ok-look.ensures.had)))
     (look_back _ _ _ _ _ _ _ c.in_ok-look.ensures.none c.in_ok-put.ensures
     (c.begin.ensures ∙ ap (λ (l : Look). record l {
       stage = Stage.Begun;

@@ -13,7 +13,7 @@ returns c =
     let m = c.args.mirror in
     let l : Look = k.looks c.args.thread m in
     committed k _ _ _ _
-    (c.in_ok-note_stale.ensures ∙ (ap (λ cs. k.stale ++ stale_by cs k.at m c.in_ok-look.look) c.deref.ensures.value
-    ∙ (ap (λ l. k.stale ++ stale_by k.calls k.at m l) c.in_ok-look.ensures.had ∙ stale_is k.calls k.at m l k.stale)))
+    (c.in_ok-note_stale.ensures
+    ∙ (ap (λ l. k.stale ++ stale_by k.calls k.at m l) c.in_ok-look.ensures.had ∙ stale_is k.calls k.at m l k.stale))
     (look_back _ _ _ _ _ _ _ c.in_ok-look.ensures.none c.in_ok-put.ensures
     (c.commit.ensures ∙ ap (λ (l : Look). record l { set = true }) c.in_ok-look.ensures.had))
