@@ -1,6 +1,6 @@
 -- Callbacks that are over for good: what leaves them as they are, and what is not so of them.
 use Rattle.std.proofs.Common.{refl, ap, sym, ◌∙◌, arith, ◌≤◌, true≢false, le_trans}
-use Rattle.std.proofs.lemmas.Bool.{eqb-true, ltb-true, ltb-false, le-ltb}
+use Rattle.std.proofs.lemmas.Bool.{and_parts, not-true, eqb-true, ltb-true, ltb-false, le-ltb}
 use Rattle.std.specs.Prelude.{◌≡◌, ℕ, Bool, true, false, not, ◌&&◌, ◌==◌, nat_lt, if◌then◌else◌, Option, Some, None}
 use Rattle.std.specs.Prelude.{is_some, is_none, List, [], ◌∷◌, drop, count_by}
 use Rattle.std.specs.List.{list_any, list_all}
@@ -18,18 +18,6 @@ and_false : (a : Bool) → (a && false) ≡ false
 and_false true = refl
 and_false false = refl
 
-and_first : (a b : Bool) → (a && b) ≡ true → a ≡ true
-and_first true b e = refl
-and_first false b e = e
-
-and_second : (a b : Bool) → (a && b) ≡ true → b ≡ true
-and_second true b e = e
-and_second false b e = absurd (true≢false (sym e))
-
-not_true : (b : Bool) → not b ≡ true → b ≡ false
-not_true true e = absurd (true≢false (sym e))
-not_true false e = refl
-
 none_false : (o : Option ℕ) → is_some o ≡ true → is_none o ≡ false
 none_false None e = absurd (true≢false (sym e))
 none_false (Some k) e = refl
@@ -40,17 +28,17 @@ empty (x ∷ xs) e = absurd (true≢false (sym e))
 
 -- it has returned
 returned : (x : Call) → is_settled x ≡ true → is_none x.after ≡ false
-returned x s = none_false x.after (and_first (is_some x.after) (not (goes_on x) && is_empty x.here) s)
+returned x s = none_false x.after (and_parts (is_some x.after) (not (goes_on x) && is_empty x.here) s).0
 
 -- its invalidation is not under way
 quiet : (x : Call) → is_settled x ≡ true → goes_on x ≡ false
-quiet x s = not_true (goes_on x) (and_first (not (goes_on x)) (is_empty x.here)
-    (and_second (is_some x.after) (not (goes_on x) && is_empty x.here) s))
+quiet x s = not-true (goes_on x) (and_parts (not (goes_on x)) (is_empty x.here)
+    (and_parts (is_some x.after) (not (goes_on x) && is_empty x.here) s).1).0
 
 -- none of the entries of its span is there
 none_here : (x : Call) → is_settled x ≡ true → x.here ≡ []
-none_here x s = empty x.here (and_second (not (goes_on x)) (is_empty x.here)
-    (and_second (is_some x.after) (not (goes_on x) && is_empty x.here) s))
+none_here x s = empty x.here (and_parts (not (goes_on x)) (is_empty x.here)
+    (and_parts (is_some x.after) (not (goes_on x) && is_empty x.here) s).1).1
 
 -- ---- numbers
 
@@ -74,7 +62,8 @@ not_equal : (a n q : ℕ) → nat_lt n q ≡ true → a ≤ n → (a == q) ≡ f
 not_equal a n q l h = by_bool (a == q) refl
   where
     by_bool : (b : Bool) → (a == q) ≡ b → b ≡ false
-    by_bool true e = let same : a ≡ q = eqb-true a q e in let less = ltb-true n q l in absurd (omega (arith, same, less, h))
+    by_bool true e = let same : a ≡ q = eqb-true a q e in let less = ltb-true n q l in
+        absurd (omega (arith, same, less, h))
     by_bool false e = refl
 
 -- ---- what leaves it as it is
@@ -95,7 +84,8 @@ current_not t m o x s = ap (λ b. (x.thread == t) && ((x.mirror == m) && b)) (re
 pub return_same : (i q : ℕ) (cs : List Call) (ys : List Move) (t m : ℕ) (o : Over) (x : Call) → IsOver o x
     → returned_in i q cs ys t m x ≡ x
 return_same i q cs ys t m o x s = ap (λ b. if b
-    then returned_by i q (count_by (λ y. (y.mirror == m) && (y.seq == x.seq)) cs == 1) (list_any (is_placing x.span) ys) x
+    then returned_by i q (count_by (λ y. (y.mirror == m) && (y.seq == x.seq)) cs == 1)
+    (list_any (is_placing x.span) ys) x
     else x) (current_not t m o x s)
 
 end_same : (i j : ℕ) (o : Over) (x : Call) → nat_lt o.of i ≡ true → IsOver o x → after_end i j x ≡ x
@@ -112,18 +102,21 @@ end_held false o cs s = tt
 
 pub end_fixed : (i j : ℕ) (b : Bool) (o : Over) (cs : List Call) → nat_lt o.of i ≡ b → First (IsOver o) o.count cs
     → First (λ x. after_end i j x ≡ x) (before_end b o).count cs
-end_fixed i j true o cs e s = first_weaker (IsOver o) (λ x. after_end i j x ≡ x) (λ x h. end_same i j o x e h) o.count cs s
+end_fixed i j true o cs e s = first_weaker (IsOver o) (λ x. after_end i j x ≡ x)
+    (λ x h. end_same i j o x e h) o.count cs s
 end_fixed i j false o cs e s = tt
 
 -- it is over after a migration knows what moved
-paged_over : (device : ℕ → Option ℕ) (t : ℕ) (y : Move) (o : Over) (x : Call) → IsOver o x → IsOver o (paged_by device t y x)
+paged_over : (device : ℕ → Option ℕ) (t : ℕ) (y : Move) (o : Over) (x : Call) → IsOver o x
+    → IsOver o (paged_by device t y x)
 paged_over device t y o x s = by_bool _ _
   where
     by_bool : (b : Bool) (z : Option (List _ × Bool)) → IsOver o (if b then record x { stale = z } else x)
     by_bool true z = record { settled = s.settled; of = s.of; at = s.at; seq = s.seq; ended = s.ended }
     by_bool false z = s
 
-pub paged_held : (device : ℕ → Option ℕ) (t : ℕ) (ys : List Move) (o : Over) (n : ℕ) (cs : List Call) → First (IsOver o) n cs
+pub paged_held : (device : ℕ → Option ℕ) (t : ℕ) (ys : List Move) (o : Over) (n : ℕ) (cs : List Call)
+    → First (IsOver o) n cs
     → First (IsOver o) n (paged_in device t ys cs)
 paged_held device t [] o n cs s = s
 paged_held device t (y ∷ ys) o n cs s = first_mapped (IsOver o) (paged_by device t y) (paged_over device t y o) n cs s
@@ -134,33 +127,39 @@ pub in_not : (t : ℕ) (o : Over) (x : Call) → IsOver o x → ((x.thread == t)
 in_not t o x s = ap (λ b. (x.thread == t) && b) (returned x s.settled) ∙ and_false (x.thread == t)
 
 pub telling_not : (m : ℕ) (o : Over) (x : Call) → IsOver o x → is_telling m x ≡ false
-telling_not m o x s = ap (λ b. (x.mirror == m) && (b && is_some x.after)) (quiet x s.settled) ∙ and_false (x.mirror == m)
+telling_not m o x s = ap (λ b. (x.mirror == m) && (b && is_some x.after)) (quiet x s.settled)
+    ∙ and_false (x.mirror == m)
 
 pub over_not : (m i : ℕ) (o : Over) (x : Call) → nat_lt i o.ended ≡ false → IsOver o x
     → ((x.mirror == m) && (is_some x.after && is_after x.ended i)) ≡ false
 over_not m i o x l s = ap (λ b. (x.mirror == m) && (is_some x.after && b)) (not_after x.ended o.ended i l s.ended)
     ∙ (ap (λ b. (x.mirror == m) && b) (and_false (is_some x.after)) ∙ and_false (x.mirror == m))
 
-pub given_not : (m q : ℕ) (o : Over) (x : Call) → nat_lt o.seq q ≡ true → IsOver o x → ((x.mirror == m) && (x.seq == q)) ≡ false
+pub given_not : (m q : ℕ) (o : Over) (x : Call) → nat_lt o.seq q ≡ true → IsOver o x
+    → ((x.mirror == m) && (x.seq == q)) ≡ false
 given_not m q o x l s = ap (λ b. (x.mirror == m) && b) (not_equal x.seq o.seq q l s.seq) ∙ and_false (x.mirror == m)
 
-pub meets_not : (l : Look) (m : ℕ) (o : Over) (x : Call) → is_before l.begun o.at ≡ false → IsOver o x → meets l m x ≡ false
+pub meets_not : (l : Look) (m : ℕ) (o : Over) (x : Call) → is_before l.begun o.at ≡ false → IsOver o x
+    → meets l m x ≡ false
 meets_not l m o x h s = ap (λ b. (x.mirror == m) && (is_other x.after l.seq && b)) (not_before l.begun o.at x.at h s.at)
     ∙ (ap (λ b. (x.mirror == m) && b) (and_false (is_other x.after l.seq)) ∙ and_false (x.mirror == m))
 
 -- ---- what is asked of all of them, or of the others alone
 
-pub any_from : {X : Type 0} → (P : X → Type 0) (q : X → Bool) (b : Bool) → (b ≡ false → (x : X) → P x → q x ≡ false) → (n : ℕ) (xs : List X)
+pub any_from : {X : Type 0} → (P : X → Type 0) (q : X → Bool) (b : Bool) → (b ≡ false → (x : X) → P x
+    → q x ≡ false) → (n : ℕ) (xs : List X)
     → First P n xs → list_any q (drop (if b then 0 else n) xs) ≡ list_any q xs
 any_from P q true h n xs s = refl
 any_from P q false h n xs s = first_any P q (h refl) n xs s
 
-pub all_from : {X : Type 0} → (P : X → Type 0) (q : X → Bool) (b : Bool) → (b ≡ false → (x : X) → P x → q x ≡ true) → (n : ℕ) (xs : List X)
+pub all_from : {X : Type 0} → (P : X → Type 0) (q : X → Bool) (b : Bool) → (b ≡ false → (x : X) → P x → q x ≡ true)
+    → (n : ℕ) (xs : List X)
     → First P n xs → list_all q (drop (if b then 0 else n) xs) ≡ list_all q xs
 all_from P q true h n xs s = refl
 all_from P q false h n xs s = first_all P q (h refl) n xs s
 
-pub count_from : {X : Type 0} → (P : X → Type 0) (q : X → Bool) (b : Bool) → (b ≡ true → (x : X) → P x → q x ≡ false) → (n : ℕ) (xs : List X)
+pub count_from : {X : Type 0} → (P : X → Type 0) (q : X → Bool) (b : Bool) → (b ≡ true → (x : X) → P x
+    → q x ≡ false) → (n : ℕ) (xs : List X)
     → First P n xs → count_by q (drop (if b then n else 0) xs) ≡ count_by q xs
 count_from P q true h n xs s = first_count P q (h refl) n xs s
 count_from P q false h n xs s = refl

@@ -5,14 +5,16 @@ use Rattle.std.proofs.lemmas.List.{map-append, reverse-append}
 pub use Rattle.hm_verdicts.specs.Settled.{mapped_to}
 use Rattle.std.specs.Prelude.{◌≡◌, ℕ, ◌+◌, ◌≤◌, List, [], ◌∷◌, ◌++◌, map, reverse, Bool, count_by, if◌then◌else◌}
 
-mapped_next : {X : Type 0} → (f : X → X) (n : ℕ) (xs : List X) (d y : X) → n < length xs → y ≡ f (get_or (mapped_to f n xs) n d)
+mapped_next : {X : Type 0} → (f : X → X) (n : ℕ) (xs : List X) (d y : X) → n < length xs
+    → y ≡ f (get_or (mapped_to f n xs) n d)
     → set (mapped_to f n xs) n y ≡ mapped_to f (suc n) xs
 mapped_next f n [] d y l e = absurd (omega (arith, l))
 mapped_next f zero (x ∷ xs) d y l e = ap (λ z. z ∷ xs) e
 mapped_next f (suc n) (x ∷ xs) d y l e = ap (λ zs. f x ∷ zs) (mapped_next f n xs d y (omega (arith, l)) e)
 
 -- one more is
-pub mapped_more : {X : Type 0} → (f : X → X) (n : ℕ) (xs : List X) (d y : X) → n < length xs → y ≡ f (get_or (mapped_to f n xs) n d)
+pub mapped_more : {X : Type 0} → (f : X → X) (n : ℕ) (xs : List X) (d y : X) → n < length xs
+    → y ≡ f (get_or (mapped_to f n xs) n d)
     → set (mapped_to f n xs) n y ≡ mapped_to f (n + 1) xs
 mapped_more f n xs d y l e = let more : suc n ≡ n + 1 = omega arith in
     mapped_next f n xs d y l e ∙ ap (λ k. mapped_to f k xs) more
@@ -48,4 +50,5 @@ counted_same p f h zero xs = refl
 counted_same p f h (suc n) [] = refl
 counted_same p f h (suc n) (x ∷ xs) = sum_by-cons (λ x. if p x then 1 else 0) (f x) (mapped_to f n xs)
     ∙ (ap (λ b. (if b then 1 else 0) + count_by p (mapped_to f n xs)) (h x)
-    ∙ (ap (λ k. (if p x then 1 else 0) + k) (counted_same p f h n xs) ∙ sym (sum_by-cons (λ x. if p x then 1 else 0) x xs)))
+    ∙ (ap (λ k. (if p x then 1 else 0) + k) (counted_same p f h n xs)
+    ∙ sym (sum_by-cons (λ x. if p x then 1 else 0) x xs)))

@@ -1,14 +1,16 @@
 -- Callbacks that are over for good: what they are not asked, and what does not change them.
 use Rattle.std.proofs.Common.{refl, ap, sym, subst, ◌∙◌, arith, ◌<◌, ◌≤◌, get_or, length, suc, zero, drop}
 use Rattle.std.proofs.lemmas.List.Sums.{sum_by-cons}
-use Rattle.std.specs.Prelude.{◌≡◌, ℕ, ◌+◌, List, [], ◌∷◌, ◌++◌, map, filter, find, Bool, true, false, ◌||◌, ◌&&◌, count_by, cond}
+use Rattle.std.specs.Prelude.{◌≡◌, ℕ, ◌+◌, List, [], ◌∷◌, ◌++◌, map}
+use Rattle.std.specs.Prelude.{filter, find, Bool, true, false, ◌||◌, ◌&&◌, count_by, cond}
 use Rattle.std.specs.Prelude.{if◌then◌else◌, Some}
 use Rattle.std.specs.List.{list_any, list_all}
 use Rattle.hm_verdicts.specs.Settled.{First, mapped_to}
 
 -- ---- the first items of a list
 
-pub first_weaker : {X : Type 0} → (P Q : X → Type 0) → ((x : X) → P x → Q x) → (n : ℕ) (xs : List X) → First P n xs → First Q n xs
+pub first_weaker : {X : Type 0} → (P Q : X → Type 0) → ((x : X) → P x → Q x) → (n : ℕ) (xs : List X) → First P n xs
+    → First Q n xs
 first_weaker P Q h zero xs s = tt
 first_weaker P Q h (suc n) [] s = absurd s
 first_weaker P Q h (suc n) (x ∷ xs) s = (h x s.0, first_weaker P Q h n xs s.1)
@@ -33,7 +35,8 @@ first_mapped P f h (suc n) [] s = absurd s
 first_mapped P f h (suc n) (x ∷ xs) s = (h x s.0, first_mapped P f h n xs s.1)
 
 -- so it is if it leaves each of them
-pub first_kept : {X : Type 0} → (P : X → Type 0) (f : X → X) (n : ℕ) (xs : List X) → First P n xs → First (λ x. f x ≡ x) n xs
+pub first_kept : {X : Type 0} → (P : X → Type 0) (f : X → X) (n : ℕ) (xs : List X) → First P n xs
+    → First (λ x. f x ≡ x) n xs
     → First P n (map f xs)
 first_kept P f zero xs s e = tt
 first_kept P f (suc n) [] s e = absurd s
@@ -53,7 +56,8 @@ first_pushed P (suc n) [] ys s = absurd s
 first_pushed P (suc n) (x ∷ xs) ys s = (s.0, first_pushed P n xs ys s.1)
 
 -- without some that are not among them
-pub first_filtered : {X : Type 0} → (P : X → Type 0) (p : X → Bool) → ((x : X) → P x → p x ≡ true) → (n : ℕ) (xs : List X)
+pub first_filtered : {X : Type 0} → (P : X → Type 0) (p : X → Bool) → ((x : X) → P x → p x ≡ true)
+    → (n : ℕ) (xs : List X)
     → First P n xs → First P n (filter p xs)
 first_filtered P p h zero xs s = tt
 first_filtered P p h (suc n) [] s = absurd s
@@ -61,7 +65,8 @@ first_filtered P p h (suc n) (x ∷ xs) s = subst (λ b. First P (suc n) (if b t
     (sym (h x s.0)) (s.0, first_filtered P p h n xs s.1)
 
 -- one more
-pub first_more : {X : Type 0} → (P : X → Type 0) (n : ℕ) (xs : List X) (d : X) → First P n xs → n < length xs → P (get_or xs n d)
+pub first_more : {X : Type 0} → (P : X → Type 0) (n : ℕ) (xs : List X) (d : X) → First P n xs → n < length xs
+    → P (get_or xs n d)
     → First P (suc n) xs
 first_more P n [] d s l p = absurd (omega (arith, l))
 first_more P zero (x ∷ xs) d s l p = (p, tt)
@@ -86,13 +91,11 @@ first_find P q h zero xs s = refl
 first_find P q h (suc n) [] s = absurd s
 first_find P q h (suc n) (x ∷ xs) s = first_find P q h n xs s.1 ∙ sym (ap (λ b. cond b (Some x) (find q xs)) (h x s.0))
 
-none_first : (n : ℕ) → 0 + n ≡ n
-none_first n = omega arith
-
 pub first_count : {X : Type 0} → (P : X → Type 0) (q : X → Bool) → ((x : X) → P x → q x ≡ false) → (n : ℕ) (xs : List X)
     → First P n xs → count_by q (drop n xs) ≡ count_by q xs
 first_count P q h zero xs s = refl
 first_count P q h (suc n) [] s = absurd s
-first_count P q h (suc n) (x ∷ xs) s = first_count P q h n xs s.1
+first_count P q h (suc n) (x ∷ xs) s = let none : 0 + count_by q xs ≡ count_by q xs = omega arith in
+    first_count P q h n xs s.1
     ∙ sym (sum_by-cons (λ x. if q x then 1 else 0) x xs ∙ (ap (λ b. (if b then 1 else 0) + count_by q xs) (h x s.0)
-    ∙ none_first (count_by q xs)))
+    ∙ none))

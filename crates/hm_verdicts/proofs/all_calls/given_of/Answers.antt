@@ -13,4 +13,5 @@ returns c =
     let cs = c.args.calls.now in
     c.given.ensures ∙ (ap (count_by (λ (y : Call). (y.mirror == m) && (y.seq == q)))
     (c.rest.ensures ∙ ap (λ n. drop n cs) c.below_seq.ensures)
-    ∙ count_from (IsOver o) (λ y. (y.mirror == m) && (y.seq == q)) (nat_lt o.seq q) (λ e x s. given_not m q o x e s) o.count cs c.requires)
+    ∙ count_from (IsOver o) (λ y. (y.mirror == m) && (y.seq == q)) (nat_lt o.seq q)
+    (λ e x s. given_not m q o x e s) o.count cs c.requires)

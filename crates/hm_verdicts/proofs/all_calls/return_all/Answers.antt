@@ -14,7 +14,8 @@ loop-number-init c =
     let cs = c.args.calls.now.items in
     let f = returned_in c.args.at c.args.seq cs (reverse c.args.moves.now) c.args.thread c.args.mirror in
     sym (first_fixed f o.count cs (first_weaker (IsOver o) (λ x. f x ≡ x)
-    (return_same c.args.at c.args.seq cs (reverse c.args.moves.now) c.args.thread c.args.mirror o) o.count cs c.requires))
+    (return_same c.args.at c.args.seq cs (reverse c.args.moves.now)
+    c.args.thread c.args.mirror o) o.count cs c.requires))
 
 pub return_one-requires-clause-there : goal.return_one-requires-clause-there
 return_one-requires-clause-there c =
@@ -52,7 +53,8 @@ loop-number-preserved c =
 
 pub returns : goal.returns
 returns c =
-    let f = returned_in c.args.at c.args.seq c.args.calls.now.items (reverse c.args.moves.now) c.args.thread c.args.mirror in
+    let f = returned_in c.args.at c.args.seq c.args.calls.now.items
+    (reverse c.args.moves.now) c.args.thread c.args.mirror in
     let past : length c.args.calls.now.items ≤ c.loop-number.number =
     omega (arith, c.loop-number-test.false, c.len-number-end.ensures, c.args.calls.now.ok) in
     c.loop-number.invariant ∙ mapped_past f c.loop-number.number c.args.calls.now.items past

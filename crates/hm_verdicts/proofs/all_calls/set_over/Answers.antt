@@ -8,5 +8,6 @@ use Rattle.hm_verdicts.proofs.all_calls.set_over.Goals as goal
 pub change-requires-clause-same : goal.change-requires-clause-same
 change-requires-clause-same c =
     let o = c.args.over in
-    first_weaker (IsOver o) (λ x. after_set c.args.mirror c.args.page x ≡ x) (set_same c.args.mirror c.args.page o) o.count
+    first_weaker (IsOver o) (λ x. after_set c.args.mirror c.args.page x ≡ x)
+    (set_same c.args.mirror c.args.page o) o.count
     c.args.calls.now.items c.requires

@@ -12,5 +12,6 @@ loop-over-preserved c =
     let more : o.count + 1 ≡ suc o.count = omega arith in
     let below : o.count < length cs = omega (arith, c.loop-over-test.true) in
     subst (λ n. First (IsOver p) n cs) (sym (c.with-over.ensures.many ∙ more))
-    (first_more (IsOver p) o.count cs d (first_weaker (IsOver o) (IsOver p) c.with-over.ensures.others o.count cs c.loop-over.invariant)
+    (first_more (IsOver p) o.count cs d
+    (first_weaker (IsOver o) (IsOver p) c.with-over.ensures.others o.count cs c.loop-over.invariant)
     below (subst (IsOver p) c.index-calls-over-in-loop-over.is c.with-over.ensures.one))

@@ -11,6 +11,8 @@ pub returns : goal.returns
 returns c =
     let o = c.self.inside.over in
     let m = c.args.mirror in
-    c.are_early.ensures ∙ (ap (list_any (λ (x : Call). is_telling m x && (x.seq == c.args.seq))) (c.rest.ensures ∙ ap (drop o.count) c.deref.ensures.value)
-    ∙ (first_any (IsOver o) (λ x. is_telling m x && (x.seq == c.args.seq)) (λ x s. ap (λ b. b && (x.seq == c.args.seq)) (telling_not m o x s)) o.count c.self.inside.items.items c.self.invariant
+    c.are_early.ensures ∙ (ap (list_any (λ (x : Call). is_telling m x && (x.seq == c.args.seq)))
+    (c.rest.ensures ∙ ap (drop o.count) c.deref.ensures.value)
+    ∙ (first_any (IsOver o) (λ x. is_telling m x && (x.seq == c.args.seq)) (λ x s. ap (λ b. b && (x.seq == c.args.seq))
+    (telling_not m o x s)) o.count c.self.inside.items.items c.self.invariant
     ∙ ap (list_any (λ (x : Call). is_telling m x && (x.seq == c.args.seq))) c.self.view_is))

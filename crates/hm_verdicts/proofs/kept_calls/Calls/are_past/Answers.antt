@@ -17,5 +17,6 @@ returns c =
     c.are_past.ensures ∙ (ap (list_all (λ (x : Call). not (meets l m x) || is_past l x))
     (c.rest.ensures ∙ (ap (drop c.until.result) c.deref.ensures.value ∙ ap (λ n. drop n cs) c.until.ensures))
     ∙ (all_from (IsOver o) (λ x. not (meets l m x) || is_past l x) (is_before c.begun.result o.at)
-    (λ e x s. ap (λ b. not b || is_past l x) (meets_not l m o x (sym (ap (λ g. is_before g o.at) c.begun.ensures) ∙ e) s))
+    (λ e x s. ap (λ b. not b || is_past l x) (meets_not l m o x (sym (ap (λ g. is_before g o.at) c.begun.ensures)
+    ∙ e) s))
     o.count cs c.self.invariant ∙ ap (list_all (λ (x : Call). not (meets l m x) || is_past l x)) c.self.view_is))

@@ -10,5 +10,6 @@ invariant_of-self c =
     let o = c.self.inside.over in
     let t = c.args.thread in
     let m = c.args.mirror in
-    subst (First (IsOver o) o.count) (sym c.drop_current.ensures) (first_filtered (IsOver o) (λ x. not (is_current t m x))
+    subst (First (IsOver o) o.count) (sym c.drop_current.ensures)
+    (first_filtered (IsOver o) (λ x. not (is_current t m x))
     (λ x s. ap not (current_not t m o x s)) o.count c.self.inside.items.items c.self.invariant)

@@ -15,5 +15,6 @@ settle-self-inside-requires c =
     let t = c.args.thread in
     let m = c.args.mirror in
     subst (First (IsOver o) o.count) (sym (c.deref.ensures.value ∙ c.in_ok-return_all.ensures))
-    (first_mapped (IsOver o) (returned_in i q cs ys t m) (λ x s. subst (IsOver o) (sym (return_same i q cs ys t m o x s)) s)
+    (first_mapped (IsOver o) (returned_in i q cs ys t m)
+    (λ x s. subst (IsOver o) (sym (return_same i q cs ys t m o x s)) s)
     o.count cs c.self.invariant)
