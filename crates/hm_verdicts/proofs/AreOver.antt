@@ -95,11 +95,6 @@ end_same i j o x l s = ap (λ b. if b then record x { ended = Some j } else x) (
 abbrev pub before_end : Bool → Over → Over
 before_end b o = if b then o else record o { count = 0 }
 
-pub end_held : (b : Bool) (o : Over) (cs : List Call) → First (IsOver o) o.count cs
-    → First (IsOver (before_end b o)) (before_end b o).count cs
-end_held true o cs s = s
-end_held false o cs s = tt
-
 pub end_fixed : (i j : ℕ) (b : Bool) (o : Over) (cs : List Call) → nat_lt o.of i ≡ b → First (IsOver o) o.count cs
     → First (λ x. after_end i j x ≡ x) (before_end b o).count cs
 end_fixed i j true o cs e s = first_weaker (IsOver o) (λ x. after_end i j x ≡ x)

@@ -15,12 +15,6 @@ first_weaker P Q h zero xs s = tt
 first_weaker P Q h (suc n) [] s = absurd s
 first_weaker P Q h (suc n) (x ∷ xs) s = (h x s.0, first_weaker P Q h n xs s.1)
 
--- there are so many
-pub first_within : {X : Type 0} → (P : X → Type 0) (n : ℕ) (xs : List X) → First P n xs → n ≤ length xs
-first_within P zero xs s = omega arith
-first_within P (suc n) [] s = absurd s
-first_within P (suc n) (x ∷ xs) s = let h = first_within P n xs s.1 in omega (arith, h)
-
 -- a change leaves them
 pub first_fixed : {X : Type 0} → (f : X → X) (n : ℕ) (xs : List X) → First (λ x. f x ≡ x) n xs → mapped_to f n xs ≡ xs
 first_fixed f zero xs s = refl
