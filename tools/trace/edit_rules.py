@@ -12,6 +12,7 @@ drivers here have these changes besides. No line of the kernel stands here, as t
 | Change | Why |
 |---|---|
 | no chunk of device-private memory, no exclusive access | Debian's kernel has neither |
+| a wait sleeps | other threads come in between more often |
 | the functions that read, write and give frames out are never inlined | they are probed |
 | an assertion of two offsets | the probes are given them |
 """
@@ -83,6 +84,7 @@ def for_stock_kernel(c):
     c.change('dmirror_device_init', 'Build a list of free',
              before('\tif (dmirror_is_private_zone(mdevice))\n\t\treturn 0;\n'))
     c.change('dmirror_exclusive', 'make_device_exclusive_range(', lambda line: '\t\tret = 0;')
+    c.change('wait_a_while', 'udelay(', word('udelay(', 'fsleep('))
     for name in ('dmirror_do_read', 'dmirror_do_write', 'dmirror_devmem_alloc_page'):
         c.change(name, 'static ', word('static ', 'static __attribute__((noipa)) '))
 

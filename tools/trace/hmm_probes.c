@@ -40,6 +40,9 @@ module_param(takes, charp, 0444);
 MODULE_PARM_DESC(takes, "a function that gives a frame of the device out: returns its struct page, or NULL");
 module_param(frees, charp, 0444);
 MODULE_PARM_DESC(frees, "the driver's page_free (struct page): a frame of its memory is free again");
+static bool model;
+module_param(model, bool, 0444);
+MODULE_PARM_DESC(model, "the driver is to keep set-unless-invalidated and exclusive-waits, too");
 static long table, object;
 module_param(table, long, 0444);
 MODULE_PARM_DESC(table, "the notifier's address less that of the table which `set` and `erase` are given");
@@ -584,8 +587,9 @@ static int line(struct seq_file *f, void *v)
 	unsigned long at = (unsigned long)v - 1;
 
 	if (at == 0)
-		seq_printf(f, "names%s%s%s%s%s\n", *set ? " set" : "", *erase ? " erase" : "",
-			   *reads && *writes ? " use" : "", *takes ? " take" : "", *frees ? " free" : "");
+		seq_printf(f, "names%s%s%s%s%s%s\n", *set ? " set" : "", *erase ? " erase" : "",
+			   *reads && *writes ? " use" : "", *takes ? " take" : "", *frees ? " free" : "",
+			   model ? " model" : "");
 	else if (at <= r->count)
 		print_event(f, events + at - 1, r->first + at - 1);
 	else if (r->lost || r->missed)

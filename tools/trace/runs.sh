@@ -28,5 +28,5 @@ for rule in "$@"; do
     ROUNDS=${ROUNDS:-100} WRITES=${WRITES:-$writes} DEVICE=${DEVICE:-$device} DELAY=${DELAY:-$delay} \
         "$here/boot.sh" "$work" "$rule" "$out" "${SECONDS_MOST:-300}"
     "$here/../trace_runs.py" --expect "$rule" "$out"
-    grep -E "Oops|BUG|panic|WARNING" "$out.console" | head -n 2 || true
+    grep -v 'Command line' "$out.console" | grep -E 'Oops|BUG|panic|WARNING' | head -n 2 || true
 done
