@@ -6,16 +6,17 @@
 A FILE is a trace (docs/TRACE.md), or many of them as tools/trace/boot.sh writes them: each between a line `# run NAME
 NUMBER ..` and a line `# over`. A trace without its `# over` was cut off by the end of its boot, and is not judged.
 
-Writes a line for each name: how many traces, lines and events they had, and how many were whole, part, and refused. Then
-a line for each rule that was put to the test: in how many traces it was broken, may have been, and was kept; the names of
-the first traces in which it was broken, or may have been, if it was.
+Writes a line for each name: how many traces there were, lines and events, and how many traces were whole, part, and
+refused. Then a line for each rule that was put to the test: in how many traces it was broken, may have been, and was
+kept; and the first trace in which it was broken, or may have been.
 
---each writes a line for each trace in which a rule is broken or may be. --keep puts each such trace into FOLDER, as
-NAME.NUMBER.trace. --expect RULE says how often the rule was named (`broken`), how often it may have been broken, how often
-neither, and how often another rule was named, which is wrong; RULE is `right` if no rule is left out. It ends with
-status 1 if another rule was named in a trace, or a trace was refused.
+    --each           also a line for each trace in which a rule is broken or may be
+    --keep FOLDER    keeps each such trace, as FOLDER/NAME.NUMBER.trace
+    --expect RULE    also says in how many traces this rule was named (`broken`), in how many it may have been broken,
+                     in how many neither, and in how many another rule was named; RULE is `right` if none is left out
 
-The program is the proved one if it is built, or else the unproved one.
+Ends with status 1 if a trace was refused, or if another rule was named than the one that --expect says. The program is
+the proved one if it is built, or else the unproved one.
 """
 import collections
 import os
@@ -85,8 +86,8 @@ def count(counts, number, found, expected):
 
 
 def write(name, c, expected):
-    print(f'{name}: {c.traces} traces, {c.lines} lines, {c.events} events; {c.how["whole"]} whole, {c.how["part"]} part, '
-          f'{c.how["refused"]} refused, {c.cut} cut off')
+    print(f'{name}: {c.traces} traces, {c.lines} lines, {c.events} events; {c.how["whole"]} whole, '
+          f'{c.how["part"]} part, {c.how["refused"]} refused, {c.cut} cut off')
     if expected == 'right':
         print(f'  {c.others} blamed')
     elif expected:

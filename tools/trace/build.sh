@@ -3,8 +3,8 @@
 #
 # Needs Debian 12 and these packages (as root):
 #   apt-get install build-essential cpio qemu-system-x86 python3 linux-source-6.1 linux-headers-6.1.0-57-amd64
-# The kernel's package is not installed: its image is taken out. VERSION (6.1.0-57) in the environment is another one; its
-# headers must be there. What is there already is not fetched again; the probes and the drivers are always made anew.
+# The kernel's package is not installed: its image is taken out. VERSION (6.1.0-57) in the environment is another one;
+# its headers must be there. What is there already is not fetched again; the probes and the drivers are made anew.
 set -eu
 here=$(cd "$(dirname "$0")" && pwd)
 mkdir -p "${1:?a folder to build in}"

@@ -65,9 +65,9 @@ static const char * const reasons[] = { "unmap", "clear", "protect_vma", "protec
 
 enum word { INSERT, INSERTED, REMOVE, REMOVED, START, END, TELL, TOLD, BEGIN, WALK, FOUND, WALKED, SET, ERASE, USE,
 	SETUP, FROM, READY, MOVED, STAYED, PAGES, FINALIZE, TAKE, FREE };
-static const char * const words[] = { "insert", "inserted", "remove", "removed", "start", "end", "tell", "told", "begin",
-	"walk", "found", "walked", "set", "erase", "use", "setup", "from", "ready", "moved", "stayed", "pages", "finalize",
-	"take", "free" };
+static const char * const words[] = { "insert", "inserted", "remove", "removed", "start", "end", "tell", "told",
+	"begin", "walk", "found", "walked", "set", "erase", "use", "setup", "from", "ready", "moved", "stayed", "pages",
+	"finalize", "take", "free" };
 
 enum kind { NONE, ZERO, SYSTEM, PRIVATE, COHERENT };
 struct frame { u8 kind; int owner; unsigned long number; };
@@ -109,8 +109,8 @@ static void add(struct event e)
 
 // ---- small numbers for pointers
 
-// The same pointer has the same number, for good: an interval that comes again at an address says `insert` anew. A pointer
-// that is forgotten has the complement of its number, until it is named again.
+// The same pointer has the same number, for good: an interval that comes again at an address says `insert` anew. A
+// pointer that is forgotten has the complement of its number, until it is named again.
 #define BITS 13
 struct slot { void *of; int number; };
 struct names { int count; struct slot slots[1 << BITS]; };
@@ -249,8 +249,8 @@ static int remove_out(struct kretprobe_instance *i, struct pt_regs *regs)
 	return 0;
 }
 
-// __mmu_notifier_invalidate_range_start (range), of an address space that has had a recorded interval. The range's owner
-// means something for migrations and exclusive access only: of others the kernel leaves it as it was on the stack.
+// __mmu_notifier_invalidate_range_start (range), of an address space that has had a recorded interval. The range's
+// owner means something for migrations and exclusive access only: else the kernel leaves it as it was on the stack.
 static int start_in(struct kprobe *probe, struct pt_regs *regs)
 {
 	struct mmu_notifier_range *r = (void *)GIVEN(0);

@@ -1,7 +1,7 @@
 #!/bin/busybox sh
 # shellcheck shell=dash disable=SC1091
-# The guest's init: loads the driver and the probes, makes the runs, and switches the machine off. /in has the driver and
-# the plan.
+# The guest's init: loads the driver and the probes, makes the runs, and switches the machine off. /in has the driver
+# and the plan.
 /bin/busybox --install -s /bin
 mkdir -p /proc /sys /dev /tmp
 mount -t proc proc /proc

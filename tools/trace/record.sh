@@ -1,6 +1,6 @@
 #!/bin/sh
-# record.sh MODULE OUT PARAMETER .. -- COMMAND ..: loads the probes, runs the command, writes the trace to OUT, and unloads
-# the probes. As root; the driver's module is loaded already. Ends with the command's status.
+# record.sh MODULE OUT PARAMETER .. -- COMMAND ..: loads the probes, runs the command, writes the trace to OUT, and
+# unloads the probes. As root; the driver's module is loaded already. Ends with the command's status.
 #
 #   record.sh ./hmm_probes.ko run.trace callback=my_invalidate set=my_set erase=my_erase table=16 -- ./my_test
 #

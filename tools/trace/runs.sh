@@ -2,11 +2,11 @@
 # runs.sh W [RULE ..]: boots the stock kernel once with each driver, and counts the verdicts on the runs. Without RULE:
 # the right one, and each that leaves a rule out. The runs are kept in W/runs/RULE.
 #
-# In the environment: ROUNDS (100), SECONDS_MOST of a boot (300), TAG (is put behind the files' names), and the variables
-# of boot.sh.
+# In the environment: ROUNDS (100), SECONDS_MOST of a boot (300), TAG (is put behind the files' names), and the
+# variables of boot.sh.
 #
-# Drivers whose entries may be stale do not write: their writes would go to pages that are the guest's again. Those whose
-# rule is about migrations have a device with coherent memory, and some of them a slow one.
+# Drivers whose entries may be stale do not write: their writes would go to pages that are the guest's again. Those
+# whose rule is about migrations have a device with coherent memory, and some of them a slow one.
 set -eu
 here=$(cd "$(dirname "$0")" && pwd)
 work=${1:?the folder that build.sh filled}
