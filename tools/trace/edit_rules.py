@@ -14,7 +14,7 @@ drivers here have these changes besides. No line of the kernel stands here, as t
 | no chunk of device-private memory, no exclusive access | Debian's kernel has neither |
 | a wait sleeps | other threads come in between more often |
 | the functions that read, write and give frames out are never inlined | they are probed |
-| an assertion of two offsets | the probes are given them |
+| an assertion of three offsets | the probes are given them |
 """
 import os
 import shutil
@@ -26,7 +26,8 @@ from edit_driver import NUMBERS, Source, after, before, change_driver, word
 
 # what init.sh tells the probes of the driver's object
 PLACES = '''
-static_assert(offsetof(struct dmirror, notifier) == 24 && offsetof(struct dmirror, pt) == 8);
+static_assert(offsetof(struct dmirror, notifier) == 24 && offsetof(struct dmirror, pt) == 8 &&
+	      offsetof(struct dmirror, mdevice) == 0);
 '''
 # a classic notifier beside the interval's, which knows when an invalidation ends
 ENDS = '''

@@ -18,6 +18,7 @@
 #include <linux/module.h>
 #include <linux/rcupdate.h>
 #include <linux/seq_file.h>
+#include <linux/uaccess.h>
 #include <linux/vmalloc.h>
 
 static uint size = 1 << 17;
@@ -43,11 +44,13 @@ MODULE_PARM_DESC(frees, "the driver's page_free (struct page): a frame of its me
 static bool model;
 module_param(model, bool, 0444);
 MODULE_PARM_DESC(model, "the driver is to keep set-unless-invalidated and exclusive-waits, too");
-static long table, object;
+static long table, object, owner;
 module_param(table, long, 0444);
 MODULE_PARM_DESC(table, "the notifier's address less that of the table which `set` and `erase` are given");
 module_param(object, long, 0444);
 MODULE_PARM_DESC(object, "the notifier's address less that of the object which `reads` and `writes` are given");
+module_param(owner, long, 0444);
+MODULE_PARM_DESC(owner, "the notifier's address less that of a pointer to the owner of the driver's device memory");
 static ulong tag_mask = 3, tag_write = 3, tag_sole = 1;
 module_param(tag_mask, ulong, 0444);
 MODULE_PARM_DESC(tag_mask, "an entry is a struct page's address with these bits beside it");
@@ -199,6 +202,7 @@ static int insert_in(struct kretprobe_instance *i, struct pt_regs *regs)
 	unsigned long start = GIVEN(2);
 	char text[KSYM_SYMBOL_LEN];
 	bool is_recorded = false;
+	void *of = NULL;
 	int n, m;
 
 	snprintf(text, sizeof(text), "%ps", ops->invalidate);
@@ -213,9 +217,11 @@ static int insert_in(struct kretprobe_instance *i, struct pt_regs *regs)
 	if (m < 0)
 		return 1;
 	KEPT(i)->x = (void *)GIVEN(0);
+	if (owner && get_kernel_nofault(of, (void **)(KEPT(i)->x - owner)))
+		of = NULL;
 	atomic_inc(&under_way);
 	add((struct event){ .word = INSERT, .m = m, .p = name(&spaces, (void *)GIVEN(1)), SPAN(start, start + GIVEN(3)),
-		.d = -1 });
+		.d = name(&owners, of) });
 	return 0;
 }
 

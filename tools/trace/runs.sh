@@ -1,6 +1,7 @@
 #!/bin/sh
 # runs.sh W [RULE ..]: boots the stock kernel once with each driver, and counts the verdicts on the runs. Without RULE:
-# the right one, and each that leaves a rule out. The runs are kept in W/runs/RULE.
+# the right one, and each that leaves a rule out. The runs are kept in W/runs/RULE. Ends with status 1 if a driver was
+# blamed for another rule.
 #
 # In the environment: ROUNDS (100), SECONDS_MOST of a boot (300), TAG (is put behind the files' names), and the
 # variables of boot.sh.
@@ -15,6 +16,7 @@ shift
 [ $# -gt 0 ] || set -- $("$here/edit_rules.py" --rules)
 memory=" $("$here/edit_rules.py" --memory) "
 mkdir -p "$work/runs"
+status=0
 for rule in "$@"; do
     writes=0 device=0 delay=300
     case $rule in
@@ -27,6 +29,7 @@ for rule in "$@"; do
     out=$work/runs/$rule${TAG:-}
     ROUNDS=${ROUNDS:-100} WRITES=${WRITES:-$writes} DEVICE=${DEVICE:-$device} DELAY=${DELAY:-$delay} \
         "$here/boot.sh" "$work" "$rule" "$out" "${SECONDS_MOST:-300}"
-    "$here/../trace_runs.py" --expect "$rule" "$out"
+    "$here/../trace_runs.py" --expect "$rule" "$out" || status=1
     grep -v 'Command line' "$out.console" | grep -E 'Oops|BUG|panic|WARNING' | head -n 2 || true
 done
+exit "$status"
