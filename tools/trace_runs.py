@@ -38,11 +38,11 @@ class Counts:
 
 
 def runs_of(path):
-    """The name, the number and the text of each trace of a file; no text, if it was cut off."""
+    """The name, the number (if it has one) and the text of each trace of a file; no text, if it was cut off."""
     with open(path, 'rb') as file:
         data = file.read().replace(b'\r', b'')
     if not data.startswith(b'# run ') and b'\n# run ' not in data:
-        yield os.path.basename(path).removesuffix('.trace'), '-', data
+        yield os.path.basename(path).removesuffix('.trace'), '', data
         return
     name, number, lines = None, None, []
     for line in data.splitlines(True):
@@ -94,7 +94,7 @@ def write(name, c, expected):
         print(f'  {expected}: {c.named} named, {c.maybe} maybe, {c.unseen} neither; {c.others} blamed for another rule')
     for rule, said in c.said.items():
         if said.keys() != {'unseen'}:
-            firsts = [f'{x} first in {c.first[rule, x]}' for x in ('broken', 'maybe') if said[x]]
+            firsts = [f'{x} first in {c.first[rule, x]}' for x in ('broken', 'maybe') if said[x] and c.first[rule, x]]
             print(f'  {rule}: broken {said["broken"]}, maybe {said["maybe"]}, kept {said["kept"]}'
                   + ''.join(', ' + x for x in firsts))
 
@@ -137,14 +137,14 @@ def main():
             found, why = judged(program, data)
             if not found:
                 counts.how['refused'] += 1
-                print(f'{name} {number}: {why}')
+                print(f'{name} {number}'.strip() + f': {why}')
                 continue
             wrong = count(counts, number, found, expected)
             if each and wrong:
-                print(name, number, *(f'{rule} {said} {at};' for rule, (said, at) in wrong.items()))
+                print(f'{name} {number}'.strip(), *(f'{rule} {said} {at};' for rule, (said, at) in wrong.items()))
             if folder and wrong:
                 os.makedirs(folder, exist_ok=True)
-                with open(os.path.join(folder, f'{name}.{number}.trace'), 'wb') as file:
+                with open(os.path.join(folder, f'{name}.{number}'.rstrip('.') + '.trace'), 'wb') as file:
                     file.write(data)
     for name, counts in total.items():
         write(name, counts, expected)

@@ -24,7 +24,7 @@ while [ "$1" != -- ]; do
 done
 shift
 [ $# -gt 0 ] || usage
-[ -d "$debug/tracing" ] || [ -d "$debug/sched" ] || mount -t debugfs debug "$debug" 2> /dev/null || true
+[ -n "$(ls -A "$debug")" ] || mount -t debugfs debug "$debug"
 # shellcheck disable=SC2086   # each parameter is a word of its own
 insmod "$module" $parameters || {
     echo 'record.sh: the probes were not loaded; the end of the kernel log (dmesg) says why' >&2
