@@ -167,16 +167,20 @@ def own_events(c):
     c.change(None, 'static int take_all = 1;', word('1', '0'))
 
 
-def own_sequence(c):
-    own_events(c)
+def erases_copied(c):
     c.change(TO_DEVICE, 'rpage = BACKING_PAGE(', before('\t\txa_erase(&dmirror->pt, addr >> PAGE_SHIFT);'))
 
 
+def own_sequence(c):
+    own_events(c)
+    erases_copied(c)
+
+
 def own_entries(c):
-    own_sequence(c)
-    owner = 'range->owner == dmirror->mdevice)'
-    c.change(CALLBACK, owner, word(owner, owner + ' {\n\t\tmmu_interval_set_seq(mni, cur_seq);'))
-    c.change(CALLBACK, 'return true;', after('\t}'))
+    """It sets the sequence, under its lock, and erases when it copies."""
+    c.change(CALLBACK, 'dmirror_do_update(', before(
+        '\tif (range->event != MMU_NOTIFY_MIGRATE || range->owner != dmirror->mdevice)'))
+    erases_copied(c)
 
 
 def set_right(c):
