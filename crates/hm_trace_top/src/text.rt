@@ -1,6 +1,5 @@
 // The text of the verdicts on a trace.
 ghost use Rattle.std.specs.Prelude.{◌≡◌, ◌+◌, ◌≤◌, ◌∷◌, ◌++◌, [], length, IfOk, OnOk};
-ghost use Rattle.hm_protocol.specs.Rules.{all_rules};
 ghost use Rattle.hm_trace_top.specs.Texts.{events_line, lines_text, number_at, rule_line, rule_lines, verdict_text};
 
 use crate::names::rule_name;
@@ -9,44 +8,8 @@ use hm_base::{NoMemory, Text};
 use hm_protocol::{Rule, Verdict};
 use hm_report::{Buffer, put_decimal};
 use hm_trace::Progress;
+use hm_verdicts::all_rules;
 use std::alloc::Global;
-
-/// All rules, in the order of their lines.
-const RULES: [Rule; 27] = [
-    Rule::Compare,
-    Rule::CompareSequence,
-    Rule::EntryRight,
-    Rule::MmapLock,
-    Rule::OwnDevice,
-    Rule::BeginWaits,
-    Rule::BeginFirst,
-    Rule::SetSequence,
-    Rule::Erase,
-    Rule::EraseAll,
-    Rule::EraseInTime,
-    Rule::OwnEvents,
-    Rule::OwnSequence,
-    Rule::OwnEntries,
-    Rule::StopAtDetach,
-    Rule::WriteEntry,
-    Rule::DetachWaits,
-    Rule::SetMoved,
-    Rule::SetRight,
-    Rule::SetUnlessInvalidated,
-    Rule::DropLost,
-    Rule::TakeFromThere,
-    Rule::EvictFirst,
-    Rule::WithdrawFirst,
-    Rule::WaitForLocked,
-    Rule::ExclusiveWaits,
-    Rule::LookAgain,
-];
-
-fn all_rules() -> [Rule; 27]
-    ensures { result ≡ all_rules }
-{
-    RULES
-}
 
 /// The number of the event at a position.
 fn number_at(numbers: &[u64], at: u64) -> u64

@@ -7,7 +7,7 @@ use std::alloc::{AllocError, AllocFailed};
 pub enum Failed {
     /// It runs out of memory.
     NoMemory,
-    /// A number of 64 bits cannot count on: after 2^64 - 1 events.
+    /// A number of 64 bits cannot count on.
     TooLong,
 }
 

@@ -14,7 +14,6 @@ use crate::newest_first::{Changes, change_items};
 use hm_protocol::{Rule, Traced};
 use std::alloc::Global;
 
-/// The rules, as docs/BROKEN.md has them.
 const ALL_RULES: [Rule; 27] = [
     Rule::Compare,
     Rule::CompareSequence,
@@ -44,6 +43,13 @@ const ALL_RULES: [Rule; 27] = [
     Rule::ExclusiveWaits,
     Rule::LookAgain,
 ];
+
+/// All rules, in the order of docs/BROKEN.md.
+pub fn all_rules() -> [Rule; 27]
+    ensures { result ≡ all_rules }
+{
+    ALL_RULES
+}
 
 /// What is kept of a rule: the first event that breaks it, and how often events put it to the test.
 #[derive(Clone, Copy)]

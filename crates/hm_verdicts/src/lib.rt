@@ -37,5 +37,5 @@ mod table;
 mod verdicts;
 
 pub use failed::Failed;
-pub use judge::Judge;
+pub use judge::{Judge, all_rules};
 pub use verdicts::verdicts_of;
