@@ -23,6 +23,7 @@ COPIES = [
     ('stored_examples/data/replays/long', 'examples', ('all_operations',), ('.hmm', '.report')),
     ('stored_examples/data/races', 'examples/races', ('',), ('.hmm', '.outcomes', '.conditions', '.rulings', '.report', '.without', '.shortest')),
     ('stored_examples/data/broken', 'examples/broken', ('',), ('.hmm', '.rules', '.answers', '.without', '.shortest')),
+    ('stored_examples/data/drivers', 'examples/drivers', ('',), ('.hmm', '.without', '.shortest')),
 ]
 # how the names of files end that lie beside copies and are the crate's own: the lines of a page
 OWN = ('.lines',)

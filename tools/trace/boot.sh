@@ -3,8 +3,8 @@
 # probes, and writes the runs' traces to OUT, the console to OUT.console. Gives up after SECONDS (600).
 #
 # In the environment: ROUNDS (40), WRITES (of eight calls of the driver, 3), DELAY (microseconds, 300), DEVICE (0, or 2
-# for one with coherent memory), FIRST (the first run's number, 0), SIZE (events that the probes have room for), and the
-# words of ../linux/boot.sh: ACCEL, CPU, CPUS, MEM.
+# for one with coherent memory), FIRST (the first run's number, 0), SIZE (events that the probes have room for), REMOVES
+# (1: each round removes that memory, 0), and the words of ../linux/boot.sh: ACCEL, CPU, CPUS, MEM.
 set -eu
 here=$(cd "$(dirname "$0")" && pwd)
 work=${1:?the folder that build.sh filled}
@@ -25,7 +25,7 @@ if [ "$device" != 0 ]; then
 fi
 cat > "$folder/plan" << PLAN
 RULE=$rule ROUNDS=${ROUNDS:-40} WRITES=${WRITES:-3} SECONDS_MOST=$most DEVICE=$device DELAY=${DELAY:-300}
-FIRST=${FIRST:-0} SIZE=${SIZE:-131072}
+FIRST=${FIRST:-0} SIZE=${SIZE:-131072} REMOVES=${REMOVES:-0}
 SPM="$spm"
 PLAN
 cp "$work/drivers/$rule/test_hmm.ko" "$folder/"

@@ -15,6 +15,7 @@ drivers here have these changes besides. No line of the kernel stands here, as t
 | a wait sleeps | other threads come in between more often |
 | the functions that read, write and give frames out are never inlined | they are probed |
 | an assertion of three offsets | the probes are given them |
+| a removal of the device's memory says when it gives out no frame any more, evicts until no frame is held, and the memory comes back when a file is opened | the kernel's waits for ever for a frame that it has passed over |
 """
 import os
 import shutil
@@ -72,6 +73,40 @@ BEFORE_USE = '''
 static int dmirror_do_read(struct dmirror *dmirror, unsigned long start,
 			   unsigned long end, struct dmirror_bounce *bounce);
 '''
+# a removal: a frame that is held is evicted again, as often as it takes
+HOLDS = '''
+/* from here on the device gives out no frame; a frame that was given out is out by now */
+static __attribute__((noipa)) void dmirror_withdrawn(struct dev_pagemap *pgmap)
+{
+	asm volatile("");
+}
+
+static bool dmirror_holds(struct dmirror_chunk *chunk)
+{
+	unsigned long pfn = chunk->pagemap.range.start >> PAGE_SHIFT;
+	unsigned long end = chunk->pagemap.range.end >> PAGE_SHIFT;
+
+	for (; pfn <= end; pfn++)
+		if (page_count(pfn_to_page(pfn)))
+			return true;
+	return false;
+}
+'''
+WITHDRAWN = '''
+			fsleep(3000);
+			dmirror_withdrawn(&devmem->pagemap);
+			wait_a_while();'''
+UNTIL_FREE = '''
+			while (dmirror_holds(devmem)) {
+				fsleep(200);
+				dmirror_device_evict_chunk(devmem);
+			}'''
+IS_WITHDRAWN = '''
+	if (mdevice->withdrawn) {
+		ret = -ENODEV;
+		goto err_release;
+	}'''
+REMOVES = 'dmirror_device_remove_chunks'
 CALLBACK, FAULT = 'dmirror_interval_invalidate', 'dmirror_range_fault'
 TO_DEVICE, MAPS = 'dmirror_migrate_alloc_and_copy', 'dmirror_migrate_finalize_and_map'
 
@@ -86,8 +121,19 @@ def for_stock_kernel(c):
              before('\tif (dmirror_is_private_zone(mdevice))\n\t\treturn 0;\n'))
     c.change('dmirror_exclusive', 'make_device_exclusive_range(', lambda line: '\t\tret = 0;')
     c.change('wait_a_while', 'udelay(', word('udelay(', 'fsleep('))
+    with_removal(c)
     for name in ('dmirror_do_read', 'dmirror_do_write', 'dmirror_devmem_alloc_page'):
         c.change(name, 'static ', word('static ', 'static __attribute__((noipa)) '))
+
+
+def with_removal(c):
+    c.change(None, 'cfree;', after('\tbool\t\t\twithdrawn;'))
+    c.change(None, 'static void ' + REMOVES, before(HOLDS))
+    c.change(REMOVES, 'remove = true', before('\t\t\tmdevice->withdrawn = true;'))
+    c.change(REMOVES, 'dmirror_device_evict_chunk(', after(UNTIL_FREE))
+    c.change(REMOVES, 'dmirror_device_evict_chunk(', before(WITHDRAWN))
+    c.change('dmirror_allocate_chunk', 'mutex_lock(', after(IS_WITHDRAWN))
+    c.change('dmirror_fops_open', 'private_data = ', after('\tdmirror->mdevice->withdrawn = false;'))
 
 
 def with_ends(c, at_end):
@@ -197,8 +243,21 @@ def drop_lost(c):
         '\t\t\tget_page(migrate_pfn_to_page(*dst));'))
 
 
+def take_from_there(c):
+    """It says that it gives out no frame any more, and does."""
+    c.change(REMOVES, 'withdrawn = true', gone)
+    c.change(REMOVES, 'remove = true', gone)
+    c.change(REMOVES, 'dmirror_remove_free_pages(', gone)
+
+
+def withdraw_first(c):
+    take_from_there(c)
+    c.change(REMOVES, 'dmirror_withdrawn(', word('dmirror_', 'if (READ_ONCE(race_delay) == ~0U) dmirror_'))
+
+
 MEMORY = {'own-events': own_events, 'own-sequence': own_sequence, 'own-entries': own_entries, 'set-right': set_right,
-          'set-moved': set_moved, 'drop-lost': drop_lost}
+          'set-moved': set_moved, 'drop-lost': drop_lost, 'take-from-there': take_from_there,
+          'withdraw-first': withdraw_first}
 RULES = {'right': lambda c: None, 'compare': compare, 'compare-sequence': compare_sequence, 'entry-right': entry_right,
          'mmap-lock': mmap_lock, 'begin-waits': begin_waits, 'begin-first': begin_first, 'set-sequence': set_sequence,
          'erase': erase, 'erase-all': erase_all, 'erase-in-time': erase_in_time, 'write-entry': write_entry,

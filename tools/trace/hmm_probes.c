@@ -28,7 +28,8 @@ static char *callback[4];
 static int callbacks;
 module_param_array(callback, charp, &callbacks, 0444);
 MODULE_PARM_DESC(callback, "the driver's invalidate callbacks; intervals with other callbacks are not recorded");
-static char *set = "", *erase = "", *reads = "", *writes = "", *takes = "", *frees = "";
+static char *set = "", *erase = "", *reads = "", *writes = "", *takes = "", *frees = "", *withdraws = "";
+static char *fetches = "", *adds = "";
 module_param(set, charp, 0444);
 MODULE_PARM_DESC(set, "a function (table, page number, entry) that sets an entry of the driver's table");
 module_param(erase, charp, 0444);
@@ -41,6 +42,12 @@ module_param(takes, charp, 0444);
 MODULE_PARM_DESC(takes, "a function that gives a frame of the device out: returns its struct page, or NULL");
 module_param(frees, charp, 0444);
 MODULE_PARM_DESC(frees, "the driver's page_free (struct page): a frame of its memory is free again");
+module_param(withdraws, charp, 0444);
+MODULE_PARM_DESC(withdraws, "a function (struct dev_pagemap) after which that device gives out no frame any more");
+module_param(fetches, charp, 0444);
+MODULE_PARM_DESC(fetches, "a function (object, address) that reads a page for one actor alone, and returns 0 if it did");
+module_param(adds, charp, 0444);
+MODULE_PARM_DESC(adds, "the same that writes the sum there");
 static bool model;
 module_param(model, bool, 0444);
 MODULE_PARM_DESC(model, "the driver is to keep set-unless-invalidated and exclusive-waits, too");
@@ -67,10 +74,10 @@ static const char * const reasons[] = { "unmap", "clear", "protect_vma", "protec
 	"migrate", "exclusive" };
 
 enum word { INSERT, INSERTED, REMOVE, REMOVED, START, END, TELL, TOLD, BEGIN, WALK, FOUND, WALKED, SET, ERASE, USE,
-	SETUP, FROM, READY, MOVED, STAYED, PAGES, FINALIZE, TAKE, FREE };
+	SETUP, FROM, READY, MOVED, STAYED, PAGES, FINALIZE, TAKE, FREE, WITHDRAW, GONE, PASS, FETCH, ADD };
 static const char * const words[] = { "insert", "inserted", "remove", "removed", "start", "end", "tell", "told",
 	"begin", "walk", "found", "walked", "set", "erase", "use", "setup", "from", "ready", "moved", "stayed", "pages",
-	"finalize", "take", "free" };
+	"finalize", "take", "free", "withdraw", "gone", "pass", "fetch", "add" };
 
 enum kind { NONE, ZERO, SYSTEM, PRIVATE, COHERENT };
 struct frame { u8 kind; int owner; unsigned long number; };
@@ -465,7 +472,62 @@ static int free_in(struct kprobe *probe, struct pt_regs *regs)
 	return 0;
 }
 
-static struct kretprobe returns[20];
+// `withdraws` (page map), and memunmap_pages (page map), after which the device's memory is gone: the owner is kept,
+// since the page map may be freed by then
+static int owner_in(struct kretprobe_instance *i, struct pt_regs *regs)
+{
+	KEPT(i)->x = ((struct dev_pagemap *)GIVEN(0))->owner;
+	return !KEPT(i)->x;
+}
+
+static int withdraw_out(struct kretprobe_instance *i, struct pt_regs *regs)
+{
+	add((struct event){ .word = WITHDRAW, .d = name(&owners, KEPT(i)->x) });
+	return 0;
+}
+
+static int gone_out(struct kretprobe_instance *i, struct pt_regs *regs)
+{
+	if (known(&owners, KEPT(i)->x) >= 0)
+		add((struct event){ .word = GONE, .d = known(&owners, KEPT(i)->x) });
+	return 0;
+}
+
+// migrate_device_range (collected, first, count): it passes over a frame that somebody else has, or has locked
+static int range_in(struct kretprobe_instance *i, struct pt_regs *regs)
+{
+	*KEPT(i) = (struct kept){ (void *)GIVEN(0), GIVEN(1), GIVEN(2) };
+	return 0;
+}
+
+static int range_out(struct kretprobe_instance *i, struct pt_regs *regs)
+{
+	unsigned long *collected = KEPT(i)->x, n;
+
+	for (n = 0; n < KEPT(i)->end; n++)
+		if (!(collected[n] & MIGRATE_PFN_MIGRATE) && page_count(pfn_to_page(KEPT(i)->start + n)))
+			add((struct event){ .word = PASS, .frame = frame_of(pfn_to_page(KEPT(i)->start + n)) });
+	return 0;
+}
+
+// `fetches` and `adds` (object, address): said only if it was done
+static int one_in(struct kretprobe_instance *i, struct pt_regs *regs)
+{
+	*KEPT(i) = (struct kept){ (void *)GIVEN(0) + object, GIVEN(1) };
+	return known(&intervals, KEPT(i)->x) < 0;
+}
+
+static int one_out(struct kretprobe_instance *i, struct pt_regs *regs)
+{
+	bool is_add = !strcmp(get_kretprobe(i)->kp.symbol_name, adds);
+
+	if (!(int)regs_return_value(regs))
+		add((struct event){ .word = is_add ? ADD : FETCH, .m = known(&intervals, KEPT(i)->x),
+			.a = KEPT(i)->start >> PAGE_SHIFT });
+	return 0;
+}
+
+static struct kretprobe returns[24];
 static struct kprobe entries[8];
 static int return_count, entry_count;
 
@@ -557,7 +619,7 @@ static void print_event(struct seq_file *f, struct event *e, u32 number)
 	case WALKED:
 		seq_printf(f, " m%d %s", e->m, e->what ? "done" : "failed");
 		break;
-	case ERASE:
+	case ERASE: case FETCH: case ADD:
 		seq_printf(f, " m%d %lu", e->m, e->a);
 		break;
 	case USE:
@@ -579,8 +641,11 @@ static void print_event(struct seq_file *f, struct event *e, u32 number)
 	case READY: case PAGES: case FINALIZE:
 		seq_printf(f, " p%d", e->p);
 		break;
-	case TAKE: case FREE:
+	case TAKE: case FREE: case PASS:
 		print_frame(f, e->frame);
+		break;
+	case WITHDRAW: case GONE:
+		seq_printf(f, " d%d", e->d);
 		break;
 	}
 	seq_putc(f, '\n');
@@ -715,7 +780,11 @@ static int __init probes_init(void)
 		probe_entry("__mmu_notifier_invalidate_range_end", end_in) ?:
 		probe_entry(set, set_in) ?: probe_entry(erase, erase_in) ?: probe_entry(frees, free_in) ?:
 		probe_return(reads, use_in, use_out) ?: probe_return(writes, use_in, use_out) ?:
-		probe_return(takes, take_in, take_out);
+		probe_return(takes, take_in, take_out) ?: probe_return(withdraws, owner_in, withdraw_out) ?:
+		probe_return(fetches, one_in, one_out) ?: probe_return(adds, one_in, one_out);
+	if (!failed && *withdraws)	// without it nobody knows whether a device that goes was withdrawn
+		failed = probe_return("memunmap_pages", owner_in, gone_out) ?:
+			probe_return("migrate_device_range", range_in, range_out);
 	if (!failed && IS_ENABLED(CONFIG_DEVICE_MIGRATION))
 		failed = probe_return("migrate_vma_setup", migrate_in, setup_out) ?:
 			probe_return("migrate_vma_pages", migrate_in, pages_out) ?:

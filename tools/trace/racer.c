@@ -1,11 +1,12 @@
 // The guest's program: races of real threads on the kernel's test driver, and a trace of each.
 //
-//   racer RULE ROUNDS WRITES SECONDS DEVICE OUT [FIRST]
+//   racer RULE ROUNDS WRITES SECONDS DEVICE OUT [FIRST [REMOVES]]
 //
 // Each round is a run of its own: the trace is cleared, a file of the driver is opened, and for a short time threads
 // make system calls on a few pages while others ask the driver for reads, writes and snapshots of them. WRITES is how
 // many of eight calls of the driver are writes: a broken driver that writes may spoil the guest. A third kind of calls
-// migrates to the device and back, if DEVICE is not 0: the driver's device of that number, with coherent memory. Then
+// migrates to the device and back, if DEVICE is not 0: the driver's device of that number, with coherent memory. If
+// REMOVES is not 0, that memory is removed in each round, while the threads go on; a file that is opened brings it back. Then
 // the trace is written to OUT, between lines `# run RULE NUMBER status S` and `# over`.
 #define _GNU_SOURCE
 #include <fcntl.h>
@@ -26,7 +27,7 @@
 #define BASE ((char *)0x200000000UL)
 #define TRACE "/sys/kernel/debug/hmm_probes/trace"
 
-static int driver, writes, device_number, work_of;
+static int driver, writes, device_number, removes, work_of;
 
 // drawn numbers: the same seed draws the same
 struct dice { uint64_t x; };
@@ -148,6 +149,12 @@ static void round_of(unsigned number)
 		pthread_create(threads + n++, NULL, device, (void *)(uintptr_t)(number * 64ULL + i + 1));
 	for (int i = 0; i < 1 + (int)(number / 2 % 2); i++)
 		pthread_create(threads + n++, NULL, process, (void *)(uintptr_t)(number * 64ULL + 32 + i));
+	if (removes) {
+		struct dice d = { number };
+
+		usleep(roll(&d, 20000));
+		call(HMM_DMIRROR_RELEASE, 0, 1, NULL);
+	}
 	for (int i = 0; i < n; i++) {
 		if (i == devices)
 			close(driver);
@@ -184,6 +191,7 @@ int main(int n, char **words)
 	}
 	writes = atoi(words[3]);
 	device_number = atoi(words[5]);
+	removes = n > 8 ? atoi(words[8]) : 0;
 	for (int i = first; i < first + rounds && time(NULL) < until; i++) {
 		int clear = open(TRACE, O_WRONLY), status;
 		pid_t child;

@@ -1,6 +1,6 @@
 // Searches the race of every script of the folder `races`, asks for the conditions there, and draws every report; of
-// the scripts of the folder `broken` it asks which rules a driver may leave out, and of both folders for shortest races
-// of drivers that do. Compares what is written with the files beside the scripts, and the pages with the lines there,
+// the scripts of the folder `broken` it asks which rules a driver may leave out, and of both folders and of `drivers` for
+// shortest races of drivers that do. Compares what is written with the files beside the scripts, and the pages with the lines there,
 // between the files of the folder page.
 use crate::files::{stems, text};
 use crate::streams::{empty_sink, source_beside, words_in};
@@ -36,6 +36,8 @@ enum Made {
     Shortest,
     /// The same, in a script of the folder `broken`.
     Punished,
+    /// The same, in a script of the folder `drivers`: what a driver of Linux may lose.
+    Suspected,
 }
 
 impl Made {
@@ -47,7 +49,7 @@ impl Made {
             Made::Page => (".report", ".lines"),
             Made::Rules => (".rules", ".rules"),
             Made::Answers => (".answers", ".answers"),
-            Made::Shortest | Made::Punished => (".without", ".shortest"),
+            Made::Shortest | Made::Punished | Made::Suspected => (".without", ".shortest"),
         }
     }
 
@@ -55,6 +57,7 @@ impl Made {
     fn folder(self) -> &'static str {
         match self {
             Made::Rules | Made::Answers | Made::Punished => "broken",
+            Made::Suspected => "drivers",
             _ => "races",
         }
     }
@@ -87,7 +90,7 @@ impl Made {
             Made::Outcomes | Made::Page => false,
             Made::Rulings => text.starts_with("fails "),
             Made::Rules | Made::Answers => text.split_once(" after ").is_some(),
-            Made::Shortest | Made::Punished => !text.starts_with("none\n"),
+            Made::Shortest | Made::Punished | Made::Suspected => !text.starts_with("none\n"),
         }
     }
 
@@ -153,7 +156,7 @@ fn words_of(rt: &HostRuntime, stem: &str, made: Made) -> io::Result<Vec<String>>
         Made::Rulings => expected(rt, stem),
         Made::Rules => words_in(rt.alloc(), "--all"),
         Made::Answers => words_in(rt.alloc(), "--all\n--answers"),
-        Made::Shortest | Made::Punished => {
+        Made::Shortest | Made::Punished | Made::Suspected => {
             words_in(rt.alloc(), text(rt, stem, ".without")?.as_str())
         }
     }
@@ -220,12 +223,14 @@ fn compare_rules(rt: &HostRuntime) -> io::Result<()> {
     let answers = compare(rt, Made::Answers)?;
     let shortest = compare(rt, Made::Shortest)?;
     let punished = compare(rt, Made::Punished)?;
+    let suspected = compare(rt, Made::Suspected)?;
     println!(rt;
         "of {rules} scripts it is said which rules a driver may leave out, of {answers} by answers"
     )?;
     println!(rt;
         "{shortest} shortest races of the gallery and {punished} others are those beside their scripts"
-    )
+    )?;
+    println!(rt; "so are {suspected} for drivers of Linux")
 }
 
 /// Says how many agree, of each kind.
