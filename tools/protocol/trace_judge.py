@@ -46,8 +46,13 @@ class Thing:
 
 
 def device_of_frame(frame):
-    """The device of a frame of device memory, or none."""
-    return frame.split('.')[0] if frame.startswith('d') else None
+    """The device of a frame of device memory, private or coherent, or none."""
+    return 'd' + frame[1:].split('.')[0] if frame[0] in 'dc' else None
+
+
+def private_to(frame):
+    """The device of a frame of private memory, or none."""
+    return device_of_frame(frame) if frame.startswith('d') else None
 
 
 # ---- reading
@@ -396,8 +401,8 @@ def mmap_lock(s):
 
 def own_device(s):
     """Another device's private frame in the table."""
-    asked = [x for x in s.sets if device_of_frame(x.frame) and x.device]
-    return verdict(len(asked), [x.at for x in asked if device_of_frame(x.frame) != x.device])
+    asked = [x for x in s.sets if private_to(x.frame) and x.device]
+    return verdict(len(asked), [x.at for x in asked if private_to(x.frame) != x.device])
 
 
 def begin_waits(s):

@@ -73,39 +73,51 @@ BEFORE_USE = '''
 static int dmirror_do_read(struct dmirror *dmirror, unsigned long start,
 			   unsigned long end, struct dmirror_bounce *bounce);
 '''
-# a removal: a frame that is held is evicted again, as often as it takes
+# a removal: no frame is given out while it begins, and one that is held is evicted again, as often as it takes
 HOLDS = '''
-/* from here on the device gives out no frame; a frame that was given out is out by now */
+/* says that the device gives out no frame from here on */
 static __attribute__((noipa)) void dmirror_withdrawn(struct dev_pagemap *pgmap)
 {
 	asm volatile("");
 }
 
-static bool dmirror_holds(struct dmirror_chunk *chunk)
+static void dmirror_withdraw(struct dmirror_device *mdevice)
+{
+	down_write(&mdevice->giving);
+	mdevice->withdrawn = true;
+	up_write(&mdevice->giving);
+}
+
+static void dmirror_empty(struct dmirror_chunk *chunk)
 {
 	unsigned long pfn = chunk->pagemap.range.start >> PAGE_SHIFT;
 	unsigned long end = chunk->pagemap.range.end >> PAGE_SHIFT;
 
-	for (; pfn <= end; pfn++)
-		if (page_count(pfn_to_page(pfn)))
-			return true;
-	return false;
+	while (pfn <= end)
+		if (page_count(pfn_to_page(pfn))) {
+			fsleep(200);
+			dmirror_device_evict_chunk(chunk);
+		} else {
+			pfn++;
+		}
 }
 '''
-WITHDRAWN = '''
-			fsleep(3000);
+MAY_GIVE = '''
+	down_read(&mdevice->giving);
+	if (mdevice->withdrawn) {
+		up_read(&mdevice->giving);
+		return NULL;
+	}'''
+SAYS = '''
 			dmirror_withdrawn(&devmem->pagemap);
 			wait_a_while();'''
-UNTIL_FREE = '''
-			while (dmirror_holds(devmem)) {
-				fsleep(200);
-				dmirror_device_evict_chunk(devmem);
-			}'''
-IS_WITHDRAWN = '''
-	if (mdevice->withdrawn) {
-		ret = -ENODEV;
-		goto err_release;
-	}'''
+LATE = '''
+			dmirror_withdraw(mdevice);
+			spin_lock(&mdevice->lock);
+			devmem->remove = true;
+			dmirror_remove_free_pages(devmem);
+			spin_unlock(&mdevice->lock);
+			dmirror_empty(devmem);'''
 REMOVES = 'dmirror_device_remove_chunks'
 CALLBACK, FAULT = 'dmirror_interval_invalidate', 'dmirror_range_fault'
 TO_DEVICE, MAPS = 'dmirror_migrate_alloc_and_copy', 'dmirror_migrate_finalize_and_map'
@@ -127,12 +139,16 @@ def for_stock_kernel(c):
 
 
 def with_removal(c):
-    c.change(None, 'cfree;', after('\tbool\t\t\twithdrawn;'))
+    gives = 'dmirror_devmem_alloc_page'
+    c.change(None, 'cfree;', after('\tstruct rw_semaphore\tgiving;\n\tbool\t\t\twithdrawn;'))
+    c.change('dmirror_device_init', 'mutex_init(', after('\tinit_rwsem(&mdevice->giving);'))
+    c.change(gives, 'rpage = NULL;', after(MAY_GIVE))
+    c.change(gives, 'return dpage;', before('\tup_read(&mdevice->giving);'))
+    c.change(gives, 'error:', after('\tup_read(&mdevice->giving);'))
     c.change(None, 'static void ' + REMOVES, before(HOLDS))
-    c.change(REMOVES, 'remove = true', before('\t\t\tmdevice->withdrawn = true;'))
-    c.change(REMOVES, 'dmirror_device_evict_chunk(', after(UNTIL_FREE))
-    c.change(REMOVES, 'dmirror_device_evict_chunk(', before(WITHDRAWN))
-    c.change('dmirror_allocate_chunk', 'mutex_lock(', after(IS_WITHDRAWN))
+    c.change(REMOVES, 'mutex_lock(', before('\tdmirror_withdraw(mdevice);'))
+    c.change(REMOVES, 'dmirror_device_evict_chunk(', after('\t\t\tdmirror_empty(devmem);'))
+    c.change(REMOVES, 'dmirror_device_evict_chunk(', before(SAYS))
     c.change('dmirror_fops_open', 'private_data = ', after('\tdmirror->mdevice->withdrawn = false;'))
 
 
@@ -244,14 +260,14 @@ def drop_lost(c):
 
 
 def take_from_there(c):
-    """It says that it gives out no frame any more, and does."""
-    c.change(REMOVES, 'withdrawn = true', gone)
-    c.change(REMOVES, 'remove = true', gone)
-    c.change(REMOVES, 'dmirror_remove_free_pages(', gone)
+    """It says that it gives out no frame any more, and does until all are evicted."""
+    for line in ('dmirror_withdraw(', 'remove = true', 'dmirror_remove_free_pages('):
+        c.change(REMOVES, line, gone)
+    c.change(REMOVES, 'dmirror_empty(', after(LATE))
 
 
 def withdraw_first(c):
-    take_from_there(c)
+    """It never says so. (The function stays, so that it can be probed.)"""
     c.change(REMOVES, 'dmirror_withdrawn(', word('dmirror_', 'if (READ_ONCE(race_delay) == ~0U) dmirror_'))
 
 
