@@ -380,7 +380,8 @@ def main():
     if lacking:
         print(f'edits.py: {lacking[0]} is no crate', file=sys.stderr)
         return 2
-    kit.share_work(False)
+    if hasattr(kit, 'share_work'):      # a kit that keeps work of other runs
+        kit.share_work(False)
     os.makedirs(os.path.dirname(os.path.abspath(asked.log)), exist_ok=True)
     known, lines, unproved = read_log(asked.log), [], []
     total = collections.Counter()
