@@ -28,7 +28,8 @@ use Rattle.hm_protocol.proofs.Fits.{Fits}
 use Rattle.hm_protocol.proofs.Steps.{GoBy, Keeps, by, by_thread, never, all_fit, watched, apart}
 use Rattle.hm_protocol.proofs.Stands.{walks}
 use Rattle.hm_protocol.proofs.DueKinds.{may}
-use Rattle.hm_protocol.proofs.Entries.{nothing_comes, events_are, going_is, known_after, each_actor}
+use Rattle.hm_laws.proofs.Histories.Short.{going_is}
+use Rattle.hm_protocol.proofs.Entries.{nothing_comes, events_are, known_after, each_actor}
 use Rattle.hm_protocol.proofs.ComesFrom.{turn_may}
 use Rattle.hm_protocol.proofs.Looks.{begun_before, last_walked, ends_walk, goes_on, sets_after, begins_now}
 

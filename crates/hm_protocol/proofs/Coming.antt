@@ -12,20 +12,7 @@ use Rattle.hm_history.specs.declared.phases.MoveStep.{MoveStep}
 use Rattle.hm_history.specs.declared.phases.Phase.{Phase}
 use Rattle.hm_history.proofs.Tests.{no_test}
 use Rattle.hm_laws.specs.Records.{Among}
-
--- what a search finds
-pub find_some : (test : Migrating → Bool) (xs : List Migrating) (x : Migrating) → find test xs ≡ Some x
-    → Among xs x × (test x ≡ true)
-find_some test [] x h = cc
-find_some test (w ∷ xs) x h = pick (test w) refl h (find_some test xs x)
-  where
-    same : (w x : Migrating) → ◌≡◌ {A = Option Migrating} (Some w) (Some x) → w ≡ x
-    same w x e = cc
-
-    pick : (b : Bool) → test w ≡ b → cond b (Some w) (find test xs) ≡ Some x
-        → (find test xs ≡ Some x → Among xs x × (test x ≡ true)) → ((w ≡ x) ⊎ Among xs x) × (test x ≡ true)
-    pick true e h ih = (inl (same w x h), sym (ap test (same w x h)) ∙ e)
-    pick false e h ih = let z : Among xs x × (test x ≡ true) = ih h in (inr z.0, z.1)
+use Rattle.hm_laws.proofs.Migration.Coming.{find_some}
 
 -- it is one of the records, and the step has something to do for it
 pub come_says : (s : After) (o : Op) (xs : List Migrating) (steps : List MoveStep) (n : ℕ) (at : MoveStep)

@@ -26,17 +26,6 @@ use Rattle.hm_protocol.proofs.Stands.{Stand, stand, is_moves}
 
 -- ---- an actor after its entry
 
--- where an actor is then
-pub going_is : (c : Program) (s : After) (a : ℕ) (g : Going) (j : Kind) (o : Op) (top : Phase) (below : List Phase)
-    → op_at c a g.index ≡ Some o → g.stack ≡ top ∷ below
-    → going_next c s a g j ≡ going_on c a g.index (stack_after o (top ∷ below) j (seen_at s o g.pages top j))
-    (recorded top (seen_at s o g.pages top j).page g.pages j)
-going_is c s a g j o top below io is =
-    ap (λ x. elim x as (λ x. Going) [ None ↦ g | Some o ↦ going_top c s a g o g.stack j ]) io
-    ∙ (ap (λ st. going_top c s a g o st j) is
-    ∙ ap (λ st. going_on c a g.index (stack_after o st j (seen_at s o g.pages top j))
-    (recorded top (seen_at s o g.pages top j).page g.pages j)) is)
-
 -- an operation begins at rest
 pub first_rests : (o : Option Op) → stand (first_stack o) ≡ Stand.Rests
 first_rests None = refl

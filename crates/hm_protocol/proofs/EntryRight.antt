@@ -22,7 +22,8 @@ use Rattle.hm_protocol.specs.Projection.{project, events_of, events_in, top_of}
 use Rattle.hm_protocol.specs.Laws.{IsKept}
 use Rattle.hm_protocol.proofs.Leading.{notes_none}
 use Rattle.hm_protocol.proofs.Stands.{stand, has_noted}
-use Rattle.hm_protocol.proofs.Entries.{each_actor, events_at, first_rests, going_is, known_after, events_are}
+use Rattle.hm_laws.proofs.Histories.Short.{going_is}
+use Rattle.hm_protocol.proofs.Entries.{each_actor, events_at, first_rests, known_after, events_are}
 use Rattle.hm_protocol.proofs.ComesFrom.{turn_from}
 use Rattle.hm_protocol.proofs.MigrationSets.{AllMigrate, all_migrate, none_migrate}
 use Rattle.hm_protocol.proofs.FoundRights.{Right, settled, noted_all, others, right_on, at_passing, at_walk}

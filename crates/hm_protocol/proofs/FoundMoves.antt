@@ -12,7 +12,8 @@ use Rattle.hm_history.specs.declared.phases.MoveStep.{MoveStep}
 use Rattle.hm_history.specs.declared.phases.Phase.{Phase}
 use Rattle.hm_laws.specs.Records.{Among}
 use Rattle.hm_laws.proofs.Migration.Coming.{find_none}
-use Rattle.hm_protocol.proofs.Coming.{find_some}
+use Rattle.hm_laws.proofs.Due.Fork.{from_first}
+use Rattle.hm_laws.proofs.Migration.Coming.{find_some}
 use Rattle.hm_protocol.proofs.Sitting.{gone_by, is_later}
 
 -- nothing is committed in this step, or was before
@@ -60,14 +61,11 @@ look s o xs step v k rest next later began over = by_found (find (λ x. nat_le n
 less_to : (u v w : ℕ) → nat_lt u v ≡ true → nat_le v w ≡ true → nat_lt u w ≡ true
 less_to u v w h g = grind (arith, nat_tests)
 
-from_nothing : (n : ℕ) → nat_le 0 n ≡ true
-from_nothing n = grind (arith, nat_tests)
-
 -- there is no record
 no_record : (s : After) (o : Op) (xs : List Migrating) → find (λ x. nat_le 0 x.page && concerns s o
     MoveStep.TakeAndCopy x) xs ≡ None
     → (x : Migrating) → Among xs x → ⊥
-no_record s o xs e x i = true≢false (sym (ap (λ b. b && true) (from_nothing x.page))
+no_record s o xs e x i = true≢false (sym (ap (λ b. b && true) (from_first x.page))
     ∙ find_none (λ x. nat_le 0 x.page && concerns s o MoveStep.TakeAndCopy x) xs x e i)
 
 -- the steps after the first two come to no record, if the second comes to none

@@ -32,7 +32,8 @@ use Rattle.hm_protocol.proofs.InnerMigration.{is_paged, has_moved, others_moves}
 use Rattle.hm_protocol.proofs.Coming.{come_says, finish_sets_nothing}
 use Rattle.hm_protocol.proofs.MovedRecords.{Mid, all_mid, paged_mid, mid}
 use Rattle.hm_protocol.proofs.RecordsKept.{Migrates, rests_not, after_own}
-use Rattle.hm_protocol.proofs.Entries.{each_actor, first_rests, going_is, going_holds, known_after, events_are}
+use Rattle.hm_laws.proofs.Histories.Short.{going_is}
+use Rattle.hm_protocol.proofs.Entries.{each_actor, first_rests, going_holds, known_after, events_are}
 
 -- each actor in a migration is known to be
 abbrev pub AllMigrate : Program → Known → State → Type 0

@@ -30,7 +30,8 @@ use Rattle.hm_protocol.specs.Noted.{known_next}
 use Rattle.hm_protocol.specs.Tests.{set_moved, drop_lost, is_kept_back}
 use Rattle.hm_protocol.specs.Projection.{project, events_in, events_of, top_of}
 use Rattle.hm_protocol.specs.Laws.{IsKept}
-use Rattle.hm_protocol.proofs.Entries.{going_is, each_actor, events_at}
+use Rattle.hm_laws.proofs.Histories.Short.{going_is}
+use Rattle.hm_protocol.proofs.Entries.{each_actor, events_at}
 use Rattle.hm_protocol.proofs.Steps.{GoBy, Keeps, Step, never, watched, calm_left, calm_right}
 use Rattle.hm_protocol.proofs.MigrationViews.{View, views, views_after, Went, went, move_wrong, moves_badly, moves_so}
 use Rattle.hm_protocol.proofs.StillEvents.{Comes}

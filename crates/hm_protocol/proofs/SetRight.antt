@@ -26,7 +26,8 @@ use Rattle.hm_protocol.specs.Noted.{known_next}
 use Rattle.hm_protocol.specs.Tests.{set_right}
 use Rattle.hm_protocol.specs.Projection.{project, events_in, events_of, top_of}
 use Rattle.hm_protocol.specs.Laws.{IsKept}
-use Rattle.hm_protocol.proofs.Entries.{going_is, events_are, each_actor, not_home}
+use Rattle.hm_laws.proofs.Histories.Short.{going_is}
+use Rattle.hm_protocol.proofs.Entries.{events_are, each_actor, not_home}
 use Rattle.hm_protocol.proofs.Entries.{events_at}
 use Rattle.hm_protocol.proofs.Steps.{GoBy, Keeps, Step, never, watched}
 use Rattle.hm_protocol.proofs.MigrationViews.{View, views, views_after, CalmAt, Went, went}

@@ -29,7 +29,8 @@ use Rattle.hm_protocol.proofs.Steps.{Step, Calm, Keeps, watched}
 use Rattle.hm_protocol.proofs.Stands.{Stand, stand, seq_of, seq_at, is_passing, is_moves, passes, passing, turns}
 use Rattle.hm_protocol.proofs.Leading.{Leads, leads}
 use Rattle.hm_protocol.proofs.Seeing.{Seen, nothing}
-use Rattle.hm_protocol.proofs.Entries.{each_actor, known_after, going_is, going_holds, first_rests}
+use Rattle.hm_laws.proofs.Histories.Short.{going_is}
+use Rattle.hm_protocol.proofs.Entries.{each_actor, known_after, going_holds, first_rests}
 use Rattle.hm_protocol.proofs.MigrationSets.{all_migrate, none_migrate}
 use Rattle.hm_protocol.proofs.SeenAfter.{Held, AllHeld, Lasting, Still, Commits, seen_after}
 use Rattle.hm_protocol.proofs.HeldOn.{held_on, held_new}

@@ -188,7 +188,8 @@ parent_narrowed c s t a p d n u x ne h l between st = (h.0, narrow_clean s p u x
         before : (w : ℕ) → w ≡ u → w < u → ⊥
         before w e k = omega (arith, e, k)
 
-from_first : (n : ℕ) → nat_le 0 n ≡ true
+-- no number is below 0
+pub from_first : (n : ℕ) → nat_le 0 n ≡ true
 from_first n = grind (arith, nat_tests)
 
 abbrev pub fork_guard : Op → ℕ → Pages → Bool → Option ℕ → ℕ → Bool → List Fact

@@ -121,7 +121,7 @@ own_step c h s t a g o top below k seen is known due old giv = by top known due 
     by top known due old giv (inr e) = cc
 
 -- where the actor's entry leads
-going_is : (c : Program) (s : After) (a : ℕ) (g : Going) (k : Kind) (o : Op) (top : Phase) (below : List Phase) → op_at c a g.index ≡ Some o → g.stack ≡ top ∷ below → going_next c s a g k ≡ going_on c a g.index (stack_after o (top ∷ below) k (seen_at s o g.pages top k)) (recorded top (seen_at s o g.pages top k).page g.pages k)
+pub going_is : (c : Program) (s : After) (a : ℕ) (g : Going) (k : Kind) (o : Op) (top : Phase) (below : List Phase) → op_at c a g.index ≡ Some o → g.stack ≡ top ∷ below → going_next c s a g k ≡ going_on c a g.index (stack_after o (top ∷ below) k (seen_at s o g.pages top k)) (recorded top (seen_at s o g.pages top k).page g.pages k)
 going_is c s a g k o top below e st = ap (λ x. elim x as (λ y. Going) [ None ↦ g | Some o ↦ going_top c s a g o g.stack k ]) e ∙ by g.stack st
   where
     by : (l : List Phase) → l ≡ top ∷ below → going_top c s a g o l k ≡ going_on c a g.index (stack_after o (top ∷ below) k (seen_at s o g.pages top k)) (recorded top (seen_at s o g.pages top k).page g.pages k)

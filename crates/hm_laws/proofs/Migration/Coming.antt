@@ -34,7 +34,8 @@ find_none test (x ∷ xs) y h i = by (test x) refl h i (find_none test xs y)
     by false e h (inl j) ih = sym (ap test j) ∙ e
     by false e h (inr j) ih = ih h j
 
-find_some : (test : Migrating → Bool) (xs : List Migrating) (x : Migrating) → find test xs ≡ Some x → Among xs x × (test x ≡ true)
+-- what a search finds
+pub find_some : (test : Migrating → Bool) (xs : List Migrating) (x : Migrating) → find test xs ≡ Some x → Among xs x × (test x ≡ true)
 find_some test [] x h = cc
 find_some test (w ∷ xs) x h = by (test w) refl h (find_some test xs x)
   where
