@@ -102,12 +102,26 @@ static void dmirror_empty(struct dmirror_chunk *chunk)
 		}
 }
 '''
-MAY_GIVE = '''
+GIVES = '''
+/* a frame is given out, and its probe is over, before a removal goes on */
+static struct page *dmirror_give_page(struct dmirror_device *mdevice)
+{
+	struct page *page = NULL;
+
 	down_read(&mdevice->giving);
-	if (mdevice->withdrawn) {
-		up_read(&mdevice->giving);
-		return NULL;
-	}'''
+	if (!mdevice->withdrawn)
+		page = dmirror_devmem_alloc_page(mdevice);
+	up_read(&mdevice->giving);
+	return page;
+}
+'''
+COMES_BACK = '''
+	dmirror->mdevice->withdrawn = false;
+	if (!dmirror_is_private_zone(dmirror->mdevice) && !dmirror->mdevice->devmem_count)
+		dmirror_allocate_chunk(dmirror->mdevice, NULL);'''
+LATER = '''
+static int dmirror_allocate_chunk(struct dmirror_device *mdevice, struct page **ppage);
+'''
 SAYS = '''
 			dmirror_withdrawn(&devmem->pagemap);
 			wait_a_while();'''
@@ -139,17 +153,16 @@ def for_stock_kernel(c):
 
 
 def with_removal(c):
-    gives = 'dmirror_devmem_alloc_page'
     c.change(None, 'cfree;', after('\tstruct rw_semaphore\tgiving;\n\tbool\t\t\twithdrawn;'))
     c.change('dmirror_device_init', 'mutex_init(', after('\tinit_rwsem(&mdevice->giving);'))
-    c.change(gives, 'rpage = NULL;', after(MAY_GIVE))
-    c.change(gives, 'return dpage;', before('\tup_read(&mdevice->giving);'))
-    c.change(gives, 'error:', after('\tup_read(&mdevice->giving);'))
+    c.change(TO_DEVICE, 'dmirror_devmem_alloc_page(', word('dmirror_devmem_alloc_page(', 'dmirror_give_page('))
+    c.change(None, 'static void ' + TO_DEVICE, before(GIVES))
     c.change(None, 'static void ' + REMOVES, before(HOLDS))
     c.change(REMOVES, 'mutex_lock(', before('\tdmirror_withdraw(mdevice);'))
     c.change(REMOVES, 'dmirror_device_evict_chunk(', after('\t\t\tdmirror_empty(devmem);'))
     c.change(REMOVES, 'dmirror_device_evict_chunk(', before(SAYS))
-    c.change('dmirror_fops_open', 'private_data = ', after('\tdmirror->mdevice->withdrawn = false;'))
+    c.change(None, 'static int dmirror_fops_open', before(LATER))
+    c.change('dmirror_fops_open', 'private_data = ', after(COMES_BACK))
 
 
 def with_ends(c, at_end):

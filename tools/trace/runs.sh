@@ -18,16 +18,18 @@ memory=" $("$here/edit_rules.py" --memory) "
 mkdir -p "$work/runs"
 status=0
 for rule in "$@"; do
-    writes=0 device=0 delay=300
+    writes=0 device=0 delay=300 removes=0
     case $rule in
         right | write-entry) writes=3 ;;
         set-moved | drop-lost) delay=3000 ;;
+        take-from-there | withdraw-first) writes=3 removes=1 ;;
     esac
     case $memory in
         *" $rule "*) device=2 ;;
     esac
     out=$work/runs/$rule${TAG:-}
     ROUNDS=${ROUNDS:-100} WRITES=${WRITES:-$writes} DEVICE=${DEVICE:-$device} DELAY=${DELAY:-$delay} \
+        REMOVES=${REMOVES:-$removes} \
         "$here/boot.sh" "$work" "$rule" "$out" "${SECONDS_MOST:-300}"
     "$here/../trace_runs.py" --expect "$rule" "$out" || status=1
     grep -v 'Command line' "$out.console" | grep -E 'Oops|BUG|panic|WARNING' | head -n 2 || true
