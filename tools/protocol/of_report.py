@@ -270,9 +270,10 @@ class Projector:
     def commits(self, a, now, words, inside, p):
         word = words[0]
         if word == 'committed':
-            now['to'] += [('moved', page, words[2]) for page, frame, _ in now['from'] if frame == words[1]]
+            for page in [page for page, frame, _ in now['from'] if frame == words[1]]:
+                self.to(a, now, 'moved', page, words[2])
         elif word == 'place' and inside:
-            now['to'].append(('moved', words[2], words[4]))
+            self.to(a, now, 'moved', words[2], words[4])
         elif word == 'take':
             now['taken'] = now.get('taken', []) + [words[1]]
         elif word == 'kept' and words[2] == 'lost':
@@ -282,14 +283,17 @@ class Projector:
             free = [f for f in now.get('taken', []) if f not in used and f not in now.get('copied', ())]
             rest = [page for page in fresh if page not in {page for _, page, _ in now['to']}]
             if words[1] in rest and free:
-                now['to'].append(('stayed', words[1], free[0]))
+                self.to(a, now, 'stayed', words[1], free[0])
         elif word == 'copied':
             now['copied'] = now.get('copied', set()) | {words[2]}
         elif word in ('set', 'place', 'done', 'migrated') or word == 'drop' and words[1] not in now.get('taken', ()):
             now['moved'] = True
-            for said in now['to']:
-                self.say(a, *said)
             self.say(a, 'pages', p)
+
+    def to(self, a, now, *said):
+        """What became of a page."""
+        now['to'].append(said)
+        self.say(a, *said)
 
     def home(self, a, op, now, words):
         """A fault brings a page of device memory home."""
@@ -303,11 +307,10 @@ class Projector:
             self.say(a, 'setup', home['p'], home['page'], 1, 'tosys', home['from'].split('.')[0])
             self.say(a, 'from', home['page'], home['from'], home['right'])
             self.say(a, 'ready', home['p'])
-        if word == 'committed':
-            home['to'] = words[2]
-        if home['is_set_up'] and 'pages' not in home and word in ('place', 'drop', 'done'):
+        if home['is_set_up'] and 'pages' not in home and word in ('committed', 'kept'):
             home['pages'] = True
-            if 'to' in home:
+            if word == 'committed':
+                home['to'] = words[2]
                 self.say(a, 'moved', home['page'], home['to'])
             self.say(a, 'pages', home['p'])
         if word == 'done' or word == 'drop' and words[1] == home.get('to'):
