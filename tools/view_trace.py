@@ -163,7 +163,8 @@ def main():
     print(f'<!doctype html>\n<html lang="en"><meta charset="utf-8"><title>{name} - hmmtrace</title>\n<style>{STYLE}</style>\n'
           f'<header><p><b>{name}</b>: {html.escape(first)}. '
           '<label>only rows with <input id="filter" placeholder="m0 16"></label> '
-          'n, p: the next and the previous marked row</p>\n'
+          'n, p: the next and the previous marked row. In a lane: i an invalidation, c a callback, w a walk, '
+          'm a migration</p>\n'
           f'{rules_text(verdicts)}</header>\n{rows_of(list(events_of(data.decode())), verdicts)}\n'
           f'<script>{SCRIPT}</script></html>')
 
