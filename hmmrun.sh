@@ -25,6 +25,8 @@ erase-in-time own-events own-sequence own-entries stop-at-detach write-entry det
 set-right set-unless-invalidated drop-lost take-from-there evict-first withdraw-first wait-for-locked exclusive-waits
 look-again tell-first end-last fork-narrows fault-looks-again bring-home freeze-others freeze-first fresh-looks-again
 fresh-right back-right lock-page put-back drop-unnamed'     # hmmwithout takes one of them
+trace_rules=${rules%% tell-first*}   # those that hmmtrace judges: events have no bytes
+trace_rules=${trace_rules/copy-all clear /}
 
 say() { echo "$name.sh: $*" >&2; }
 
@@ -90,8 +92,12 @@ END
 }
 
 words_hmmtrace() {
-    cat <<'END'
+    cat <<END
   (no word)            reads a trace of a driver: a line for each rule, whether it is kept, broken, or not tested
+  --expect RULE ..     the same; status 10 if no rule is broken, and one of these is not tested
+
+RULE is one of
+$trace_rules.
 END
 }
 
@@ -101,7 +107,7 @@ usage() {
     [ "$name" = hmmwithout ] && takes='RULE | none | --all [--answers] [--most MOST]'
     [ "$name" = hmmview ] && takes='[FROM TO]'
     [ "$name" = hmmjudge ] && takes='[--standing | --all]'
-    [ "$name" = hmmtrace ] && takes=
+    [ "$name" = hmmtrace ] && takes='[--expect RULE ..]'
     cat <<END
 usage: ./$name.sh [--quick | --ready] ${takes:+$takes }[FILE]
 
@@ -240,6 +246,25 @@ read_rule_words() {
     taken=$((all - $#))
 }
 
+# Of the words of hmmtrace: the rules that are to be tested. A word after them that is no rule is a file. Leaves them in
+# `words`, and the number of those that it has looked at in `taken`.
+read_trace_words() {
+    local all=$#
+    if [ "${1-}" = --expect ]; then
+        words=("$1")
+        shift
+        while [ $# -gt 0 ] && grep -qxF -e "$1" <<<"$(printf '%s\n' $trace_rules)"; do
+            words+=("$1")
+            shift
+        done
+        if [ ${#words[@]} -eq 1 ] || { [ $# -gt 0 ] && [ "$1" != - ] && [ ! -e "$1" ]; }; then
+            [ $# -gt 0 ] || refuse '`--expect` takes a rule, or several'
+            refuse "there is no rule \`$1\`$(nearest "$1" $trace_rules)"
+        fi
+    fi
+    taken=$((all - $#))
+}
+
 # Looks at the words, and leaves those of the program in `words` and the file to read in `file`.
 read_words() {
     local takes taken
@@ -275,7 +300,9 @@ read_words() {
             fi
             is_number "${1-}" && refuse 'no word but --standing or --all, and FILE' ;;
         hmmtrace)
-            is_number "${1-}" && refuse 'no word, and FILE' ;;
+            read_trace_words "$@"
+            shift "$taken"
+            is_number "${1-}" && refuse 'no word but --expect, and FILE' ;;
         *)
             while [ $# -gt 0 ] && [[ $1 =~ ^[0-9]+$ ]]; do
                 need_numbers "$1"
@@ -289,6 +316,7 @@ read_words() {
         -?*) refuse "there is no \`$1\` here$(nearest "$1" --quick --ready --help --version \
             $([ "$name" = hmmjudge ] && echo --standing --all) \
             $([ "$name" = hmmraces ] && echo --table --script --expect --expect-file --most) \
+            $([ "$name" = hmmtrace ] && echo --expect) \
             $([ "$name" = hmmwithout ] && echo --answers --most))" ;;
     esac
     [ $# -le 1 ] || refuse "too many words: \`${*:2}\`"

@@ -23,7 +23,7 @@ RUN_USAGE = ('usage: hmmrun replay | threads | race | generate N | trial N | upg
 RACE_USAGE = 'usage: hmmraces [[--most] MOST] [--table | --script N | --expect CONDITION ..]'
 VIEW_USAGE = 'usage: hmmview [FROM TO]'
 JUDGE_USAGE = 'usage: hmmjudge [--standing | --all]'
-TRACE_USAGE = 'usage: hmmtrace'
+TRACE_USAGE = 'usage: hmmtrace [--expect RULE ..]'
 NOTHING = 'nothing is left to race after drain: end the schedule where the race is to begin'
 NO_ROWS = 'no such rows: FROM is after TO, or after the end of the report'
 REFUSED = 'script line 1: bad header'
@@ -70,7 +70,11 @@ RUNS = [
     ('hmmjudge', '', REPORT_BYTES + 1, 8, b'', 'report too long'),
     ('hmmtrace', '', EVENT, 0, ANY, ''),
     ('hmmtrace', '', UNLOCKED, 1, ANY, 'a rule is broken'),
+    ('hmmtrace', '--expect mmap-lock', UNLOCKED, 1, ANY, 'a rule is broken'),
+    ('hmmtrace', '--expect compare', EVENT, 10, ANY, 'no event tests the rule compare'),
     ('hmmtrace', 'all', EVENT, 2, b'', TRACE_USAGE),
+    ('hmmtrace', '--expect', EVENT, 2, b'', TRACE_USAGE),
+    ('hmmtrace', '--expect erase copy-all', EVENT, 2, b'', 'word 3 is no rule'),
     ('hmmtrace', '', EVENT + EVENT, 3, b'', 'trace line 2: not the next number'),
     ('hmmtrace', '', EVENT[:-1], 3, b'', 'trace line 1: bad line end or byte'),
     ('hmmtrace', '', EVENT, 5, FULL, 'write fault'),

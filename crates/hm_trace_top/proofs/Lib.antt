@@ -1,5 +1,6 @@
 mod Lines
 mod Judged
 mod Users
+mod Own
 mod Positions
 mod Naming

@@ -1,4 +1,5 @@
 pub mod Names
+pub mod Words
 pub mod Texts
 pub mod Reading
 pub mod Endings
