@@ -10,10 +10,10 @@ use Rattle.hm_protocol.specs.Rules.{all_rules}
 use Rattle.hm_protocol.specs.declared.events.Recorded.{Recorded}
 use Rattle.hm_protocol.specs.declared.events.Traced.{Traced}
 use Rattle.hm_protocol.specs.declared.rules.Rule.{Rule}
-use Rattle.hm_trace_top.specs.Judging.{verdict_on}
 use Rattle.hm_trace_top.specs.Laws.{VerdictsAreTheirs}
 use Rattle.hm_trace_top.specs.Names.{NamesAreTheirs, rule_name, rule_named}
 use Rattle.hm_trace_top.specs.Texts.{verdicts}
+use Rattle.hm_trace_top.specs.Together.{verdict_on}
 
 -- a rule's word names it
 named-again : (r : Rule) → rule_named (rule_name r) ≡ Some r

@@ -1,69 +1,69 @@
 -- What the user of the program is told.
-use Rattle.std.proofs.Common.{◌≡◌, ◌⊎◌, inl, inr, ℕ, false, List, [], ◌∷◌, Option, Some, Result, Ok, Err, refl, sym, ap, ◌∙◌, subst}
+use Rattle.std.proofs.Common.{◌≡◌, ◌⊎◌, inl, inr, ℕ, ◌<◌, false, List, [], ◌∷◌, Option, Some, Result, Ok, Err, length, refl, sym, ap, subst}
+use Rattle.std.specs.Prelude.{IfSome}
+use Rattle.hm_edge.specs.Input.{LeftOver}
 use Rattle.hm_edge.specs.Reading.{ReadFaulted}
 use Rattle.hm_edge.specs.Traffic.{IsUntouched, NoFault, Traffic}
-use Rattle.hm_edge.specs.Users.{CutShort}
+use Rattle.hm_edge.specs.Users.{CutShort, NothingOut}
 use Rattle.hm_edge.specs.Writing.{IsFlushed, WriteFaulted}
 use Rattle.hm_edge.proofs.Telling.{cut_short, goes_out, known, left_over, nothing_out}
-use Rattle.hm_io.specs.Streams.{Adds, SinkState}
-use Rattle.hm_trace_top.specs.Exits.{Begins}
+use Rattle.hm_io.specs.Streams.{SinkState}
 use Rattle.hm_protocol.specs.declared.rules.Rule.{Rule}
-use Rattle.hm_trace_top.specs.Judging.{Does, HasNone, Judges, Runs, Told, comes_to, streams_as, text_of, verdicts_text}
-use Rattle.hm_trace_top.specs.Reading.{IsTrace, numbers_of}
+use Rattle.hm_trace_top.specs.Exits.{Begins}
+use Rattle.hm_trace_top.specs.Heard.{IsUnsaid, said_of}
+use Rattle.hm_trace_top.specs.Judging.{Does, HasNone, Judges, Runs, Told, streams_as}
 use Rattle.hm_trace_top.specs.Theorem.{IsOfTrace, IsUncounted, TellsVerdicts, Theorem, ToldAsked, ToldBy, ToldTrace}
 use Rattle.hm_trace_top.specs.Words.{Asked, HasNoTask, task_in}
 use Rattle.hm_trace_top.specs.declared.ended.Ended.{Ended}
 use Rattle.hm_trace_top.specs.declared.ended.Outcome.{Outcome}
-use Rattle.hm_trace_top.specs.declared.reading.Trace.{Trace}
 
 module _ (bytes held : List ℕ) (io : Traffic) (left : io.source.left ≡ Some bytes) (holds : io.sink.held ≡ Some held) (none : NoFault io) where
   same_held : io.sink_after ≡ io.sink → io.sink_after.held ≡ io.sink.held
   same_held same = ap (λ (k : SinkState). k.held) same
 
-  -- the bytes are the trace that was read
-  is_trace : (rs : List Rule) (ended : Ended) (t : Told rs io ended) → IsTrace bytes t.trace
-  is_trace rs ended t = known _ io.source.left bytes left t.read
-
-  -- its text, by the numbers of its events
-  same_text : (t : Trace) → IsTrace bytes t → text_of t ≡ verdicts_text t.progress t.events.items (numbers_of bytes)
-  same_text t is = ap (λ ns. verdicts_text t.progress t.events.items ns) is.numbers
+  -- what was said of the bytes
+  is_said : (rs : List Rule) (ended : Ended) (t : Told rs io ended) → said_of bytes ≡ Ok t.heard
+  is_said rs ended t = known _ io.source.left bytes left t.said
 
   tells : (rs : List Rule) (o : Outcome) (t : Told rs io (Ended.Told o)) → io.sink_after.pending ≡ false → TellsVerdicts rs o bytes held io
-  tells rs o t sent = let is : IsTrace bytes t.trace = is_trace rs (Ended.Told o) t in record {
-    progress = t.trace.progress;
-    events = t.trace.events.items;
-    read = is.read;
+  tells rs o t sent = record {
+    heard = t.heard;
+    said = is_said rs (Ended.Told o) t;
     says = t.ends;
-    out = goes_out bytes held io left holds _ (subst (Adds io.sink.held io.sink_after.held) (same_text t.trace is) t.written) sent;
+    out = goes_out bytes held io left holds _ t.written sent;
   }
 
   of_trace : (rs : List Rule) (t : Told rs io Ended.NoMemory) → CutShort (IsOfTrace bytes) held io
-  of_trace rs t = let is : IsTrace bytes t.trace = is_trace rs Ended.NoMemory t in
-      cut_short bytes held io left holds (λ u. u ≡ text_of t.trace) (IsOfTrace bytes)
-      (λ u same. (t.trace.progress, t.trace.events.items, is.read, same ∙ same_text t.trace is)) t.written
-
-  uncounted : (rs : List Rule) (t : Told rs io Ended.TooLong) → IsUncounted bytes held io
-  uncounted rs t = record {
-    progress = t.trace.progress;
-    events = t.trace.events.items;
-    read = (is_trace rs Ended.TooLong t).read;
-    nothing = nothing_out bytes held io left holds t.written;
-  }
+  of_trace rs t =
+      cut_short bytes held io left holds (λ u. u ≡ t.heard.text) (IsOfTrace bytes)
+      (λ u same. (t.heard, is_said rs Ended.NoMemory t, same)) t.written
 
   told_trace : (rs : List Rule) (ended : Ended) → Told rs io ended → ReadFaulted io.source.faults io.source_after.faults (streams_as ended) → WriteFaulted io.sink.faults io.sink_after.faults (streams_as ended) → IsFlushed io.sink_after.pending (streams_as ended) → ToldTrace rs bytes held io ended
   told_trace rs (Ended.Told o) t read fault sent = tells rs o t sent
   told_trace rs Ended.NoMemory t read fault sent = of_trace rs t
-  told_trace rs Ended.TooLong t read fault sent = inr (uncounted rs t)
   told_trace rs Ended.WriteFault t read fault sent = absurd (none.writes fault)
   told_trace rs Ended.ReadFault t read fault sent = absurd (none.reads read)
+  told_trace rs Ended.TooLong t read fault sent = absurd t.ends
   told_trace rs Ended.Usage t read fault sent = absurd t.ends
   told_trace rs (Ended.NoRule n) t read fault sent = absurd t.ends
   told_trace rs (Ended.Refused refused) t read fault sent = absurd t.ends
+  told_trace rs (Ended.RefusedIn n refused) t read fault sent = absurd t.ends
+
+  too_long : HasNone io Ended.TooLong → ((268435456 < length bytes) × NothingOut held io) ⊎ IsUncounted bytes held io
+  too_long t = by t.why
+    where
+      out : NothingOut held io
+      out = nothing_out bytes held io left holds (same_held t.nothing)
+
+      by : LeftOver io.source.left 268435456 ⊎ IfSome io.source.left (λ b. IsUnsaid b Ended.TooLong) → ((268435456 < length bytes) × NothingOut held io) ⊎ IsUncounted bytes held io
+      by (inl over) = inl (left_over io.source.left bytes 268435456 left over, out)
+      by (inr why) = inr (record { why = known _ io.source.left bytes left why; nothing = out })
 
   told_none : (rs : List Rule) (ended : Ended) → HasNone io ended → ReadFaulted io.source.faults io.source_after.faults (streams_as ended) → ToldTrace rs bytes held io ended
   told_none rs Ended.NoMemory t read = inl (nothing_out bytes held io left holds (same_held t.nothing))
-  told_none rs Ended.TooLong t read = inl (left_over io.source.left bytes 268435456 left t.why, nothing_out bytes held io left holds (same_held t.nothing))
-  told_none rs (Ended.Refused refused) t read = record { read = known _ io.source.left bytes left t.why; nothing = nothing_out bytes held io left holds (same_held t.nothing) }
+  told_none rs Ended.TooLong t read = too_long t
+  told_none rs (Ended.Refused why) t read = record { said = known _ io.source.left bytes left t.why; nothing = nothing_out bytes held io left holds (same_held t.nothing) }
+  told_none rs (Ended.RefusedIn n why) t read = record { said = known _ io.source.left bytes left t.why; nothing = nothing_out bytes held io left holds (same_held t.nothing) }
   told_none rs Ended.ReadFault t read = absurd (none.reads read)
   told_none rs (Ended.Told o) t read = absurd t.why
   told_none rs Ended.WriteFault t read = absurd t.why
@@ -113,6 +113,7 @@ module _ (bytes held : List ℕ) (io : Traffic) (left : io.source.left ≡ Some 
   begun name words Ended.Usage (inr n) = absurd n.why
   begun name words (Ended.NoRule at) (inr n) = absurd n.why
   begun name words (Ended.Refused refused) (inr n) = absurd n.why
+  begun name words (Ended.RefusedIn at refused) (inr n) = absurd n.why
   begun name words Ended.ReadFault (inr n) = absurd n.why
   begun name words Ended.WriteFault (inr n) = absurd n.why
   begun name words Ended.TooLong (inr n) = absurd n.why

@@ -4,7 +4,8 @@ use Rattle.std.specs.Fmt.{decimal}
 use Rattle.hm_edge.specs.Messages.{Wrote, line_of}
 use Rattle.hm_io.specs.Streams.{SinkState}
 use Rattle.hm_protocol.specs.declared.rules.Rule.{Rule}
-use Rattle.hm_trace.specs.Progress.{refused_text}
+use Rattle.hm_trace.specs.Progress.{fault_text, refused_text}
+use Rattle.hm_trace.specs.declared.reader.Refused.{Refused}
 use Rattle.hm_trace_top.specs.Names.{rule_name}
 use Rattle.hm_trace_top.specs.declared.ended.Ended.{Ended}
 use Rattle.hm_trace_top.specs.declared.ended.Outcome.{Outcome}
@@ -29,6 +30,7 @@ code_of (Ended.Told o) = outcome_code o
 code_of Ended.Usage = 2
 code_of (Ended.NoRule n) = 2
 code_of (Ended.Refused refused) = 3
+code_of (Ended.RefusedIn n refused) = 3
 code_of Ended.ReadFault = 4
 code_of Ended.WriteFault = 5
 code_of Ended.NoMemory = 6
@@ -42,6 +44,11 @@ unseen_text r = codes "no event tests the rule " ++ rule_name r
 abbrev pub no_rule_text : ℕ → List ℕ
 no_rule_text n = codes "word " ++ (decimal n ++ codes " is no rule")
 
+-- the trace of this number in a list is none: the first bad line, and what is wrong with it
+abbrev pub refused_in_text : ℕ → Refused → List ℕ
+refused_in_text n r =
+    codes "trace " ++ (decimal n ++ (codes " line " ++ (decimal r.line ++ (codes ": " ++ fault_text r.why))))
+
 -- what verdicts come to, if there is something to say
 abbrev pub outcome_text : Outcome → List ℕ
 outcome_text Outcome.Kept = []
@@ -54,6 +61,7 @@ message_text (Ended.Told o) = outcome_text o
 message_text Ended.Usage = usage
 message_text (Ended.NoRule n) = no_rule_text n
 message_text (Ended.Refused refused) = refused_text refused
+message_text (Ended.RefusedIn n refused) = refused_in_text n refused
 message_text Ended.ReadFault = codes "read fault"
 message_text Ended.WriteFault = codes "write fault"
 message_text Ended.NoMemory = codes "out of memory"

@@ -1,67 +1,18 @@
 -- What a call comes to: what was read, and what is written of it.
-use Rattle.std.specs.Prelude.{◌≡◌, ◌⊎◌, ℕ, Bool, true, false, if◌then◌else◌, Option, Some, None, List, [], length}
-use Rattle.std.specs.Prelude.{IfSome, Result, Ok, Err, slice_get}
-use Rattle.std.specs.List.{find, list_any}
+use Rattle.std.specs.Prelude.{◌≡◌, ◌⊎◌, ℕ, List, [], IfSome, Ok}
 use Rattle.hm_edge.specs.Input.{LeftOver}
 use Rattle.hm_edge.specs.Reading.{ReadFaulted}
 use Rattle.hm_edge.specs.Traffic.{IsUntouched, Traffic}
 use Rattle.hm_edge.specs.Writing.{HasWritten, IsFlushed, WriteFaulted}
 use Rattle.hm_edge.specs.declared.status.Status.{Status}
 use Rattle.hm_io.specs.Streams.{SourceState}
-use Rattle.hm_protocol.specs.declared.events.Traced.{Traced}
 use Rattle.hm_protocol.specs.declared.rules.Rule.{Rule}
-use Rattle.hm_protocol.specs.declared.rules.Verdict.{Verdict}
 use Rattle.hm_report.specs.declared.written.Written.{Written}
-use Rattle.hm_trace.specs.Traces.{read_trace}
-use Rattle.hm_trace.specs.declared.reader.Progress.{Progress}
-use Rattle.hm_trace_top.specs.Names.{place_of}
-use Rattle.hm_trace_top.specs.Reading.{IsTrace}
-use Rattle.hm_trace_top.specs.Texts.{lines_text, verdicts}
+use Rattle.hm_trace_top.specs.Heard.{Heard, IsUnsaid, said_of}
+use Rattle.hm_trace_top.specs.Together.{outcome_of}
 use Rattle.hm_trace_top.specs.Words.{Asked, HasNoTask, task_in}
 use Rattle.hm_trace_top.specs.declared.ended.Ended.{Ended}
 use Rattle.hm_trace_top.specs.declared.ended.Outcome.{Outcome}
-use Rattle.hm_trace_top.specs.declared.reading.Trace.{Trace}
-
--- ---- what is said of a trace
-
--- all that is written of a trace: how far reading has come, its events, and their numbers
-abbrev pub verdicts_text : Progress → List Traced → List ℕ → List ℕ
-verdicts_text p es ns = lines_text p (length es) ns (verdicts p.recorded es)
-
--- the same of one that was read
-abbrev pub text_of : Trace → List ℕ
-text_of t = verdicts_text t.progress t.events.items t.numbers.items
-
--- a rule is broken
-abbrev pub is_broken : Verdict → Bool
-is_broken (Verdict.Broken i) = true
-is_broken v = false
-
--- one of these verdicts says so
-abbrev pub has_broken : List Verdict → Bool
-has_broken vs = list_any is_broken vs
-
--- nothing tests the rule
-abbrev pub is_unseen : Verdict → Bool
-is_unseen Verdict.Unseen = true
-is_unseen v = false
-
--- the verdict on a rule, of those on all
-abbrev pub verdict_on : List Verdict → Rule → Verdict
-verdict_on vs r = elim (slice_get vs (place_of r)) [ None ↦ Verdict.Unseen | Some v ↦ v ]
-
--- the first of these rules that nothing tests
-abbrev pub first_unseen : List Rule → List Verdict → Option Rule
-first_unseen rs vs = find (λ r. is_unseen (verdict_on vs r)) rs
-
--- what verdicts come to, if these rules are to be tested
-abbrev pub outcome_of : List Rule → List Verdict → Outcome
-outcome_of rs vs = if has_broken vs then Outcome.Broken
-    else elim (first_unseen rs vs) [ None ↦ Outcome.Kept | Some r ↦ Outcome.Unseen r ]
-
--- the same of a trace that was read
-abbrev pub comes_to : List Rule → Trace → Outcome
-comes_to rs t = outcome_of rs (verdicts t.progress.recorded t.events.items)
 
 -- ---- how a call ends
 
@@ -84,32 +35,33 @@ abbrev pub EndsAs : Outcome → Ended → Type 0
 EndsAs o (Ended.Told x) = o ≡ x
 EndsAs o Ended.WriteFault = Unit {0}
 EndsAs o Ended.NoMemory = Unit {0}
-EndsAs o Ended.TooLong = Unit {0}
 EndsAs o _ = ⊥
 
--- how reading ends that comes to no trace
+-- how reading ends if nothing is said of the bytes
 abbrev pub HasNoTrace : SourceState → Ended → Type 0
-HasNoTrace before (Ended.Refused refused) = IfSome before.left (λ bytes. read_trace bytes ≡ Err refused)
-HasNoTrace before Ended.TooLong = LeftOver before.left 268435456
+HasNoTrace before Ended.TooLong =
+    LeftOver before.left 268435456 ⊎ IfSome before.left (λ bytes. IsUnsaid bytes Ended.TooLong)
+HasNoTrace before (Ended.Refused why) = IfSome before.left (λ bytes. IsUnsaid bytes (Ended.Refused why))
+HasNoTrace before (Ended.RefusedIn n why) = IfSome before.left (λ bytes. IsUnsaid bytes (Ended.RefusedIn n why))
 HasNoTrace before Ended.ReadFault = Unit {0}
 HasNoTrace before Ended.NoMemory = Unit {0}
 HasNoTrace before _ = ⊥
 
 -- ---- the streams
 
--- a trace was read, and this was written of it
+-- a trace was read, or several, and this was written of them
 pub record Told (rs : List Rule) (io : Traffic) (ended : Ended) : Type 0 where
-  pub trace : Trace
-  pub read : IfSome io.source.left (λ bytes. IsTrace bytes trace)
-  pub ends : EndsAs (comes_to rs trace) ended
-  pub written : HasWritten (text_of trace) (λ t. t ≡ text_of trace) io.sink io.sink_after (streams_as ended)
+  pub heard : Heard
+  pub said : IfSome io.source.left (λ bytes. said_of bytes ≡ Ok heard)
+  pub ends : EndsAs (outcome_of rs heard.said) ended
+  pub written : HasWritten heard.text (λ t. t ≡ heard.text) io.sink io.sink_after (streams_as ended)
 
--- no trace was read, and nothing written
+-- nothing was said, and nothing written
 pub record HasNone (io : Traffic) (ended : Ended) : Type 0 where
   pub why : HasNoTrace io.source ended
   pub nothing : io.sink_after ≡ io.sink
 
--- a trace is read, and the verdicts on it are written; these rules are to be tested
+-- a trace is read, or several, and the verdicts are written; these rules are to be tested
 pub record Judges (rs : List Rule) (io : Traffic) (ended : Ended) : Type 0 where
   pub told : Told rs io ended ⊎ HasNone io ended
   pub read_faults : ReadFaulted io.source.faults io.source_after.faults (streams_as ended)

@@ -7,7 +7,7 @@ use Rattle.hm_protocol.specs.declared.rules.Verdict.{Verdict}
 use Rattle.hm_protocol.specs.Verdicts.{verdict}
 use Rattle.hm_trace.specs.Traces.{read_trace}
 use Rattle.hm_trace.specs.declared.reader.Progress.{Progress}
-use Rattle.hm_trace_top.specs.Judging.{verdict_on}
+use Rattle.hm_trace_top.specs.Together.{verdict_on}
 use Rattle.hm_trace_top.specs.Reading.{numbers_of}
 use Rattle.hm_trace_top.specs.Texts.{recorded_in, verdicts}
 

@@ -2,7 +2,7 @@
 ghost use Rattle.std.specs.Prelude.{◌≡◌};
 ghost use Rattle.hm_edge.specs.Messages.{Wrote, line_of};
 ghost use Rattle.hm_trace.specs.Progress.{refused_text};
-ghost use Rattle.hm_trace_top.specs.Endings.{Says, code_of, name, no_rule_text, outcome_code, unseen_text};
+ghost use Rattle.hm_trace_top.specs.Endings.{Says, code_of, name, no_rule_text, outcome_code, refused_in_text, unseen_text};
 ghost use Rattle.hm_trace_top.specs.declared.ended.Ended.{Ended as AnyEnded};
 
 use crate::names::rule_name;
@@ -41,6 +41,8 @@ pub enum Ended {
     NoRule(u64),
     /// The bytes are no trace: the first bad line.
     Refused(Refused),
+    /// The trace of this number in a list, from 1, is none: its first bad line.
+    RefusedIn(u64, Refused),
     /// The source failed.
     ReadFault,
     /// The sink failed, and a front of the text went out.
@@ -62,6 +64,23 @@ fn refusal(refused: &Refused) -> Line
     let mut text = Line::new();
     text.push_str(NAME);
     text.push_str(": trace line ");
+    text.push_str(itoa::Buffer::new().format(refused.line));
+    text.push_str(": ");
+    text.push_str(refused.why.text());
+    text.push_str("\n");
+    text
+}
+
+/// The line on a bad line of a trace in a list.
+#[tactic(auto, using(std::proofs::Common::append_assoc))]
+fn refusal_in(trace: u64, refused: &Refused) -> Line
+    ensures { result.bytes ≡ line_of name (refused_in_text trace refused.now) }
+{
+    let mut text = Line::new();
+    text.push_str(NAME);
+    text.push_str(": trace ");
+    text.push_str(itoa::Buffer::new().format(trace));
+    text.push_str(" line ");
     text.push_str(itoa::Buffer::new().format(refused.line));
     text.push_str(": ");
     text.push_str(refused.why.text());
@@ -144,6 +163,10 @@ pub(crate) fn finish<K: Sink>(ended: &Ended, errors: &mut K) -> u8
         }
         Ended::Refused(refused) => {
             say_line(errors, &refusal(refused));
+            3
+        }
+        Ended::RefusedIn(trace, refused) => {
+            say_line(errors, &refusal_in(*trace, refused));
             3
         }
         Ended::TooLong => {

@@ -3,11 +3,13 @@
 
 mod call;
 mod ended;
+mod judged;
 mod laws;
 mod names;
 mod process;
 mod reading;
 mod text;
+mod together;
 mod words;
 
 pub use call::judge;

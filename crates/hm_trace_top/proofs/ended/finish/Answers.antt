@@ -19,3 +19,9 @@ pub returns-in-Usage-clause-says : goal.returns-in-Usage-clause-says
 returns-in-Usage-clause-says g c =
     let tells = g.K.Sink.state in
     subst (λ s. Says s (tells c.args.errors.now) (tells c.finish.new.errors)) (sym c.in-Usage.is) c.finish.ensures.says
+
+pub returns-in-RefusedIn-clause-says : goal.returns-in-RefusedIn-clause-says
+returns-in-RefusedIn-clause-says g c =
+    let tells = g.K.Sink.state in
+    subst (λ s. Says s (tells c.args.errors.now) (tells c.say_line-in-RefusedIn.new.errors)) (sym c.in-RefusedIn.is)
+    (subst (λ t. Wrote t (tells c.args.errors.now) (tells c.say_line-in-RefusedIn.new.errors)) c.refusal_in.ensures c.say_line-in-RefusedIn.ensures)
