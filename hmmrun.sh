@@ -252,10 +252,10 @@ read_rule_words() {
 
 is_trace_rule() { grep -qxF -e "$1" <<<"$(printf '%s\n' $trace_rules)"; }
 
-# Writes a script whose shortest race is stored in which a driver without this rule goes wrong, and that race. If none is
-# stored, it is the script that docs/BROKEN.md names, and it is said how its race is searched.
+# Writes a script, and its stored shortest race in which a driver without this rule goes wrong. If none is stored, it is
+# the script that docs/BROKEN.md names, and it is said how its race is searched.
 write_script() {
-    local without script
+    local without script entries
     is_trace_rule "$1" || refuse "there is no rule \`$1\`$(nearest "$1" $trace_rules)"
     for without in "$top"/examples/broken/*.without "$top"/examples/races/*.without; do
         [ "$(head -n 1 "$without")" = "$1" ] || continue
@@ -264,9 +264,10 @@ write_script() {
         cat "$script.hmm" && echo && cat "$script.shortest"
         exit
     done
-    script=examples/broken/$(awk -F '|' -v rule=" \`$1\` " '$2 == rule { gsub(/ /, "", $6); print $6; exit }' \
-        "$top/docs/BROKEN.md").hmm
-    say "$script; its race is not stored: ./hmmwithout.sh --quick $1 $script"
+    read -r script entries < <(awk -F '|' -v rule=" \`$1\` " '$2 == rule { print $6, $7; exit }' "$top/docs/BROKEN.md")
+    script=examples/broken/$script.hmm
+    [ "$entries" = — ] && say "$script; no race of it was found in which that driver goes wrong" ||
+        say "$script; its race is not stored: ./hmmwithout.sh --quick $1 $script"
     cat "$top/$script"
     exit
 }
@@ -506,6 +507,7 @@ run_quick() {
     [ "$path" = no ] || fail "the unproved program could not be compiled; $quick.said has why"
     say "this kit's trial build could not be compiled ($quick.said has what it said)"
     say 'so the trial is run as it is: it builds anew at each run, stops after a minute, and writes at most 1 MiB'
+    [ ${#files[@]} -eq 0 ] || exec < <(join_traces "${files[@]}")
     cd "$crate" || fail "no folder $crate"
     rt try -- "${words[@]}" 2> >(grep -v -e '^interpreter: ' -e '^checked: ' -e '^races: ' -e '^run=' >&2)
     exit $?
