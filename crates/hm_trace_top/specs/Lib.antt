@@ -1,5 +1,6 @@
 pub mod Names
 pub mod Words
+pub mod Sentences
 pub mod Texts
 pub mod Reading
 pub mod Lists

@@ -10,6 +10,7 @@ use Rattle.hm_protocol.specs.Verdicts.{verdict}
 use Rattle.hm_trace.specs.Progress.{is_whole}
 use Rattle.hm_trace.specs.declared.reader.Progress.{Progress}
 use Rattle.hm_trace_top.specs.Names.{rule_name}
+use Rattle.hm_trace_top.specs.Sentences.{sentence}
 
 -- ---- verdicts
 
@@ -39,9 +40,20 @@ verdict_text ns Verdict.Unseen = codes " unseen"
 verdict_text ns (Verdict.Maybe i) = codes " maybe " ++ decimal (number_at ns i)
 verdict_text ns (Verdict.Broken i) = codes " broken " ++ decimal (number_at ns i)
 
--- the line of a rule
+-- what the rule says
+abbrev pub sentence_line : Rule → List ℕ
+sentence_line r = codes "  " ++ (sentence r ++ 10 ∷ [])
+
+-- the same of a rule that is broken, or may be
+abbrev pub reason_line : Rule → Verdict → List ℕ
+reason_line r (Verdict.Kept n) = []
+reason_line r Verdict.Unseen = []
+reason_line r (Verdict.Maybe i) = sentence_line r
+reason_line r (Verdict.Broken i) = sentence_line r
+
+-- the line of a rule, and what it says if it is broken, or may be
 abbrev pub rule_line : List ℕ → Rule → Verdict → List ℕ
-rule_line ns r v = rule_name r ++ (verdict_text ns v ++ 10 ∷ [])
+rule_line ns r v = rule_name r ++ (verdict_text ns v ++ (10 ∷ reason_line r v))
 
 -- the lines of some rules, each with its verdict
 abbrev pub rule_lines : List ℕ → List Rule → List Verdict → List ℕ

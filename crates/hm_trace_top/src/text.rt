@@ -1,9 +1,11 @@
 // The text of the verdicts on a trace.
 ghost use Rattle.std.specs.Prelude.{◌≡◌, ◌+◌, ◌≤◌, ◌∷◌, ◌++◌, [], length, IfOk, OnOk};
-ghost use Rattle.hm_trace_top.specs.Texts.{events_line, lines_text, number_at, rule_line, rule_lines, verdict_text};
+ghost use Rattle.hm_trace_top.specs.Texts.{events_line, lines_text, number_at, reason_line, rule_line, rule_lines};
+ghost use Rattle.hm_trace_top.specs.Texts.{sentence_line, verdict_text};
 
 use crate::names::rule_name;
 use crate::reading::Trace;
+use crate::sentences::sentence;
 use hm_base::{NoMemory, Text};
 use hm_protocol::{Rule, Verdict};
 use hm_report::{Buffer, put_decimal};
@@ -35,7 +37,27 @@ fn put_verdict(out: &mut Buffer, numbers: &[u64], verdict: Verdict)
     }
 }
 
-/// Adds the line of a rule. The buffer is written over.
+/// Adds what a rule says.
+#[tactic(auto, using(std::proofs::Common::append_assoc))]
+fn add_sentence(text: &mut Text, rule: Rule) -> Result<(), NoMemory>
+    ensures { OnOk result (text.new ≡ text.old ++ sentence_line rule) }
+{
+    text.extend(b"  ")?;
+    text.extend(sentence(rule).as_bytes())?;
+    text.extend(b"\n")
+}
+
+/// Adds what a rule says that is broken, or may be.
+fn add_reason(text: &mut Text, rule: Rule, verdict: Verdict) -> Result<(), NoMemory>
+    ensures { OnOk result (text.new ≡ text.old ++ reason_line rule verdict) }
+{
+    match verdict {
+        Verdict::Kept(_) | Verdict::Unseen => Ok(()),
+        Verdict::Maybe(_) | Verdict::Broken(_) => add_sentence(text, rule),
+    }
+}
+
+/// Adds the line of a rule, and what it says if it is broken, or may be. The buffer is written over.
 #[tactic(auto, using(std::proofs::Common::append_assoc))]
 fn add_rule_line(
     text: &mut Text,
@@ -50,7 +72,8 @@ fn add_rule_line(
     put_verdict(out, numbers, verdict);
     out.push(b'\n');
     text.extend(rule_name(rule).as_bytes())?;
-    text.extend(out.as_slice())
+    text.extend(out.as_slice())?;
+    add_reason(text, rule, verdict)
 }
 
 /// Adds the lines of some rules. The buffer is written over.
