@@ -16,7 +16,7 @@ verdicts_of r = verdicts r.progress.recorded r.events
 
 -- all that is written of it
 abbrev pub text_of : Read → List ℕ
-text_of r = lines_text r.progress (length r.events) r.numbers (verdicts_of r)
+text_of r = lines_text r.progress r.events r.numbers (verdicts_of r)
 
 -- what is said of some traces: the text, and the verdicts on each
 pub record Heard : Type 0 where

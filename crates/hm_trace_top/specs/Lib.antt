@@ -1,6 +1,7 @@
 pub mod Names
 pub mod Words
 pub mod Sentences
+pub mod Origins
 pub mod Texts
 pub mod Reading
 pub mod Lists

@@ -6,6 +6,7 @@ mod ended;
 mod judged;
 mod laws;
 mod names;
+mod origins;
 mod process;
 mod reading;
 mod sentences;
