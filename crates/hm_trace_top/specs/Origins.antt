@@ -19,18 +19,19 @@ unbegun = record { at = None; seq = 0 }
 abbrev pub begun_at : ℕ → ℕ → Begun
 begun_at i q = record { at = Some i; seq = q }
 
--- after an event of the thread at a position: a `begin` of the mirror begins a look-up, and so does a walk with a
--- sequence of its own
-abbrev pub begun_by : ℕ → ℕ → Begun → Event → Begun
-begun_by m i b (Event.Begin n q) = if n == m then begun_at i q else b
-begun_by m i b (Event.Walk n r q locked d) =
-    if (n == m) && (is_none b.at || not (q == b.seq)) then begun_at i q else b
-begun_by m i b e = b
+-- after an event at a position, by whether it is of the thread: a `begin` of the mirror begins a look-up, and so does a
+-- walk with a sequence of its own; another interval has none
+abbrev pub begun_by : Bool → ℕ → ℕ → Begun → Event → Begun
+begun_by own m i b (Event.Insert n p r d) = if m == n then unbegun else b
+begun_by own m i b (Event.Begin n q) = if own && (m == n) then begun_at i q else b
+begun_by own m i b (Event.Walk n r q locked d) =
+    if own && ((m == n) && (is_none b.at || not (q == b.seq))) then begun_at i q else b
+begun_by own m i b e = b
 
 -- after some events, the first of which has this position
 abbrev pub begun_on : ℕ → ℕ → ℕ → Begun → List Traced → Begun
 begun_on t m i b [] = b
-begun_on t m i b (s ∷ ss) = begun_on t m (i + 1) (if s.thread == t then begun_by m i b s.event else b) ss
+begun_on t m i b (s ∷ ss) = begun_on t m (i + 1) (begun_by (t == s.thread) m i b s.event) ss
 
 -- a callback of the mirror returns, and leaves another sequence than this
 abbrev pub is_met : ℕ → ℕ → Event → Bool

@@ -34,6 +34,9 @@ pub(crate) struct Begun {
     seq: u64,
 }
 
+// No look-up has begun.
+const UNBEGUN: Begun = Begun { at: None, seq: 0 };
+
 // To nothing.
 const NO_ORIGIN: Origin = Origin {
     from: None,
@@ -59,17 +62,21 @@ fn kind_of(rule: Rule) -> Kind
     }
 }
 
-// A mirror's look-up after an event of its thread.
-fn begun_by(mirror: u64, at: u64, begun: Begun, event: &Event) -> Begun
-    ensures { result ≡ spec.begun_by mirror at begun event.now }
+// A mirror's look-up after an event, by whether that is of its thread.
+fn begun_by(own: bool, mirror: u64, at: u64, begun: Begun, event: &Event) -> Begun
+    ensures { result ≡ spec.begun_by own mirror at begun event.now }
 {
     match *event {
-        Event::Begin { mirror: other, seq } if other == mirror => Begun { at: Some(at), seq },
+        Event::Insert { mirror: other, .. } if mirror == other => UNBEGUN,
+        Event::Begin { mirror: other, seq } if own && mirror == other => Begun {
+            at: Some(at),
+            seq,
+        },
         Event::Walk {
             mirror: other,
             seq,
             ..
-        } if other == mirror && (begun.at.is_none() || seq != begun.seq) => {
+        } if own && mirror == other && (begun.at.is_none() || seq != begun.seq) => {
             Begun { at: Some(at), seq }
         }
         _ => begun,
@@ -80,13 +87,12 @@ fn begun_by(mirror: u64, at: u64, begun: Begun, event: &Event) -> Begun
 fn look_up(events: &[Traced], thread: u64, mirror: u64) -> Begun
     ensures { result ≡ spec.begun_on thread mirror 0 spec.unbegun events.now }
 {
-    let mut begun = Begun { at: None, seq: 0 };
+    let mut begun = UNBEGUN;
     let mut at: u64 = 0;
     let mut left = events;
     while let [traced, more @ ..] = left {
-        if traced.thread == thread {
-            begun = begun_by(mirror, at, begun, &traced.event);
-        }
+        let own = thread == traced.thread;
+        begun = begun_by(own, mirror, at, begun, &traced.event);
         at += 1;
         left = more;
     }
