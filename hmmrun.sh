@@ -25,6 +25,8 @@ erase-in-time own-events own-sequence own-entries stop-at-detach write-entry det
 set-right set-unless-invalidated drop-lost take-from-there evict-first withdraw-first wait-for-locked exclusive-waits
 look-again tell-first end-last fork-narrows fault-looks-again bring-home freeze-others freeze-first fresh-looks-again
 fresh-right back-right lock-page put-back drop-unnamed'     # hmmwithout takes one of them
+trace_rules=${rules%% tell-first*}   # those that hmmtrace judges: events have no bytes
+trace_rules=${trace_rules/copy-all clear /}
 
 say() { echo "$name.sh: $*" >&2; }
 
@@ -90,20 +92,28 @@ END
 }
 
 words_hmmtrace() {
-    cat <<'END'
+    cat <<END
   (no word)            reads a trace of a driver: a line for each rule, whether it is kept, broken, or not tested
+  FILE FILE ..         reads several traces: the same of each, and then a line for each rule that joins them
+  --expect RULE ..     before these: status 10 if no rule is broken, and one of these is not tested
+  --script RULE        reads nothing: a script, and a shortest race of it in which a driver without this rule goes
+                       wrong, if one is stored
+
+RULE is one of
+$trace_rules.
 END
 }
 
 usage() {
-    local takes='WORD ..'
+    local takes='WORD ..' several
+    [ "$name" = hmmtrace ] && several=' ..'
     [ "$name" = hmmraces ] && takes='[MOST] [--table | --script N | --expect CONDITION .. | --expect-file LINES]'
     [ "$name" = hmmwithout ] && takes='RULE | none | --all [--answers] [--most MOST]'
     [ "$name" = hmmview ] && takes='[FROM TO]'
     [ "$name" = hmmjudge ] && takes='[--standing | --all]'
-    [ "$name" = hmmtrace ] && takes=
+    [ "$name" = hmmtrace ] && takes='[--expect RULE .. | --script RULE]'
     cat <<END
-usage: ./$name.sh [--quick | --ready] ${takes:+$takes }[FILE]
+usage: ./$name.sh [--quick | --ready] ${takes:+$takes }[FILE${several:-}]
 
 $("words_$name")
 
@@ -240,10 +250,87 @@ read_rule_words() {
     taken=$((all - $#))
 }
 
+is_trace_rule() { grep -qxF -e "$1" <<<"$(printf '%s\n' $trace_rules)"; }
+
+# Writes a script, and its stored shortest race in which a driver without this rule goes wrong. If none is stored, it is
+# the script that docs/BROKEN.md names, and it is said how its race is searched.
+write_script() {
+    local without script entries
+    is_trace_rule "$1" || refuse "there is no rule \`$1\`$(nearest "$1" $trace_rules)"
+    for without in "$top"/examples/broken/*.without "$top"/examples/races/*.without; do
+        [ "$(head -n 1 "$without")" = "$1" ] || continue
+        script=${without%.without}
+        say "${script#"$top"/}.hmm, and then ${script#"$top"/}.shortest"
+        cat "$script.hmm" && echo && cat "$script.shortest"
+        exit
+    done
+    read -r script entries < <(awk -F '|' -v rule=" \`$1\` " '$2 == rule { print $6, $7; exit }' "$top/docs/BROKEN.md")
+    script=examples/broken/$script.hmm
+    [ "$entries" = — ] && say "$script; no race of it was found in which that driver goes wrong" ||
+        say "$script; its race is not stored: ./hmmwithout.sh --quick $1 $script"
+    cat "$top/$script"
+    exit
+}
+
+# Several traces as one text, each after a line that names it. One that is such a list already stays as it is.
+join_traces() {
+    local one
+    for one in "$@"; do
+        [ "$(head -c 6 "$one")" = 'trace ' ] || printf 'trace %s\n' "${one//$'\n'/ }"
+        cat "$one"
+    done
+}
+
+check_traces() {
+    local one
+    for one in "$@"; do
+        [ -e "$one" ] || no_file "there is no file $one"
+        [ -f "$one" ] && [ -r "$one" ] || no_file "the file $one may not be read"
+        [ ! -s "$one" ] || [ "$(tail -c 1 "$one" | wc -l)" -eq 1 ] || no_file "the last line of $one has no line feed"
+    done
+}
+
+# Runs the program on several traces, and says which file a bad line is in.
+run_traces() {
+    local said status
+    { said=$("$1" "${words[@]}" 2>&1 >&3 < <(join_traces "${files[@]}")); status=$?; } 3>&1
+    [ -z "$said" ] || printf '%s\n' "$said" >&2
+    [[ $said =~ ^hmmtrace:\ trace\ ([0-9]+)\ line ]] && say "trace ${BASH_REMATCH[1]}: ${files[BASH_REMATCH[1] - 1]-}"
+    exit "$status"
+}
+
+# Of the words of hmmtrace: the rules that are to be tested. A word after them that is no rule is a file; if there are
+# several, they are left in `files`. Leaves the words in `words`, and the number of those that it has looked at in
+# `taken`.
+read_trace_words() {
+    local all=$#
+    if [ "${1-}" = --script ]; then
+        [ $# -eq 2 ] || refuse '`--script` takes a rule'
+        write_script "$2"
+    elif [ "${1-}" = --expect ]; then
+        words=("$1")
+        shift
+        while [ $# -gt 0 ] && is_trace_rule "$1"; do
+            words+=("$1")
+            shift
+        done
+        if [ ${#words[@]} -eq 1 ] || { [ $# -gt 0 ] && [ "$1" != - ] && [ ! -e "$1" ]; }; then
+            [ $# -gt 0 ] || refuse '`--expect` takes a rule, or several'
+            refuse "there is no rule \`$1\`$(nearest "$1" $trace_rules)"
+        fi
+    fi
+    if [ $# -gt 1 ] && [[ $1 != -?* ]]; then
+        check_traces "$@"
+        files=("$@")
+        shift $#
+    fi
+    taken=$((all - $#))
+}
+
 # Looks at the words, and leaves those of the program in `words` and the file to read in `file`.
 read_words() {
     local takes taken
-    words=() file=
+    words=() file= files=()
     case $name in
         hmmraces)
             read_race_words "$@"
@@ -275,7 +362,9 @@ read_words() {
             fi
             is_number "${1-}" && refuse 'no word but --standing or --all, and FILE' ;;
         hmmtrace)
-            is_number "${1-}" && refuse 'no word, and FILE' ;;
+            read_trace_words "$@"
+            shift "$taken"
+            is_number "${1-}" && refuse 'no word but --expect and --script, and FILE' ;;
         *)
             while [ $# -gt 0 ] && [[ $1 =~ ^[0-9]+$ ]]; do
                 need_numbers "$1"
@@ -289,6 +378,7 @@ read_words() {
         -?*) refuse "there is no \`$1\` here$(nearest "$1" --quick --ready --help --version \
             $([ "$name" = hmmjudge ] && echo --standing --all) \
             $([ "$name" = hmmraces ] && echo --table --script --expect --expect-file --most) \
+            $([ "$name" = hmmtrace ] && echo --expect --script) \
             $([ "$name" = hmmwithout ] && echo --answers --most))" ;;
     esac
     [ $# -le 1 ] || refuse "too many words: \`${*:2}\`"
@@ -371,6 +461,7 @@ Without a kit, tools/reference/cli.py replays a short script, by a program in Py
 # Runs the program in place of this script. If it reads a file, this script stays, to say more of one that is refused.
 run() {
     local status text=$file
+    [ ${#files[@]} -eq 0 ] || run_traces "$1"
     does_read && [ -f /dev/stdin ] && command -v python3 >/dev/null || exec "$1" "${words[@]}"
     "$1" "${words[@]}"
     status=$?
@@ -416,6 +507,7 @@ run_quick() {
     [ "$path" = no ] || fail "the unproved program could not be compiled; $quick.said has why"
     say "this kit's trial build could not be compiled ($quick.said has what it said)"
     say 'so the trial is run as it is: it builds anew at each run, stops after a minute, and writes at most 1 MiB'
+    [ ${#files[@]} -eq 0 ] || exec < <(join_traces "${files[@]}")
     cd "$crate" || fail "no folder $crate"
     rt try -- "${words[@]}" 2> >(grep -v -e '^interpreter: ' -e '^checked: ' -e '^races: ' -e '^run=' >&2)
     exit $?
@@ -513,7 +605,7 @@ if [ "$path" = yes ]; then
     :
 elif does_read && [ "$file" != - ]; then
     exec <"$file" || fail "$file could not be read"
-elif does_read && [ -t 0 ]; then
+elif does_read && [ ${#files[@]} -eq 0 ] && [ -t 0 ]; then
     say 'reading from the terminal; Ctrl-D ends the text'
 fi
 [ "$how" = ready ] && { is_proved_fresh && how=proved || how=quick; }

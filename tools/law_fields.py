@@ -22,7 +22,7 @@ ROOTS = {'hm_edge': ['Exits'], 'hm_top': ['Runs'], 'hm_race_top': ['Races'], 'hm
          'hm_judge': ['RunsAsked'], 'hm_view': ['Views'], 'hm_trace_top': ['Exits']}
 # records that are no plumbing of a call, but words of which a theorem itself is made: a reader of it reads them too
 WORDS = {'AreQuestions', 'AreScript', 'Ends', 'EndsSo', 'FailsAtSome', 'HasFewTurns', 'IsFirstBad', 'IsLegalReport',
-         'IsLegalReportOf', 'IsNearest', 'IsQuestion', 'IsTextOf', 'IsTrueOf', 'AnsweredNone', 'OneSays', 'SawAll', 'Way'}
+         'IsLegalReportOf', 'IsNearest', 'IsQuestion', 'IsTextOf', 'IsTrueOf', 'AnsweredNone', 'Named', 'OneSays', 'Read', 'SawAll', 'Way'}
 
 RECORD = re.compile(r'^pub record (\S+)(.*?)(?=^(?:pub |abbrev |unfoldable |-- |\Z))', re.M | re.S)
 OTHER = re.compile(r'^abbrev pub (\S+) :(.*?)(?=^(?:pub |abbrev |unfoldable |-- |\Z))', re.M | re.S)

@@ -23,12 +23,13 @@ RUN_USAGE = ('usage: hmmrun replay | threads | race | generate N | trial N | upg
 RACE_USAGE = 'usage: hmmraces [[--most] MOST] [--table | --script N | --expect CONDITION ..]'
 VIEW_USAGE = 'usage: hmmview [FROM TO]'
 JUDGE_USAGE = 'usage: hmmjudge [--standing | --all]'
-TRACE_USAGE = 'usage: hmmtrace'
+TRACE_USAGE = 'usage: hmmtrace [--expect RULE ..]'
 NOTHING = 'nothing is left to race after drain: end the schedule where the race is to begin'
 NO_ROWS = 'no such rows: FROM is after TO, or after the end of the report'
 REFUSED = 'script line 1: bad header'
 EVENT = b'0 a0 remove m0\n'
 UNLOCKED = b'0 a0 walk m0 16 1 1 unlocked -\n'
+LIST = b'trace a\n' + UNLOCKED + b'trace b\n'
 ANY = object()          # what a run writes, where it is not compared
 FULL = object()         # standard output is the full device
 
@@ -70,8 +71,14 @@ RUNS = [
     ('hmmjudge', '', REPORT_BYTES + 1, 8, b'', 'report too long'),
     ('hmmtrace', '', EVENT, 0, ANY, ''),
     ('hmmtrace', '', UNLOCKED, 1, ANY, 'a rule is broken'),
+    ('hmmtrace', '--expect mmap-lock', UNLOCKED, 1, ANY, 'a rule is broken'),
+    ('hmmtrace', '--expect compare', EVENT, 10, ANY, 'no event tests the rule compare'),
     ('hmmtrace', 'all', EVENT, 2, b'', TRACE_USAGE),
+    ('hmmtrace', '--expect', EVENT, 2, b'', TRACE_USAGE),
+    ('hmmtrace', '--expect erase copy-all', EVENT, 2, b'', 'word 3 is no rule'),
     ('hmmtrace', '', EVENT + EVENT, 3, b'', 'trace line 2: not the next number'),
+    ('hmmtrace', '', LIST + EVENT, 1, ANY, 'a rule is broken'),
+    ('hmmtrace', '', LIST + EVENT + EVENT, 3, b'', 'trace 2 line 2: not the next number'),
     ('hmmtrace', '', EVENT[:-1], 3, b'', 'trace line 1: bad line end or byte'),
     ('hmmtrace', '', EVENT, 5, FULL, 'write fault'),
     ('hmmtrace', '', REPORT_BYTES + 1, 8, b'', 'trace too long'),
@@ -87,8 +94,9 @@ def traces():
     """A run of each trace of examples/traces, whose verdicts lie beside it."""
     folder = os.path.join('examples', 'traces')
     for name in sorted(os.listdir(os.path.join(TOP, folder))):
-        if name.endswith('.trace'):
-            verdicts = read(folder, name.replace('.trace', '.verdicts'))
+        stem, kind = os.path.splitext(name)
+        if kind in ('.trace', '.traces'):
+            verdicts = read(folder, stem + '.verdicts')
             broken = b' broken ' in verdicts
             yield 'hmmtrace', '', read(folder, name), int(broken), verdicts, 'a rule is broken' if broken else ''
 

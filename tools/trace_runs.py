@@ -62,7 +62,7 @@ def runs_of(path):
 def judged(program, data):
     """The events, `whole` or `part`, and each rule's verdict; or None and what the program said."""
     done = subprocess.run(program, input=data, stdout=subprocess.PIPE, stderr=subprocess.PIPE)
-    lines = done.stdout.decode().splitlines()
+    lines = [line for line in done.stdout.decode().splitlines() if not line.startswith('  ')]
     if done.returncode not in (0, 1) or not lines:
         return None, done.stderr.decode().strip() or f'status {done.returncode}'
     first, *rules = [line.split() for line in lines]

@@ -1,5 +1,7 @@
 mod Lines
-mod Judged
+mod Told
 mod Users
+mod Own
+mod Parts
 mod Positions
 mod Naming

@@ -2,17 +2,16 @@
 use Rattle.std.proofs.Common.{◌≡◌, ℕ, List, [], ◌∷◌, ◌++◌, Result, Ok, Err, refl, sym, ap, ◌∙◌, subst, append_assoc, append-nil}
 use Rattle.std.specs.List.{flat_map}
 use Rattle.hm_protocol.specs.declared.events.Traced.{Traced}
-use Rattle.hm_script.specs.Automaton.{lines}
 use Rattle.hm_script.specs.declared.reason.Reason.{Reason}
 use Rattle.hm_trace.specs.Lines.{line_at}
-use Rattle.hm_trace.specs.Progress.{progress_next, read_next, refused}
-use Rattle.hm_trace.specs.Traces.{events_told, read_lines, read_trace, with_front}
+use Rattle.hm_trace.specs.Progress.{progress_next, read_next, refused, start}
+use Rattle.hm_trace.specs.Traces.{events_told, read_lines, with_front}
 use Rattle.hm_trace.specs.declared.line.TraceLine.{TraceLine}
 use Rattle.hm_trace.specs.declared.reader.Fault.{Fault}
 use Rattle.hm_trace.specs.declared.reader.Progress.{Progress}
 use Rattle.hm_trace.specs.declared.reader.Refused.{Refused}
 use Rattle.hm_trace.proofs.TracesAgain.{told_of, went_of}
-use Rattle.hm_trace_top.specs.Reading.{IsTrace, IsUnread, Read, Stops, number_of, number_told, numbers_of, opening, read_more, read_on}
+use Rattle.hm_trace_top.specs.Reading.{IsTrace, IsUnread, Read, Stops, number_of, number_told, opening, read_more, read_of, read_on}
 use Rattle.hm_trace_top.specs.declared.reading.Trace.{Trace}
 use Rattle.hm_trace_top.specs.declared.reading.Unread.{Unread}
 
@@ -73,41 +72,25 @@ on_lines r (l ∷ ls) = one_on r l ls (λ s. on_lines s ls) (read_next r.progres
 
 -- ---- a whole trace
 
-read_whole : (bytes : List ℕ) (r : Read) (y : Result (Progress × List Traced) Refused) → read_after opening (lines bytes) y ≡ Ok r → (y ≡ Ok (r.progress, r.events)) × (r.numbers ≡ numbers_of bytes)
-read_whole bytes r (Ok y) e =
-    let same : record { progress = y.0; events = y.1; numbers = numbers_of bytes } ≡ r = cc in
-    (ap (λ (t : Read). whole t.progress t.events) same, sym (ap (λ (t : Read). t.numbers) same))
-  where
-    whole : Progress → List Traced → Result (Progress × List Traced) Refused
-    whole p es = Ok (p, es)
-read_whole bytes r (Err why) e = absurd (let no : Err why ≡ Ok r = e in cc)
+read_same : (ls : List (List ℕ)) (y : Result (Progress × List Traced) Refused)
+    → read_after opening ls y ≡ elim y as (λ z. Result Read Refused) [ Ok x ↦ reads x.0 x.1 (flat_map number_of ls) | Err why ↦ Err why ]
+read_same ls (Ok y) = refl
+read_same ls (Err why) = refl
 
 -- what was read of all lines is what the trace tells
-pub are_read : (bytes : List ℕ) (r : Read) → read_on opening (lines bytes) ≡ Ok r → (read_trace bytes ≡ Ok (r.progress, r.events)) × (r.numbers ≡ numbers_of bytes)
-are_read bytes r e = read_whole bytes r (read_trace bytes) (sym (on_lines opening (lines bytes)) ∙ e)
+are_read : (ls : List (List ℕ)) → read_on opening ls ≡ read_of ls
+are_read ls = on_lines opening ls ∙ read_same ls (read_lines start ls)
 
-read_none : (bytes : List ℕ) (refused : Refused) (y : Result (Progress × List Traced) Refused) → read_after opening (lines bytes) y ≡ Err refused → y ≡ Err refused
-read_none bytes refused (Ok y) e = cc
-read_none bytes refused (Err why) e = cc
-
--- the first bad line of all is that of the trace
-pub are_refused : (bytes : List ℕ) (refused : Refused) → read_on opening (lines bytes) ≡ Err refused → read_trace bytes ≡ Err refused
-are_refused bytes refused e = read_none bytes refused (read_trace bytes) (sym (on_lines opening (lines bytes)) ∙ e)
+all_same : (p q : Progress) (es fs : List Traced) (ns ms : List ℕ) → p ≡ q → es ≡ fs → ns ≡ ms → reads p es ns ≡ reads q fs ms
+all_same p q es fs ns ms d e f = cc
 
 -- so it is of a trace that has just that
-pub is_trace : (bytes : List ℕ) (before r : Read) (t : Trace) → before ≡ opening → read_on before (lines bytes) ≡ Ok r → t.progress ≡ r.progress → t.events.items ≡ r.events → t.numbers.items ≡ r.numbers → IsTrace bytes t
-is_trace bytes before r t is e p es ns = record {
-  read = both.0 ∙ sym (ap (told t.progress) es ∙ ap (λ (q : Progress). told q r.events) p);
-  numbers = ns ∙ both.1;
-}
-  where
-    told : Progress → List Traced → Result (Progress × List Traced) Refused
-    told q fs = Ok (q, fs)
-
-    both : (read_trace bytes ≡ Ok (r.progress, r.events)) × (r.numbers ≡ numbers_of bytes)
-    both = are_read bytes r (subst (λ (s : Read). read_on s (lines bytes) ≡ Ok r) is e)
+pub is_trace : (ls : List (List ℕ)) (before r : Read) (t : Trace) → before ≡ opening → read_on before ls ≡ Ok r → t.progress ≡ r.progress → t.events.items ≡ r.events → t.numbers.items ≡ r.numbers → IsTrace ls t
+is_trace ls before r t is e p es ns =
+    sym (are_read ls) ∙ subst (λ (s : Read). read_on s ls ≡ Ok r) is e
+    ∙ all_same r.progress t.progress r.events t.events.items r.numbers t.numbers.items (sym p) (sym es) (sym ns)
 
 -- and of why there is none
-pub is_unread : (bytes : List ℕ) (before : Read) (why : Unread) → before ≡ opening → Stops (read_on before (lines bytes)) why → IsUnread bytes why
-is_unread bytes before (Unread.Refused refused) is e = are_refused bytes refused (subst (λ (s : Read). read_on s (lines bytes) ≡ Err refused) is e)
-is_unread bytes before Unread.NoMemory is e = tt
+pub is_unread : (ls : List (List ℕ)) (before : Read) (why : Unread) → before ≡ opening → Stops (read_on before ls) why → IsUnread ls why
+is_unread ls before (Unread.Refused refused) is e = sym (are_read ls) ∙ subst (λ (s : Read). read_on s ls ≡ Err refused) is e
+is_unread ls before Unread.NoMemory is e = tt

@@ -1,6 +1,12 @@
 pub mod Names
+pub mod Words
+pub mod Sentences
+pub mod Origins
 pub mod Texts
 pub mod Reading
+pub mod Lists
+pub mod Together
+pub mod Heard
 pub mod Endings
 pub mod Judging
 pub mod Exits

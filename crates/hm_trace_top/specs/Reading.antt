@@ -5,7 +5,7 @@ use Rattle.hm_protocol.specs.declared.events.Traced.{Traced}
 use Rattle.hm_script.specs.Automaton.{lines}
 use Rattle.hm_trace.specs.Lines.{line_at}
 use Rattle.hm_trace.specs.Progress.{read_next, start}
-use Rattle.hm_trace.specs.Traces.{events_told, read_trace}
+use Rattle.hm_trace.specs.Traces.{events_told, read_lines}
 use Rattle.hm_trace.specs.declared.line.TraceLine.{TraceLine}
 use Rattle.hm_trace.specs.declared.reader.Progress.{Progress}
 use Rattle.hm_trace.specs.declared.reader.Refused.{Refused}
@@ -29,23 +29,33 @@ numbers_of bytes = flat_map number_of (lines bytes)
 
 -- ---- a whole trace
 
--- the bytes are a trace: how far reading has come after it, its events, and their numbers
-pub record IsTrace (bytes : List ℕ) (t : Trace) : Type 0 where
-  pub read : read_trace bytes ≡ Ok (t.progress, t.events.items)
-  pub numbers : t.numbers.items ≡ numbers_of bytes
-
--- why they are none, if memory did not run out: the first bad line
-abbrev pub IsUnread : List ℕ → Unread → Type 0
-IsUnread bytes (Unread.Refused refused) = read_trace bytes ≡ Err refused
-IsUnread bytes Unread.NoMemory = Unit {0}
-
--- ---- some lines of one
-
 -- so far reading has come, with these events and these numbers
 pub record Read : Type 0 where
   pub progress : Progress
   pub events : List Traced
   pub numbers : List ℕ
+
+-- the same of a trace that was read
+abbrev pub read_by : Trace → Read
+read_by t = record { progress = t.progress; events = t.events.items; numbers = t.numbers.items }
+
+-- the trace that these lines are: how far reading has come after it, its events, and their numbers; or the first bad one
+abbrev pub read_of : List (List ℕ) → Result Read Refused
+read_of ls = elim (read_lines start ls) [
+  | Ok x ↦ Ok (record { progress = x.0; events = x.1; numbers = flat_map number_of ls })
+  | Err why ↦ Err why
+]
+
+-- the lines are this trace
+abbrev pub IsTrace : List (List ℕ) → Trace → Type 0
+IsTrace ls t = read_of ls ≡ Ok (read_by t)
+
+-- why they are none, if memory did not run out: the first bad line
+abbrev pub IsUnread : List (List ℕ) → Unread → Type 0
+IsUnread ls (Unread.Refused refused) = read_of ls ≡ Err refused
+IsUnread ls Unread.NoMemory = Unit {0}
+
+-- ---- some lines of one
 
 -- an event more
 abbrev pub with_event : Read → ℕ → Traced → Read

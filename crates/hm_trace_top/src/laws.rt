@@ -1,6 +1,7 @@
 // What holds of every trace, and what the user of the program is told: laws in the contracts of functions that do
 // nothing.
-ghost use Rattle.hm_trace_top.specs.Laws.{EventsAreNamed};
+ghost use Rattle.hm_trace_top.specs.Laws.{EventsAreNamed, VerdictsAreTheirs};
+ghost use Rattle.hm_trace_top.specs.Names.{NamesAreTheirs};
 ghost use Rattle.hm_trace_top.specs.Theorem.{Theorem};
 
 /// A trace has a number for each of its events, and no verdict names an event that is not there.
@@ -12,4 +13,10 @@ pub fn events_are_named()
 /// so none of them can be left out unseen.
 pub fn users_are_told()
     ensures { Theorem }
+{}
+
+/// A word names a rule if and only if it is its own; and what the verdicts on a trace say of a rule is the verdict on it.
+pub fn rules_have_their_own()
+    ensures names { NamesAreTheirs }
+    ensures verdicts { VerdictsAreTheirs }
 {}

@@ -3,16 +3,22 @@
 
 mod call;
 mod ended;
+mod judged;
 mod laws;
 mod names;
+mod origins;
 mod process;
 mod reading;
+mod sentences;
 mod text;
+mod together;
+mod words;
 
 pub use call::judge;
-pub use ended::{Ended, NAME, USAGE};
-pub use laws::{events_are_named, users_are_told};
+pub use ended::{Ended, NAME, Outcome, USAGE};
+pub use laws::{events_are_named, rules_have_their_own, users_are_told};
 pub use names::rule_name;
 pub use process::program;
 pub use reading::{Trace, Unread, read_trace};
+pub use sentences::sentence;
 pub use text::lines_text;

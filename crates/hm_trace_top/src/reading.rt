@@ -1,6 +1,7 @@
 // A trace, read line by line: its events, and their numbers.
-ghost use Rattle.std.specs.Prelude.{◌≡◌, IfOk, IfErr, OnOk, Ok};
+ghost use Rattle.std.specs.Prelude.{◌≡◌, ◌≤◌, length, IfOk, IfErr, OnOk, Ok};
 ghost use Rattle.hm_script.specs.Automaton.{lines};
+ghost use Rattle.hm_trace_top.specs.Lists.{after_body, body, is_header, is_list};
 ghost use Rattle.hm_trace_top.specs.Reading.{IsTrace, IsUnread, Stops, opening, read_line, read_more, read_on};
 ghost use Rattle.hm_trace_top.specs.Reading.{with_event};
 
@@ -107,6 +108,27 @@ impl Reading {
         Ok(())
     }
 
+    /// Reads the lines of a text up to the first that names a trace, and gives what is left.
+    fn body<'a>(&mut self, bytes: &'a [u8]) -> Result<&'a [u8], Unread>
+        ensures read { OnOk result (read_on self.old (body (lines bytes.now)) ≡ Ok self.new) }
+        ensures rest { IfOk result (λ rest. lines rest.now ≡ after_body (lines bytes.now)) }
+        ensures shorter { IfOk result (λ rest. length rest.now ≤ length bytes.now) }
+        ensures err { IfErr result (Stops (read_on self.old (body (lines bytes.now)))) }
+    {
+        let mut rest = bytes;
+        while !rest.is_empty() {
+            let (line, after) = cut_line(rest);
+            if is_header(line) {
+                return Ok(rest);
+            }
+            if let Err(why) = self.line(line) {
+                return Err(why);
+            }
+            rest = after;
+        }
+        Ok(rest)
+    }
+
     /// What was read.
     fn into_trace(self) -> Trace
         ensures progress { result.progress ≡ self.progress }
@@ -126,10 +148,45 @@ impl Reading {
     }
 }
 
+/// Whether a line names the trace that begins after it.
+#[tactic(auto, unfolding(crate::specs::Lists::is_header))]
+pub(crate) fn is_header(line: &[u8]) -> bool
+    ensures { result ≡ is_header line.now }
+{
+    line.starts_with(b"trace ".as_slice()) && line.ends_with(b"\n".as_slice())
+}
+
+/// Whether the first line of a text names a trace.
+pub(crate) fn is_list(bytes: &[u8]) -> bool
+    ensures { result ≡ is_list (lines bytes.now) }
+{
+    if bytes.is_empty() {
+        return false;
+    }
+    let (line, _after) = cut_line(bytes);
+    is_header(line)
+}
+
+/// Reads a trace up to the line that names the next one, and gives what is left.
+pub(crate) fn read_part(alloc: Global, bytes: &[u8]) -> Result<(Trace, &[u8]), Unread>
+    ensures trace { IfOk result (λ x. IsTrace (body (lines bytes.now)) x.0) }
+    ensures rest { IfOk result (λ x. lines x.1.now ≡ after_body (lines bytes.now)) }
+    ensures shorter { IfOk result (λ x. length x.1.now ≤ length bytes.now) }
+    ensures none { IfErr result (IsUnread (body (lines bytes.now))) }
+{
+    let Ok(mut reading) = Reading::new(alloc) else {
+        return Err(Unread::NoMemory);
+    };
+    match reading.body(bytes) {
+        Ok(rest) => Ok((reading.into_trace(), rest)),
+        Err(why) => Err(why),
+    }
+}
+
 /// The trace that the bytes are, or their first bad line.
 pub fn read_trace(alloc: Global, bytes: &[u8]) -> Result<Trace, Unread>
-    ensures trace { IfOk result (IsTrace bytes.now) }
-    ensures none { IfErr result (IsUnread bytes.now) }
+    ensures trace { IfOk result (IsTrace (lines bytes.now)) }
+    ensures none { IfErr result (IsUnread (lines bytes.now)) }
 {
     let Ok(mut reading) = Reading::new(alloc) else {
         return Err(Unread::NoMemory);
