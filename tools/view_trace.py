@@ -127,7 +127,7 @@ def rows_of(events, verdicts):
     """The rows of the table; one that a verdict names is marked, and one that it goes back to."""
     marks = {v.number: v.said for v in sorted(verdicts, key=lambda v: v.said == 'broken') if v.said in ('broken', 'maybe')}
     back = {number for v in verdicts if v.said in ('broken', 'maybe') for line in v.below
-            for number in re.findall(r'\b(\d+)\b', line)}
+            for number in re.findall(r'\d+', line.partition('; goes back to ')[2])}
     threads = list(dict.fromkeys(thread for _, thread, _, _ in events if thread))
     lanes, rows = Lanes(threads), []
     for number, thread, words, comment in events:
