@@ -1,5 +1,5 @@
 -- What a verdict names: an event of its trace, which has a number.
-use Rattle.std.specs.Prelude.{◌≡◌, ◌⊎◌, ℕ, ◌<◌, List, length, Ok, Option, Some}
+use Rattle.std.specs.Prelude.{◌≡◌, ◌⊎◌, ℕ, ◌<◌, ◌≤◌, List, length, Ok, Option, Some}
 use Rattle.hm_protocol.specs.declared.events.Recorded.{Recorded}
 use Rattle.hm_protocol.specs.declared.events.Traced.{Traced}
 use Rattle.hm_protocol.specs.declared.rules.Rule.{Rule}
@@ -22,10 +22,12 @@ IsNamed i (Verdict.Maybe j) = j ≡ i
 IsNamed i (Verdict.Broken j) = j ≡ i
 IsNamed i v = ⊥
 
--- a trace has a number for each of its events, and no verdict names an event that is not there
+-- a trace has a number for each of its events, and no more events than bytes; and no verdict names an event that is not
+-- there
 abbrev pub EventsAreNamed : Type 0
 EventsAreNamed = (bytes : List ℕ) (p : Progress) (es : List Traced) → read_trace bytes ≡ Ok (p, es)
     → (length (numbers_of bytes) ≡ length es)
+    × (length es ≤ length bytes)
     × ((x : Recorded) (r : Rule) (i : ℕ) → IsNamed i (verdict x r es) → i < length es)
 
 -- of the verdicts on a trace, that on a rule is its own

@@ -4,7 +4,8 @@ ghost use Rattle.hm_trace_top.specs.Laws.{EventsAreNamed, LookUpsAreKnown, Origi
 ghost use Rattle.hm_trace_top.specs.Names.{NamesAreTheirs};
 ghost use Rattle.hm_trace_top.specs.Theorem.{Theorem};
 
-/// A trace has a number for each of its events, and no verdict names an event that is not there.
+/// A trace has a number for each of its events, and no more events than bytes; and no verdict names an event that is not
+/// there.
 pub fn events_are_named()
     ensures { EventsAreNamed }
 {}
