@@ -3,5 +3,7 @@ mod Told
 mod Users
 mod Own
 mod Parts
+mod GoesBack
+mod LookUps
 mod Positions
 mod Naming

@@ -17,7 +17,7 @@ use Rattle.hm_trace_top.specs.declared.reading.Unread.{Unread}
 
 -- ---- numbers
 
-abbrev number_in : Result TraceLine Reason → List ℕ
+abbrev pub number_in : Result TraceLine Reason → List ℕ
 number_in r = elim r [ Ok x ↦ number_told x | Err why ↦ [] ]
 
 told_same : (p q : Progress) (x z : TraceLine) (r : Result Progress Fault) → went_of p z r ≡ Ok (q, x) → z ≡ x

@@ -1,5 +1,5 @@
 -- What a verdict names is an event of the trace, and each event has a number.
-use Rattle.std.proofs.Common.{◌≡◌, ℕ, ◌+◌, ◌<◌, ◌&&◌, ◌||◌, Bool, true, false, not, is_none, Option, Some, None, List, [], ◌∷◌, ◌++◌, length, Result, Ok, Err, refl, ap, ◌∙◌, subst, arith, length-append}
+use Rattle.std.proofs.Common.{◌≡◌, ℕ, ◌+◌, ◌<◌, ◌≤◌, ◌==◌, ◌&&◌, ◌||◌, Bool, true, false, not, is_none, Option, Some, None, List, [], ◌∷◌, ◌++◌, length, Result, Ok, Err, refl, ap, ◌∙◌, subst, arith, length-append}
 use Rattle.std.specs.Prelude.{if◌then◌else◌, is_some, nat_lt}
 use Rattle.std.specs.List.{flat_map}
 use Rattle.hm_protocol.specs.declared.events.Recorded.{Recorded}
@@ -12,7 +12,9 @@ use Rattle.hm_protocol.specs.Noted.{known, known_next}
 use Rattle.hm_protocol.specs.Rules.{Test, broken, compare, fails, first_call, first_commit, first_wrong, test_of}
 use Rattle.hm_protocol.specs.Verdicts.{if_asked, is_recorded, joined, kept, may_break, may_leave, none_broken, suspect, verdict}
 use Rattle.hm_protocol.specs.Words.{is_empty}
-use Rattle.hm_script.specs.Automaton.{lines}
+use Rattle.hm_script.specs.Automaton.{lines, onto_line}
+use Rattle.hm_script.specs.declared.reason.Reason.{Reason}
+use Rattle.hm_trace.specs.Lines.{line_at}
 use Rattle.hm_trace.specs.Progress.{read_next, start}
 use Rattle.hm_trace.specs.Traces.{events_told, read_lines, with_front}
 use Rattle.hm_trace.specs.declared.line.TraceLine.{TraceLine}
@@ -20,7 +22,7 @@ use Rattle.hm_trace.specs.declared.reader.Progress.{Progress}
 use Rattle.hm_trace.specs.declared.reader.Refused.{Refused}
 use Rattle.hm_trace_top.specs.Laws.{EventsAreNamed, IsNamed}
 use Rattle.hm_trace_top.specs.Reading.{number_of, number_told, numbers_of}
-use Rattle.hm_trace_top.proofs.Lines.{number_is, then_lines}
+use Rattle.hm_trace_top.proofs.Lines.{number_in, number_is, then_lines}
 use Rattle.hm_trace_top.proofs.Positions.{Past, are_found, known_past}
 
 -- ---- where a test is failed
@@ -119,5 +121,30 @@ all_counts : (p : Progress) (ls : List (List ℕ)) → Counts (length (flat_map 
 all_counts p [] = refl
 all_counts p (l ∷ ls) = one_counts p l ls (λ q. all_counts q ls) (read_next p l) refl
 
+-- a line tells one event at most
+one_number : (z : Result TraceLine Reason) → length (number_in z) ≤ 1
+one_number (Ok (TraceLine.Event n e)) = omega arith
+one_number (Ok x) = omega arith
+one_number (Err why) = omega arith
+
+numbers_few : (ls : List (List ℕ)) → length (flat_map number_of ls) ≤ length ls
+numbers_few [] = omega arith
+numbers_few (l ∷ ls) = omega (arith, length-append (number_of l) (flat_map number_of ls), one_number (line_at l), numbers_few ls)
+
+onto_few : (b : ℕ) (ls : List (List ℕ)) → length (onto_line b ls) ≤ length ls + 1
+onto_few b [] = omega arith
+onto_few b (l ∷ ls) = omega arith
+
+-- there are no more lines than bytes
+lines_few : (bytes : List ℕ) → length (lines bytes) ≤ length bytes
+lines_few [] = omega arith
+lines_few (b ∷ bytes) = by (b == 10) (lines_few bytes)
+  where
+    by : (c : Bool) → length (lines bytes) ≤ length bytes → length (if c then (10 ∷ []) ∷ lines bytes else onto_line b (lines bytes)) ≤ length (b ∷ bytes)
+    by true h = omega arith
+    by false h = omega (arith, onto_few b (lines bytes))
+
 pub events_are_named : EventsAreNamed
-events_are_named bytes p es e = (subst (Counts (length (numbers_of bytes))) e (all_counts start (lines bytes)), is_there es)
+events_are_named bytes p es e =
+    let counts : length (numbers_of bytes) ≡ length es = subst (Counts (length (numbers_of bytes))) e (all_counts start (lines bytes)) in
+    (counts, omega (arith, numbers_few (lines bytes), lines_few bytes), is_there es)

@@ -1,5 +1,5 @@
 -- A rule has its own word, and its own place among verdicts.
-use Rattle.std.proofs.Common.{◌≡◌, ℕ, true, List, Some, Option, get_or, length, ◌<◌, refl, sym, ap, ◌∙◌}
+use Rattle.std.proofs.Common.{◌≡◌, ℕ, true, List, Some, get_or, length, ◌<◌, refl, sym, ap, ◌∙◌}
 use Rattle.std.specs.List.{position_or_len, slice_get}
 use Rattle.std.specs.Str.{bytes_eq}
 use Rattle.std.proofs.lemmas.List.Folds.{find_at}
@@ -7,13 +7,10 @@ use Rattle.std.proofs.lemmas.List.Sums.{passes_at_first}
 use Rattle.std.proofs.lemmas.Option.{slice_get_within, get_or_from_slice_get}
 use Rattle.std.proofs.lemmas.Slice.Eq.{bytes_eq-Decides}
 use Rattle.hm_protocol.specs.Rules.{all_rules}
-use Rattle.hm_protocol.specs.declared.events.Recorded.{Recorded}
-use Rattle.hm_protocol.specs.declared.events.Traced.{Traced}
 use Rattle.hm_protocol.specs.declared.rules.Rule.{Rule}
 use Rattle.hm_trace_top.specs.Laws.{VerdictsAreTheirs}
 use Rattle.hm_trace_top.specs.Names.{NamesAreTheirs, rule_name, rule_named}
 use Rattle.hm_trace_top.specs.Texts.{verdicts}
-use Rattle.hm_trace_top.specs.Together.{verdict_on}
 
 -- a rule's word names it
 named-again : (r : Rule) → rule_named (rule_name r) ≡ Some r

@@ -1,9 +1,7 @@
 -- What is said of bytes that are a trace, or several.
-use Rattle.std.specs.Prelude.{◌≡◌, ℕ, ◌+◌, Bool, true, false, if◌then◌else◌, List, [], ◌∷◌, ◌++◌, length, Result, Ok, Err}
-use Rattle.hm_protocol.specs.declared.events.Traced.{Traced}
+use Rattle.std.specs.Prelude.{◌≡◌, ℕ, ◌+◌, false, if◌then◌else◌, List, [], ◌∷◌, ◌++◌, length, Result, Ok, Err}
 use Rattle.hm_protocol.specs.declared.rules.Verdict.{Verdict}
 use Rattle.hm_script.specs.Automaton.{lines}
-use Rattle.hm_trace.specs.declared.reader.Progress.{Progress}
 use Rattle.hm_trace_top.specs.Lists.{Named, is_list, traces_in}
 use Rattle.hm_trace_top.specs.Reading.{Read, read_of}
 use Rattle.hm_trace_top.specs.Texts.{lines_text, verdicts}

@@ -1,7 +1,6 @@
 -- Which earlier events a verdict goes back to.
 use Rattle.std.specs.Prelude.{ℕ, ◌+◌, ◌-◌, Bool, true, false, not, ◌&&◌, ◌||◌, ◌==◌, nat_lt, if◌then◌else◌, Option}
-use Rattle.std.specs.Prelude.{Some, None, is_none, List, [], ◌∷◌, ◌++◌, length, take, drop, reverse, codes}
-use Rattle.std.specs.Fmt.{decimal}
+use Rattle.std.specs.Prelude.{Some, None, is_none, List, [], ◌∷◌, length, take, drop, reverse}
 use Rattle.hm_protocol.specs.declared.events.Event.{Event}
 use Rattle.hm_protocol.specs.declared.events.Traced.{Traced}
 use Rattle.hm_protocol.specs.declared.rules.Rule.{Rule}

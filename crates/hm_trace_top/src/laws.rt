@@ -1,10 +1,11 @@
 // What holds of every trace, and what the user of the program is told: laws in the contracts of functions that do
 // nothing.
-ghost use Rattle.hm_trace_top.specs.Laws.{EventsAreNamed, VerdictsAreTheirs};
+ghost use Rattle.hm_trace_top.specs.Laws.{EventsAreNamed, LookUpsAreKnown, OriginsAreBefore, VerdictsAreTheirs};
 ghost use Rattle.hm_trace_top.specs.Names.{NamesAreTheirs};
 ghost use Rattle.hm_trace_top.specs.Theorem.{Theorem};
 
-/// A trace has a number for each of its events, and no verdict names an event that is not there.
+/// A trace has a number for each of its events, and no more events than bytes; and no verdict names an event that is not
+/// there.
 pub fn events_are_named()
     ensures { EventsAreNamed }
 {}
@@ -19,4 +20,10 @@ pub fn users_are_told()
 pub fn rules_have_their_own()
     ensures names { NamesAreTheirs }
     ensures verdicts { VerdictsAreTheirs }
+{}
+
+/// An event goes back to events before it; and where a look-up began is where it is known to have begun.
+pub fn origins_are_before()
+    ensures before { OriginsAreBefore }
+    ensures look_ups { LookUpsAreKnown }
 {}

@@ -16,7 +16,7 @@ mod words;
 
 pub use call::judge;
 pub use ended::{Ended, NAME, Outcome, USAGE};
-pub use laws::{events_are_named, rules_have_their_own, users_are_told};
+pub use laws::{events_are_named, origins_are_before, rules_have_their_own, users_are_told};
 pub use names::rule_name;
 pub use process::program;
 pub use reading::{Trace, Unread, read_trace};
