@@ -1,5 +1,8 @@
+pub mod Adds
 pub mod AreOver
+pub mod Bounded
 pub mod Defaults
+pub mod Fewer
 pub mod Fields
 pub mod Filtered
 pub mod Inner

@@ -11,12 +11,12 @@ ghost use Rattle.hm_verdicts.specs.Numbers.{values_in};
 ghost use Rattle.hm_verdicts.specs.Settled.{First, IsOver};
 
 use crate::calls::{Call, Eraser};
-use crate::failed::Failed;
 use crate::looks::Look;
 use crate::moves::{Move, are_placing, inner};
 use crate::newest_first::{Changes, change_items};
 use crate::numbered::Numbered;
 use crate::over::{Over, change, rest};
+use hm_base::NoMemory;
 use hm_protocol::TraceSpan;
 use std::alloc::Global;
 
@@ -30,7 +30,7 @@ struct Ended {
 impl Changes<Call> for Ended {
     ghost made = { λ s. after_end s.begun s.at };
 
-    fn change(&self, call: &mut Call) -> Result<(), Failed> {
+    fn change(&self, call: &mut Call) -> Result<(), NoMemory> {
         call.end(self.begun, self.at);
         Ok(())
     }
@@ -46,7 +46,7 @@ struct SetOver {
 impl Changes<Call> for SetOver {
     ghost made = { λ s. after_set s.mirror s.page };
 
-    fn change(&self, call: &mut Call) -> Result<(), Failed> {
+    fn change(&self, call: &mut Call) -> Result<(), NoMemory> {
         call.set_over(self.mirror, self.page);
         Ok(())
     }
@@ -68,8 +68,9 @@ impl<'a> Changes<Call> for Erased<'a> {
     ghost made = { λ s. erased_by (values_in s.by.devices.now) s.by.in_callback (reverse s.by.moves.now)
         s.by.thread s.mirror s.page };
 
-    fn change(&self, call: &mut Call) -> Result<(), Failed> {
-        call.erase(&self.by, self.mirror, self.page)
+    fn change(&self, call: &mut Call) -> Result<(), NoMemory> {
+        call.erase(&self.by, self.mirror, self.page);
+        Ok(())
     }
 }
 
@@ -88,13 +89,13 @@ impl<'a> Changes<Call> for Paged<'a> {
 
     ghost made = { λ s. paged_by (values_in s.devices.now) s.thread s.of.now };
 
-    fn change(&self, call: &mut Call) -> Result<(), Failed> {
+    fn change(&self, call: &mut Call) -> Result<(), NoMemory> {
         call.know(self.alloc, self.devices, self.thread, self.of)
     }
 }
 
 /// The invalidation that began there has ended here.
-pub(crate) fn end(calls: &mut Vec<Call>, over: Over, begun: u64, at: u64) -> Result<Over, Failed>
+pub(crate) fn end(calls: &mut Vec<Call>, over: Over, begun: u64, at: u64) -> Result<Over, NoMemory>
     requires { First (IsOver over) over.count calls.old.items }
     ensures { IfOk result (λ o. (calls.new.items ≡ map (after_end begun at) calls.old.items)
         × First (IsOver o) o.count calls.new.items) }
@@ -108,7 +109,7 @@ pub(crate) fn set_over(
     over: Over,
     mirror: u64,
     page: u64,
-) -> Result<Over, Failed>
+) -> Result<Over, NoMemory>
     requires { First (IsOver over) over.count calls.old.items }
     ensures { IfOk result (λ o. (calls.new.items ≡ map (after_set mirror page) calls.old.items)
         × First (IsOver o) o.count calls.new.items) }
@@ -125,7 +126,7 @@ pub(crate) fn erase(
     moves: &[Move],
     mirror: u64,
     page: u64,
-) -> Result<Over, Failed>
+) -> Result<Over, NoMemory>
     requires { First (IsOver over) over.count calls.old.items }
     ensures { IfOk result (λ o. (calls.new.items ≡ map (erased_by (values_in devices.now)
         (list_any (λ y. (y.thread == thread) && is_none y.after) calls.old.items)
@@ -148,7 +149,7 @@ pub(crate) fn know(
     devices: &Numbered<u64>,
     thread: u64,
     of: &Move,
-) -> Result<(), Failed>
+) -> Result<(), NoMemory>
     ensures { OnOk result (calls.new.items ≡ map (paged_by (values_in devices.now) thread of.now) calls.old.items) }
 {
     change_items(
@@ -169,7 +170,7 @@ pub(crate) fn know_inner(
     devices: &Numbered<u64>,
     thread: u64,
     moves: &[Move],
-) -> Result<(), Failed>
+) -> Result<(), NoMemory>
     ensures { OnOk result (calls.new.items
         ≡ paged_in (values_in devices.now) thread (reverse moves.now) calls.old.items) }
 {
@@ -189,7 +190,7 @@ pub(crate) fn return_all(
     mirror: u64,
     at: u64,
     seq: u64,
-) -> Result<(), Failed>
+) -> Result<(), NoMemory>
     requires { First (IsOver over) over.count calls.old.items }
     ensures { OnOk result (calls.new.items
         ≡ map (returned_in at seq calls.old.items (reverse moves.now) thread mirror) calls.old.items) }
@@ -211,7 +212,7 @@ fn return_one(
     mirror: u64,
     at: u64,
     seq: u64,
-) -> Result<(), Failed>
+) -> Result<(), NoMemory>
     requires there { number < length calls.old.items }
     requires held { First (IsOver over) over.count calls.old.items }
     ensures { OnOk result ((d : known.Call) → calls.new.items ≡ slice_set calls.old.items number

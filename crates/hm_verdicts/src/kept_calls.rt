@@ -10,11 +10,11 @@ ghost use Rattle.hm_verdicts.specs.Numbers.{values_in};
 
 use crate::all_calls;
 use crate::calls::Call;
-use crate::failed::Failed;
 use crate::looks::Look;
 use crate::moves::Move;
 use crate::numbered::Numbered;
 use crate::over::{Over, rest, settle};
+use hm_base::NoMemory;
 use std::alloc::Global;
 use std::marker::Model;
 
@@ -56,7 +56,7 @@ impl Calls {
     }
 
     /// One more begins.
-    pub(crate) fn push(&mut self, call: Call) -> Result<(), Failed>
+    pub(crate) fn push(&mut self, call: Call) -> Result<(), NoMemory>
         ensures { OnOk result (self.new ≡ self.old ++ call ∷ []) }
     {
         let over = self.over;
@@ -69,7 +69,7 @@ impl Calls {
     // ---- what events make of them
 
     /// The invalidation that began there has ended here.
-    pub(crate) fn end(&mut self, begun: u64, at: u64) -> Result<(), Failed>
+    pub(crate) fn end(&mut self, begun: u64, at: u64) -> Result<(), NoMemory>
         ensures { OnOk result (self.new ≡ map (after_end begun at) self.old) }
     {
         let over = self.over;
@@ -79,7 +79,7 @@ impl Calls {
     }
 
     /// Another entry is set.
-    pub(crate) fn set_over(&mut self, mirror: u64, page: u64) -> Result<(), Failed>
+    pub(crate) fn set_over(&mut self, mirror: u64, page: u64) -> Result<(), NoMemory>
         ensures { OnOk result (self.new ≡ map (after_set mirror page) self.old) }
     {
         let over = self.over;
@@ -96,7 +96,7 @@ impl Calls {
         moves: &[Move],
         mirror: u64,
         page: u64,
-    ) -> Result<(), Failed>
+    ) -> Result<(), NoMemory>
         ensures { OnOk result (self.new ≡ map (erased_by (values_in devices.now)
             (list_any (λ y. (y.thread == thread) && is_none y.after) self.old)
             (reverse moves.now) thread mirror page) self.old) }
@@ -114,7 +114,7 @@ impl Calls {
         devices: &Numbered<u64>,
         thread: u64,
         moves: &[Move],
-    ) -> Result<(), Failed>
+    ) -> Result<(), NoMemory>
         ensures { OnOk result (self.new ≡ paged_in (values_in devices.now) thread (reverse moves.now) self.old) }
     {
         let over = self.over;
@@ -133,7 +133,7 @@ impl Calls {
         mirror: u64,
         at: u64,
         seq: u64,
-    ) -> Result<(), Failed>
+    ) -> Result<(), NoMemory>
         ensures { OnOk result (self.new
             ≡ map (returned_in at seq self.old (reverse moves.now) thread mirror) self.old) }
     {

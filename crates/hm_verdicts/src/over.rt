@@ -5,8 +5,8 @@ ghost use Rattle.hm_protocol.specs.Known as known;
 ghost use Rattle.hm_verdicts.specs.Settled.{First, IsOver, is_settled};
 
 use crate::calls::Call;
-use crate::failed::Failed;
 use crate::newest_first::{Changes, change_from};
+use hm_base::NoMemory;
 
 /// How many of the first callbacks are over, and bounds of their numbers.
 #[derive(Clone, Copy)]
@@ -139,7 +139,7 @@ pub(crate) fn change<C: Changes<Call>>(
     calls: &mut Vec<Call>,
     over: Over,
     how: &C,
-) -> Result<Over, Failed>
+) -> Result<Over, NoMemory>
     requires held { First (IsOver over) over.count calls.old.items }
     requires same { First (λ x. C.made how.now x ≡ x) over.count calls.old.items }
     ensures { IfOk result (λ o. (calls.new.items ≡ map (C.made how.now) calls.old.items)
