@@ -8,14 +8,14 @@ ghost use Rattle.hm_protocol.specs.Noted.{after_end, after_set, is_past, began};
 ghost use Rattle.hm_verdicts.specs.Changes.{erased_by, returned_in, paged_by, paged_in};
 ghost use Rattle.hm_verdicts.specs.Asking.{are_over_since};
 ghost use Rattle.hm_verdicts.specs.Numbers.{values_in};
-ghost use Rattle.hm_verdicts.specs.Settled.{First, IsOver};
+ghost use Rattle.hm_verdicts.specs.Settled.{First, IsFresh, IsOver};
 
 use crate::calls::{Call, Eraser};
 use crate::looks::Look;
 use crate::moves::{Move, are_placing, inner};
 use crate::newest_first::{Changes, change_items};
 use crate::numbered::Numbered;
-use crate::over::{Over, change, rest};
+use crate::over::{Fresh, Over, change, rest};
 use hm_base::NoMemory;
 use hm_protocol::TraceSpan;
 use std::alloc::Global;
@@ -180,23 +180,26 @@ pub(crate) fn know_inner(
     }
 }
 
-/// Each callback returns that the thread is in, which has these migrations, the oldest first.
+/// Each callback returns that the thread is in, which has these migrations, the oldest first; its
+/// sequence may be fresh.
 pub(crate) fn return_all(
     alloc: Global,
     calls: &mut Vec<Call>,
     over: Over,
+    fresh: Fresh,
     moves: &[Move],
     thread: u64,
     mirror: u64,
     at: u64,
     seq: u64,
 ) -> Result<(), NoMemory>
-    requires { First (IsOver over) over.count calls.old.items }
+    requires over { First (IsOver over) over.count calls.old.items }
+    requires fresh { IsFresh mirror fresh calls.old.items }
     ensures { OnOk result (calls.new.items
         ≡ map (returned_in at seq calls.old.items (reverse moves.now) thread mirror) calls.old.items) }
 {
     for number in over.count..calls.len() {
-        return_one(alloc, calls, over, number, moves, thread, mirror, at, seq)?;
+        return_one(alloc, calls, fresh, number, moves, thread, mirror, at, seq)?;
     }
     Ok(())
 }
@@ -205,7 +208,7 @@ pub(crate) fn return_all(
 fn return_one(
     alloc: Global,
     calls: &mut Vec<Call>,
-    over: Over,
+    fresh: Fresh,
     number: usize,
     moves: &[Move],
     thread: u64,
@@ -214,7 +217,7 @@ fn return_one(
     seq: u64,
 ) -> Result<(), NoMemory>
     requires there { number < length calls.old.items }
-    requires held { First (IsOver over) over.count calls.old.items }
+    requires fresh { IsFresh mirror fresh calls.old.items }
     ensures { OnOk result ((d : known.Call) → calls.new.items ≡ slice_set calls.old.items number
         (returned_in at seq calls.old.items (reverse moves.now) thread mirror
         (slice_index_or calls.old.items number d))) }
@@ -222,7 +225,7 @@ fn return_one(
     if !calls[number].is_current(thread, mirror) {
         return Ok(());
     }
-    let is_alone = given_of(calls, over, mirror, calls[number].seq()) == 1;
+    let is_alone = given_of(calls, fresh, mirror, calls[number].seq()) == 1;
     let is_placing = are_placing(moves, calls[number].span());
     let call = &mut calls[number];
     call.return_at(alloc, at, seq, is_alone, is_placing)
@@ -279,12 +282,16 @@ fn given(calls: &[Call], mirror: u64, seq: u64) -> usize
         .count()
 }
 
-// The same, if these are over.
-fn given_of(calls: &[Call], over: Over, mirror: u64, seq: u64) -> usize
-    requires { First (IsOver over) over.count calls.now }
+// The same, if none of the first was given a fresh one.
+fn given_of(calls: &[Call], fresh: Fresh, mirror: u64, seq: u64) -> usize
+    requires { IsFresh mirror fresh calls.now }
     ensures { result ≡ count_by (λ y. (y.mirror == mirror) && (y.seq == seq)) calls.now }
 {
-    given(rest(calls, over.below_seq(seq)), mirror, seq)
+    if seq == fresh.seq {
+        given(rest(calls, fresh.count), mirror, seq)
+    } else {
+        given(calls, mirror, seq)
+    }
 }
 
 /// Where the invalidation began of the callback that the thread is in; none if it is in none.
@@ -294,6 +301,14 @@ pub(crate) fn begun(calls: &[Call], thread: u64, mirror: u64) -> Option<u64>
     match current(calls, thread, mirror) {
         None => None,
         Some(call) => call.of(),
+    }
+}
+
+/// The sequence that it was given.
+pub(crate) fn given_seq(calls: &[Call], thread: u64, mirror: u64) -> u64 {
+    match current(calls, thread, mirror) {
+        None => 0,
+        Some(call) => call.seq(),
     }
 }
 

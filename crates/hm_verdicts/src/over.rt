@@ -1,11 +1,12 @@
 // The first callbacks of a trace that are over for good, and bounds of their numbers.
-ghost use Rattle.std.specs.Prelude.{◌≡◌, ◌≤◌, true, false, if◌then◌else◌, nat_lt, drop, map, IfOk};
-ghost use Rattle.hm_protocol.specs.Words.{is_after, is_before};
+ghost use Rattle.std.specs.Prelude.{◌≡◌, ◌≤◌, ℕ, List, true, false, if◌then◌else◌, nat_lt, drop, map, filter, IfOk};
+ghost use Rattle.std.specs.List.{All};
+ghost use Rattle.hm_protocol.specs.Words.{is_after};
 ghost use Rattle.hm_protocol.specs.Known as known;
-ghost use Rattle.hm_verdicts.specs.Settled.{First, IsOver, is_settled};
+ghost use Rattle.hm_verdicts.specs.Settled.{First, IsMark, IsOver, is_settled};
 
 use crate::calls::Call;
-use crate::newest_first::{Changes, change_from};
+use crate::newest_first::{Changes, Passes, change_from};
 use hm_base::NoMemory;
 
 /// How many of the first callbacks are over, and bounds of their numbers.
@@ -22,8 +23,8 @@ pub struct Over {
     pub(crate) ended: u64,
 }
 
-// The higher of two.
-fn higher(a: u64, b: u64) -> u64
+/// The higher of two.
+pub(crate) fn higher(a: u64, b: u64) -> u64
     ensures first { a ≤ result }
     ensures second { b ≤ result }
 {
@@ -84,30 +85,97 @@ impl Over {
     {
         if self.of < begun { self } else { self.none() }
     }
+}
 
-    /// How many none of which was given this sequence.
-    pub(crate) fn below_seq(self, seq: u64) -> usize
-        ensures { result ≡ (if nat_lt self.seq seq then self.count else 0) }
-    {
-        if self.seq < seq { self.count } else { 0 }
+/// A sequence, and how many callbacks, of which those of a mirror were given others.
+#[derive(Clone, Copy)]
+pub(crate) struct Fresh {
+    pub seq: u64,
+    pub count: usize,
+}
+
+/// None returned after this position, if there is one.
+#[derive(Drop)]
+pub(crate) struct ReturnedBy(pub Option<u64>);
+
+impl Passes<Over> for ReturnedBy {
+    ghost use Rattle.std.specs.Prelude.{not};
+    ghost use Rattle.hm_protocol.specs.Words.{is_before};
+
+    ghost test = { λ s o. not (is_before s.0 o.at) };
+
+    fn test(&self, over: &Over) -> bool {
+        !self.0.is_some_and(|begun| begun < over.at)
     }
+}
 
-    /// How many none of which ended after this position.
-    pub(crate) fn ended_by(self, last: u64) -> usize
-        ensures { result ≡ (if nat_lt last self.ended then 0 else self.count) }
-    {
-        if last < self.ended { 0 } else { self.count }
+/// None of their invalidations ended after this position.
+#[derive(Drop)]
+pub(crate) struct EndedBy(pub u64);
+
+impl Passes<Over> for EndedBy {
+    ghost use Rattle.std.specs.Prelude.{not, nat_lt};
+
+    ghost test = { λ s o. not (nat_lt s.0 o.ended) };
+
+    fn test(&self, over: &Over) -> bool {
+        !(self.0 < over.ended)
     }
+}
 
-    /// How many none of which returned after this position, if there is one.
-    pub(crate) fn until(self, begun: Option<u64>) -> usize
-        ensures { result ≡ (if is_before begun self.at then 0 else self.count) }
-    {
-        if begun.is_some_and(|begun| begun < self.at) {
-            0
-        } else {
-            self.count
-        }
+/// None was given this sequence, or a higher one.
+#[derive(Drop)]
+pub(crate) struct BelowSeq(pub u64);
+
+impl Passes<Over> for BelowSeq {
+    ghost use Rattle.std.specs.Prelude.{nat_lt};
+
+    ghost test = { λ s o. nat_lt o.seq s.0 };
+
+    fn test(&self, over: &Over) -> bool {
+        over.seq < self.0
+    }
+}
+
+/// The last of some bounds; of no callback, if there are none.
+pub(crate) fn latest(marks: &[Over]) -> Over
+    ensures { (top : ℕ) (xs : List known.Call) → All (IsMark top xs) marks.now → First (IsOver result) result.count xs }
+{
+    let count = marks.len();
+    if count == 0 {
+        Over::new()
+    } else {
+        marks[count - 1]
+    }
+}
+
+// Without those of which an invalidation may have begun there or later.
+fn drop_late(marks: &mut Vec<Over>, begun: u64)
+    ensures { marks.new.items ≡ filter (λ o. nat_lt o.of begun) marks.old.items }
+{
+    marks.retain(|mark| mark.of < begun);
+}
+
+/// The same, if the last of their invalidations began there.
+pub(crate) fn drop_from(marks: &mut Vec<Over>, top: u64, begun: u64)
+    ensures held { (xs : List known.Call) → All (IsMark top xs) marks.old.items → All (IsMark top xs) marks.new.items }
+    ensures before { (xs : List known.Call) → All (IsMark top xs) marks.old.items
+        → All (λ o. nat_lt o.of begun ≡ true) marks.new.items }
+{
+    if begun <= top {
+        drop_late(marks, begun);
+    }
+}
+
+/// The bounds, or the last of these if an invalidation may have begun there or later.
+pub(crate) fn earlier(over: Over, marks: &[Over], begun: u64) -> Over
+    ensures { (top : ℕ) (xs : List known.Call) → First (IsOver over) over.count xs → All (IsMark top xs) marks.now
+        → First (IsOver result) result.count xs }
+{
+    if begun <= over.of {
+        latest(marks)
+    } else {
+        over
     }
 }
 
