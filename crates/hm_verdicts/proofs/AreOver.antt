@@ -1,7 +1,7 @@
 -- Callbacks that are over for good: what leaves them as they are, and what is not so of them.
-use Rattle.std.proofs.Common.{refl, ap, sym, subst, ◌∙◌, arith, ◌<◌, ◌≤◌, suc, zero, inl, inr, true≢false, le_trans}
-use Rattle.std.proofs.lemmas.List.Elements.{All-append, All-cons, All-nil}
-use Rattle.std.proofs.lemmas.Bool.{and_parts, not-true, eqb-true, ltb-true, ltb-false, le-ltb, lt-ltb}
+use Rattle.std.proofs.Common.{refl, ap, sym, subst, ◌∙◌, arith, ◌≤◌, inl, inr, true≢false, le_trans}
+use Rattle.std.proofs.lemmas.List.Elements.{All-cons, All-nil}
+use Rattle.std.proofs.lemmas.Bool.{and_parts, not-true, eqb-true, ltb-true, ltb-false, le-ltb}
 use Rattle.std.specs.Prelude.{◌≡◌, ℕ, Bool, true, false, not, ◌&&◌, ◌==◌, nat_lt, if◌then◌else◌, Option, Some, None}
 use Rattle.std.specs.Prelude.{is_some, is_none, List, [], ◌∷◌, ◌++◌, ◌⊎◌, map, filter, drop, count_by, slice_index_or}
 use Rattle.std.specs.List.{All, list_any, list_all}
@@ -15,11 +15,11 @@ use Rattle.hm_verdicts.proofs.Settled.{first_weaker, first_mapped, first_pushed,
 
 -- ---- words
 
-and_false : (a : Bool) → (a && false) ≡ false
+pub and_false : (a : Bool) → (a && false) ≡ false
 and_false true = refl
 and_false false = refl
 
-none_false : (o : Option ℕ) → is_some o ≡ true → is_none o ≡ false
+pub none_false : (o : Option ℕ) → is_some o ≡ true → is_none o ≡ false
 none_false None e = absurd (true≢false (sym e))
 none_false (Some k) e = refl
 
@@ -59,7 +59,7 @@ not_before : (a : Option ℕ) (n i : ℕ) → is_before a n ≡ false → i ≤ 
 not_before None n i l h = refl
 not_before (Some k) n i l h = le-ltb k i (le_trans h (ltb-false k n l))
 
-not_equal : (a n q : ℕ) → nat_lt n q ≡ true → a ≤ n → (a == q) ≡ false
+pub not_equal : (a n q : ℕ) → nat_lt n q ≡ true → a ≤ n → (a == q) ≡ false
 not_equal a n q l h = by_bool (a == q) refl
   where
     by_bool : (b : Bool) → (a == q) ≡ b → b ≡ false
@@ -190,20 +190,6 @@ pub marks_filtered : (top : ℕ) (p : Call → Bool) → ((o : Over) (x : Call) 
 marks_filtered top p e xs os s k d l = let g = s k d l in let o = slice_index_or os k d in
     (first_filtered (IsOver o) p (e o) o.count xs g.0, g.1)
 
--- the bound is higher
-pub marks_higher : (a b : ℕ) (xs : List Call) (os : List Over) → a ≤ b → All (IsMark a xs) os → All (IsMark b xs) os
-marks_higher a b xs os l s k d h = let g = s k d h in (g.0, le_trans g.1 l)
-
--- one more of them
-pub marks_more : (a b : ℕ) (xs : List Call) (os : List Over) (o : Over) → a ≤ b → o.of ≤ b
-    → First (IsOver o) o.count xs → All (IsMark a xs) os
-    → All (IsMark b xs) (os ++ o ∷ [])
-marks_more a b xs os o l h g s = All-append (IsMark b xs) os (o ∷ []) (marks_higher a b xs os l s) one
-  where
-    one : All (IsMark b xs) (o ∷ [])
-    one zero d l = (g, h)
-    one (suc k) d l = absurd (omega (arith, l))
-
 -- an invalidation ends that began later than theirs
 pub marks_ended : (top i j : ℕ) (xs : List Call) (os : List Over) → All (λ o. nat_lt o.of i ≡ true) os
     → All (IsMark top xs) os → All (IsMark top (map (after_end i j) xs)) os
@@ -212,12 +198,6 @@ marks_ended top i j xs os e s k d l = let g = s k d l in let o = slice_index_or 
       o.count xs g.0,
   g.1,
 )
-
--- so it is if it began later than the last of them
-pub marks_before : (top i : ℕ) (xs : List Call) (os : List Over) → top < i → All (IsMark top xs) os
-    → All (λ o. nat_lt o.of i ≡ true) os
-marks_before top i xs os h s k d l = let g = s k d l in let o = slice_index_or os k d in
-    lt-ltb o.of i (omega (arith, h, g.1))
 
 -- those of which an invalidation may have begun later are gone
 pub all_passing : {X : Type 0} → (p : X → Bool) (xs : List X) → All (λ x. p x ≡ true) (filter p xs)

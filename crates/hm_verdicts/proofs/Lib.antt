@@ -6,6 +6,7 @@ pub mod Fewer
 pub mod Fields
 pub mod Filtered
 pub mod Inner
+pub mod Lasting
 pub mod Judged
 pub mod Looked
 pub mod LookedUp

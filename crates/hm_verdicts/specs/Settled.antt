@@ -1,5 +1,5 @@
 -- Callbacks that no event changes any more, but for what is known of a migration.
-use Rattle.std.specs.Prelude.{◌≡◌, ℕ, ◌≤◌, zero, suc, Bool, true, false, not, ◌&&◌, ◌==◌, is_some, List, [], ◌∷◌}
+use Rattle.std.specs.Prelude.{◌≡◌, ℕ, ◌≤◌, zero, suc, Bool, true, false, not, ◌&&◌, ◌||◌, ◌==◌, is_some, is_none, List, [], ◌∷◌}
 use Rattle.hm_protocol.specs.Words.{is_after, is_empty}
 use Rattle.hm_protocol.specs.Known.{Call, goes_on}
 use Rattle.hm_verdicts.specs.declared.over.Fresh.{Fresh}
@@ -36,3 +36,12 @@ IsMark top xs o = First (IsOver o) o.count xs × (o.of ≤ top)
 -- none of the first callbacks that are of a mirror was given this sequence
 abbrev pub IsFresh : ℕ → Fresh → List Call → Type 0
 IsFresh m f xs = First (λ x. ((x.mirror == m) && (x.seq == f.seq)) ≡ false) f.count xs
+
+-- no migration changes the callback any more: it has returned, and is of none, or what became of it is known
+abbrev pub is_lasting : Call → Bool
+is_lasting x = is_some x.after && (is_none x.owner || is_some x.stale)
+
+-- it has returned, and was given at most the sequence that its mirror has there
+pub record IsBelow (f : ℕ → ℕ) (x : Call) : Type 0 where
+  pub returned : is_some x.after ≡ true
+  pub seq : x.seq ≤ f x.mirror

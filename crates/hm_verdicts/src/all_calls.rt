@@ -1,5 +1,5 @@
 // All callbacks, in their order, and what events make of them; some of the first are known to be over.
-ghost use Rattle.std.specs.Prelude.{◌≡◌, ◌<◌, ◌==◌, ◌&&◌, ◌||◌, not, is_none, OnOk, option_map, length, map, reverse};
+ghost use Rattle.std.specs.Prelude.{◌≡◌, ◌<◌, true, ◌==◌, ◌&&◌, ◌||◌, not, is_none, OnOk, option_map, length, map, reverse};
 ghost use Rattle.std.specs.Prelude.{IfOk, find, count_by, slice_set, slice_index_or};
 ghost use Rattle.std.specs.List.{list_any, list_all};
 ghost use Rattle.hm_protocol.specs.Words.{drop_if, is_it};
@@ -8,12 +8,12 @@ ghost use Rattle.hm_protocol.specs.Noted.{after_end, after_set, is_past, began};
 ghost use Rattle.hm_verdicts.specs.Changes.{erased_by, returned_in, paged_by, paged_in};
 ghost use Rattle.hm_verdicts.specs.Asking.{are_over_since};
 ghost use Rattle.hm_verdicts.specs.Numbers.{values_in};
-ghost use Rattle.hm_verdicts.specs.Settled.{First, IsFresh, IsOver};
+ghost use Rattle.hm_verdicts.specs.Settled.{First, IsFresh, IsOver, is_lasting};
 
 use crate::calls::{Call, Eraser};
 use crate::looks::Look;
 use crate::moves::{Move, are_placing, inner};
-use crate::newest_first::{Changes, change_items};
+use crate::newest_first::{Changes, change_from};
 use crate::numbered::Numbered;
 use crate::over::{Fresh, Over, change, rest};
 use hm_base::NoMemory;
@@ -142,18 +142,21 @@ pub(crate) fn erase(
     change(calls, over, &Erased { by, mirror, page })
 }
 
-/// A migration of a thread knows what moved.
-pub(crate) fn know(
+// A migration of a thread knows what moved; it changes none of the first.
+fn know(
     alloc: Global,
     calls: &mut Vec<Call>,
+    lasting: usize,
     devices: &Numbered<u64>,
     thread: u64,
     of: &Move,
 ) -> Result<(), NoMemory>
+    requires { First (λ x. is_lasting x ≡ true) lasting calls.old.items }
     ensures { OnOk result (calls.new.items ≡ map (paged_by (values_in devices.now) thread of.now) calls.old.items) }
 {
-    change_items(
+    change_from(
         calls,
+        lasting,
         &Paged {
             alloc,
             devices,
@@ -163,20 +166,22 @@ pub(crate) fn know(
     )
 }
 
-/// The inner migration of a thread, of those that are kept the oldest first, knows what moved.
+/// The inner migration of a thread, of those that are kept the oldest first, knows what moved; none changes the first.
 pub(crate) fn know_inner(
     alloc: Global,
     calls: &mut Vec<Call>,
+    lasting: usize,
     devices: &Numbered<u64>,
     thread: u64,
     moves: &[Move],
 ) -> Result<(), NoMemory>
+    requires { First (λ x. is_lasting x ≡ true) lasting calls.old.items }
     ensures { OnOk result (calls.new.items
         ≡ paged_in (values_in devices.now) thread (reverse moves.now) calls.old.items) }
 {
     match inner(moves) {
         None => Ok(()),
-        Some(of) => know(alloc, calls, devices, thread, of),
+        Some(of) => know(alloc, calls, lasting, devices, thread, of),
     }
 }
 

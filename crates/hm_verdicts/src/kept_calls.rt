@@ -11,12 +11,14 @@ ghost use Rattle.hm_verdicts.specs.Settled.{First, IsFresh, IsOver};
 
 use crate::all_calls;
 use crate::calls::Call;
+use crate::flags::Positions;
 use crate::looks::Look;
 use crate::moves::Move;
 use crate::newest_first::Passes;
 use crate::numbered::Numbered;
 use crate::over::{
-    BelowSeq, EndedBy, Fresh, Over, ReturnedBy, drop_from, earlier, higher, latest, rest, settle,
+    BelowSeq, EndedBy, Fresh, Over, ReturnedBy, drop_from, earlier, higher, last_on, latest, learn,
+    rest, settle,
 };
 use hm_base::NoMemory;
 use std::alloc::Global;
@@ -35,20 +37,29 @@ pub struct Calls {
     marks: Vec<Over>,
     /// Where the last of their invalidations began.
     top: u64,
+    /// How many of the first no migration changes any more.
+    lasting: usize,
+    /// The highest sequence that callbacks of a mirror were given, of so many of the first.
+    highest: Positions,
+    learned: usize,
 }
 
 impl Model for Calls {
     ghost use Rattle.std.specs.Prelude.{List};
     ghost use Rattle.std.specs.List.{All};
     ghost use Rattle.hm_protocol.specs.Known as known;
-    ghost use Rattle.hm_verdicts.specs.Settled.{First, IsMark, IsOver};
+    ghost use Rattle.hm_verdicts.specs.Settled.{First, IsBelow, IsMark, IsOver, is_lasting};
+    ghost use Rattle.hm_verdicts.specs.Numbers.{positions_in};
+    ghost use Rattle.std.specs.Prelude.{◌≡◌, true};
 
     ghost Value = { List known.Call };
 
     ghost view = { λ s. s.items.items };
 
     ghost invariant = { λ s. First (IsOver s.over) s.over.count s.items.items
-        × All (IsMark s.top s.items.items) s.marks.items };
+        × All (IsMark s.top s.items.items) s.marks.items
+        × First (λ x. is_lasting x ≡ true) s.lasting s.items.items
+        × First (IsBelow (positions_in s.highest)) s.learned s.items.items };
 }
 
 impl Calls {
@@ -61,6 +72,9 @@ impl Calls {
             over: Over::new(),
             marks: Vec::new(alloc),
             top: 0,
+            lasting: 0,
+            highest: Positions::new(alloc),
+            learned: 0,
         }
     }
 
@@ -69,6 +83,22 @@ impl Calls {
         ensures { result.now ≡ self.now }
     {
         &self.items
+    }
+
+    // Keeps the highest sequences.
+    fn learn(&mut self) -> Result<(), NoMemory>
+        ensures { self.new ≡ self.old }
+    {
+        match learn(&self.items, self.learned, &mut self.highest) {
+            Err(failed) => {
+                self.learned = 0;
+                Err(failed)
+            }
+            Ok(learned) => {
+                self.learned = learned;
+                Ok(())
+            }
+        }
     }
 
     // Keeps the bounds of those that are over, if they are many more than the last time.
@@ -107,6 +137,12 @@ impl Calls {
         ensures { IsFresh mirror result self.now }
     {
         let seq = all_calls::given_seq(rest(&self.items, self.over.count), thread, mirror);
+        if self.highest.at(mirror) < seq {
+            return Fresh {
+                seq,
+                count: self.learned,
+            };
+        }
         Fresh {
             seq,
             count: self.bounds(&BelowSeq(seq)).count,
@@ -133,6 +169,8 @@ impl Calls {
             Err(failed) => {
                 self.over = self.over.none();
                 self.marks.clear();
+                self.lasting = 0;
+                self.learned = 0;
                 Err(failed)
             }
             Ok(over) => {
@@ -150,6 +188,8 @@ impl Calls {
             Err(failed) => {
                 self.over = self.over.none();
                 self.marks.clear();
+                self.lasting = 0;
+                self.learned = 0;
                 Err(failed)
             }
             Ok(over) => {
@@ -184,6 +224,8 @@ impl Calls {
             Err(failed) => {
                 self.over = self.over.none();
                 self.marks.clear();
+                self.lasting = 0;
+                self.learned = 0;
                 Err(failed)
             }
             Ok(over) => {
@@ -203,13 +245,18 @@ impl Calls {
     ) -> Result<(), NoMemory>
         ensures { OnOk result (self.new ≡ paged_in (values_in devices.now) thread (reverse moves.now) self.old) }
     {
-        match all_calls::know_inner(alloc, &mut self.items, devices, thread, moves) {
+        match all_calls::know_inner(alloc, &mut self.items, self.lasting, devices, thread, moves) {
             Err(failed) => {
                 self.over = self.over.none();
                 self.marks.clear();
+                self.lasting = 0;
+                self.learned = 0;
                 Err(failed)
             }
-            Ok(()) => Ok(()),
+            Ok(()) => {
+                self.lasting = last_on(&self.items, self.lasting);
+                Ok(())
+            }
         }
     }
 
@@ -241,10 +288,13 @@ impl Calls {
             Err(failed) => {
                 self.over = self.over.none();
                 self.marks.clear();
+                self.lasting = 0;
+                self.learned = 0;
                 Err(failed)
             }
             Ok(()) => {
                 self.over = settle(&self.items, self.over);
+                self.learn()?;
                 self.mark()
             }
         }

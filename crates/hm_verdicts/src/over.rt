@@ -1,11 +1,13 @@
 // The first callbacks of a trace that are over for good, and bounds of their numbers.
-ghost use Rattle.std.specs.Prelude.{◌≡◌, ◌≤◌, ℕ, List, true, false, if◌then◌else◌, nat_lt, drop, map, filter, IfOk};
+ghost use Rattle.std.specs.Prelude.{◌≡◌, ◌≤◌, ℕ, List, true, false, if◌then◌else◌, nat_lt, drop, map, filter, is_some, IfOk, OnOk};
 ghost use Rattle.std.specs.List.{All};
 ghost use Rattle.hm_protocol.specs.Words.{is_after};
 ghost use Rattle.hm_protocol.specs.Known as known;
-ghost use Rattle.hm_verdicts.specs.Settled.{First, IsMark, IsOver, is_settled};
+ghost use Rattle.hm_verdicts.specs.Settled.{First, IsBelow, IsMark, IsOver, is_lasting, is_settled};
+ghost use Rattle.hm_verdicts.specs.Numbers.{positions_in};
 
 use crate::calls::Call;
+use crate::flags::Positions;
 use crate::newest_first::{Changes, Passes, change_from};
 use hm_base::NoMemory;
 
@@ -189,6 +191,47 @@ pub(crate) fn settle(calls: &[Call], over: Over) -> Over
         over = over.with(over.count + 1, &calls[over.count]);
     }
     over
+}
+
+/// Goes on while no migration changes the next callback.
+pub(crate) fn last_on(calls: &[Call], count: usize) -> usize
+    requires { First (λ x. is_lasting x ≡ true) count calls.now }
+    ensures { First (λ x. is_lasting x ≡ true) result calls.now }
+{
+    let mut count = count;
+    while count < calls.len() && calls[count].is_lasting() {
+        count += 1;
+    }
+    count
+}
+
+/// Goes on while the next callback has returned, and keeps the highest sequence of each mirror.
+pub(crate) fn learn(
+    calls: &[Call],
+    count: usize,
+    highest: &mut Positions,
+) -> Result<usize, NoMemory>
+    requires { First (IsBelow (positions_in highest.old)) count calls.now }
+    ensures { IfOk result (λ n. First (IsBelow (positions_in highest.new)) n calls.now) }
+{
+    let mut count = count;
+    while count < calls.len() && calls[count].after().is_some() {
+        learn_one(&calls[count], highest)?;
+        count += 1;
+    }
+    Ok(count)
+}
+
+// The same of one that has returned.
+fn learn_one(call: &Call, highest: &mut Positions) -> Result<(), NoMemory>
+    requires { is_some call.now.after ≡ true }
+    ensures kept { OnOk result ((x : known.Call) → IsBelow (positions_in highest.old) x → IsBelow (positions_in highest.new) x) }
+    ensures one { OnOk result (IsBelow (positions_in highest.new) call.now) }
+{
+    let mirror = call.mirror();
+    let seq = higher(highest.at(mirror), call.seq());
+    highest.set(mirror, seq)?;
+    Ok(())
 }
 
 /// The callbacks from one on.
