@@ -310,10 +310,12 @@ pub(crate) fn begun(calls: &[Call], thread: u64, mirror: u64) -> Option<u64>
 }
 
 /// The sequence that it was given.
-pub(crate) fn given_seq(calls: &[Call], thread: u64, mirror: u64) -> u64 {
+pub(crate) fn given_seq(calls: &[Call], thread: u64, mirror: u64) -> Option<u64>
+    ensures { result ≡ option_map (λ x. x.seq) (find (known.is_current thread mirror) calls.now) }
+{
     match current(calls, thread, mirror) {
-        None => 0,
-        Some(call) => call.seq(),
+        None => None,
+        Some(call) => Some(call.seq()),
     }
 }
 

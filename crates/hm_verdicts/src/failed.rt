@@ -2,7 +2,7 @@
 use hm_base::NoMemory;
 
 /// Why a trace is not judged.
-#[derive(Clone, Copy, PartialEq, Eq)]
+#[derive(Clone, Copy)]
 pub enum Failed {
     /// It runs out of memory.
     NoMemory,

@@ -136,7 +136,8 @@ impl Calls {
     fn fresh(&self, thread: u64, mirror: u64) -> Fresh
         ensures { IsFresh mirror result self.now }
     {
-        let seq = all_calls::given_seq(rest(&self.items, self.over.count), thread, mirror);
+        let given = all_calls::given_seq(rest(&self.items, self.over.count), thread, mirror);
+        let seq = given.unwrap_or(0);
         if self.highest.at(mirror) < seq {
             return Fresh {
                 seq,
