@@ -1,24 +1,25 @@
 -- Callbacks that are over for good: what leaves them as they are, and what is not so of them.
-use Rattle.std.proofs.Common.{refl, ap, sym, ◌∙◌, arith, ◌≤◌, true≢false, le_trans}
+use Rattle.std.proofs.Common.{refl, ap, sym, subst, ◌∙◌, arith, ◌≤◌, inl, inr, true≢false, le_trans}
+use Rattle.std.proofs.lemmas.List.Elements.{All-cons, All-nil}
 use Rattle.std.proofs.lemmas.Bool.{and_parts, not-true, eqb-true, ltb-true, ltb-false, le-ltb}
 use Rattle.std.specs.Prelude.{◌≡◌, ℕ, Bool, true, false, not, ◌&&◌, ◌==◌, nat_lt, if◌then◌else◌, Option, Some, None}
-use Rattle.std.specs.Prelude.{is_some, is_none, List, [], ◌∷◌, drop, count_by}
-use Rattle.std.specs.List.{list_any, list_all}
+use Rattle.std.specs.Prelude.{is_some, is_none, List, [], ◌∷◌, ◌++◌, ◌⊎◌, map, filter, drop, count_by, slice_index_or}
+use Rattle.std.specs.List.{All, list_any, list_all}
 use Rattle.hm_protocol.specs.Words.{is_it, is_after, is_before, is_other, is_empty, drop_if}
 use Rattle.hm_protocol.specs.Known.{Call, Look, Move, is_slot, is_current, is_telling, goes_on, meets}
 use Rattle.hm_protocol.specs.Noted.{after_end, after_set}
 use Rattle.hm_verdicts.specs.Changes.{erased_by, lost_by, returned_in, returned_by, is_placing, paged_by, paged_in}
-use Rattle.hm_verdicts.specs.Settled.{First, IsOver, is_settled}
+use Rattle.hm_verdicts.specs.Settled.{First, IsMark, IsOver, is_settled}
 use Rattle.hm_verdicts.specs.declared.over.Over.{Over}
-use Rattle.hm_verdicts.proofs.Settled.{first_weaker, first_mapped, first_any, first_all, first_count}
+use Rattle.hm_verdicts.proofs.Settled.{first_weaker, first_mapped, first_pushed, first_filtered, first_any, first_all}
 
 -- ---- words
 
-and_false : (a : Bool) → (a && false) ≡ false
+pub and_false : (a : Bool) → (a && false) ≡ false
 and_false true = refl
 and_false false = refl
 
-none_false : (o : Option ℕ) → is_some o ≡ true → is_none o ≡ false
+pub none_false : (o : Option ℕ) → is_some o ≡ true → is_none o ≡ false
 none_false None e = absurd (true≢false (sym e))
 none_false (Some k) e = refl
 
@@ -58,7 +59,7 @@ not_before : (a : Option ℕ) (n i : ℕ) → is_before a n ≡ false → i ≤ 
 not_before None n i l h = refl
 not_before (Some k) n i l h = le-ltb k i (le_trans h (ltb-false k n l))
 
-not_equal : (a n q : ℕ) → nat_lt n q ≡ true → a ≤ n → (a == q) ≡ false
+pub not_equal : (a n q : ℕ) → nat_lt n q ≡ true → a ≤ n → (a == q) ≡ false
 not_equal a n q l h = by_bool (a == q) refl
   where
     by_bool : (b : Bool) → (a == q) ≡ b → b ≡ false
@@ -141,20 +142,69 @@ meets_not l m o x h s = ap (λ b. (x.mirror == m) && (is_other x.after l.seq && 
 
 -- ---- what is asked of all of them, or of the others alone
 
-pub any_from : {X : Type 0} → (P : X → Type 0) (q : X → Bool) (b : Bool) → (b ≡ false → (x : X) → P x
-    → q x ≡ false) → (n : ℕ) (xs : List X)
-    → First P n xs → list_any q (drop (if b then 0 else n) xs) ≡ list_any q xs
-any_from P q true h n xs s = refl
-any_from P q false h n xs s = first_any P q (h refl) n xs s
+-- callbacks by bounds that pass, or none
+pub first_passed : {X : Type 0} → (P : X → Type 0) (q : X → Bool) (b : Bool) (n : ℕ) (xs : List X)
+    → (b ≡ true) ⊎ (n ≡ 0)
+    → (b ≡ true → (x : X) → P x → q x ≡ false) → First P n xs → First (λ x. q x ≡ false) n xs
+first_passed P q b n xs (inl e) h s = first_weaker P (λ x. q x ≡ false) (h e) n xs s
+first_passed P q b n xs (inr e) h s = subst (λ k. First (λ x. q x ≡ false) k xs) (sym e) tt
 
-pub all_from : {X : Type 0} → (P : X → Type 0) (q : X → Bool) (b : Bool) → (b ≡ false → (x : X) → P x → q x ≡ true)
-    → (n : ℕ) (xs : List X)
-    → First P n xs → list_all q (drop (if b then 0 else n) xs) ≡ list_all q xs
-all_from P q true h n xs s = refl
-all_from P q false h n xs s = first_all P q (h refl) n xs s
+pub any_passed : (q : Call → Bool) (b : Bool) (o : Over) (xs : List Call) → (b ≡ true) ⊎ (o.count ≡ 0)
+    → (b ≡ true → (x : Call) → IsOver o x → q x ≡ false) → First (IsOver o) o.count xs
+    → list_any q (drop o.count xs) ≡ list_any q xs
+any_passed q b o xs p h s = first_any (λ x. q x ≡ false) q (λ x e. e) o.count xs
+    (first_passed (IsOver o) q b o.count xs p h s)
 
-pub count_from : {X : Type 0} → (P : X → Type 0) (q : X → Bool) (b : Bool) → (b ≡ true → (x : X) → P x
-    → q x ≡ false) → (n : ℕ) (xs : List X)
-    → First P n xs → count_by q (drop (if b then n else 0) xs) ≡ count_by q xs
-count_from P q true h n xs s = first_count P q (h refl) n xs s
-count_from P q false h n xs s = refl
+pub all_passed : (q r : Call → Bool) → ((x : Call) → q x ≡ false → r x ≡ true) → (b : Bool) (o : Over) (xs : List Call)
+    → (b ≡ true) ⊎ (o.count ≡ 0)
+    → (b ≡ true → (x : Call) → IsOver o x → q x ≡ false) → First (IsOver o) o.count xs
+    → list_all r (drop o.count xs) ≡ list_all r xs
+all_passed q r e b o xs p h s = first_all (λ x. q x ≡ false) r e o.count xs
+    (first_passed (IsOver o) q b o.count xs p h s)
+
+-- ---- bounds of fewer
+
+-- a change leaves what is over as it is
+pub marks_changed : (top : ℕ) (f : Call → Call) → ((o : Over) (x : Call) → IsOver o x → f x ≡ x) → (xs : List Call)
+    (os : List Over)
+    → All (IsMark top xs) os → All (IsMark top (map f xs)) os
+marks_changed top f e xs os s k d l = let g = s k d l in let o = slice_index_or os k d in
+    (first_mapped (IsOver o) f (λ x h. subst (IsOver o) (sym (e o x h)) h) o.count xs g.0, g.1)
+
+-- a migration knows what moved
+pub paged_marks : (device : ℕ → Option ℕ) (t : ℕ) (ys : List Move) (top : ℕ) (xs : List Call) (os : List Over)
+    → All (IsMark top xs) os → All (IsMark top (paged_in device t ys xs)) os
+paged_marks device t ys top xs os s k d l = let g = s k d l in let o = slice_index_or os k d in
+    (paged_held device t ys o o.count xs g.0, g.1)
+
+-- one more callback
+pub marks_pushed : (top : ℕ) (xs ys : List Call) (os : List Over) → All (IsMark top xs) os
+    → All (IsMark top (xs ++ ys)) os
+marks_pushed top xs ys os s k d l = let g = s k d l in let o = slice_index_or os k d in
+    (first_pushed (IsOver o) o.count xs ys g.0, g.1)
+
+-- without some that are not over
+pub marks_filtered : (top : ℕ) (p : Call → Bool) → ((o : Over) (x : Call) → IsOver o x → p x ≡ true) → (xs : List Call)
+    (os : List Over)
+    → All (IsMark top xs) os → All (IsMark top (filter p xs)) os
+marks_filtered top p e xs os s k d l = let g = s k d l in let o = slice_index_or os k d in
+    (first_filtered (IsOver o) p (e o) o.count xs g.0, g.1)
+
+-- an invalidation ends that began later than theirs
+pub marks_ended : (top i j : ℕ) (xs : List Call) (os : List Over) → All (λ o. nat_lt o.of i ≡ true) os
+    → All (IsMark top xs) os → All (IsMark top (map (after_end i j) xs)) os
+marks_ended top i j xs os e s k d l = let g = s k d l in let o = slice_index_or os k d in (
+  first_mapped (IsOver o) (after_end i j) (λ x h. subst (IsOver o) (sym (end_same i j o x (e k d l) h)) h)
+      o.count xs g.0,
+  g.1,
+)
+
+-- those of which an invalidation may have begun later are gone
+pub all_passing : {X : Type 0} → (p : X → Bool) (xs : List X) → All (λ x. p x ≡ true) (filter p xs)
+all_passing p [] = All-nil (λ x. p x ≡ true)
+all_passing {X} p (x ∷ xs) = by_bool (p x) refl (all_passing p xs)
+  where
+    by_bool : (b : Bool) → p x ≡ b → All (λ x. p x ≡ true) (filter p xs)
+        → All (λ x. p x ≡ true) (if b then x ∷ filter p xs else filter p xs)
+    by_bool true e h = All-cons (λ x. p x ≡ true) x (filter p xs) e h
+    by_bool false e h = h

@@ -1,12 +1,14 @@
 -- What a judge keeps of each rule goes on with each event.
-use Rattle.std.proofs.Common.{refl, ap, sym, ◌∙◌, arith}
-use Rattle.std.specs.Prelude.{◌≡◌, ℕ, ◌+◌, Bool, true, false, if◌then◌else◌, Option, Some, None, List, [], ◌∷◌, ◌++◌, fold, map}
+use Rattle.std.proofs.Common.{refl, ap, sym, ◌∙◌, arith, ◌<◌, suc, length}
+use Rattle.std.proofs.Math.Nat.{min-eq_left}
+use Rattle.std.specs.Prelude.{◌≡◌, ℕ, ◌+◌, ◌-◌, ◌^◌, min, Bool, true, false, if◌then◌else◌, Option, Some, None, List, [], ◌∷◌, ◌++◌, fold, map}
 use Rattle.hm_protocol.specs.declared.events.Traced.{Traced}
 use Rattle.hm_protocol.specs.declared.rules.Rule.{Rule}
 use Rattle.hm_protocol.specs.Known.{Known, known_start}
 use Rattle.hm_protocol.specs.Noted.{known, known_next}
 use Rattle.hm_protocol.specs.Rules.{first_wrong}
 use Rattle.hm_protocol.specs.Verdicts.{asks, asked}
+use Rattle.hm_verdicts.proofs.Bounded.{asked_fits}
 use Rattle.hm_verdicts.specs.Asking.{breaks_at}
 use Rattle.hm_verdicts.specs.Judging.{count_of, count_next}
 
@@ -53,15 +55,29 @@ asked_more r k (e ∷ es) s = ap (λ n. asks r k e.thread e.event + n) (asked_mo
     added a b c = omega arith
 
 -- what is kept of a rule
-pub count_more : (es : List Traced) (s : Traced) (r : Rule) → count_next (known es) s (count_of es r) ≡ count_of (es ++ s ∷ []) r
-count_more es s r = ap (λ o. record { rule = r; broken = o; asked = asked r known_start es + asks r (known es) s.thread s.event })
-    (sym (wrong_more (breaks_at r) known_start es s))
+count_more : (es : List Traced) (s : Traced) → length es < 2 ^ 32 → (r : Rule)
+    → count_next (known es) s (count_of es r) ≡ count_of (es ++ s ∷ []) r
+count_more es s l r =
+    ap (λ o. record {
+      rule = r;
+      broken = o;
+      asked = min (asked r known_start es + asks r (known es) s.thread s.event) (2 ^ 64 - 1);
+    }) (sym (wrong_more (breaks_at r) known_start es s))
     ∙ ap (λ n. record { rule = r; broken = first_wrong (breaks_at r) known_start (es ++ s ∷ []); asked = n })
-    (sym (asked_more r known_start es s))
+    (min-eq_left (asked_fits r es s l) ∙ sym (asked_more r known_start es s))
 
 -- of all rules
-pub counts_more : (es : List Traced) (s : Traced) (rs : List Rule)
+pub counts_more : (es : List Traced) (s : Traced) → length es < 2 ^ 32 → (rs : List Rule)
     → map (count_next (known es) s) (map (count_of es) rs) ≡ map (count_of (es ++ s ∷ [])) rs
-counts_more es s [] = refl
-counts_more es s (r ∷ rs) = ap (λ c. c ∷ map (count_next (known es) s) (map (count_of es) rs)) (count_more es s r)
-    ∙ ap (λ cs. count_of (es ++ s ∷ []) r ∷ cs) (counts_more es s rs)
+counts_more es s l [] = refl
+counts_more es s l (r ∷ rs) = ap (λ c. c ∷ map (count_next (known es) s) (map (count_of es) rs)) (count_more es s l r)
+    ∙ ap (λ cs. count_of (es ++ s ∷ []) r ∷ cs) (counts_more es s l rs)
+
+-- how many events there were
+at_more : (k : Known) (es : List Traced) → (fold known_next k es).at ≡ k.at + length es
+at_more k [] = omega arith
+at_more k (s ∷ ss) = let more : (k.at + 1) + length ss ≡ k.at + suc (length ss) = omega arith in
+    at_more (known_next k s) ss ∙ more
+
+pub at_known : (es : List Traced) → (known es).at ≡ length es
+at_known es = at_more known_start es ∙ omega arith

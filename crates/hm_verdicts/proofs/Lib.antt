@@ -1,8 +1,12 @@
+pub mod Adds
 pub mod AreOver
+pub mod Bounded
 pub mod Defaults
+pub mod Fewer
 pub mod Fields
 pub mod Filtered
 pub mod Inner
+pub mod Lasting
 pub mod Judged
 pub mod Looked
 pub mod LookedUp

@@ -11,7 +11,7 @@ abbrev pub is_given : ℕ → ℕ → Call → Bool
 is_given m q y = (y.mirror == m) && (y.seq == q)
 
 -- a return changes nothing of that
-given_stays : (i q : ℕ) (cs : List Call) (ys : List Move) (t m n z : ℕ) (x : Call)
+pub given_stays : (i q : ℕ) (cs : List Call) (ys : List Move) (t m n z : ℕ) (x : Call)
     → is_given n z (returned_in i q cs ys t m x) ≡ is_given n z x
 given_stays i q cs ys t m n z x = by_bool (is_current t m x) _ _
   where

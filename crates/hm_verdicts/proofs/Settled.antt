@@ -1,5 +1,5 @@
 -- Callbacks that are over for good: what they are not asked, and what does not change them.
-use Rattle.std.proofs.Common.{refl, ap, sym, subst, ◌∙◌, arith, ◌<◌, ◌≤◌, get_or, length, suc, zero, drop}
+use Rattle.std.proofs.Common.{refl, ap, sym, subst, ◌∙◌, arith, ◌<◌, get_or, length, suc, zero, drop}
 use Rattle.std.proofs.lemmas.List.Sums.{sum_by-cons}
 use Rattle.std.specs.Prelude.{◌≡◌, ℕ, ◌+◌, List, [], ◌∷◌, ◌++◌, map}
 use Rattle.std.specs.Prelude.{filter, find, Bool, true, false, ◌||◌, ◌&&◌, count_by, cond}

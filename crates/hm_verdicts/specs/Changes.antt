@@ -1,11 +1,16 @@
 -- What an event makes of a callback, by the parts of what is known that it looks at.
-use Rattle.std.specs.Prelude.{ℕ, ◌+◌, Bool, true, false, not, ◌&&◌}
+use Rattle.std.specs.Prelude.{ℕ, ◌+◌, ◌≤◌, Bool, true, false, not, ◌&&◌}
 use Rattle.std.specs.Prelude.{◌||◌, ◌==◌, nat_lt, if◌then◌else◌, Option, Some, None}
-use Rattle.std.specs.Prelude.{is_some, is_none, List, [], ◌∷◌, map, filter, count_by, option_map}
+use Rattle.std.specs.Prelude.{is_some, is_none, List, [], ◌∷◌, length, map, filter, count_by, option_map}
 use Rattle.std.specs.List.{list_any}
 use Rattle.hm_protocol.specs.Words.{is_it, drop_if}
 use Rattle.hm_base.specs.Pages.{Pages, overlap}
 use Rattle.hm_protocol.specs.Known.{Slot, Inside, Call, Move, is_slot, is_current}
+
+-- of a callback: each entry that was erased later is one that was left, and so is each that is there after the return;
+-- before that none was
+abbrev pub Adds : Option ℕ → ℕ → ℕ → List Slot → List Slot → Type 0
+Adds after late copied here left = late + copied + length (if is_some after then here else left) ≤ length left
 
 -- the mirror was told of a migration by its own device
 abbrev pub own_by : (ℕ → Option ℕ) → Call → Bool

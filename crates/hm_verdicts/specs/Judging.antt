@@ -1,5 +1,5 @@
 -- What a judge keeps of each rule after some events.
-use Rattle.std.specs.Prelude.{◌≡◌, ℕ, ◌+◌, Bool, if◌then◌else◌, Option, Some, None, is_none, List, map}
+use Rattle.std.specs.Prelude.{◌≡◌, ℕ, ◌+◌, ◌-◌, ◌^◌, min, Bool, if◌then◌else◌, Option, Some, None, is_none, List, map}
 use Rattle.std.specs.List.{list_all}
 use Rattle.std.specs.Option.{option_or}
 use Rattle.hm_protocol.specs.declared.events.Recorded.{Recorded}
@@ -32,9 +32,12 @@ broken_by k s c = elim c.broken [
   | None ↦ (if breaks_at c.rule k s then Some k.at else None)
 ]
 
--- one event more, after what is known
+-- one event more, after what is known; how often events put a rule to the test is counted as far as a number goes
 abbrev pub count_next : Known → Traced → Count → Count
-count_next k s c = record c { broken = broken_by k s c; asked = c.asked + asks c.rule k s.thread s.event }
+count_next k s c = record c {
+  broken = broken_by k s c;
+  asked = min (c.asked + asks c.rule k s.thread s.event) (2 ^ 64 - 1);
+}
 
 -- the judge has gone on by these events
 pub record Follows (j : Judge) (es : List Traced) : Type 0 where

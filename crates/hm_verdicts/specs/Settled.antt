@@ -1,7 +1,8 @@
 -- Callbacks that no event changes any more, but for what is known of a migration.
-use Rattle.std.specs.Prelude.{◌≡◌, ℕ, ◌≤◌, zero, suc, Bool, true, false, not, ◌&&◌, is_some, List, [], ◌∷◌}
+use Rattle.std.specs.Prelude.{◌≡◌, ℕ, ◌≤◌, zero, suc, Bool, true, false, not, ◌&&◌, ◌||◌, ◌==◌, is_some, is_none, List, [], ◌∷◌}
 use Rattle.hm_protocol.specs.Words.{is_after, is_empty}
 use Rattle.hm_protocol.specs.Known.{Call, goes_on}
+use Rattle.hm_verdicts.specs.declared.over.Fresh.{Fresh}
 use Rattle.hm_verdicts.specs.declared.over.Over.{Over}
 
 -- this is so of the first n of a list, which has so many
@@ -27,3 +28,20 @@ pub record IsOver (o : Over) (x : Call) : Type 0 where
   pub at : x.at ≤ o.at
   pub seq : x.seq ≤ o.seq
   pub ended : is_after x.ended o.ended ≡ false
+
+-- bounds of the first callbacks, whose invalidations began at this position at most
+abbrev pub IsMark : ℕ → List Call → Over → Type 0
+IsMark top xs o = First (IsOver o) o.count xs × (o.of ≤ top)
+
+-- none of the first callbacks that are of a mirror was given this sequence
+abbrev pub IsFresh : ℕ → Fresh → List Call → Type 0
+IsFresh m f xs = First (λ x. ((x.mirror == m) && (x.seq == f.seq)) ≡ false) f.count xs
+
+-- no migration changes the callback any more: it has returned, and is of none, or what became of it is known
+abbrev pub is_lasting : Call → Bool
+is_lasting x = is_some x.after && (is_none x.owner || is_some x.stale)
+
+-- it has returned, and was given at most the sequence that its mirror has there
+pub record IsBelow (f : ℕ → ℕ) (x : Call) : Type 0 where
+  pub returned : is_some x.after ≡ true
+  pub seq : x.seq ≤ f x.mirror

@@ -1,5 +1,5 @@
 // All callbacks, in their order, and what events make of them; some of the first are known to be over.
-ghost use Rattle.std.specs.Prelude.{◌≡◌, ◌<◌, ◌==◌, ◌&&◌, ◌||◌, not, is_none, OnOk, option_map, length, map, reverse};
+ghost use Rattle.std.specs.Prelude.{◌≡◌, ◌<◌, true, ◌==◌, ◌&&◌, ◌||◌, not, is_none, OnOk, option_map, length, map, reverse};
 ghost use Rattle.std.specs.Prelude.{IfOk, find, count_by, slice_set, slice_index_or};
 ghost use Rattle.std.specs.List.{list_any, list_all};
 ghost use Rattle.hm_protocol.specs.Words.{drop_if, is_it};
@@ -8,15 +8,15 @@ ghost use Rattle.hm_protocol.specs.Noted.{after_end, after_set, is_past, began};
 ghost use Rattle.hm_verdicts.specs.Changes.{erased_by, returned_in, paged_by, paged_in};
 ghost use Rattle.hm_verdicts.specs.Asking.{are_over_since};
 ghost use Rattle.hm_verdicts.specs.Numbers.{values_in};
-ghost use Rattle.hm_verdicts.specs.Settled.{First, IsOver};
+ghost use Rattle.hm_verdicts.specs.Settled.{First, IsFresh, IsOver, is_lasting};
 
 use crate::calls::{Call, Eraser};
-use crate::failed::Failed;
 use crate::looks::Look;
 use crate::moves::{Move, are_placing, inner};
-use crate::newest_first::{Changes, change_items};
+use crate::newest_first::{Changes, change_from};
 use crate::numbered::Numbered;
-use crate::over::{Over, change, rest};
+use crate::over::{Fresh, Over, change, rest};
+use hm_base::NoMemory;
 use hm_protocol::TraceSpan;
 use std::alloc::Global;
 
@@ -30,7 +30,7 @@ struct Ended {
 impl Changes<Call> for Ended {
     ghost made = { λ s. after_end s.begun s.at };
 
-    fn change(&self, call: &mut Call) -> Result<(), Failed> {
+    fn change(&self, call: &mut Call) -> Result<(), NoMemory> {
         call.end(self.begun, self.at);
         Ok(())
     }
@@ -46,7 +46,7 @@ struct SetOver {
 impl Changes<Call> for SetOver {
     ghost made = { λ s. after_set s.mirror s.page };
 
-    fn change(&self, call: &mut Call) -> Result<(), Failed> {
+    fn change(&self, call: &mut Call) -> Result<(), NoMemory> {
         call.set_over(self.mirror, self.page);
         Ok(())
     }
@@ -68,8 +68,9 @@ impl<'a> Changes<Call> for Erased<'a> {
     ghost made = { λ s. erased_by (values_in s.by.devices.now) s.by.in_callback (reverse s.by.moves.now)
         s.by.thread s.mirror s.page };
 
-    fn change(&self, call: &mut Call) -> Result<(), Failed> {
-        call.erase(&self.by, self.mirror, self.page)
+    fn change(&self, call: &mut Call) -> Result<(), NoMemory> {
+        call.erase(&self.by, self.mirror, self.page);
+        Ok(())
     }
 }
 
@@ -88,13 +89,13 @@ impl<'a> Changes<Call> for Paged<'a> {
 
     ghost made = { λ s. paged_by (values_in s.devices.now) s.thread s.of.now };
 
-    fn change(&self, call: &mut Call) -> Result<(), Failed> {
+    fn change(&self, call: &mut Call) -> Result<(), NoMemory> {
         call.know(self.alloc, self.devices, self.thread, self.of)
     }
 }
 
 /// The invalidation that began there has ended here.
-pub(crate) fn end(calls: &mut Vec<Call>, over: Over, begun: u64, at: u64) -> Result<Over, Failed>
+pub(crate) fn end(calls: &mut Vec<Call>, over: Over, begun: u64, at: u64) -> Result<Over, NoMemory>
     requires { First (IsOver over) over.count calls.old.items }
     ensures { IfOk result (λ o. (calls.new.items ≡ map (after_end begun at) calls.old.items)
         × First (IsOver o) o.count calls.new.items) }
@@ -108,7 +109,7 @@ pub(crate) fn set_over(
     over: Over,
     mirror: u64,
     page: u64,
-) -> Result<Over, Failed>
+) -> Result<Over, NoMemory>
     requires { First (IsOver over) over.count calls.old.items }
     ensures { IfOk result (λ o. (calls.new.items ≡ map (after_set mirror page) calls.old.items)
         × First (IsOver o) o.count calls.new.items) }
@@ -125,7 +126,7 @@ pub(crate) fn erase(
     moves: &[Move],
     mirror: u64,
     page: u64,
-) -> Result<Over, Failed>
+) -> Result<Over, NoMemory>
     requires { First (IsOver over) over.count calls.old.items }
     ensures { IfOk result (λ o. (calls.new.items ≡ map (erased_by (values_in devices.now)
         (list_any (λ y. (y.thread == thread) && is_none y.after) calls.old.items)
@@ -141,18 +142,21 @@ pub(crate) fn erase(
     change(calls, over, &Erased { by, mirror, page })
 }
 
-/// A migration of a thread knows what moved.
-pub(crate) fn know(
+// A migration of a thread knows what moved; it changes none of the first.
+fn know(
     alloc: Global,
     calls: &mut Vec<Call>,
+    lasting: usize,
     devices: &Numbered<u64>,
     thread: u64,
     of: &Move,
-) -> Result<(), Failed>
+) -> Result<(), NoMemory>
+    requires { First (λ x. is_lasting x ≡ true) lasting calls.old.items }
     ensures { OnOk result (calls.new.items ≡ map (paged_by (values_in devices.now) thread of.now) calls.old.items) }
 {
-    change_items(
+    change_from(
         calls,
+        lasting,
         &Paged {
             alloc,
             devices,
@@ -162,40 +166,45 @@ pub(crate) fn know(
     )
 }
 
-/// The inner migration of a thread, of those that are kept the oldest first, knows what moved.
+/// The inner migration of a thread, of those that are kept the oldest first, knows what moved; none changes the first.
 pub(crate) fn know_inner(
     alloc: Global,
     calls: &mut Vec<Call>,
+    lasting: usize,
     devices: &Numbered<u64>,
     thread: u64,
     moves: &[Move],
-) -> Result<(), Failed>
+) -> Result<(), NoMemory>
+    requires { First (λ x. is_lasting x ≡ true) lasting calls.old.items }
     ensures { OnOk result (calls.new.items
         ≡ paged_in (values_in devices.now) thread (reverse moves.now) calls.old.items) }
 {
     match inner(moves) {
         None => Ok(()),
-        Some(of) => know(alloc, calls, devices, thread, of),
+        Some(of) => know(alloc, calls, lasting, devices, thread, of),
     }
 }
 
-/// Each callback returns that the thread is in, which has these migrations, the oldest first.
+/// Each callback returns that the thread is in, which has these migrations, the oldest first; its
+/// sequence may be fresh.
 pub(crate) fn return_all(
     alloc: Global,
     calls: &mut Vec<Call>,
     over: Over,
+    fresh: Fresh,
     moves: &[Move],
     thread: u64,
     mirror: u64,
     at: u64,
     seq: u64,
-) -> Result<(), Failed>
-    requires { First (IsOver over) over.count calls.old.items }
+) -> Result<(), NoMemory>
+    requires over { First (IsOver over) over.count calls.old.items }
+    requires fresh { IsFresh mirror fresh calls.old.items }
     ensures { OnOk result (calls.new.items
         ≡ map (returned_in at seq calls.old.items (reverse moves.now) thread mirror) calls.old.items) }
 {
     for number in over.count..calls.len() {
-        return_one(alloc, calls, over, number, moves, thread, mirror, at, seq)?;
+        return_one(alloc, calls, fresh, number, moves, thread, mirror, at, seq)?;
     }
     Ok(())
 }
@@ -204,16 +213,16 @@ pub(crate) fn return_all(
 fn return_one(
     alloc: Global,
     calls: &mut Vec<Call>,
-    over: Over,
+    fresh: Fresh,
     number: usize,
     moves: &[Move],
     thread: u64,
     mirror: u64,
     at: u64,
     seq: u64,
-) -> Result<(), Failed>
+) -> Result<(), NoMemory>
     requires there { number < length calls.old.items }
-    requires held { First (IsOver over) over.count calls.old.items }
+    requires fresh { IsFresh mirror fresh calls.old.items }
     ensures { OnOk result ((d : known.Call) → calls.new.items ≡ slice_set calls.old.items number
         (returned_in at seq calls.old.items (reverse moves.now) thread mirror
         (slice_index_or calls.old.items number d))) }
@@ -221,7 +230,7 @@ fn return_one(
     if !calls[number].is_current(thread, mirror) {
         return Ok(());
     }
-    let is_alone = given_of(calls, over, mirror, calls[number].seq()) == 1;
+    let is_alone = given_of(calls, fresh, mirror, calls[number].seq()) == 1;
     let is_placing = are_placing(moves, calls[number].span());
     let call = &mut calls[number];
     call.return_at(alloc, at, seq, is_alone, is_placing)
@@ -278,12 +287,16 @@ fn given(calls: &[Call], mirror: u64, seq: u64) -> usize
         .count()
 }
 
-// The same, if these are over.
-fn given_of(calls: &[Call], over: Over, mirror: u64, seq: u64) -> usize
-    requires { First (IsOver over) over.count calls.now }
+// The same, if none of the first was given a fresh one.
+fn given_of(calls: &[Call], fresh: Fresh, mirror: u64, seq: u64) -> usize
+    requires { IsFresh mirror fresh calls.now }
     ensures { result ≡ count_by (λ y. (y.mirror == mirror) && (y.seq == seq)) calls.now }
 {
-    given(rest(calls, over.below_seq(seq)), mirror, seq)
+    if seq == fresh.seq {
+        given(rest(calls, fresh.count), mirror, seq)
+    } else {
+        given(calls, mirror, seq)
+    }
 }
 
 /// Where the invalidation began of the callback that the thread is in; none if it is in none.
@@ -293,6 +306,16 @@ pub(crate) fn begun(calls: &[Call], thread: u64, mirror: u64) -> Option<u64>
     match current(calls, thread, mirror) {
         None => None,
         Some(call) => call.of(),
+    }
+}
+
+/// The sequence that it was given.
+pub(crate) fn given_seq(calls: &[Call], thread: u64, mirror: u64) -> Option<u64>
+    ensures { result ≡ option_map (λ x. x.seq) (find (known.is_current thread mirror) calls.now) }
+{
+    match current(calls, thread, mirror) {
+        None => None,
+        Some(call) => Some(call.seq()),
     }
 }
 

@@ -5,7 +5,6 @@ ghost use Rattle.hm_protocol.specs.Known.{no_look, is_noted};
 ghost use Rattle.hm_verdicts.specs.AllLooks.{look_in, looks_of, looks_at, with_look, without};
 ghost use Rattle.hm_verdicts.specs.Stages.{stage_of};
 
-use crate::failed::Failed;
 use crate::looks::{Look, Stage};
 use crate::numbered::Numbered;
 use hm_base::NoMemory;
@@ -121,7 +120,7 @@ impl AllLooks {
     }
 
     /// Takes one away, and leaves one that has not begun.
-    pub(crate) fn take(&mut self, alloc: Global, thread: u64, mirror: u64) -> Result<Look, Failed>
+    pub(crate) fn take(&mut self, alloc: Global, thread: u64, mirror: u64) -> Result<Look, NoMemory>
         ensures had { IfOk result (λ l. l ≡ look_in self.old thread mirror) }
         ensures none { OnOk result (look_in self.new ≡ with_look (look_in self.old) thread mirror no_look) }
     {
@@ -138,7 +137,7 @@ impl AllLooks {
         thread: u64,
         mirror: u64,
         look: Look,
-    ) -> Result<(), Failed>
+    ) -> Result<(), NoMemory>
         ensures { OnOk result (look_in self.new ≡ with_look (look_in self.old) thread mirror look) }
     {
         let mut looks = self.take_mirror(alloc, mirror);

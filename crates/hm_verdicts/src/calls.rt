@@ -1,5 +1,5 @@
 // Callbacks, and what became of the entries of their spans.
-ghost use Rattle.std.specs.Prelude.{◌≡◌, ◌+◌, ◌==◌, ◌&&◌, is_none, OnOk, IfOk, reverse, filter};
+ghost use Rattle.std.specs.Prelude.{◌≡◌, ◌+◌, ◌==◌, ◌&&◌, ◌||◌, true, nat_lt, length, is_none, OnOk, IfOk, reverse, filter};
 ghost use Rattle.hm_protocol.specs.Words.{is_it};
 ghost use Rattle.std.specs.List.{list_any};
 ghost use Rattle.hm_protocol.specs.Known as known;
@@ -10,13 +10,13 @@ ghost use Rattle.hm_verdicts.specs.Settled.{is_settled};
 
 mod asked;
 
-use crate::failed::Failed;
 use crate::insides::Inside;
 use crate::moves::{Move, are_later, are_placing};
 use crate::numbered::Numbered;
 use crate::pages::overlap;
 use crate::slots::{Slot, drop_page, has};
 pub(crate) use asked::at;
+use hm_base::NoMemory;
 use hm_protocol::TraceSpan;
 use std::alloc::Global;
 use std::marker::Model;
@@ -60,6 +60,7 @@ pub struct Call {
 impl Model for Call {
     ghost use Rattle.hm_protocol.specs.Known as known;
     ghost use Rattle.std.specs.Prelude.{option_map};
+    ghost use Rattle.hm_verdicts.specs.Changes.{Adds};
 
     ghost Value = { known.Call };
 
@@ -82,6 +83,8 @@ impl Model for Call {
       copied = s.copied;
       stale = option_map (λ y. (y.0.items, y.1)) s.stale;
     } };
+
+    ghost invariant = { λ s. Adds s.after s.late s.copied s.here.items s.left.items };
 }
 
 impl Call {
@@ -95,7 +98,7 @@ impl Call {
         within: Option<Inside>,
         at: u64,
         had: Vec<Slot>,
-    ) -> Result<Call, Failed>
+    ) -> Result<Call, NoMemory>
         ensures { IfOk result (λ x. x ≡ call_with thread mirror span seq within at had.items) }
     {
         let here = Vec::from_slice(alloc, &had)?;
@@ -229,27 +232,31 @@ impl Call {
     }
 
     // An entry of its span was erased by a thread, which is in a callback or is not.
-    fn lose(&mut self, by: &Eraser<'_>) -> Result<(), Failed>
-        ensures { OnOk result (self.new ≡ lost_by (values_in by.now.devices.now) by.now.in_callback
-            (reverse by.now.moves.now) by.now.thread self.old) }
+    fn lose(&mut self, by: &Eraser<'_>)
+        requires { is_none self.old.after || nat_lt (self.old.late + self.old.copied + length self.old.here)
+            (length self.old.left) ≡ true }
+        ensures { self.new ≡ lost_by (values_in by.now.devices.now) by.now.in_callback
+            (reverse by.now.moves.now) by.now.thread self.old }
     {
         if self.after.is_none() {
             self.erased = self.erased || self.thread == by.thread;
-            return Ok(());
+            return;
         }
         if by.in_callback {
-            return Ok(());
+            return;
         }
         if !self.is_own(by.devices) {
-            return self.lose_late();
+            self.late += 1;
+            return;
         }
         if self.stale.is_some() || self.thread != by.thread {
-            return Ok(());
+            return;
         }
         if are_later(by.moves, self.at) {
-            return self.lose_copied();
+            self.copied += 1;
+        } else {
+            self.late += 1;
         }
-        self.lose_late()
     }
 
     /// The invalidation that began here has ended there.
@@ -269,15 +276,14 @@ impl Call {
     }
 
     /// An entry of a page was erased.
-    pub(crate) fn erase(&mut self, by: &Eraser<'_>, mirror: u64, page: u64) -> Result<(), Failed>
-        ensures { OnOk result (self.new ≡ erased_by (values_in by.now.devices.now) by.now.in_callback
-            (reverse by.now.moves.now) by.now.thread mirror page self.old) }
+    pub(crate) fn erase(&mut self, by: &Eraser<'_>, mirror: u64, page: u64)
+        ensures { self.new ≡ erased_by (values_in by.now.devices.now) by.now.in_callback
+            (reverse by.now.moves.now) by.now.thread mirror page self.old }
     {
-        if !has(&self.here, mirror, page) {
-            return Ok(());
+        if has(&self.here, mirror, page) {
+            drop_page(&mut self.here, mirror, page);
+            self.lose(by);
         }
-        drop_page(&mut self.here, mirror, page);
-        self.lose(by)
     }
 
     /// It returns at this position, with this sequence; whether no other was given its own, and a migration of the
@@ -289,7 +295,8 @@ impl Call {
         seq: u64,
         is_alone: bool,
         is_placing: bool,
-    ) -> Result<(), Failed>
+    ) -> Result<(), NoMemory>
+        requires { is_none self.old.after ≡ true }
         ensures { OnOk result (self.new ≡ returned_by at seq is_alone is_placing self.old) }
     {
         let left = Vec::from_slice(alloc, &self.here)?;
@@ -312,7 +319,7 @@ impl Call {
         devices: &Numbered<u64>,
         thread: u64,
         of: &Move,
-    ) -> Result<(), Failed>
+    ) -> Result<(), NoMemory>
         ensures { OnOk result (self.new ≡ paged_by (values_in devices.now) thread of.now self.old) }
     {
         if self.thread != thread
@@ -327,36 +334,10 @@ impl Call {
         self.stale = Some((stale, of.to_device()));
         Ok(())
     }
-
-    // One more was erased later.
-    fn lose_late(&mut self) -> Result<(), Failed>
-        ensures { OnOk result (self.new ≡ record self.old { late = self.old.late + 1 }) }
-    {
-        match self.late.checked_add(1) {
-            None => Err(Failed::TooLong),
-            Some(late) => {
-                self.late = late;
-                Ok(())
-            }
-        }
-    }
-
-    // One more while its own migration had collected its pages.
-    fn lose_copied(&mut self) -> Result<(), Failed>
-        ensures { OnOk result (self.new ≡ record self.old { copied = self.old.copied + 1 }) }
-    {
-        match self.copied.checked_add(1) {
-            None => Err(Failed::TooLong),
-            Some(copied) => {
-                self.copied = copied;
-                Ok(())
-            }
-        }
-    }
 }
 
 // The entries of pages that the migration has collected.
-fn collected(alloc: Global, slots: &[Slot], of: &Move) -> Result<Vec<Slot>, Failed>
+fn collected(alloc: Global, slots: &[Slot], of: &Move) -> Result<Vec<Slot>, NoMemory>
     ensures { IfOk result
         (λ xs. xs.items ≡ filter (λ s. list_any (λ u. u.0 == s.page) of.now.source) slots.now) }
 {

@@ -1,30 +1,22 @@
-// Why what is known cannot go on.
+// Why a trace is not judged.
 use hm_base::NoMemory;
-use std::alloc::{AllocError, AllocFailed};
 
-/// Why an event is not noted.
-#[derive(Clone, Copy, PartialEq, Eq)]
+/// Why a trace is not judged.
+#[derive(Clone, Copy)]
 pub enum Failed {
     /// It runs out of memory.
     NoMemory,
-    /// A number of 64 bits cannot count on.
+    /// The trace has more than 2^32 events.
     TooLong,
 }
 
 impl From<NoMemory> for Failed {
+    ghost use Rattle.std.specs.Prelude.{◌≡◌};
+    ghost use Rattle.hm_verdicts.specs.declared.failed.Failed.TheVariants as reasons;
+
+    ghost from_gives = { λ _ e. e ≡ reasons.NoMemory };
+
     fn from(_: NoMemory) -> Failed {
-        Failed::NoMemory
-    }
-}
-
-impl From<AllocError> for Failed {
-    fn from(_: AllocError) -> Failed {
-        Failed::NoMemory
-    }
-}
-
-impl<T: Drop> From<AllocFailed<T>> for Failed {
-    fn from(_: AllocFailed<T>) -> Failed {
         Failed::NoMemory
     }
 }

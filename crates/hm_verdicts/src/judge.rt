@@ -1,18 +1,23 @@
 // A trace judged, event by event.
-ghost use Rattle.std.specs.Prelude.{◌≡◌, ◌++◌, ◌∷◌, [], map, IfOk, OnOk};
+ghost use Rattle.std.specs.Prelude.{◌≡◌, ◌<◌, ◌≤◌, ◌^◌, ◌++◌, ◌∷◌, [], length, map, Err, IfOk, OnOk, IsOkUnless};
 ghost use Rattle.hm_protocol.specs.Rules.{all_rules};
 ghost use Rattle.hm_protocol.specs.declared.events.Traced.{Traced as AnyTraced};
 ghost use Rattle.std.specs.Prelude.{List};
 ghost use Rattle.hm_verdicts.specs.Judging.{count_start, count_next, Follows};
 ghost use Rattle.hm_verdicts.specs.Knowledge.{known_of};
+ghost use Rattle.hm_verdicts.specs.declared.failed.Failed.TheVariants as reasons;
 
 use crate::asking::breaks;
 use crate::counting::asks;
 use crate::failed::Failed;
 use crate::knowledge::Knowledge;
 use crate::newest_first::{Changes, change_items};
+use hm_base::NoMemory;
 use hm_protocol::{Rule, Traced};
 use std::alloc::Global;
+
+// The most events that are judged.
+const MOST_EVENTS: u64 = 1 << 32;
 
 const ALL_RULES: [Rule; 27] = [
     Rule::Compare,
@@ -72,17 +77,12 @@ impl<'a> Changes<Count> for Next<'a> {
 
     ghost made = { λ s. count_next (known_of s.knowledge.now) s.event.now };
 
-    fn change(&self, count: &mut Count) -> Result<(), Failed> {
-        let Some(asked) = count
-            .asked
-            .checked_add(asks(self.knowledge, count.rule, self.event))
-        else {
-            return Err(Failed::TooLong);
-        };
+    fn change(&self, count: &mut Count) -> Result<(), NoMemory> {
         if count.broken.is_none() && breaks(self.knowledge, count.rule, self.event) {
             count.broken = Some(self.knowledge.at);
         }
-        count.asked = asked;
+        let asked = asks(self.knowledge, count.rule, self.event);
+        count.asked = count.asked.saturating_add(asked);
         Ok(())
     }
 }
@@ -95,7 +95,7 @@ pub struct Judge {
 }
 
 // What is kept of each rule before the first event.
-fn counts_start(alloc: Global) -> Result<Vec<Count>, Failed>
+fn counts_start(alloc: Global) -> Result<Vec<Count>, NoMemory>
     ensures { IfOk result (λ xs. xs.items ≡ map count_start all_rules) }
 {
     let counts = ALL_RULES
@@ -112,7 +112,8 @@ fn counts_start(alloc: Global) -> Result<Vec<Count>, Failed>
 impl Judge {
     /// Before the first event.
     pub fn new(alloc: Global) -> Result<Judge, Failed>
-        ensures { IfOk result (λ judge. Follows judge []) }
+        ensures start { IfOk result (λ judge. Follows judge []) }
+        ensures unless { IsOkUnless result reasons.NoMemory }
     {
         let counts = counts_start(alloc)?;
         Ok(Judge {
@@ -123,9 +124,16 @@ impl Judge {
 
     /// One event more. After a failure it says nothing.
     pub fn add(&mut self, event: &Traced) -> Result<(), Failed>
-        ensures { (es : List AnyTraced) → Follows self.old es
+        ensures next { (es : List AnyTraced) → Follows self.old es
             → OnOk result (Follows self.new (es ++ event.now ∷ [])) }
+        ensures short { (es : List AnyTraced) → Follows self.old es → length es < 2 ^ 32
+            → IsOkUnless result reasons.NoMemory }
+        ensures long { (es : List AnyTraced) → Follows self.old es → 2 ^ 32 ≤ length es
+            → result ≡ Err reasons.TooLong }
     {
+        if MOST_EVENTS <= self.knowledge.at {
+            return Err(Failed::TooLong);
+        }
         let next = Next {
             knowledge: &self.knowledge,
             event,

@@ -6,12 +6,12 @@ ghost use Rattle.hm_verdicts.specs.Looking.{given_up_by, early_by, reads_itself,
 ghost use Rattle.hm_verdicts.specs.Numbers.{values_in};
 ghost use Rattle.hm_history.specs.Memory.Words.{with_at};
 
-use crate::failed::Failed;
 use crate::insides::Early;
 use crate::kept_calls::Calls;
 use crate::looks::Look;
 use crate::newest_first::{Changes, change_items};
 use crate::numbered::Numbered;
+use hm_base::NoMemory;
 
 /// The look-up is given up by the next one, if it has walked and set nothing, and its mirror was told.
 pub(crate) fn give_up(
@@ -19,7 +19,7 @@ pub(crate) fn give_up(
     calls: &Calls,
     mirror: u64,
     look: &Look,
-) -> Result<(), Failed>
+) -> Result<(), NoMemory>
     ensures { OnOk result (given_up.new.items ≡ given_up.old.items ++ given_up_by calls.now mirror look.now) }
 {
     if look.is_open() && calls.are_met(mirror, look) {
@@ -35,7 +35,7 @@ pub(crate) fn give_up_by_walk(
     mirror: u64,
     look: &Look,
     seq: u64,
-) -> Result<(), Failed>
+) -> Result<(), NoMemory>
     ensures { OnOk result (given_up.new.items ≡ (if reads_itself seq look.now
         then given_up.old.items ++ given_up_by calls.now mirror look.now else given_up.old.items)) }
 {
@@ -50,7 +50,7 @@ pub(crate) fn learn_device(
     devices: &mut Numbered<u64>,
     mirror: u64,
     owner: Option<u64>,
-) -> Result<(), Failed>
+) -> Result<(), NoMemory>
     ensures { OnOk result (values_in devices.new ≡ (if is_some (values_in devices.old mirror)
         then values_in devices.old else with_at (values_in devices.old) mirror owner)) }
 {
@@ -70,7 +70,7 @@ pub(crate) fn note_early(
     seq: u64,
     walks: bool,
     at: u64,
-) -> Result<(), Failed>
+) -> Result<(), NoMemory>
     ensures { OnOk result
         (early.new.items ≡ early.old.items ++ early_by calls.now at thread mirror seq walks) }
 {
@@ -93,7 +93,7 @@ impl Changes<Early> for Followed {
 
     ghost made = { λ s x. if is_last s.thread s.mirror x then record x { last = false } else x };
 
-    fn change(&self, one: &mut Early) -> Result<(), Failed> {
+    fn change(&self, one: &mut Early) -> Result<(), NoMemory> {
         *one = one.followed(self.thread, self.mirror);
         Ok(())
     }
@@ -112,7 +112,7 @@ pub(crate) fn follow(
     thread: u64,
     mirror: u64,
     look: &Look,
-) -> Result<(), Failed>
+) -> Result<(), NoMemory>
     ensures { OnOk result (early.new.items ≡ begun_last thread mirror look.now early.old.items) }
 {
     if look.walks_itself() {
@@ -129,7 +129,7 @@ pub(crate) fn note_stale(
     mirror: u64,
     look: &Look,
     at: u64,
-) -> Result<(), Failed>
+) -> Result<(), NoMemory>
     ensures { OnOk result (stale.new.items ≡ stale.old.items ++ stale_by calls.now at mirror look.now) }
 {
     if calls.are_met(mirror, look) {

@@ -7,9 +7,9 @@ ghost use Rattle.hm_verdicts.specs.Stages.{stage_of};
 ghost use Rattle.hm_verdicts.specs.Looking.{reads_itself, walked_by};
 
 use crate::calls::Call;
-use crate::failed::Failed;
 use crate::newest_first::NewestFirst;
 use crate::numbered::Numbered;
+use hm_base::NoMemory;
 use std::alloc::Global;
 use std::marker::Model;
 
@@ -176,7 +176,7 @@ impl Look {
     }
 
     /// It has found a page.
-    pub(crate) fn find(&mut self, page: u64, writes: bool) -> Result<(), Failed>
+    pub(crate) fn find(&mut self, page: u64, writes: bool) -> Result<(), NoMemory>
         ensures { OnOk result (self.new ≡ record self.old { found = (page, writes) ∷ self.old.found }) }
     {
         self.found.push((page, writes))?;

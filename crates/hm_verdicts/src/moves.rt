@@ -7,9 +7,9 @@ ghost use Rattle.hm_verdicts.specs.Changes.{is_placing};
 
 mod inner;
 
-use crate::failed::Failed;
 use crate::newest_first::NewestFirst;
 use crate::pages::overlap;
+use hm_base::NoMemory;
 use hm_protocol::{TraceFrame, TraceSpan};
 pub(crate) use inner::{
     freed_stayed, inner, is_migrated, keeps_lost, leaves_moved, sets, sets_read, sets_stayed,
@@ -154,7 +154,7 @@ impl Move {
     }
 
     /// It has collected a page.
-    pub(crate) fn collect(&mut self, page: u64, writes: bool) -> Result<(), Failed>
+    pub(crate) fn collect(&mut self, page: u64, writes: bool) -> Result<(), NoMemory>
         ensures { OnOk result (self.new ≡ record self.old { source = (page, writes) ∷ self.old.source }) }
     {
         self.source.push((page, writes))?;
@@ -162,7 +162,7 @@ impl Move {
     }
 
     /// A page has moved.
-    pub(crate) fn move_page(&mut self, page: u64) -> Result<(), Failed>
+    pub(crate) fn move_page(&mut self, page: u64) -> Result<(), NoMemory>
         ensures { OnOk result (self.new ≡ record self.old { moved = page ∷ self.old.moved }) }
     {
         self.moved.push(page)?;
@@ -170,7 +170,7 @@ impl Move {
     }
 
     /// A page was given a frame, and does not have it.
-    pub(crate) fn stay(&mut self, page: u64, frame: TraceFrame) -> Result<(), Failed>
+    pub(crate) fn stay(&mut self, page: u64, frame: TraceFrame) -> Result<(), NoMemory>
         ensures { OnOk result (self.new ≡ record self.old { stayed = (page, frame) ∷ self.old.stayed }) }
     {
         self.stayed.push((page, frame))?;
@@ -185,7 +185,7 @@ impl Move {
     }
 
     /// A page was set after that.
-    pub(crate) fn set_page(&mut self, page: u64) -> Result<(), Failed>
+    pub(crate) fn set_page(&mut self, page: u64) -> Result<(), NoMemory>
         ensures { OnOk result (self.new ≡ record self.old { set = page ∷ self.old.set }) }
     {
         self.set.push(page)?;
@@ -193,7 +193,7 @@ impl Move {
     }
 
     /// A frame was freed since it began.
-    pub(crate) fn free(&mut self, frame: TraceFrame) -> Result<(), Failed>
+    pub(crate) fn free(&mut self, frame: TraceFrame) -> Result<(), NoMemory>
         ensures { OnOk result (self.new ≡ noted.freed frame self.old) }
     {
         self.freed.push(frame)?;

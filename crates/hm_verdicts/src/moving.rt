@@ -2,9 +2,9 @@
 ghost use Rattle.std.specs.Prelude.{◌≡◌};
 ghost use Rattle.hm_protocol.specs.Known as known;
 
-use crate::failed::Failed;
 use crate::moves::Move;
 use crate::newest_first::Changes;
+use hm_base::NoMemory;
 use hm_protocol::TraceFrame;
 
 /// A page that was collected, and whether for writes.
@@ -16,7 +16,7 @@ impl Changes<Move> for Collected {
 
     ghost made = { λ s y. record y { source = (s.0, s.1) ∷ y.source } };
 
-    fn change(&self, one: &mut Move) -> Result<(), Failed> {
+    fn change(&self, one: &mut Move) -> Result<(), NoMemory> {
         one.collect(self.0, self.1)
     }
 }
@@ -30,7 +30,7 @@ impl Changes<Move> for Moved {
 
     ghost made = { λ s y. record y { moved = s.0 ∷ y.moved } };
 
-    fn change(&self, one: &mut Move) -> Result<(), Failed> {
+    fn change(&self, one: &mut Move) -> Result<(), NoMemory> {
         one.move_page(self.0)
     }
 }
@@ -44,7 +44,7 @@ impl Changes<Move> for Stayed {
 
     ghost made = { λ s y. record y { stayed = (s.0, s.1) ∷ y.stayed } };
 
-    fn change(&self, one: &mut Move) -> Result<(), Failed> {
+    fn change(&self, one: &mut Move) -> Result<(), NoMemory> {
         one.stay(self.0, self.1)
     }
 }
@@ -58,7 +58,7 @@ impl Changes<Move> for Known {
 
     ghost made = { λ s y. record y { paged = true } };
 
-    fn change(&self, one: &mut Move) -> Result<(), Failed> {
+    fn change(&self, one: &mut Move) -> Result<(), NoMemory> {
         one.know();
         Ok(())
     }
@@ -73,7 +73,7 @@ impl Changes<Move> for PageSet {
 
     ghost made = { λ s y. record y { set = s.0 ∷ y.set } };
 
-    fn change(&self, one: &mut Move) -> Result<(), Failed> {
+    fn change(&self, one: &mut Move) -> Result<(), NoMemory> {
         one.set_page(self.0)
     }
 }
@@ -87,7 +87,7 @@ impl Changes<Move> for Freed {
 
     ghost made = { λ s. freed s.0 };
 
-    fn change(&self, one: &mut Move) -> Result<(), Failed> {
+    fn change(&self, one: &mut Move) -> Result<(), NoMemory> {
         one.free(self.0)
     }
 }

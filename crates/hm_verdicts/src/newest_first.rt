@@ -4,7 +4,6 @@ ghost use Rattle.hm_protocol.specs.Words.{drop_if};
 ghost use Rattle.hm_verdicts.specs.Inner.{outer, with_inner};
 ghost use Rattle.hm_verdicts.specs.Settled.{mapped_to};
 
-use crate::failed::Failed;
 use hm_base::NoMemory;
 use std::alloc::Global;
 use std::marker::Model;
@@ -25,7 +24,7 @@ pub trait Changes<T> {
     ghost made: { Self → T → T };
 
     /// Changes it. After a failure nothing is known of it.
-    fn change(&self, item: &mut T) -> Result<(), Failed>
+    fn change(&self, item: &mut T) -> Result<(), NoMemory>
         ensures { OnOk result (item.new ≡ made self.now item.old) };
 }
 
@@ -77,7 +76,7 @@ impl<T: Drop> NewestFirst<T> {
     }
 
     /// The newest is changed, if there is one.
-    pub(crate) fn change_newest<C: Changes<T>>(&mut self, how: &C) -> Result<(), Failed>
+    pub(crate) fn change_newest<C: Changes<T>>(&mut self, how: &C) -> Result<(), NoMemory>
         ensures { OnOk result (self.new ≡ with_inner (C.made how.now) self.old) }
     {
         let Some(mut newest) = self.pop() else {
@@ -90,7 +89,7 @@ impl<T: Drop> NewestFirst<T> {
 
     /// All are changed.
     #[tactic(auto, using(crate::proofs::Mapping::map_reversed))]
-    pub(crate) fn change_all<C: Changes<T>>(&mut self, how: &C) -> Result<(), Failed>
+    pub(crate) fn change_all<C: Changes<T>>(&mut self, how: &C) -> Result<(), NoMemory>
         ensures { OnOk result (self.new ≡ map (C.made how.now) self.old) }
     {
         change_items(&mut self.items, how)
@@ -123,7 +122,7 @@ fn drop_passing<T: Drop, P: Passes<T>>(items: &mut Vec<T>, test: &P)
 pub(crate) fn change_items<T: Drop, C: Changes<T>>(
     items: &mut Vec<T>,
     how: &C,
-) -> Result<(), Failed>
+) -> Result<(), NoMemory>
     ensures { OnOk result (items.new.items ≡ map (C.made how.now) items.old.items) }
 {
     for item in items.iter_mut() {
@@ -137,7 +136,7 @@ pub(crate) fn change_from<T: Drop, C: Changes<T>>(
     items: &mut Vec<T>,
     from: usize,
     how: &C,
-) -> Result<(), Failed>
+) -> Result<(), NoMemory>
     requires { mapped_to (C.made how.now) from items.old.items ≡ items.old.items }
     ensures { OnOk result (items.new.items ≡ map (C.made how.now) items.old.items) }
 {

@@ -1,16 +1,16 @@
 // An event more.
-ghost use Rattle.std.specs.Prelude.{◌≡◌, false, OnOk};
+ghost use Rattle.std.specs.Prelude.{◌≡◌, ◌<◌, ◌^◌, false, OnOk};
 ghost use Rattle.hm_protocol.specs.Noted.{noted, known_next};
 ghost use Rattle.hm_verdicts.specs.Kinds.{is_of_notifiers, is_of_mirrors};
 ghost use Rattle.hm_verdicts.specs.Knowledge.{known_of};
 
-use crate::failed::Failed;
 use crate::knowledge::Knowledge;
+use hm_base::NoMemory;
 use hm_protocol::{Event, Traced};
 
 impl Knowledge {
     // What an event of a migration or of a frame makes of what is known, or one that makes nothing of it.
-    fn note_other(&mut self, thread: u64, event: &Event) -> Result<(), Failed>
+    fn note_other(&mut self, thread: u64, event: &Event) -> Result<(), NoMemory>
         requires { is_of_mirrors event.now ≡ false }
         ensures { OnOk result (known_of self.new ≡ noted (known_of self.old) thread event.now) }
     {
@@ -41,7 +41,7 @@ impl Knowledge {
     }
 
     // What one of a look-up or of a table does, or one of those.
-    fn note_table(&mut self, thread: u64, event: &Event) -> Result<(), Failed>
+    fn note_table(&mut self, thread: u64, event: &Event) -> Result<(), NoMemory>
         requires { is_of_notifiers event.now ≡ false }
         ensures { OnOk result (known_of self.new ≡ noted (known_of self.old) thread event.now) }
     {
@@ -72,7 +72,7 @@ impl Knowledge {
     }
 
     // What an event of a thread makes of what is known, but for its position.
-    fn note_event(&mut self, thread: u64, event: &Event) -> Result<(), Failed>
+    fn note_event(&mut self, thread: u64, event: &Event) -> Result<(), NoMemory>
         ensures { OnOk result (known_of self.new ≡ noted (known_of self.old) thread event.now) }
     {
         match *event {
@@ -102,16 +102,14 @@ impl Knowledge {
     }
 
     /// Notes an event. After a failure nothing is known.
-    pub fn note(&mut self, event: &Traced) -> Result<(), Failed>
+    pub fn note(&mut self, event: &Traced) -> Result<(), NoMemory>
+        requires { self.old.at < 2 ^ 32 }
         ensures { OnOk result (known_of self.new ≡ known_next (known_of self.old) event.now) }
     {
-        let Some(next) = self.at.checked_add(1) else {
-            return Err(Failed::TooLong);
-        };
         let at = self.at;
         self.note_event(event.thread, &event.event)?;
         self.last.set(event.thread, at)?;
-        self.at = next;
+        self.at = at + 1;
         Ok(())
     }
 }

@@ -4,10 +4,10 @@ ghost use Rattle.hm_protocol.specs.declared.events.Event.{Event as AnyEvent};
 ghost use Rattle.hm_protocol.specs.Noted.{noted, known_next, withdraw, pass_over, held_more, over};
 ghost use Rattle.hm_verdicts.specs.Knowledge.{known_of};
 
-use crate::failed::Failed;
 use crate::insides::Inside;
 use crate::knowledge::Knowledge;
 use crate::{frames, table};
+use hm_base::NoMemory;
 use hm_protocol::{Event, Reason, TraceFrame, TraceSpan, Traced};
 
 impl Knowledge {
@@ -17,7 +17,7 @@ impl Knowledge {
         mirror: u64,
         window: TraceSpan,
         device: Option<u64>,
-    ) -> Result<(), Failed>
+    ) -> Result<(), NoMemory>
         ensures { OnOk result
             (known_of self.new ≡ noted (known_of self.old) 0 (AnyEvent.Insert mirror 0 window device)) }
     {
@@ -30,7 +30,7 @@ impl Knowledge {
     }
 
     // One is about to be removed.
-    pub(crate) fn remove(&mut self, mirror: u64) -> Result<(), Failed>
+    pub(crate) fn remove(&mut self, mirror: u64) -> Result<(), NoMemory>
         ensures { OnOk result (known_of self.new ≡ noted (known_of self.old) 0 (AnyEvent.Remove mirror)) }
     {
         let is_leaving = self.calls.are_telling(mirror);
@@ -39,7 +39,7 @@ impl Knowledge {
     }
 
     // It is removed.
-    pub(crate) fn removed(&mut self, mirror: u64) -> Result<(), Failed>
+    pub(crate) fn removed(&mut self, mirror: u64) -> Result<(), NoMemory>
         ensures { OnOk result (known_of self.new ≡ noted (known_of self.old) 0 (AnyEvent.Removed mirror)) }
     {
         self.gone.set(mirror, true)?;
@@ -47,7 +47,7 @@ impl Knowledge {
     }
 
     // A device gives out no frame any more.
-    pub(crate) fn withdraw(&mut self, device: u64) -> Result<(), Failed>
+    pub(crate) fn withdraw(&mut self, device: u64) -> Result<(), NoMemory>
         ensures { OnOk result (known_of self.new ≡ withdraw (known_of self.old) device) }
     {
         let is_held = frames::are_of(&self.held, device);
@@ -58,7 +58,7 @@ impl Knowledge {
     }
 
     // A removal passes over a frame.
-    pub(crate) fn pass(&mut self, frame: TraceFrame) -> Result<(), Failed>
+    pub(crate) fn pass(&mut self, frame: TraceFrame) -> Result<(), NoMemory>
         ensures { OnOk result (known_of self.new ≡ noted (known_of self.old) 0 (AnyEvent.Pass frame)) }
     {
         if let Some(device) = frames::device_of(frame) {
@@ -70,7 +70,7 @@ impl Knowledge {
     }
 
     // A frame is given out.
-    pub(crate) fn take(&mut self, frame: TraceFrame) -> Result<(), Failed>
+    pub(crate) fn take(&mut self, frame: TraceFrame) -> Result<(), NoMemory>
         ensures { OnOk result (known_of self.new ≡ noted (known_of self.old) 0 (AnyEvent.Take frame)) }
     {
         if let Some(device) = frames::device_of(frame) {

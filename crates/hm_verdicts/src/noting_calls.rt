@@ -5,11 +5,11 @@ ghost use Rattle.hm_protocol.specs.Noted.{noted, over, inside, migrates_for};
 ghost use Rattle.hm_verdicts.specs.Knowledge.{known_of};
 
 use crate::calls::Call;
-use crate::failed::Failed;
 use crate::insides::Inside;
 use crate::knowledge::Knowledge;
 use crate::newest_first::Passes;
 use crate::table;
+use hm_base::NoMemory;
 use hm_protocol::{Reason, TraceSpan};
 
 // The device whose migration an invalidation is for.
@@ -66,7 +66,7 @@ impl Knowledge {
         span: TraceSpan,
         reason: Reason,
         owner: Option<u64>,
-    ) -> Result<(), Failed>
+    ) -> Result<(), NoMemory>
         ensures { OnOk result
             (known_of self.new ≡ noted (known_of self.old) thread (AnyEvent.Start proc span reason owner)) }
     {
@@ -76,7 +76,7 @@ impl Knowledge {
     }
 
     // One is over, that began there.
-    pub(crate) fn over(&mut self, thread: u64, begun: Option<u64>) -> Result<(), Failed>
+    pub(crate) fn over(&mut self, thread: u64, begun: Option<u64>) -> Result<(), NoMemory>
         ensures { OnOk result (known_of self.new ≡ over (known_of self.old) thread begun) }
     {
         let Some(begun) = begun else {
@@ -88,7 +88,7 @@ impl Knowledge {
     }
 
     // One ends.
-    pub(crate) fn end(&mut self, thread: u64, proc: u64, span: TraceSpan) -> Result<(), Failed>
+    pub(crate) fn end(&mut self, thread: u64, proc: u64, span: TraceSpan) -> Result<(), NoMemory>
         ensures { OnOk result (known_of self.new ≡ noted (known_of self.old) thread (AnyEvent.End proc span)) }
     {
         let begun = begun_of(self.under.oldest_first(thread), proc, span);
@@ -102,7 +102,7 @@ impl Knowledge {
         mirror: u64,
         span: TraceSpan,
         seq: u64,
-    ) -> Result<(), Failed>
+    ) -> Result<(), NoMemory>
         ensures { OnOk result
             (known_of self.new ≡ noted (known_of self.old) thread (AnyEvent.Tell mirror span seq)) }
     {
@@ -114,7 +114,7 @@ impl Knowledge {
     }
 
     // It returns.
-    pub(crate) fn told(&mut self, thread: u64, mirror: u64, seq: u64) -> Result<(), Failed>
+    pub(crate) fn told(&mut self, thread: u64, mirror: u64, seq: u64) -> Result<(), NoMemory>
         ensures { OnOk result
             (known_of self.new ≡ noted (known_of self.old) thread (AnyEvent.Told mirror seq true)) }
     {
@@ -125,7 +125,7 @@ impl Knowledge {
     }
 
     // It would have had to sleep, and the invalidation is given up.
-    pub(crate) fn not_told(&mut self, thread: u64, mirror: u64, seq: u64) -> Result<(), Failed>
+    pub(crate) fn not_told(&mut self, thread: u64, mirror: u64, seq: u64) -> Result<(), NoMemory>
         ensures { OnOk result
             (known_of self.new ≡ noted (known_of self.old) thread (AnyEvent.Told mirror seq false)) }
     {
@@ -135,7 +135,7 @@ impl Knowledge {
     }
 
     // An entry is erased.
-    pub(crate) fn erase(&mut self, thread: u64, mirror: u64, page: u64) -> Result<(), Failed>
+    pub(crate) fn erase(&mut self, thread: u64, mirror: u64, page: u64) -> Result<(), NoMemory>
         ensures { OnOk result (known_of self.new ≡ noted (known_of self.old) thread (AnyEvent.Erase mirror page)) }
     {
         table::erase(&mut self.slots, mirror, page);

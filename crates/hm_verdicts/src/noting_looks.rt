@@ -5,13 +5,13 @@ ghost use Rattle.hm_protocol.specs.declared.events.TraceFrame.{TraceFrame};
 ghost use Rattle.hm_protocol.specs.Noted.{noted, begin, walk, commit};
 ghost use Rattle.hm_verdicts.specs.Knowledge.{known_of};
 
-use crate::failed::Failed;
 use crate::knowledge::Knowledge;
 use crate::looking::{follow, give_up, give_up_by_walk, learn_device, note_early, note_stale};
+use hm_base::NoMemory;
 
 impl Knowledge {
     // A look-up begins.
-    pub(crate) fn begin(&mut self, thread: u64, mirror: u64, seq: u64) -> Result<(), Failed>
+    pub(crate) fn begin(&mut self, thread: u64, mirror: u64, seq: u64) -> Result<(), NoMemory>
         ensures { OnOk result (known_of self.new ≡ begin (known_of self.old) thread mirror seq) }
     {
         let mut look = self.looks.take(self.alloc, thread, mirror)?;
@@ -38,7 +38,7 @@ impl Knowledge {
         mirror: u64,
         seq: u64,
         owner: Option<u64>,
-    ) -> Result<(), Failed>
+    ) -> Result<(), NoMemory>
         ensures { OnOk result (known_of self.new ≡ walk (known_of self.old) thread mirror seq owner) }
     {
         let mut look = self.looks.take(self.alloc, thread, mirror)?;
@@ -65,7 +65,7 @@ impl Knowledge {
         mirror: u64,
         page: u64,
         writes: bool,
-    ) -> Result<(), Failed>
+    ) -> Result<(), NoMemory>
         ensures { OnOk result (known_of self.new
             ≡ noted (known_of self.old) thread (AnyEvent.Found mirror page TraceFrame.Nothing writes)) }
     {
@@ -76,7 +76,7 @@ impl Knowledge {
     }
 
     // It is over, and went through if it is done.
-    pub(crate) fn walked(&mut self, thread: u64, mirror: u64, done: bool) -> Result<(), Failed>
+    pub(crate) fn walked(&mut self, thread: u64, mirror: u64, done: bool) -> Result<(), NoMemory>
         ensures { OnOk result (known_of self.new ≡ noted (known_of self.old) thread (AnyEvent.Walked mirror done)) }
     {
         let mut look = self.looks.take(self.alloc, thread, mirror)?;
@@ -86,7 +86,7 @@ impl Knowledge {
     }
 
     // It is committed.
-    pub(crate) fn commit(&mut self, thread: u64, mirror: u64) -> Result<(), Failed>
+    pub(crate) fn commit(&mut self, thread: u64, mirror: u64) -> Result<(), NoMemory>
         ensures { OnOk result (known_of self.new ≡ commit (known_of self.old) thread mirror) }
     {
         let mut look = self.looks.take(self.alloc, thread, mirror)?;

@@ -6,13 +6,13 @@ ghost use Rattle.hm_protocol.specs.Noted.{noted};
 ghost use Rattle.hm_verdicts.specs.Knowledge.{known_of};
 
 use crate::asking::is_look_up;
-use crate::failed::Failed;
 use crate::frames::is_sole;
 use crate::knowledge::Knowledge;
 use crate::moves::Move;
 use crate::moving::{Collected, Freed, Known, Moved, PageSet, Stayed};
 use crate::slots::Slot;
 use crate::{frames, table};
+use hm_base::NoMemory;
 use hm_history::TableRight;
 use hm_protocol::{TraceFrame, TraceSpan};
 
@@ -25,7 +25,7 @@ impl Knowledge {
         span: TraceSpan,
         to_device: bool,
         owner: Option<u64>,
-    ) -> Result<(), Failed>
+    ) -> Result<(), NoMemory>
         ensures { OnOk result
             (known_of self.new ≡ noted (known_of self.old) thread (AnyEvent.Setup proc span to_device owner)) }
     {
@@ -41,7 +41,7 @@ impl Knowledge {
         page: u64,
         frame: TraceFrame,
         writes: bool,
-    ) -> Result<(), Failed>
+    ) -> Result<(), NoMemory>
         ensures { OnOk result
             (known_of self.new ≡ noted (known_of self.old) thread (AnyEvent.From page frame writes)) }
     {
@@ -50,14 +50,24 @@ impl Knowledge {
     }
 
     // A page has moved.
-    pub(crate) fn moved(&mut self, thread: u64, page: u64, frame: TraceFrame) -> Result<(), Failed>
+    pub(crate) fn moved(
+        &mut self,
+        thread: u64,
+        page: u64,
+        frame: TraceFrame,
+    ) -> Result<(), NoMemory>
         ensures { OnOk result (known_of self.new ≡ noted (known_of self.old) thread (AnyEvent.Moved page frame)) }
     {
         self.moves.change_newest(self.alloc, thread, &Moved(page))
     }
 
     // A page was given a frame, and does not have it.
-    pub(crate) fn stayed(&mut self, thread: u64, page: u64, frame: TraceFrame) -> Result<(), Failed>
+    pub(crate) fn stayed(
+        &mut self,
+        thread: u64,
+        page: u64,
+        frame: TraceFrame,
+    ) -> Result<(), NoMemory>
         ensures { OnOk result (known_of self.new ≡ noted (known_of self.old) thread (AnyEvent.Stayed page frame)) }
     {
         self.moves
@@ -65,7 +75,7 @@ impl Knowledge {
     }
 
     // What moved is known.
-    pub(crate) fn paged(&mut self, thread: u64, proc: u64) -> Result<(), Failed>
+    pub(crate) fn paged(&mut self, thread: u64, proc: u64) -> Result<(), NoMemory>
         ensures { OnOk result (known_of self.new ≡ noted (known_of self.old) thread (AnyEvent.Paged proc)) }
     {
         let moves = self.moves.oldest_first(thread);
@@ -75,7 +85,7 @@ impl Knowledge {
     }
 
     // It is over.
-    pub(crate) fn finalize(&mut self, thread: u64, proc: u64) -> Result<(), Failed>
+    pub(crate) fn finalize(&mut self, thread: u64, proc: u64) -> Result<(), NoMemory>
         ensures { OnOk result (known_of self.new ≡ noted (known_of self.old) thread (AnyEvent.Finalize proc)) }
     {
         self.moves.pop(self.alloc, thread)?;
@@ -83,7 +93,7 @@ impl Knowledge {
     }
 
     // A frame is free.
-    pub(crate) fn free(&mut self, thread: u64, frame: TraceFrame) -> Result<(), Failed>
+    pub(crate) fn free(&mut self, thread: u64, frame: TraceFrame) -> Result<(), NoMemory>
         ensures { OnOk result (known_of self.new ≡ noted (known_of self.old) thread (AnyEvent.Free frame)) }
     {
         frames::free(&mut self.held, frame);
@@ -98,7 +108,7 @@ impl Knowledge {
         page: u64,
         frame: TraceFrame,
         right: TableRight,
-    ) -> Result<(), Failed>
+    ) -> Result<(), NoMemory>
         ensures { OnOk result
             (known_of self.new ≡ noted (known_of self.old) thread (AnyEvent.Set mirror page frame right)) }
     {

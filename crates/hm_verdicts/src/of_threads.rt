@@ -5,7 +5,6 @@ ghost use Rattle.hm_verdicts.specs.Numbers.{of_threads_in};
 ghost use Rattle.hm_protocol.specs.Words.{drop_if};
 ghost use Rattle.hm_verdicts.specs.Inner.{outer, with_inner};
 
-use crate::failed::Failed;
 use crate::newest_first::{Changes, NewestFirst, Passes};
 use crate::numbered::Numbered;
 use hm_base::NoMemory;
@@ -99,7 +98,7 @@ impl<T: Drop> OfThreads<T> {
         alloc: Global,
         key: u64,
         how: &C,
-    ) -> Result<(), Failed>
+    ) -> Result<(), NoMemory>
         ensures { OnOk result (of_threads_in self.new
             ≡ with_at (of_threads_in self.old) key (with_inner (C.made how.now) (of_threads_in self.old key))) }
     {
@@ -115,7 +114,7 @@ impl<T: Drop> OfThreads<T> {
         alloc: Global,
         key: u64,
         how: &C,
-    ) -> Result<(), Failed>
+    ) -> Result<(), NoMemory>
         ensures { OnOk result (of_threads_in self.new
             ≡ with_at (of_threads_in self.old) key (map (C.made how.now) (of_threads_in self.old key))) }
     {

@@ -1,12 +1,15 @@
 // The first callbacks of a trace that are over for good, and bounds of their numbers.
-ghost use Rattle.std.specs.Prelude.{◌≡◌, ◌≤◌, true, false, if◌then◌else◌, nat_lt, drop, map, IfOk};
-ghost use Rattle.hm_protocol.specs.Words.{is_after, is_before};
+ghost use Rattle.std.specs.Prelude.{◌≡◌, ◌≤◌, ℕ, List, true, false, if◌then◌else◌, nat_lt, drop, map, filter, is_some, IfOk, OnOk};
+ghost use Rattle.std.specs.List.{All};
+ghost use Rattle.hm_protocol.specs.Words.{is_after};
 ghost use Rattle.hm_protocol.specs.Known as known;
-ghost use Rattle.hm_verdicts.specs.Settled.{First, IsOver, is_settled};
+ghost use Rattle.hm_verdicts.specs.Settled.{First, IsBelow, IsMark, IsOver, is_lasting, is_settled};
+ghost use Rattle.hm_verdicts.specs.Numbers.{positions_in};
 
 use crate::calls::Call;
-use crate::failed::Failed;
-use crate::newest_first::{Changes, change_from};
+use crate::flags::Positions;
+use crate::newest_first::{Changes, Passes, change_from};
+use hm_base::NoMemory;
 
 /// How many of the first callbacks are over, and bounds of their numbers.
 #[derive(Clone, Copy)]
@@ -22,8 +25,8 @@ pub struct Over {
     pub(crate) ended: u64,
 }
 
-// The higher of two.
-fn higher(a: u64, b: u64) -> u64
+/// The higher of two.
+pub(crate) fn higher(a: u64, b: u64) -> u64
     ensures first { a ≤ result }
     ensures second { b ≤ result }
 {
@@ -84,30 +87,97 @@ impl Over {
     {
         if self.of < begun { self } else { self.none() }
     }
+}
 
-    /// How many none of which was given this sequence.
-    pub(crate) fn below_seq(self, seq: u64) -> usize
-        ensures { result ≡ (if nat_lt self.seq seq then self.count else 0) }
-    {
-        if self.seq < seq { self.count } else { 0 }
+/// A sequence, and how many callbacks, of which those of a mirror were given others.
+#[derive(Clone, Copy)]
+pub(crate) struct Fresh {
+    pub seq: u64,
+    pub count: usize,
+}
+
+/// None returned after this position, if there is one.
+#[derive(Drop)]
+pub(crate) struct ReturnedBy(pub Option<u64>);
+
+impl Passes<Over> for ReturnedBy {
+    ghost use Rattle.std.specs.Prelude.{not};
+    ghost use Rattle.hm_protocol.specs.Words.{is_before};
+
+    ghost test = { λ s o. not (is_before s.0 o.at) };
+
+    fn test(&self, over: &Over) -> bool {
+        !self.0.is_some_and(|begun| begun < over.at)
     }
+}
 
-    /// How many none of which ended after this position.
-    pub(crate) fn ended_by(self, last: u64) -> usize
-        ensures { result ≡ (if nat_lt last self.ended then 0 else self.count) }
-    {
-        if last < self.ended { 0 } else { self.count }
+/// None of their invalidations ended after this position.
+#[derive(Drop)]
+pub(crate) struct EndedBy(pub u64);
+
+impl Passes<Over> for EndedBy {
+    ghost use Rattle.std.specs.Prelude.{not, nat_lt};
+
+    ghost test = { λ s o. not (nat_lt s.0 o.ended) };
+
+    fn test(&self, over: &Over) -> bool {
+        !(self.0 < over.ended)
     }
+}
 
-    /// How many none of which returned after this position, if there is one.
-    pub(crate) fn until(self, begun: Option<u64>) -> usize
-        ensures { result ≡ (if is_before begun self.at then 0 else self.count) }
-    {
-        if begun.is_some_and(|begun| begun < self.at) {
-            0
-        } else {
-            self.count
-        }
+/// None was given this sequence, or a higher one.
+#[derive(Drop)]
+pub(crate) struct BelowSeq(pub u64);
+
+impl Passes<Over> for BelowSeq {
+    ghost use Rattle.std.specs.Prelude.{nat_lt};
+
+    ghost test = { λ s o. nat_lt o.seq s.0 };
+
+    fn test(&self, over: &Over) -> bool {
+        over.seq < self.0
+    }
+}
+
+/// The last of some bounds; of no callback, if there are none.
+pub(crate) fn latest(marks: &[Over]) -> Over
+    ensures { (top : ℕ) (xs : List known.Call) → All (IsMark top xs) marks.now → First (IsOver result) result.count xs }
+{
+    let count = marks.len();
+    if count == 0 {
+        Over::new()
+    } else {
+        marks[count - 1]
+    }
+}
+
+// Without those of which an invalidation may have begun there or later.
+fn drop_late(marks: &mut Vec<Over>, begun: u64)
+    ensures { marks.new.items ≡ filter (λ o. nat_lt o.of begun) marks.old.items }
+{
+    marks.retain(|mark| mark.of < begun);
+}
+
+/// The same, if the last of their invalidations began there.
+pub(crate) fn drop_from(marks: &mut Vec<Over>, top: u64, begun: u64)
+    ensures held { (xs : List known.Call) → All (IsMark top xs) marks.old.items → All (IsMark top xs) marks.new.items }
+    ensures before { (xs : List known.Call) → All (IsMark top xs) marks.old.items
+        → All (λ o. nat_lt o.of begun ≡ true) marks.new.items }
+{
+    if begun <= top {
+        drop_late(marks, begun);
+    }
+}
+
+/// The bounds, or the last of these if an invalidation may have begun there or later.
+pub(crate) fn earlier(over: Over, marks: &[Over], begun: u64) -> Over
+    ensures { (top : ℕ) (xs : List known.Call) → First (IsOver over) over.count xs → All (IsMark top xs) marks.now
+        → First (IsOver result) result.count xs }
+{
+    if begun <= over.of {
+        latest(marks)
+    } else {
+        over
     }
 }
 
@@ -121,6 +191,47 @@ pub(crate) fn settle(calls: &[Call], over: Over) -> Over
         over = over.with(over.count + 1, &calls[over.count]);
     }
     over
+}
+
+/// Goes on while no migration changes the next callback.
+pub(crate) fn last_on(calls: &[Call], count: usize) -> usize
+    requires { First (λ x. is_lasting x ≡ true) count calls.now }
+    ensures { First (λ x. is_lasting x ≡ true) result calls.now }
+{
+    let mut count = count;
+    while count < calls.len() && calls[count].is_lasting() {
+        count += 1;
+    }
+    count
+}
+
+/// Goes on while the next callback has returned, and keeps the highest sequence of each mirror.
+pub(crate) fn learn(
+    calls: &[Call],
+    count: usize,
+    highest: &mut Positions,
+) -> Result<usize, NoMemory>
+    requires { First (IsBelow (positions_in highest.old)) count calls.now }
+    ensures { IfOk result (λ n. First (IsBelow (positions_in highest.new)) n calls.now) }
+{
+    let mut count = count;
+    while count < calls.len() && calls[count].after().is_some() {
+        learn_one(&calls[count], highest)?;
+        count += 1;
+    }
+    Ok(count)
+}
+
+// The same of one that has returned.
+fn learn_one(call: &Call, highest: &mut Positions) -> Result<(), NoMemory>
+    requires { is_some call.now.after ≡ true }
+    ensures kept { OnOk result ((x : known.Call) → IsBelow (positions_in highest.old) x → IsBelow (positions_in highest.new) x) }
+    ensures one { OnOk result (IsBelow (positions_in highest.new) call.now) }
+{
+    let mirror = call.mirror();
+    let seq = higher(highest.at(mirror), call.seq());
+    highest.set(mirror, seq)?;
+    Ok(())
 }
 
 /// The callbacks from one on.
@@ -139,7 +250,7 @@ pub(crate) fn change<C: Changes<Call>>(
     calls: &mut Vec<Call>,
     over: Over,
     how: &C,
-) -> Result<Over, Failed>
+) -> Result<Over, NoMemory>
     requires held { First (IsOver over) over.count calls.old.items }
     requires same { First (λ x. C.made how.now x ≡ x) over.count calls.old.items }
     ensures { IfOk result (λ o. (calls.new.items ≡ map (C.made how.now) calls.old.items)

@@ -1,5 +1,5 @@
 // The verdicts on a trace.
-ghost use Rattle.std.specs.Prelude.{◌≡◌, ◌++◌, List, map, is_none, IfOk};
+ghost use Rattle.std.specs.Prelude.{◌≡◌, ◌≤◌, ◌^◌, List, length, map, IfOk, IsOkUnless};
 ghost use Rattle.std.specs.List.{list_all};
 ghost use Rattle.hm_protocol.specs.Rules.{all_rules};
 ghost use Rattle.hm_protocol.specs.Verdicts.{joined, verdict};
@@ -7,12 +7,14 @@ ghost use Rattle.hm_protocol.specs.declared.events.Traced.{Traced as AnyTraced};
 ghost use Rattle.hm_verdicts.specs.Ending.{fails_at_end};
 ghost use Rattle.hm_verdicts.specs.Judging.{said_of, unbroken_at_end, Follows};
 ghost use Rattle.hm_verdicts.specs.Knowledge.{known_of};
+ghost use Rattle.hm_verdicts.specs.declared.failed.Failed.TheVariants as reasons;
 
 use crate::ending::fails_in_end;
 use crate::failed::Failed;
 use crate::judge::{Count, Judge};
 use crate::knowledge::Knowledge;
 use crate::saying::verdict_of;
+use hm_base::NoMemory;
 use hm_protocol::{Recorded, Rule, Traced, Verdict};
 use std::alloc::Global;
 
@@ -75,7 +77,7 @@ fn verdicts_on(
     knowledge: &Knowledge,
     recorded: Recorded,
     counts: &[Count],
-) -> Result<Vec<Verdict>, Failed>
+) -> Result<Vec<Verdict>, NoMemory>
     ensures { IfOk result (λ vs. vs.items ≡ map (said_of recorded (known_of knowledge.now)) counts.now) }
 {
     let verdicts = counts
@@ -88,8 +90,9 @@ fn verdicts_on(
 impl Judge {
     /// The verdicts on the events so far, in the order of the rules; what was recorded beside the kernel's own.
     pub fn verdicts(&self, alloc: Global, recorded: Recorded) -> Result<Vec<Verdict>, Failed>
-        ensures { (es : List AnyTraced) → Follows self.now es
+        ensures are { (es : List AnyTraced) → Follows self.now es
             → IfOk result (λ vs. vs.items ≡ map (λ r. verdict recorded r es) all_rules) }
+        ensures unless { IsOkUnless result reasons.NoMemory }
     {
         let verdicts = verdicts_on(alloc, &self.knowledge, recorded, &self.counts)?;
         Ok(verdicts)
@@ -98,7 +101,8 @@ impl Judge {
 
 // The judge, after these events.
 fn judged(alloc: Global, events: &[Traced]) -> Result<Judge, Failed>
-    ensures { IfOk result (λ judge. Follows judge events.now) }
+    ensures next { IfOk result (λ judge. Follows judge events.now) }
+    ensures short { length events.now ≤ 2 ^ 32 → IsOkUnless result reasons.NoMemory }
 {
     let mut judge = Judge::new(alloc)?;
     for event in events {
@@ -113,7 +117,8 @@ pub fn verdicts_of(
     recorded: Recorded,
     events: &[Traced],
 ) -> Result<Vec<Verdict>, Failed>
-    ensures { IfOk result (λ vs. vs.items ≡ map (λ r. verdict recorded r events.now) all_rules) }
+    ensures are { IfOk result (λ vs. vs.items ≡ map (λ r. verdict recorded r events.now) all_rules) }
+    ensures short { length events.now ≤ 2 ^ 32 → IsOkUnless result reasons.NoMemory }
 {
     let judge = judged(alloc, events)?;
     judge.verdicts(alloc, recorded)

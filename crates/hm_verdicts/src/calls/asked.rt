@@ -3,6 +3,7 @@ ghost use Rattle.std.specs.Prelude.{◌≡◌, ◌&&◌, nat_lt, is_some, length
 ghost use Rattle.hm_protocol.specs.Callbacks as callbacks;
 ghost use Rattle.hm_protocol.specs.Words as words;
 ghost use Rattle.hm_verdicts.specs.Ending.{has_page, left_from};
+ghost use Rattle.hm_verdicts.specs.Settled.{is_lasting};
 
 use super::Call;
 use crate::slots::Slot;
@@ -20,6 +21,13 @@ impl Call {
         ensures { result ≡ is_some self.now.after && words.is_after self.now.ended last }
     {
         self.after.is_some() && self.ended.is_some_and(|ended| last < ended)
+    }
+
+    /// Whether no migration changes it any more: it has returned, and is of none, or what became of it is known.
+    pub(crate) fn is_lasting(&self) -> bool
+        ensures { result ≡ is_lasting self.now }
+    {
+        self.after.is_some() && (self.owner.is_none() || self.stale.is_some())
     }
 
     /// Whether no other was given its sequence.

@@ -1,17 +1,16 @@
-use Rattle.std.proofs.Common.{◌∙◌, ap, drop}
-use Rattle.std.specs.Prelude.{◌==◌, ◌&&◌, nat_lt, count_by}
-use Rattle.hm_protocol.specs.Known.{Call}
-use Rattle.hm_verdicts.specs.Settled.{IsOver}
-use Rattle.hm_verdicts.proofs.AreOver.{given_not, count_from}
+use Rattle.std.proofs.Common.{◌≡◌, ◌∙◌, ap, sym, subst, false}
+use Rattle.std.specs.Prelude.{count_by}
+use Rattle.hm_verdicts.specs.Settled.{First}
+use Rattle.hm_verdicts.proofs.Returned.{is_given}
+use Rattle.hm_verdicts.proofs.Settled.{first_count}
 use Rattle.hm_verdicts.proofs.all_calls.given_of.Goals as goal
 
-pub returns : goal.returns
-returns c =
-    let o = c.args.over in
+pub returns-then-seq-fresh : goal.returns-then-seq-fresh
+returns-then-seq-fresh c =
+    let g = c.args.fresh in
     let m = c.args.mirror in
     let q = c.args.seq in
     let cs = c.args.calls.now in
-    c.given.ensures ∙ (ap (count_by (λ (y : Call). (y.mirror == m) && (y.seq == q)))
-    (c.rest.ensures ∙ ap (λ n. drop n cs) c.below_seq.ensures)
-    ∙ count_from (IsOver o) (λ y. (y.mirror == m) && (y.seq == q)) (nat_lt o.seq q)
-    (λ e x s. given_not m q o x e s) o.count cs c.requires)
+    c.given.ensures ∙ (ap (count_by (is_given m q)) c.rest.ensures
+    ∙ first_count (λ x. is_given m q x ≡ false) (is_given m q) (λ x e. e) g.count cs
+    (subst (λ z. First (λ x. is_given m z x ≡ false) g.count cs) (sym c.if-seq-fresh.true) c.requires))

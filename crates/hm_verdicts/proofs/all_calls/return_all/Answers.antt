@@ -1,10 +1,10 @@
-use Rattle.std.proofs.Common.{refl, None, [], ◌≡◌, ◌∙◌, ap, sym, subst, arith, ◌<◌, ◌≤◌, length, set, get_or, reverse}
+use Rattle.std.proofs.Common.{refl, false, None, [], ◌≡◌, ◌∙◌, ap, sym, subst, arith, ◌<◌, ◌≤◌, length, set, get_or, reverse}
 use Rattle.hm_protocol.specs.Known.{Call}
 use Rattle.hm_verdicts.specs.Changes.{call_with, returned_in}
 use Rattle.hm_verdicts.proofs.Mapping.{mapped_to, mapped_more, mapped_past, mapped_length}
-use Rattle.hm_verdicts.specs.Settled.{First, IsOver}
+use Rattle.hm_verdicts.specs.Settled.{IsFresh, IsOver}
 use Rattle.hm_verdicts.proofs.AreOver.{return_same}
-use Rattle.hm_verdicts.proofs.Returned.{returns_alike}
+use Rattle.hm_verdicts.proofs.Returned.{is_given, given_stays, returns_alike}
 use Rattle.hm_verdicts.proofs.Settled.{first_fixed, first_weaker, first_mapped_to}
 use Rattle.hm_verdicts.proofs.all_calls.return_all.Goals as goal
 
@@ -15,7 +15,7 @@ loop-number-init c =
     let f = returned_in c.args.at c.args.seq cs (reverse c.args.moves.now) c.args.thread c.args.mirror in
     sym (first_fixed f o.count cs (first_weaker (IsOver o) (λ x. f x ≡ x)
     (return_same c.args.at c.args.seq cs (reverse c.args.moves.now)
-    c.args.thread c.args.mirror o) o.count cs c.requires))
+    c.args.thread c.args.mirror o) o.count cs c.requires.over))
 
 pub return_one-requires-clause-there : goal.return_one-requires-clause-there
 return_one-requires-clause-there c =
@@ -23,16 +23,17 @@ return_one-requires-clause-there c =
     ∙ mapped_length _ c.loop-number.number c.args.calls.now.items in
     omega (arith, c.loop-number-test.true, c.len-number-end.ensures, many, c.args.calls.now.ok)
 
-pub return_one-requires-clause-held : goal.return_one-requires-clause-held
-return_one-requires-clause-held c =
-    let o = c.args.over in
+pub return_one-requires-clause-fresh : goal.return_one-requires-clause-fresh
+return_one-requires-clause-fresh c =
+    let g = c.args.fresh in
     let cs = c.args.calls.now.items in
     let ys = reverse c.args.moves.now in
-    let f = returned_in c.args.at c.args.seq cs ys c.args.thread c.args.mirror in
-    subst (First (IsOver o) o.count) (sym c.loop-number.invariant)
-    (first_mapped_to (IsOver o) f
-    (λ x s. subst (IsOver o) (sym (return_same c.args.at c.args.seq cs ys c.args.thread c.args.mirror o x s)) s)
-    c.loop-number.number o.count cs c.requires)
+    let m = c.args.mirror in
+    let f = returned_in c.args.at c.args.seq cs ys c.args.thread m in
+    subst (IsFresh m g) (sym c.loop-number.invariant)
+    (first_mapped_to (λ x. is_given m g.seq x ≡ false) f
+    (λ x e. given_stays c.args.at c.args.seq cs ys c.args.thread m m g.seq x ∙ e)
+    c.loop-number.number g.count cs c.requires.fresh)
 
 pub loop-number-preserved : goal.loop-number-preserved
 loop-number-preserved c =

@@ -10,4 +10,4 @@ loop-event-preserved c =
     let below : i < length es = omega (arith, c.loop-event-test.true) in
     subst (Follows c.add.new.self)
     (ap (λ s. take i es ++ s ∷ []) c.event-item.is ∙ sym (take_more es i c.event-item.result below))
-    (c.in_ok-add.ensures (take i es) c.loop-event.invariant)
+    (c.in_ok-add.ensures.next (take i es) c.loop-event.invariant)

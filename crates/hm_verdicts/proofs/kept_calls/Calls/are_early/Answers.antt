@@ -14,5 +14,5 @@ returns c =
     c.are_early.ensures ∙ (ap (list_any (λ (x : Call). is_telling m x && (x.seq == c.args.seq)))
     (c.rest.ensures ∙ ap (drop o.count) c.deref.ensures.value)
     ∙ (first_any (IsOver o) (λ x. is_telling m x && (x.seq == c.args.seq)) (λ x s. ap (λ b. b && (x.seq == c.args.seq))
-    (telling_not m o x s)) o.count c.self.inside.items.items c.self.invariant
+    (telling_not m o x s)) o.count c.self.inside.items.items c.self.invariant.0
     ∙ ap (list_any (λ (x : Call). is_telling m x && (x.seq == c.args.seq))) c.self.view_is))

@@ -15,5 +15,5 @@ returns c =
     c.are_invalidating.ensures ∙ (ap (list_any (λ (x : Call). is_telling m x && is_it x.after x.seq)) (c.rest.ensures
     ∙ ap (drop o.count) c.deref.ensures.value)
     ∙ (first_any (IsOver o) (λ x. is_telling m x && is_it x.after x.seq) (λ x s. ap (λ b. b && is_it x.after x.seq)
-    (telling_not m o x s)) o.count c.self.inside.items.items c.self.invariant
+    (telling_not m o x s)) o.count c.self.inside.items.items c.self.invariant.0
     ∙ ap (list_any (λ (x : Call). is_telling m x && is_it x.after x.seq)) c.self.view_is))

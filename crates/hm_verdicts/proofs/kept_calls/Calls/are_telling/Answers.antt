@@ -11,5 +11,5 @@ returns c =
     let o = c.self.inside.over in
     let m = c.args.mirror in
     c.are_telling.ensures ∙ (ap (list_any (is_telling m)) (c.rest.ensures ∙ ap (drop o.count) c.deref.ensures.value)
-    ∙ (first_any (IsOver o) (is_telling m) (telling_not m o) o.count c.self.inside.items.items c.self.invariant
+    ∙ (first_any (IsOver o) (is_telling m) (telling_not m o) o.count c.self.inside.items.items c.self.invariant.0
     ∙ ap (list_any (is_telling m)) c.self.view_is))

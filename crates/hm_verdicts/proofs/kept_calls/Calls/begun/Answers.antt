@@ -13,5 +13,5 @@ returns c =
     let t = c.args.thread in
     let m = c.args.mirror in
     c.begun.ensures ∙ ap began (ap (find (is_current t m)) (c.rest.ensures ∙ ap (drop o.count) c.deref.ensures.value)
-    ∙ (first_find (IsOver o) (is_current t m) (current_not t m o) o.count c.self.inside.items.items c.self.invariant
+    ∙ (first_find (IsOver o) (is_current t m) (current_not t m o) o.count c.self.inside.items.items c.self.invariant.0
     ∙ ap (find (is_current t m)) c.self.view_is))

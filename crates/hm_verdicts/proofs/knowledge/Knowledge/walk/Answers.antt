@@ -1,5 +1,5 @@
 use Rattle.std.proofs.Common.{ap, ◌∙◌}
-use Rattle.std.specs.Prelude.{true, ◌++◌, if◌then◌else◌}
+use Rattle.std.specs.Prelude.{◌++◌, if◌then◌else◌}
 use Rattle.hm_protocol.specs.Known.{Known, Look}
 use Rattle.hm_verdicts.specs.Knowledge.{known_of}
 use Rattle.hm_verdicts.specs.Looking.{given_up_by, reads_itself, walked_by}
