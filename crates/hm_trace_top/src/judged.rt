@@ -12,7 +12,7 @@ use crate::ended::Ended;
 use crate::reading::{Trace, Unread, is_list, read_part, read_trace};
 use crate::text::lines_text;
 use crate::together::{Said, add_all};
-use hm_base::Text;
+use hm_base::{NoMemory, Text};
 use hm_protocol::{Recorded, Verdict};
 use hm_script::cut_line;
 use hm_verdicts::{Failed, verdicts_of};
@@ -85,7 +85,7 @@ impl Judged {
     }
 
     /// Adds the text of a trace, after the line that names it, and the verdicts on it.
-    fn keep(&mut self, header: &[u8], text: &Text, verdicts: Vec<Verdict>) -> Result<(), Failed>
+    fn keep(&mut self, header: &[u8], text: &Text, verdicts: Vec<Verdict>) -> Result<(), NoMemory>
         ensures text { OnOk result (self.new.text ≡ self.old.text ++ (header.now ++ text.now)) }
         ensures said { OnOk result (self.new.said ≡ self.old.said ++ verdicts.items ∷ []) }
     {
@@ -101,7 +101,8 @@ impl Judged {
     {
         let verdicts = verdicts(alloc, trace)?;
         let text = lines_text(alloc, trace, verdicts.as_slice())?;
-        self.keep(header, &text, verdicts)
+        self.keep(header, &text, verdicts)?;
+        Ok(())
     }
 
     /// Judges the first trace of those that are left of a list, and gives what is left then.
