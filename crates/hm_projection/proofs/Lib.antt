@@ -1,0 +1,5 @@
+pub mod Parts
+pub mod Erased
+pub mod Going
+pub mod Texts
+pub mod Called
