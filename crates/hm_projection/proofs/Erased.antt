@@ -171,12 +171,7 @@ window_erased s m x span d =
     ap (λ vs. map (λ v. Event.Erase m v) (filter (λ v. is_some (s.places.table m v) && is_covered span v) vs)) (window_is s m ∙ ap pages_in (sym (d.windows m)))
     ∙ ap (λ (f : ℕ → ℕ → Option TableEntry). erased_in (f m) m span (windows_of x.windows m)) (sym d.tables)
 
--- without a window nothing is erased
-pub no_window : (s : After) (m : ℕ) (x : Driver) (span : Option Pages) (old : List Event) → IsDriver s x → windows_of x.windows m ≡ None → old ≡ old ++ erased_where s m span
-no_window s m x span old d none =
-    sym (append-nil old) ∙ ap (λ es. old ++ es) (sym (window_erased s m x span d ∙ ap (erased_in (tables_of x.tables.tables.items m) m span) none))
-
--- with one, what its pages have between two of them
+-- with a window, what its pages have between two of them
 pub in_window : (s : After) (m : ℕ) (x : Driver) (span : Option Pages) (w : Pages) → IsDriver s x → windows_of x.windows m ≡ Some w
     → map (λ v. Event.Erase m v) (erased_between (tables_of x.tables.tables.items m) w (unwrap_or span w).first ((unwrap_or span w).first + (unwrap_or span w).count)) ≡ erased_where s m span
 in_window s m x span w d some = by span ∙ sym (window_erased s m x span d ∙ ap (erased_in (tables_of x.tables.tables.items m) m span) some)

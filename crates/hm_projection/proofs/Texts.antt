@@ -1,19 +1,27 @@
 -- The text of a trace, event by event.
 use Rattle.std.proofs.Common.{◌≡◌, ℕ, ◌+◌, ◌^◌, ◌<◌, List, [], ◌∷◌, ◌++◌, length, get_or, take, sym, ap, ◌∙◌, subst, arith}
-use Rattle.std.specs.Prelude.{codes, IfOk, Result, Ok, Err}
+use Rattle.std.specs.Prelude.{codes, false, IfOk, Result, Ok, Err}
 use Rattle.std.specs.Fmt.{decimal}
 use Rattle.std.specs.List.{flat_map}
 use Rattle.std.proofs.lemmas.Grind.{flat_map-append}
 use Rattle.std.proofs.lemmas.List.{append-nil, length-take, take_more}
+use Rattle.hm_base.specs.Program.{Program}
+use Rattle.hm_history.specs.declared.Entry.{Entry}
+use Rattle.hm_protocol.specs.Laws.{is_blame}
+use Rattle.hm_protocol.specs.Projection.{project}
+use Rattle.hm_protocol.specs.Verdicts.{verdict}
+use Rattle.hm_protocol.specs.declared.rules.Rule.{Rule}
+use Rattle.hm_trace.specs.Progress.{is_whole}
+use Rattle.hm_trace.specs.declared.reader.Progress.{Progress}
 use Rattle.hm_protocol.specs.declared.events.Recorded.{Recorded}
 use Rattle.hm_protocol.specs.declared.events.Traced.{Traced}
 use Rattle.hm_report.specs.Words.{actor_text}
 use Rattle.hm_script.specs.Spelling.{line}
 use Rattle.hm_trace.specs.Fits.{FitsTraced}
 use Rattle.hm_trace.specs.Spelling.{event_line, event_words, recorded_words}
-use Rattle.hm_trace.specs.Traces.{FitsAll, IsReadAs, events_words, trace_text}
+use Rattle.hm_trace.specs.Traces.{FitsAll, IsReadAs, events_words, read_trace, trace_text}
 use Rattle.hm_trace.proofs.TracesAgain.{trace-again}
-use Rattle.hm_projection.specs.Traces.{all}
+use Rattle.hm_projection.specs.Traces.{IsReadBack, IsUnblamed, all, trace_of}
 
 words_more : (n : ℕ) (es : List Traced) (e : Traced) → events_words n (es ++ e ∷ []) ≡ events_words n es ++ (decimal (n + length es) ∷ actor_text e.thread ∷ event_words e.event) ∷ []
 words_more n [] e = let z : n ≡ n + 0 = omega arith in ap (λ k. (decimal k ∷ actor_text e.thread ∷ event_words e.event) ∷ []) z
@@ -54,3 +62,19 @@ fits_more es i e fit below is one = subst FitsAll (ap (λ y. take i es ++ y ∷ 
 pub reads_back : {E : Type 0} (r : Result (List ℕ) E) (es : List Traced) → length es < 2 ^ 64 → IfOk r (λ t. FitsAll es) → IfOk r (λ t. IsReadAs (trace_text all es) all es)
 reads_back (Ok t) es few fits = trace-again all es fits few
 reads_back (Err e) es few fits = tt
+
+-- two answers that are the same
+read_same : {X Y E : Type 0} (q k : X) (f g : Y) → ◌≡◌ {A = Result (X × Y) E} (Ok (q, f)) (Ok (k, g)) → (k ≡ q) × (g ≡ f)
+read_same {X} {Y} q k f g e = let d : ◌≡◌ {A = X × Y} (q, f) (k, g) = cc in (ap (λ (x : X × Y). x.0) (sym d), ap (λ (x : X × Y). x.1) (sym d))
+
+-- what is read of the trace of a history is its events
+pub unblamed : (c : Program) (h : List Entry) (p : Progress) (es : List Traced) → IsReadBack c h → read_trace (trace_of c h) ≡ Ok (p, es) → ((r : Rule) → is_blame (verdict all r (project c h)) ≡ false) → IsUnblamed c h p es
+unblamed c h p es b got free = record {
+  events = same.1;
+  whole = ap is_whole same.0 ∙ b.whole;
+  recorded = ap (λ (q : Progress). q.recorded) same.0 ∙ b.recorded;
+  rules = λ r. ap (λ fs. is_blame (verdict all r fs)) same.1 ∙ free r;
+}
+  where
+    same : (p ≡ b.end) × (es ≡ project c h)
+    same = read_same b.end p (project c h) es (sym b.read ∙ got)

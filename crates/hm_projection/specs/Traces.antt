@@ -1,5 +1,5 @@
 -- The trace of a history, and what is said of it.
-use Rattle.std.specs.Prelude.{◌≡◌, ℕ, true, false, List}
+use Rattle.std.specs.Prelude.{◌≡◌, ℕ, true, false, Some, List, Ok}
 use Rattle.hm_base.specs.Program.{Program}
 use Rattle.hm_check.specs.FirstBad.{IsLegalReport}
 use Rattle.hm_history.specs.declared.Entry.{Entry}
@@ -7,8 +7,11 @@ use Rattle.hm_protocol.specs.Laws.{is_blame}
 use Rattle.hm_protocol.specs.Projection.{project}
 use Rattle.hm_protocol.specs.Verdicts.{verdict}
 use Rattle.hm_protocol.specs.declared.events.Recorded.{Recorded}
+use Rattle.hm_protocol.specs.declared.events.Traced.{Traced}
 use Rattle.hm_protocol.specs.declared.rules.Rule.{Rule}
-use Rattle.hm_trace.specs.Traces.{IsReadAs, trace_text}
+use Rattle.hm_trace.specs.Progress.{is_whole}
+use Rattle.hm_trace.specs.Traces.{IsReadAs, read_trace, trace_text}
+use Rattle.hm_trace.specs.declared.reader.Progress.{Progress}
 
 -- all that the driver of the model does is in its history
 abbrev pub all : Recorded
@@ -22,7 +25,15 @@ trace_of c h = trace_text all (project c h)
 abbrev pub IsReadBack : Program → List Entry → Type 0
 IsReadBack c h = IsReadAs (trace_of c h) all (project c h)
 
--- no verdict on the events of a legal report says that a rule is broken, or may be
+-- what was read is the events of the history, in a whole trace, and nobody is blamed: no verdict on them says that a rule
+-- is broken, or may be
+pub record IsUnblamed (c : Program) (h : List Entry) (p : Progress) (es : List Traced) : Type 0 where
+  pub events : es ≡ project c h
+  pub whole : is_whole p ≡ true
+  pub recorded : p.recorded ≡ Some all
+  pub rules : (r : Rule) → is_blame (verdict all r es) ≡ false
+
+-- whoever reads the trace of a legal report, once it went out, reads that
 abbrev pub TracesAreUnblamed : Type 0
-TracesAreUnblamed = (c : Program) (h : List Entry) → IsLegalReport c h → (r : Rule)
-    → is_blame (verdict all r (project c h)) ≡ false
+TracesAreUnblamed = (c : Program) (h : List Entry) → IsLegalReport c h → IsReadBack c h → (p : Progress) (es : List Traced)
+    → read_trace (trace_of c h) ≡ Ok (p, es) → IsUnblamed c h p es

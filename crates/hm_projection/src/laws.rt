@@ -1,7 +1,8 @@
 // What holds of the trace of each legal report: laws in the contracts of functions that do nothing.
 ghost use Rattle.hm_projection.specs.Traces.{TracesAreUnblamed};
 
-/// The trace of a legal history blames nobody: no verdict on it says that a rule is broken, or may be.
+/// What `read_trace` of hm_trace makes of the trace of a legal report is the events of its history, and blames nobody:
+/// no verdict on them says that a rule is broken, or may be.
 pub fn the_trace_is_unblamed()
     ensures { TracesAreUnblamed }
 {

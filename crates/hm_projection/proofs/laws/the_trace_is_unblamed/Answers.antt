@@ -4,10 +4,11 @@ use Rattle.hm_protocol.specs.Projection.{project}
 use Rattle.hm_protocol.specs.Verdicts.{verdict}
 use Rattle.hm_protocol.specs.declared.rules.Rule.{Rule}
 use Rattle.hm_projection.specs.Traces.{all}
+use Rattle.hm_projection.proofs.Texts.{unblamed}
 use Rattle.hm_projection.proofs.laws.the_trace_is_unblamed.Goals as goal
 
 pub returns : goal.returns
-returns c = let e = c.no_verdict_blames_a_legal_history.ensures in λ p h l r. elim r as (λ q. is_blame (verdict all q (project p h)) ≡ false) [
+returns c = let e = c.no_verdict_blames_a_legal_history.ensures in λ p h l b k es got. unblamed p h k es b got (λ r. elim r as (λ q. is_blame (verdict all q (project p h)) ≡ false) [
   | Rule.Compare ↦ e.compare p l.script all h l.legal
   | Rule.CompareSequence ↦ e.compare_sequence p l.script all h l.legal
   | Rule.EntryRight ↦ e.entry_right p l.script all h l.legal
@@ -35,4 +36,4 @@ returns c = let e = c.no_verdict_blames_a_legal_history.ensures in λ p h l r. e
   | Rule.WaitForLocked ↦ e.wait_for_locked p l.script all h l.legal
   | Rule.ExclusiveWaits ↦ e.exclusive_waits p l.script all h l.legal
   | Rule.LookAgain ↦ e.look_again p l.script all h l.legal
-]
+])
