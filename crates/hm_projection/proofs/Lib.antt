@@ -3,3 +3,4 @@ pub mod Erased
 pub mod Going
 pub mod Texts
 pub mod Called
+mod Users

@@ -8,6 +8,7 @@ mod homes;
 mod laws;
 mod look_ups;
 mod migrations;
+mod process;
 mod reasons;
 mod tables;
 mod tellings;
@@ -16,4 +17,5 @@ mod words;
 
 pub use call::write_trace_of;
 pub use entries::project;
-pub use laws::the_trace_is_unblamed;
+pub use laws::{the_trace_is_unblamed, users_are_told};
+pub use process::{NAME, USAGE, program};
