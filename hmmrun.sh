@@ -7,7 +7,7 @@
 #
 # Words are looked at before anything is built. What this script says itself goes to standard error. The program is
 # hmmrun; with `--program NAME` first it is that of the crate NAME, as hmmraces.sh, hmmwithout.sh, hmmview.sh,
-# hmmjudge.sh and hmmtrace.sh call it.
+# hmmjudge.sh, hmmtrace.sh and hmmevents.sh call it.
 set -u
 top=$(cd "$(dirname "$(realpath "${BASH_SOURCE[0]}")")" && pwd)
 logic=dac8208d650f15bf              # of the kits that prove this repository
@@ -15,6 +15,13 @@ name=hmmrun
 if [ "${1-}" = --program ]; then
     name=$2
     shift 2
+fi
+if [ "$name" = hmmtrace ]; then     # a trace of a report is made by a program of its own
+    given=()
+    for word in "$@"; do
+        if [ "$word" = --of-report ]; then name=hmmevents; else given+=("$word"); fi
+    done
+    set -- "${given[@]}"
 fi
 crate=$top/crates/$name
 program=$crate/out/$name
@@ -91,11 +98,18 @@ words_hmmjudge() {
 END
 }
 
+words_hmmevents() {
+    cat <<'END'
+  (no word)            reads a report: the trace of its history, which hmmtrace judges
+END
+}
+
 words_hmmtrace() {
     cat <<END
   (no word)            reads a trace of a driver: a line for each rule, whether it is kept, broken, or not tested
   FILE FILE ..         reads several traces: the same of each, and then a line for each rule that joins them
   --expect RULE ..     before these: status 10 if no rule is broken, and one of these is not tested
+  --of-report          reads a report: the trace of its history (the program hmmevents)
   --script RULE        reads nothing: a script, and a shortest race of it in which a driver without this rule goes
                        wrong, if one is stored
 
@@ -111,7 +125,8 @@ usage() {
     [ "$name" = hmmwithout ] && takes='RULE | none | --all [--answers] [--most MOST]'
     [ "$name" = hmmview ] && takes='[FROM TO]'
     [ "$name" = hmmjudge ] && takes='[--standing | --all]'
-    [ "$name" = hmmtrace ] && takes='[--expect RULE .. | --script RULE]'
+    [ "$name" = hmmtrace ] && takes='[--expect RULE .. | --script RULE | --of-report]'
+    [ "$name" = hmmevents ] && takes=
     cat <<END
 usage: ./$name.sh [--quick | --ready] ${takes:+$takes }[FILE${several:-}]
 
@@ -131,7 +146,7 @@ END
         hmmwithout) echo 'docs/BROKEN.md explains the rules; docs/TUTORIAL.md scripts. All tools: docs/TOOLS.md.' ;;
         hmmview) echo 'docs/VIEW.md explains a page; docs/REPORT.md each line of a report.' ;;
         hmmjudge) echo 'docs/JUDGE.md explains what is said; docs/REPORT.md each line of a report.' ;;
-        hmmtrace) echo 'docs/TRACE.md explains what is read and said; docs/BROKEN.md the rules.' ;;
+        hmmtrace | hmmevents) echo 'docs/TRACE.md explains what is read and said; docs/BROKEN.md the rules.' ;;
         *) echo 'Scripts: docs/TUTORIAL.md; tools/hmm.py explains one that is refused. All tools: docs/TOOLS.md.' ;;
     esac
 }
@@ -365,6 +380,8 @@ read_words() {
             read_trace_words "$@"
             shift "$taken"
             is_number "${1-}" && refuse 'no word but --expect and --script, and FILE' ;;
+        hmmevents)
+            is_number "${1-}" && refuse 'no word, but FILE' ;;
         *)
             while [ $# -gt 0 ] && [[ $1 =~ ^[0-9]+$ ]]; do
                 need_numbers "$1"
@@ -378,7 +395,7 @@ read_words() {
         -?*) refuse "there is no \`$1\` here$(nearest "$1" --quick --ready --help --version \
             $([ "$name" = hmmjudge ] && echo --standing --all) \
             $([ "$name" = hmmraces ] && echo --table --script --expect --expect-file --most) \
-            $([ "$name" = hmmtrace ] && echo --expect --script) \
+            $([ "$name" = hmmtrace ] && echo --expect --script --of-report) \
             $([ "$name" = hmmwithout ] && echo --answers --most))" ;;
     esac
     [ $# -le 1 ] || refuse "too many words: \`${*:2}\`"

@@ -26,7 +26,7 @@ import words as given
 import trace_judge as second
 import of_report
 
-RUN, TRACE = [], []                     # the commands of hmmrun and hmmtrace
+RUN, TRACE, EVENTS = [], [], []         # the commands of hmmrun, hmmtrace and hmmevents
 
 
 class Told:
@@ -55,8 +55,8 @@ def of_script(item):
     if done.returncode != 0:
         return None
     other = of_report.project(done.stdout.decode())
-    said = subprocess.run([*TRACE, '--of-report'], input=done.stdout, capture_output=True)
-    differs = '' if said.returncode or said.stdout.decode() == other else f'{name}: --of-report and of_report.py differ'
+    said = subprocess.run(EVENTS, input=done.stdout, capture_output=True)
+    differs = '' if said.returncode == 0 and said.stdout.decode() == other else f'{name}: --of-report and of_report.py differ'
     return Told(name, 'right', said.stdout.decode() or other, differs)
 
 
@@ -146,7 +146,7 @@ def main():
     parser.add_argument('words', nargs='*')
     parser.add_argument('--jobs', type=int, default=1)
     asked = parser.parse_args()
-    RUN[:], TRACE[:] = given.ready('hmmrun'), given.ready('hmmtrace')
+    RUN[:], TRACE[:], EVENTS[:] = given.ready('hmmrun'), given.ready('hmmtrace'), given.ready('hmmevents')
     of, items = of_race, None
     if asked.what == 'drawn':
         of, items = of_script, drawn_scripts(*map(int, asked.words))

@@ -1,5 +1,5 @@
 -- The table of a mirror, by page.
-use Rattle.std.specs.Prelude.{◌≡◌, ℕ, ◌≤◌, ◌<◌, Option, Some, None, option_map}
+use Rattle.std.specs.Prelude.{◌≡◌, ℕ, ◌≤◌, ◌<◌, true, Option, Some, None, is_some, option_map}
 use Rattle.std.specs.Ordering.{nat_cmp}
 use Rattle.std.specs.BTreeMap as tree
 use Rattle.hm_history.specs.Memory.Places.{TableEntry}
@@ -35,7 +35,13 @@ entry_of x = record { target = target_of x.dev x.number; right = x.right; from =
 abbrev pub entry_in : TableMap → ℕ → Option TableEntry
 entry_in x v = option_map entry_of (tree.get nat_cmp x.entries v)
 
--- a page from there on, and none before it has an entry; without one, none has
-abbrev pub IsFirstEntry : TableMap → ℕ → Option ℕ → Type 0
-IsFirstEntry x from None = (v : ℕ) → from ≤ v → entry_in x v ≡ None
-IsFirstEntry x from (Some at) = (from ≤ at) × ((v : ℕ) → from ≤ v → v < at → entry_in x v ≡ None)
+-- a page from there on that has an entry, and none before it has one
+pub record IsFirstAt (f : ℕ → Option TableEntry) (from at : ℕ) : Type 0 where
+  pub above : from ≤ at
+  pub there : is_some (f at) ≡ true
+  pub none : (v : ℕ) → from ≤ v → v < at → f v ≡ None
+
+-- so it is of what was found; if nothing was, no page from there on has an entry
+abbrev pub IsFirstEntry : (ℕ → Option TableEntry) → ℕ → Option ℕ → Type 0
+IsFirstEntry f from None = (v : ℕ) → from ≤ v → f v ≡ None
+IsFirstEntry f from (Some at) = IsFirstAt f from at

@@ -4,7 +4,7 @@ ghost use Rattle.hm_folds.specs.Applied.{takes_room};
 ghost use Rattle.hm_history.specs.Memory.Words.{with_at};
 ghost use Rattle.hm_history.specs.Memory.Places.{with_entry, erased_table};
 ghost use Rattle.hm_base.specs.Pages.{covers};
-ghost use Rattle.hm_folds.specs.TableMap.{entry_of};
+ghost use Rattle.hm_folds.specs.TableMap.{IsFirstEntry, entry_of};
 ghost use Rattle.hm_folds.specs.MirrorTables.{tables_of, table_next, numbers_of, device_next, owner_next, OwnersFollow};
 
 use crate::table_map::{KeptEntry, TableMap, dev_of, number_of};
@@ -36,6 +36,13 @@ impl MirrorTables {
         ensures { option_map entry_of result ≡ tables_of self.now.tables.items mirror page }
     {
         self.tables[mirror.number() as usize].get(page.number())
+    }
+
+    /// The first page of a mirror from there on that has an entry.
+    pub fn first(&self, mirror: MirrorId, from: u64) -> Option<u64>
+        ensures { IsFirstEntry (tables_of self.now.tables.items mirror) from result }
+    {
+        self.tables[mirror.number() as usize].first(from)
     }
 
     /// The tables after an entry; a failure changes nothing.

@@ -115,8 +115,8 @@ impl TableMap {
     }
 
     /// The first page from there on that has an entry.
-    fn first(&self, from: u64) -> Option<u64>
-        ensures { IsFirstEntry self.now from result }
+    pub(crate) fn first(&self, from: u64) -> Option<u64>
+        ensures { IsFirstEntry (entry_in self.now) from result }
     {
         match self.entries.range(from..).next() {
             Some((page, _)) => Some(*page),

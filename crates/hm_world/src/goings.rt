@@ -17,7 +17,7 @@ impl World {
     }
 
     /// Its phases, the top first.
-    pub(crate) fn phases(&self, actor: Actor) -> Items
+    pub fn phases(&self, actor: Actor) -> Items
         ensures { phases_of result ≡ ((now self.now).going actor).stack }
     {
         self.actors.phases(actor)
