@@ -14,12 +14,12 @@ import words
 
 TOP = os.path.dirname(os.path.dirname(os.path.abspath(__file__)))
 # the crates whose records are those of a program's call, and the proofs of the laws
-CRATES = ['hm_edge', 'hm_top', 'hm_race_top', 'hm_flaw_top', 'hm_judge', 'hm_view', 'hm_trace_top']
+CRATES = ['hm_edge', 'hm_top', 'hm_race_top', 'hm_flaw_top', 'hm_judge', 'hm_view', 'hm_trace_top', 'hm_projection']
 PROOFS = {'hm_edge': 'Telling', 'hm_top': 'Users', 'hm_race_top': 'Users', 'hm_flaw_top': 'Users', 'hm_judge': 'Users',
-          'hm_view': 'Users', 'hm_trace_top': 'Users'}
+          'hm_view': 'Users', 'hm_trace_top': 'Users', 'hm_projection': 'Users'}
 # where the record of each program's call stands
 ROOTS = {'hm_edge': ['Exits'], 'hm_top': ['Runs'], 'hm_race_top': ['Races'], 'hm_flaw_top': ['Withouts'],
-         'hm_judge': ['RunsAsked'], 'hm_view': ['Views'], 'hm_trace_top': ['Exits']}
+         'hm_judge': ['RunsAsked'], 'hm_view': ['Views'], 'hm_trace_top': ['Exits'], 'hm_projection': ['Runs']}
 # records that are no plumbing of a call, but words of which a theorem itself is made: a reader of it reads them too
 WORDS = {'AreQuestions', 'AreScript', 'Ends', 'EndsSo', 'FailsAtSome', 'HasFewTurns', 'IsFirstBad', 'IsLegalReport',
          'IsLegalReportOf', 'IsNearest', 'IsQuestion', 'IsTextOf', 'IsTrueOf', 'AnsweredNone', 'Named', 'OneSays', 'Read', 'SawAll', 'Way'}
