@@ -1,5 +1,5 @@
 // What shows why an entry is no answer by plain bytes, areas, processes and mirrors.
-ghost use Rattle.std.specs.Prelude.{◌≡◌, [], IfOk};
+ghost use Rattle.std.specs.Prelude.{◌≡◌, ◌+◌, ◌<◌, ◌≤◌, ◌^◌, [], IfOk, IfSome};
 ghost use Rattle.hm_history.specs.Kernel.Going.{state_of};
 ghost use Rattle.hm_history.specs.Laws.{DueFrom};
 ghost use Rattle.hm_history.specs.Memory.Plain as plain;
@@ -96,14 +96,12 @@ fn bytes_of(
     addr: u64,
     len: u64,
 ) -> Result<Bytes, NoMemory>
+    requires { addr + len ≤ 2 ^ 64 }
     ensures { IfOk result (λ x. x ≡ bytes_from ((plain_of state.now).bytes proc) addr len) }
 {
     let mut all = Bytes::new(alloc);
     for number in 0..len {
-        match addr.checked_add(number) {
-            Some(at) => all.push(state.byte(proc, at))?,
-            None => return Err(NoMemory),
-        }
+        all.push(state.byte(proc, addr + number))?;
     }
     Ok(all)
 }
@@ -119,6 +117,7 @@ fn held_bytes<W: Reads>(
 ) -> Result<Option<Shown>, NoMemory>
     requires state { W.state world.now ≡ state_of (W.program world.now) entries.now }
     requires due { DueFrom (W.program world.now) [] entries.now }
+    requires few { len < 2 ^ 63 }
     ensures { IfOk result (λ x. x ≡ held_bytes (W.state world.now).after.plain who.now addr len) }
 {
     if addr >= 1 << 48 {
@@ -153,6 +152,7 @@ fn read_shown<W: Reads>(
 ) -> Result<Option<Shown>, NoMemory>
     requires state { W.state world.now ≡ state_of (W.program world.now) entries.now }
     requires due { DueFrom (W.program world.now) [] entries.now }
+    requires few { read.now.shown < 2 ^ 63 }
     ensures { IfOk result (λ x. x ≡ read_shown (W.state world.now).after.plain read.now) }
 {
     match against(world, &read.who, read.addr, read.len, read.writes) {
@@ -181,14 +181,15 @@ fn add_read(mirror: MirrorId, addr: u64) -> Reading
 
 /// The access, if the entry's answer tells bytes, or says that it failed.
 fn read_of(kind: &Kind) -> Option<Reading>
-    ensures { result ≡ read_of kind.now }
+    ensures read { result ≡ read_of kind.now }
+    ensures few { IfSome result (λ r. r.shown < 2 ^ 63) }
 {
     match kind {
         Kind::Loaded { who, addr, bytes } => Some(Reading {
             who: *who,
             addr: *addr,
             len: bytes.len(),
-            shown: bytes.len(),
+            shown: bytes.as_slice().len() as u64,
             writes: false,
         }),
         Kind::Failed {
