@@ -13,7 +13,8 @@ counted under what the two say.
 
 Writes, for right drivers, how many traces and events there were, in how many a rule is broken or may be, and in how many
 each rule was kept; of the others a line for each rule: how many races, in how many it was named, may be broken, or was
-unseen, and in how many another rule was named. Then what the judges say of the same trace where they differ. Ends with
+unseen, in how many another rule was named, in how many a part of legality was broken (wrong), and what was said of the
+rule in these. Then what the judges say of the same trace where they differ. Ends with
 status 1 if a right driver is blamed, if the two traces of a report differ, or if the judges do.
 
 The programs are the proved ones if they are built, or else the unproved ones. Kept by hand: the gate does not run it.
@@ -32,8 +33,8 @@ RUN, TRACE, EVENTS = [], [], []         # the commands of hmmrun, hmmtrace and h
 class Told:
     """What was found of one trace."""
 
-    def __init__(self, name, rule, text, differs=''):
-        self.name, self.rule, self.differs = name, rule, differs
+    def __init__(self, name, rule, text, differs='', part=None):
+        self.name, self.rule, self.differs, self.part = name, rule, differs, part
         done = subprocess.run(TRACE, input=text.encode(), capture_output=True)
         if done.returncode not in (0, 1):
             raise SystemExit(f'{name}: hmmtrace ended with {done.returncode}: {done.stderr.decode()}')
@@ -67,10 +68,11 @@ def of_race(item):
     with open(path, 'rb') as file:
         data = file.read()
     try:
-        text = of_driver.drawn(data, rule, how) if how is not None else of_driver.shortest(data, rule, answers)
+        race = of_driver.drawn(data, rule, how) if how is not None else of_driver.shortest(data, rule, answers)
     except RecursionError:
         return None
-    return Told(f'{os.path.basename(path)} {rule} {how if how is not None else "shortest"}', rule, text) if text else None
+    name = f'{os.path.basename(path)} {rule} {how if how is not None else "shortest"}'
+    return Told(name, rule, race.told.text(), part=race.laws.broken) if race else None
 
 
 def drawn_scripts(first, count):
@@ -113,7 +115,13 @@ class Counts:
             row['blamed'] += bool(broken or maybe)
             self.bad += [f'{told.name}: blamed {" ".join([*broken, *maybe])}'] if broken or maybe else []
         else:
-            row[told.said.get(told.rule, ('unseen',))[0]] += 1
+            said = told.said[told.rule][0]
+            row[said] += 1
+            if told.part:               # the race breaks a part of legality
+                row['wrong'] += 1
+                row[f'wrong-{said}'] += 1
+                if said == 'kept':
+                    self.first.setdefault((told.rule, 'kept'), f'{told.name} breaks {told.part}')
             for other in broken:
                 if other != told.rule:
                     row['another'] += 1
@@ -128,7 +136,9 @@ class Counts:
     def write(self):
         for rule, row in self.by_rule.items():
             print(rule, *(f'{word} {row[word]}' for word in ('traces', 'events', 'blamed', 'broken', 'maybe', 'kept',
-                                                             'unseen', 'another') if row[word]))
+                                                             'unseen', 'another', 'wrong', 'wrong-broken',
+                                                             'wrong-maybe', 'wrong-unseen', 'wrong-kept') if row[word]),
+                  *([f'(first {self.first[rule, "kept"]})'] if row['wrong-kept'] else []))
         if self.kept:
             print('kept in', *(f'{rule} {self.kept[rule]}' for rule in second.RULES))
         for (rule, other), count in self.others.most_common():

@@ -18,7 +18,7 @@ import report as reports
 import script as scripts
 import words as given
 from due import Wait
-from drivers.laws import Laws
+from drivers.laws import Broken, Laws
 from drivers.race import Race, search
 
 MOST = 4000                 # turns of a drawn race
@@ -52,10 +52,16 @@ class OfDriver(of_report.Projector):
 
 
 class Onward(Laws):
-    """Laws that stop nobody: the race goes on after an entry that breaks one."""
+    """Laws that stop nobody: the race goes on after an entry that breaks one, and the first part is noted."""
 
-    def test(self, *_):
-        pass
+    broken = None
+
+    def test(self, *entry):
+        try:
+            if not self.broken:
+                super().test(*entry)
+        except Broken as part:
+            self.broken = str(part)
 
 
 class Told(Race):
@@ -80,7 +86,7 @@ class Told(Race):
 
 
 def drawn(data, rule, seed, answers=False):
-    """The trace of a race whose turns are drawn."""
+    """A race whose turns were drawn."""
     race, chance, waits = Told(scripts.parse(data), rule, answers), random.Random(seed), 0
     actors = list(range(len(race.script.actors)))
     for _ in range(MOST):
@@ -92,22 +98,22 @@ def drawn(data, rule, seed, answers=False):
             try:
                 did = race.step(actor)
             except Exception:           # a state from which the broken driver cannot go on
-                return race.told.text()
+                return race
             waits = waits + 1 if isinstance(did, Wait) else 0
             if did is None or isinstance(did, Wait):
                 break
-    return race.told.text()
+    return race
 
 
 def shortest(data, rule, answers):
-    """The trace of the shortest race that goes wrong, or none."""
+    """The shortest race that goes wrong, or none."""
     turns, *_ = search(scripts.parse(data), None if rule == 'none' else rule, answers, 20_000)
     if not turns:
         return None
     race = Told(scripts.parse(data), rule, answers)
     for actor in turns:
         race.step(actor)
-    return race.told.text()
+    return race
 
 
 def main():
@@ -117,8 +123,8 @@ def main():
     rule, path, how, *more = sys.argv[1:]
     with open(path, 'rb') as file:
         data = file.read()
-    text = shortest(data, rule, '--answers' in more) if how == 'shortest' else drawn(data, rule, int(how))
-    sys.stdout.write(text or '')
+    race = shortest(data, rule, '--answers' in more) if how == 'shortest' else drawn(data, rule, int(how))
+    sys.stdout.write(race.told.text() if race else '')
 
 
 if __name__ == '__main__':
