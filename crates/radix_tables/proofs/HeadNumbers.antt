@@ -1,5 +1,5 @@
 -- The numbers of rows that the words of tables keep, and what is done to them.
-use Rattle.std.proofs.Common.{◌≡◌, ◌≢◌, ℕ, ◌+◌, ◌*◌, ◌/◌, ◌%◌, ◌^◌, ◌<◌, ◌≤◌, ◌==◌, List, length, get_or, set, refl, sym, ap, subst, ◌∙◌, arith, ◌⊎◌, inl, inr}
+use Rattle.std.proofs.Common.{◌≡◌, ◌≢◌, ℕ, ◌+◌, ◌*◌, ◌/◌, ◌%◌, ◌<◌, ◌≤◌, ◌==◌, List, length, get_or, set, refl, sym, ap, subst, ◌∙◌, arith, ◌⊎◌, inl, inr}
 use Rattle.std.specs.Prelude.{if◌then◌else◌}
 use Rattle.std.proofs.lemmas.Bool.{cases_eq}
 use Rattle.std.proofs.lemmas.Bool.Decides.{nat_tests}
@@ -7,7 +7,7 @@ use Rattle.std.proofs.lemmas.Grind.{same_number_lists}
 use Rattle.std.proofs.lemmas.List.{get_or-set_same, get_or-set_other, length-set, get_or_past}
 use Rattle.radix_tables.specs.Walks.{IsLonger}
 use Rattle.radix_tables.specs.Rows.{over}
-use Rattle.radix_tables.specs.Heads.{AreHeads, HasOne, IsAllOrNone, IsSpread, all_of, head_of, number_at, number_in}
+use Rattle.radix_tables.specs.Heads.{AreHeads, HasOne, IsAllOrNone, IsLow, IsSpread, all_of, head_of, number_at, number_in}
 use Rattle.radix_tables.proofs.Tables.{longer}
 use Rattle.radix_tables.proofs.RowWords.{over_length, over_at, longer_by}
 
@@ -72,8 +72,8 @@ all_or_none heads table even = by (cases_eq (get_or heads table 0) 0)
 
 -- ---- more tables
 
-pub heads_longer : (heads now : List ℕ) → AreHeads heads → IsLonger heads now → length now ≤ 2 ^ 32 → AreHeads now
-heads_longer heads now h l m = record { low = λ t. subst (λ x. x < 2 ^ 60) (sym (longer l t)) (h.low t); few = m }
+pub heads_longer : (heads now : List ℕ) → AreHeads heads → IsLonger heads now → AreHeads now
+heads_longer heads now h l t = subst IsLow (sym (longer l t)) (h t)
 
 pub numbers_longer : (heads now : List ℕ) → IsLonger heads now → length heads ≤ length now → IsLonger (over (number_at heads) heads) (over (number_at now) now)
 numbers_longer heads now l m = longer_by (over (number_at heads) heads) (over (number_at now) now) (omega (arith, over_length (number_at heads) heads, over_length (number_at now) now, m))

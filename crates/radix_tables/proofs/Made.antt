@@ -1,5 +1,5 @@
 -- Tables that are made change no word.
-use Rattle.std.proofs.Common.{true, false, ◌≡◌, ◌≢◌, ℕ, ◌+◌, ◌*◌, ◌/◌, ◌%◌, ◌^◌, ◌<◌, ◌≤◌, List, [], ◌∷◌, ◌++◌, length, eqb, cond, get_or, set, sym, ap, subst, ◌∙◌, arith, ◌⊎◌, inl, inr}
+use Rattle.std.proofs.Common.{true, false, ◌≡◌, ◌≢◌, ℕ, ◌+◌, ◌*◌, ◌/◌, ◌%◌, ◌^◌, ◌<◌, ◌≤◌, List, [], ◌∷◌, ◌++◌, length, eqb, cond, max, get_or, set, sym, ap, subst, ◌∙◌, arith, ◌⊎◌, inl, inr}
 use Rattle.std.proofs.lemmas.Bool.{cases_eq}
 use Rattle.std.proofs.lemmas.Bool.Decides.{nat_tests}
 use Rattle.std.proofs.Common.{Result, Ok, Err, MatchResult, OnOk, OnErr}
@@ -54,11 +54,11 @@ child_same l m lower xs ys below now a at h e f w j k b p c = built l m h w (rw 
 
 -- the first table of a level comes in
 pub first_levels : (l m : Levels) (lower : List (List ℕ)) (xs ys : List ℕ) (a : List (List ℕ)) → IsLevels l → from_second l ≡ lower ++ (xs ∷ a) → from_second m ≡ lower ++ (ys ∷ a) →
-    m.words ≡ l.words → m.used.items ≡ l.used.items → m.marks.items ≡ l.marks.items → IsLonger xs ys → IsWhole ys → length xs ≤ length ys → IsSame l m
-first_levels l m lower xs ys a h e f w j k g v r = built l m h w (rw j h.used) (rw k h.marks) tables same
+    m.words ≡ l.words → m.used.items ≡ l.used.items → m.marks.items ≡ l.marks.items → IsLonger xs ys → IsWhole ys → length xs ≤ length ys → length ys ≤ max (length xs) 128 → IsSame l m
+first_levels l m lower xs ys a h e f w j k g v r q = built l m h w (rw j h.used) (rw k h.marks) tables same
   where
     tables : AreTables (length l.words.items) (from_second m)
-    tables = subst (AreTables (length l.words.items)) (sym f) (deep_tables lower (xs ∷ a) (ys ∷ a) (length l.words.items) (λ n t. first_above xs ys a n g v r t) (subst (AreTables (length l.words.items)) e h.tables))
+    tables = subst (AreTables (length l.words.items)) (sym f) (deep_tables lower (xs ∷ a) (ys ∷ a) (length l.words.items) (λ n t. first_above xs ys a n g v r q t) (subst (AreTables (length l.words.items)) e h.tables))
 
     same : Same (from_second m) (from_second l)
     same = subst (λ (zs : List (List ℕ)). Same zs (from_second l)) (sym f) (subst (Same (lower ++ (ys ∷ a))) (sym e) (deep_same lower (xs ∷ a) (ys ∷ a) (same_up xs ys a a (first_same xs ys a g))))
@@ -75,7 +75,7 @@ first_made l m h e j k g u v = record {
     words = g.0.whole;
     room = g.1.whole;
     long = g.2;
-    tables = subst (AreTables (length m.words.items)) (sym e) (above_room (from_second l) (length l.words.items) (length m.words.items) h.tables g.0.more);
+    tables = subst (AreTables (length m.words.items)) (sym e) (above_room (from_second l) (length l.words.items) (length m.words.items) h.tables g.0.more g.0.few);
     used = rw j (bits_longer is_used h.used g.0.longer u);
     marks = rw k (bits_longer is_marked h.marks g.0.longer v);
   };

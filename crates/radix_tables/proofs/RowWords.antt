@@ -1,5 +1,5 @@
 -- The words that rows keep, and what is done to a row.
-use Rattle.std.proofs.Common.{◌≡◌, ◌≢◌, ℕ, ◌+◌, ◌-◌, ◌*◌, ◌/◌, ◌%◌, ◌^◌, ◌<◌, ◌≤◌, List, ◌++◌, length, get_or, set, replicate, sym, ap, subst, ◌∙◌, arith, ◌⊎◌, inl, inr}
+use Rattle.std.proofs.Common.{◌≡◌, ◌≢◌, ℕ, ◌+◌, ◌-◌, ◌*◌, ◌/◌, ◌%◌, ◌<◌, ◌≤◌, List, ◌++◌, length, get_or, set, replicate, sym, ap, subst, ◌∙◌, arith, ◌⊎◌, inl, inr}
 use Rattle.std.proofs.lemmas.Bool.{cases_eq, cases_lt}
 use Rattle.std.proofs.lemmas.Grind.{same_number_lists}
 use Rattle.std.proofs.lemmas.List.{get_or-set_same, get_or-set_other, length-set, get_or_past, length-append, length-replicate}
@@ -42,14 +42,13 @@ longer_by xs ys l e = record {
 }
 
 -- more rows, none of which has words yet
-pub rows_longer : (rows now words : List ℕ) → AreRows rows words → IsLonger rows now → length now % 8 ≡ 0 → length now ≤ 2 ^ 35 → AreRows now words
-rows_longer rows now words h l e m = record {
+pub rows_longer : (rows now words : List ℕ) → AreRows rows words → IsLonger rows now → length now % 8 ≡ 0 → AreRows now words
+rows_longer rows now words h l e = record {
   inside = λ i d. subst (λ k. k * 8 + 8 ≤ length words) (sym (longer l i)) (h.inside i (λ z. d (longer l i ∙ z)));
   apart = λ i j p d. h.apart i j (sym (longer l i) ∙ p ∙ longer l j) (λ z. d (longer l i ∙ z));
   empty = h.empty;
   whole = h.whole;
   tables = e;
-  few = m;
 }
 
 pub room_longer : (rows now : List ℕ) → IsLonger rows now → length rows ≤ length now → IsLonger (over (row_at rows) rows) (over (row_at now) now)
@@ -83,7 +82,6 @@ rows_set rows words at word h d = record {
   empty = λ i b. get_or-set_other words place i word 0 (other i b) ∙ h.empty i b;
   whole = ap (λ n. n % 8) (length-set words place word) ∙ h.whole;
   tables = h.tables;
-  few = h.few;
 }
   where
     place : ℕ
@@ -133,7 +131,6 @@ row_added rows words now e row h a l none = record {
   empty = λ i b. longer a.longer i ∙ h.empty i b;
   whole = omega (arith, a.last);
   tables = ap (λ n. n % 8) (length-set rows e row) ∙ h.tables;
-  few = omega (arith, length-set rows e row, h.few);
 }
   where
     here : (i : ℕ) → i ≡ e → get_or (set rows e row) i 0 ≡ row
@@ -210,7 +207,6 @@ module _ (rows now words more copied : List ℕ) (table which row first : ℕ) (
     empty = λ i b. empty i b;
     whole = omega (arith, cp.long, a.last);
     tables = ap (λ n. n % 8) sp.long ∙ h.tables;
-    few = omega (arith, sp.long, h.few);
   }
     where
       inside : (i : ℕ) → (i / 8 ≡ table) ⊎ (i / 8 ≢ table) → get_or now i 0 ≢ 0 → get_or now i 0 * 8 + 8 ≤ length copied

@@ -1,9 +1,11 @@
 -- Steps down the levels.
-use Rattle.std.proofs.Common.{◌≡◌, ◌≢◌, ℕ, ◌/◌, ◌^◌, ◌<◌, List, [], ◌∷◌, subst, sym, arith, ◌⊎◌, inl, inr}
+use Rattle.std.proofs.Common.{◌≡◌, ◌≢◌, ℕ, ◌/◌, ◌^◌, ◌<◌, ◌≤◌, not, eqb, List, [], ◌∷◌, length, subst, sym, arith, ◌⊎◌, inl, inr}
 use Rattle.std.proofs.lemmas.Bool.{cases_eq}
 use Rattle.std.proofs.lemmas.Bool.Decides.{nat_tests}
-use Rattle.radix_tables.specs.Walks.{table_in, entry_in, IsWhole, AreTables}
-use Rattle.radix_tables.specs.Levels.{IsStepIn}
+use Rattle.std.proofs.lemmas.List.Sums.{count_by-le-length}
+use Rattle.radix_tables.specs.Walks.{named_in, table_in, entry_in, IsWhole, AreTables}
+use Rattle.radix_tables.specs.Levels.{IsLevels, IsStepIn}
+use Rattle.radix_tables.specs.declared.levels.Levels.{Levels}
 use Rattle.radix_tables.specs.declared.level_tables.Step.{Step}
 use Rattle.radix_tables.specs.declared.level_tables.Step.TheVariants.{Table}
 use Rattle.radix_tables.proofs.Tables.{table_first, table_entry}
@@ -29,6 +31,26 @@ table_small a n m h l = by a h (cases_eq n 0)
 
 pub step_small : (a : List (List ℕ)) (n m : ℕ) (r : Step) → AreTables m a → m < 2 ^ 63 → IsStepIn a n r → (t : ℕ) → r ≡ Table t → t < 2 ^ 57
 step_small a n m r h l s t e = let f : IsStepIn a n (Table t) = subst (IsStepIn a n) e s in omega (arith, f.0, table_small a n m h l)
+
+-- a level names few tables of the one below, so there are few words
+pub words_few : (l : Levels) → IsLevels l → length l.words.items < 2 ^ 63
+words_few l h = omega (
+  arith,
+  h.tables.0.few,
+  h.tables.1.0.few,
+  h.tables.1.1.0.few,
+  h.tables.1.1.1.0.few,
+  h.tables.1.1.1.1.0.few,
+  h.tables.1.1.1.1.1,
+  named l.second.items,
+  named l.third.items,
+  named l.fourth.items,
+  named l.fifth.items,
+  named l.sixth.items,
+)
+  where
+    named : (xs : List ℕ) → named_in xs ≤ length xs
+    named xs = count_by-le-length (λ e. not (eqb e 0)) xs
 
 -- a step goes down a level
 pub step_on : (xs ys : List ℕ) (a : List (List ℕ)) (n : ℕ) (above r : Step) → ys ≡ xs → IsWhole xs → IsStepIn a (n / 64) above →

@@ -1,9 +1,10 @@
 -- Walks over levels of tables, and what an entry that is set does to them.
-use Rattle.std.proofs.Common.{◌≡◌, ◌≢◌, ℕ, zero, suc, ◌+◌, ◌-◌, ◌*◌, ◌/◌, ◌%◌, ◌<◌, ◌≤◌, eqb, cond, true, false, List, [], ◌∷◌, ◌++◌, length, get_or, set, replicate, refl, sym, ap, subst, ◌∙◌, arith, ◌⊎◌, inl, inr}
+use Rattle.std.proofs.Common.{◌≡◌, ◌≢◌, ℕ, zero, suc, ◌+◌, ◌-◌, ◌*◌, ◌/◌, ◌%◌, ◌<◌, ◌≤◌, eqb, cond, not, max, true, false, List, [], ◌∷◌, ◌++◌, length, get_or, set, replicate, refl, sym, ap, subst, ◌∙◌, arith, ◌⊎◌, inl, inr}
 use Rattle.std.proofs.lemmas.Bool.{cases_eq, cases_lt}
 use Rattle.std.proofs.lemmas.Bool.Decides.{nat_tests}
 use Rattle.std.proofs.lemmas.List.{get_or-set_same, get_or-set_other, length-set, get_or_append_left, get_or-append_right, get_or_past}
-use Rattle.radix_tables.specs.Walks.{table_in, entry_in, IsWhole, IsTables, AreTables, HasTable, IsLonger, IsChild}
+use Rattle.std.proofs.lemmas.List.Sums.{sum_by-append, sum_by-set}
+use Rattle.radix_tables.specs.Walks.{named_in, table_in, entry_in, IsWhole, IsTables, AreTables, HasTable, IsLonger, IsChild}
 
 -- what is read of entries after zeros were added
 pub zeros_added : (xs : List ℕ) (k i : ℕ) → get_or (xs ++ replicate k 0) i 0 ≡ get_or xs i 0
@@ -24,25 +25,45 @@ longer {xs} h i = ap (λ (zs : List ℕ). get_or zs i 0) h.added ∙ zeros_added
 whole_longer : {xs ys : List ℕ} → IsWhole xs → IsLonger xs ys → length ys % 64 ≡ 0 → (0 < length ys → 128 ≤ length ys) → IsWhole ys
 whole_longer w h e f = record { whole = e; first = f; empty = λ i l. longer h i ∙ w.empty i l }
 
+-- 1 if the entry names a table
+abbrev one_if_named : ℕ → ℕ
+one_if_named e = cond (not (eqb e 0)) 1 0
+
+named_longer : {xs ys : List ℕ} → IsLonger xs ys → named_in xs ≤ named_in ys
+named_longer {xs} {ys} h =
+    let e : named_in (xs ++ replicate h.by 0) ≡ named_in xs + named_in (replicate h.by 0) = sum_by-append one_if_named xs (replicate h.by 0) in
+    subst (λ (zs : List ℕ). named_in xs ≤ named_in zs) (sym h.added) (omega (arith, e))
+
+named_set : (xs : List ℕ) (at t : ℕ) → at < length xs → get_or xs at 0 ≡ 0 → 2 ≤ t → named_in (set xs at t) ≡ named_in xs + 1
+named_set xs at t l e d =
+    let s : named_in (set xs at t) + one_if_named (get_or xs at 0) ≡ named_in xs + one_if_named t = sum_by-set one_if_named xs at t 0 l in
+    let none : one_if_named (get_or xs at 0) ≡ 0 = ap one_if_named e in
+    let one : one_if_named t ≡ 1 = ap (λ b. cond (not b) 1 0) (some t d) in
+    omega (arith, s, none, one)
+  where
+    some : (t : ℕ) → 2 ≤ t → eqb t 0 ≡ false
+    some t d = grind (arith, nat_tests)
+
 tables_longer : {xs ys : List ℕ} {n : ℕ} → IsTables xs n → IsLonger xs ys → IsWhole ys → IsTables ys n
 tables_longer {xs} {ys} {n} t h w = record {
   tables = w;
   inside = λ i d. subst (λ k. k * 64 + 64 ≤ n) (sym (longer h i)) (t.inside i (λ z. d (longer h i ∙ z)));
   past = λ i z. t.past i (sym (longer h i) ∙ z);
   apart = λ i j p d. t.apart i j (sym (longer h i) ∙ p ∙ longer h j) (λ z. d (longer h i ∙ z));
+  few = omega (arith, t.few, named_longer h);
 }
 
-tables_room : {xs : List ℕ} {n : ℕ} (m : ℕ) → IsTables xs n → n ≤ m → IsTables xs m
-tables_room {xs} {n} m t l = record { tables = t.tables; inside = λ i d. omega (arith, t.inside i d); past = t.past; apart = t.apart }
+tables_room : {xs : List ℕ} {n : ℕ} (m : ℕ) → IsTables xs n → n ≤ m → m ≤ max n 128 → IsTables xs m
+tables_room {xs} {n} m t l f = record { tables = t.tables; inside = λ i d. omega (arith, t.inside i d); past = t.past; apart = t.apart; few = omega (arith, t.few, f) }
 
 -- a level has more room, so the ones above it stay as they are
-pub above_room : (a : List (List ℕ)) (n m : ℕ) → AreTables n a → n ≤ m → AreTables m a
-above_room [] n m h l = h
-above_room (xs ∷ a) n m h l = (tables_room m h.0 l, h.1)
+pub above_room : (a : List (List ℕ)) (n m : ℕ) → AreTables n a → n ≤ m → m ≤ max n 128 → AreTables m a
+above_room [] n m h l f = omega (arith, h, f)
+above_room (xs ∷ a) n m h l f = (tables_room m h.0 l f, h.1)
 
 -- an entry is set to a table past the others
-tables_set : (xs : List ℕ) (n m at t : ℕ) → IsTables xs n → 64 ≤ at → at < length xs → n ≤ t * 64 → 2 ≤ t → t * 64 + 64 ≤ m → IsTables (set xs at t) m
-tables_set xs n m at t h a l u d v = record {
+tables_set : (xs : List ℕ) (n m at t : ℕ) → IsTables xs n → 64 ≤ at → at < length xs → n ≤ t * 64 → 2 ≤ t → t * 64 + 64 ≤ m → get_or xs at 0 ≡ 0 → m ≤ n + 192 → IsTables (set xs at t) m
+tables_set xs n m at t h a l u d v none more = record {
   tables = record {
     whole = ap (λ k. k % 64) (length-set xs at t) ∙ h.tables.whole;
     first = λ p. omega (arith, length-set xs at t, h.tables.first (omega (arith, length-set xs at t, p)));
@@ -51,6 +72,7 @@ tables_set xs n m at t h a l u d v = record {
   inside = inside;
   past = past;
   apart = apart;
+  few = omega (arith, h.few, named_set xs at t l none d, more);
 }
   where
     apart_from : (i : ℕ) → i < 64 → i ≢ at
@@ -219,7 +241,7 @@ child_tables xs ys below now at h a l c = by c.step
 
     by : ((get_or xs at 0 ≢ 0) × (ys ≡ xs) × (now ≡ below)) ⊎ ((get_or xs at 0 ≡ 0) × (ys ≡ set xs at t) × (2 ≤ t) × (length below ≤ t * 64) × (length now ≡ t * 64 + 64) × IsLonger below now) → IsTables ys (length now)
     by (inl s) = rw (s.1, s.2) h
-    by (inr s) = subst (λ (zs : List ℕ). IsTables zs (length now)) (sym s.1) (tables_set xs (length below) (length now) at t h a l s.3 s.2 (omega (arith, s.4)))
+    by (inr s) = subst (λ (zs : List ℕ). IsTables zs (length now)) (sym s.1) (tables_set xs (length below) (length now) at t h a l s.3 s.2 (omega (arith, s.4)) s.0 c.few)
 
 pub child_whole : (xs ys below now : List ℕ) (at : ℕ) → IsWhole below → IsChild xs ys below now at → IsWhole now
 child_whole xs ys below now at w c = by c.step
@@ -271,8 +293,8 @@ child_has xs ys below now a n at d h w p c = (λ z. c.some (ap (λ i. get_or ys 
     by (inr s) = omega (arith, s.2, s.4)
 
 -- the first table of a level comes in
-pub first_above : (xs ys : List ℕ) (a : List (List ℕ)) (n : ℕ) → IsLonger xs ys → IsWhole ys → length xs ≤ length ys → AreTables n (xs ∷ a) → AreTables n (ys ∷ a)
-first_above xs ys a n g w l h = (tables_longer h.0 g w, above_room a (length xs) (length ys) h.1 l)
+pub first_above : (xs ys : List ℕ) (a : List (List ℕ)) (n : ℕ) → IsLonger xs ys → IsWhole ys → length xs ≤ length ys → length ys ≤ max (length xs) 128 → AreTables n (xs ∷ a) → AreTables n (ys ∷ a)
+first_above xs ys a n g w l f h = (tables_longer h.0 g w, above_room a (length xs) (length ys) h.1 l f)
 
 pub first_same : (xs ys : List ℕ) (a : List (List ℕ)) → IsLonger xs ys → SameEntry ys a xs a
 first_same xs ys a g = same_with xs ys a a (longer g) (λ n. refl)

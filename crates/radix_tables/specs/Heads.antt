@@ -1,5 +1,5 @@
 -- The numbers of rows, by a word for each table.
-use Rattle.std.specs.Prelude.{◌≡◌, ◌≢◌, ℕ, ◌+◌, ◌*◌, ◌/◌, ◌%◌, ◌^◌, ◌<◌, ◌≤◌, ◌==◌, if◌then◌else◌, ◌⊎◌, List, length}
+use Rattle.std.specs.Prelude.{◌≡◌, ◌≢◌, ℕ, ◌+◌, ◌*◌, ◌/◌, ◌%◌, ◌^◌, ◌<◌, ◌==◌, if◌then◌else◌, ◌⊎◌, List, length}
 use Rattle.std.specs.Prelude.{slice_index}
 
 -- the number that a table with this word has for one of its eight rows, 0 if there is none
@@ -37,7 +37,10 @@ pub record IsSpread (rows now : List ℕ) (table first : ℕ) : Type 0 where
   pub here : (k : ℕ) → k / 8 ≡ table → slice_index now k ≡ first + k % 8
   pub there : (k : ℕ) → k / 8 ≢ table → slice_index now k ≡ slice_index rows k
 
--- the words of tables are not too great, and not too many
-pub record AreHeads (heads : List ℕ) : Type 0 where
-  pub low : (t : ℕ) → slice_index heads t < 2 ^ 60
-  pub few : length heads ≤ 2 ^ 32
+-- each number that a table with this word has for its eight rows is low, so that the words of a row have their places
+abbrev pub IsLow : ℕ → Type 0
+IsLow head = head % 2 ≡ 0 → head / 2 + 7 < 2 ^ 60
+
+-- so it is of the words of all tables
+abbrev pub AreHeads : List ℕ → Type 0
+AreHeads heads = (t : ℕ) → IsLow (slice_index heads t)

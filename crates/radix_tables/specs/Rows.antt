@@ -1,5 +1,5 @@
 -- Words in tables of 64, of which eight lie in a row.
-use Rattle.std.specs.Prelude.{◌≡◌, ◌≢◌, ℕ, ◌+◌, ◌*◌, ◌/◌, ◌%◌, ◌^◌, ◌<◌, ◌≤◌, List, length, map, slice_index}
+use Rattle.std.specs.Prelude.{◌≡◌, ◌≢◌, ℕ, ◌+◌, ◌*◌, ◌/◌, ◌%◌, ◌<◌, ◌≤◌, List, length, map, slice_index}
 use Rattle.std.specs.List.{range_with_len}
 use Rattle.radix_tables.specs.Walks.{IsLonger}
 
@@ -54,4 +54,3 @@ pub record AreRows (rows words : List ℕ) : Type 0 where
   pub empty : (i : ℕ) → i < 8 → slice_index words i ≡ 0
   pub whole : length words % 8 ≡ 0
   pub tables : length rows % 8 ≡ 0
-  pub few : length rows ≤ 2 ^ 35

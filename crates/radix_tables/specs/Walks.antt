@@ -1,6 +1,6 @@
 -- Tables of 64 entries in a row, a level at a time: an entry names a table of the level below, or is a word.
-use Rattle.std.specs.Prelude.{⊤, ◌≡◌, ◌≢◌, ℕ, ◌+◌, ◌*◌, ◌/◌, ◌%◌, ◌<◌, ◌≤◌, ◌==◌, if◌then◌else◌, List, [], ◌∷◌, length}
-use Rattle.std.specs.Prelude.{slice_index, slice_set, replicate, ◌++◌, ◌⊎◌}
+use Rattle.std.specs.Prelude.{◌≡◌, ◌≢◌, ℕ, ◌+◌, ◌*◌, ◌/◌, ◌%◌, ◌<◌, ◌≤◌, ◌==◌, if◌then◌else◌, List, [], ◌∷◌, length}
+use Rattle.std.specs.Prelude.{slice_index, slice_set, replicate, ◌++◌, ◌⊎◌, count_by, max, not}
 
 -- the table that these levels, the lowest first, name for a number, 0 for none. That of number 0 is table 1, which no
 -- entry names; table 0 of each level is empty and stands for every table that is not there
@@ -18,16 +18,21 @@ pub record IsWhole (entries : List ℕ) : Type 0 where
   pub first : 0 < length entries → 128 ≤ length entries
   pub empty : (i : ℕ) → i < 64 → slice_index entries i ≡ 0
 
--- tables whose entries name tables of the level below, each at most once, and none the first
+-- how many tables of the level below these entries name
+abbrev pub named_in : List ℕ → ℕ
+named_in entries = count_by (λ e. not (e == 0)) entries
+
+-- tables whose entries name tables of the level below, each at most once, and none the first; there are few others
 pub record IsTables (entries : List ℕ) (below : ℕ) : Type 0 where
   pub tables : IsWhole entries
   pub inside : (i : ℕ) → slice_index entries i ≢ 0 → slice_index entries i * 64 + 64 ≤ below
   pub past : (i : ℕ) → slice_index entries i ≢ 1
   pub apart : (i j : ℕ) → slice_index entries i ≡ slice_index entries j → slice_index entries i ≢ 0 → i ≡ j
+  pub few : below ≤ 128 + 192 * named_in entries
 
 -- each level, the lowest first, over a level of this length
 abbrev pub AreTables : ℕ → List (List ℕ) → Type 0
-AreTables below [] = ⊤
+AreTables below [] = below ≤ 128
 AreTables below (entries ∷ above) = IsTables entries below × AreTables (length entries) above
 
 -- zeros are added at the end
@@ -41,6 +46,7 @@ pub record IsFirst (entries now : List ℕ) : Type 0 where
   pub whole : IsWhole now
   pub some : 128 ≤ length now
   pub more : length entries ≤ length now
+  pub few : length now ≤ max (length entries) 128
 
 -- a table of zeros was added, of this number
 pub record IsAdded (entries now : List ℕ) (table : ℕ) : Type 0 where
@@ -56,6 +62,7 @@ pub record IsChild (entries now below below_now : List ℕ) (at : ℕ) : Type 0 
       ((slice_index entries at ≡ 0) × (now ≡ slice_set entries at (slice_index now at)) × (2 ≤ slice_index now at)
       × (length below ≤ slice_index now at * 64)
       × (length below_now ≡ slice_index now at * 64 + 64) × IsLonger below below_now)
+  pub few : length below_now ≤ length below + 192
 
 -- the table for a number is there, of a level below these
 abbrev pub HasTable : List ℕ → List (List ℕ) → ℕ → Type 0

@@ -1,6 +1,6 @@
 // The tables of one level, 64 entries each, in a row.
 ghost use Rattle.std.specs.Prelude.{◌≡◌, ◌≢◌, ℕ, ◌+◌, ◌*◌, ◌/◌, ◌%◌, ◌^◌, ◌<◌, ◌≤◌, List, length, slice_index};
-ghost use Rattle.std.specs.Prelude.{MatchResult, OnOk, OnErr, IfOk, ◌∷◌};
+ghost use Rattle.std.specs.Prelude.{MatchResult, OnOk, OnErr, IfOk, ◌∷◌, max};
 ghost use Rattle.radix_tables.specs.Walks.{IsWhole, IsLonger, IsFirst, IsAdded, IsChild};
 ghost use Rattle.radix_tables.specs.Levels.{IsStepIn};
 
@@ -83,7 +83,7 @@ pub(crate) fn first_table(entries: &mut Vec<u64>) -> Result<(), NoMemory>
     ensures whole { IsWhole entries.new.items }
     ensures err { OnErr result (entries.new.items ≡ entries.old.items) }
     ensures ok { OnOk result (128 ≤ length entries.new.items) }
-    ensures grown { length entries.new.items ≤ length entries.old.items + 128 }
+    ensures few { length entries.new.items ≤ max (length entries.old.items) 128 }
     ensures more { length entries.old.items ≤ length entries.new.items }
 {
     if entries.is_empty() {

@@ -150,7 +150,6 @@ impl Levels {
         requires table { table ≡ table_in (from_second self.now) (page / 64) }
         ensures { result ≡ table_in (from_second self.now) (page / 64) * 64 + page % 64 }
     {
-        self.words.facts();
         place(table, page)
     }
 
@@ -529,7 +528,6 @@ impl Levels {
             × ((v : ℕ) → page ≤ v → v < e.0 → word_of self.now v ≡ 0)) }
     {
         let found = next_entry(&self.used, table, page)?;
-        self.words.facts();
         Some((found, self.words.get(place(table, found))))
     }
 
@@ -543,7 +541,6 @@ impl Levels {
             × ((v : ℕ) → page ≤ v → v < e.0 → marked_of self.now v ≡ 0)) }
     {
         let found = next_entry(&self.marks, table, page)?;
-        self.words.facts();
         Some((found, self.words.get(place(table, found))))
     }
 }
@@ -598,7 +595,7 @@ fn bits_of(bits: &[u64], table: u64) -> u64
 
 /// Makes room for the bits of these tables and of three more.
 fn grow_bits(bits: &mut Vec<u64>, tables: usize) -> Result<(), NoMemory>
-    requires { tables ≤ 2 ^ 32 }
+    requires { tables < 2 ^ 63 }
     ensures same { (k : ℕ) → bit bits.new.items k ≡ bit bits.old.items k }
     ensures more { length bits.old.items ≤ length bits.new.items }
     ensures ok { OnOk result (tables * 64 + 192 ≤ 64 * length bits.new.items) }

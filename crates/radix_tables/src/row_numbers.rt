@@ -2,7 +2,7 @@
 // one word says which they are.
 ghost use Rattle.std.specs.Prelude.{◌≡◌, ◌≢◌, ℕ, ◌+◌, ◌*◌, ◌/◌, ◌%◌, ◌^◌, ◌<◌, ◌≤◌, [], length, slice_index, slice_set};
 ghost use Rattle.std.specs.Prelude.{MatchResult, IfSome, IfNone};
-ghost use Rattle.radix_tables.specs.Heads.{HasOne, IsAllOrNone, IsSpread, all_of, head_of, number_in};
+ghost use Rattle.radix_tables.specs.Heads.{HasOne, IsAllOrNone, IsLow, IsSpread, all_of, head_of, number_in};
 ghost use Rattle.radix_tables.specs.Walks.{IsLonger};
 
 use hm_base::NoMemory;
@@ -11,9 +11,6 @@ use std::marker::Model;
 
 /// Rows that a table may have.
 const ROWS: usize = 8;
-
-/// One more than the most tables. More have no number for each of their rows.
-const MOST: usize = 1 << 32;
 
 /// The numbers of the rows of tables, eight for each table, 0 for a row that is not there. For each table there is one
 /// word: 0 if it has no row; of a single row 16 times its number, twice its place among the eight, and 1; of eight rows
@@ -47,7 +44,7 @@ impl RowNumbers {
     /// How many tables there are.
     pub(crate) fn tables(&self) -> usize
         ensures count { result * 8 ≡ length self.now }
-        ensures few { result ≤ 2 ^ 32 }
+        ensures few { result < 2 ^ 63 }
     {
         self.heads.len()
     }
@@ -79,19 +76,16 @@ impl RowNumbers {
     pub(crate) fn grow(&mut self, tables: usize) -> Result<(), NoMemory>
         requires { length self.old ≤ tables * 8 }
         ensures { MatchResult result
-            (λ _. IsLonger self.old self.new × (length self.new ≡ tables * 8) × (tables ≤ 2 ^ 32))
-            (λ _. self.new ≡ self.old) }
+            (λ _. IsLonger self.old self.new × (length self.new ≡ tables * 8)) (λ _. self.new ≡ self.old) }
     {
-        if tables > MOST {
-            return Err(NoMemory);
-        }
         add_heads(&mut self.heads, tables)?;
         Ok(())
     }
 
     /// Gives a table without rows its first one.
-    pub(crate) fn set(&mut self, at: usize, row: u32)
+    pub(crate) fn set(&mut self, at: usize, row: u64)
         requires inside { at < length self.old }
+        requires low { row < 2 ^ 60 }
         requires none { (k : ℕ) → k / 8 ≡ at / 8 → slice_index self.old k ≡ 0 }
         ensures { self.new ≡ slice_set self.old at row }
     {
@@ -99,8 +93,9 @@ impl RowNumbers {
     }
 
     /// Gives a table eight rows side by side in place of those that it has. The first has this number.
-    pub(crate) fn spread(&mut self, table: usize, first: u32)
+    pub(crate) fn spread(&mut self, table: usize, first: u64)
         requires inside { table * 8 < length self.old }
+        requires low { first + 7 < 2 ^ 60 }
         requires some { 1 ≤ first }
         ensures { IsSpread self.old self.new table first }
     {
@@ -130,25 +125,27 @@ fn add_heads(heads: &mut Vec<u64>, count: usize) -> Result<(), NoMemory>
 }
 
 /// The word of a table with one row, which is this one of the eight.
-fn head_of(row: u32, which: usize) -> u64
-    requires { which < 8 }
+fn head_of(row: u64, which: usize) -> u64
+    requires row { row < 2 ^ 60 }
+    requires which { which < 8 }
     ensures { result ≡ head_of row which }
 {
-    u64::from(row) * 16 + which as u64 * 2 + 1
+    row * 16 + which as u64 * 2 + 1
 }
 
 /// The word of a table with eight rows.
-fn all_of(first: u32) -> u64
+fn all_of(first: u64) -> u64
+    requires { first < 2 ^ 60 }
     ensures { result ≡ all_of first }
 {
-    u64::from(first) * 2
+    first * 2
 }
 
 /// The number that a table with this word has for one of its eight rows.
 #[inline(always)]
 fn number_in(head: u64, which: usize) -> u64
     requires which { which < 8 }
-    requires head { head < 2 ^ 60 }
+    requires head { IsLow head }
     ensures number { result ≡ number_in head which }
     ensures bound { result < 2 ^ 60 }
 {

@@ -54,15 +54,14 @@ impl WordRows {
     pub(crate) fn tables(&self) -> usize
         ensures count { result * 64 ≡ length self.now.items }
         ensures room { length self.now.room ≡ length self.now.items }
-        ensures few { result ≤ 2 ^ 32 }
+        ensures few { result < 2 ^ 63 }
     {
         self.rows.tables()
     }
 
-    /// There are not too many words for their places, and each that is not 0 has a row.
+    /// Each word that is not 0 has a row.
     pub(crate) fn facts(&self)
-        ensures few { length self.now.items ≤ 2 ^ 38 }
-        ensures room { (k : ℕ) → slice_index self.now.items k ≢ 0 → slice_index self.now.room k ≢ 0 }
+        ensures { (k : ℕ) → slice_index self.now.items k ≢ 0 → slice_index self.now.room k ≢ 0 }
     {
         let _ = &self.rows;
     }
@@ -106,12 +105,12 @@ impl WordRows {
         match self.rows.only(at / TABLE) {
             None => {
                 let row = add_row(&mut self.words)?;
-                self.rows.set(at / ROW, row);
+                self.rows.set(at / ROW, row as u64);
             }
             Some((which, row)) => {
                 let first = add_rows(&mut self.words)?;
-                copy_row(&mut self.words, row as usize, first as usize + which);
-                self.rows.spread(at / TABLE, first);
+                copy_row(&mut self.words, row as usize, first + which);
+                self.rows.spread(at / TABLE, first as u64);
             }
         }
         Ok(())
@@ -141,31 +140,27 @@ fn word_in(words: &[u64], at: usize) -> u64
 }
 
 /// Adds an empty row, and gives its number.
-fn add_row(words: &mut Vec<u64>) -> Result<u32, NoMemory>
+fn add_row(words: &mut Vec<u64>) -> Result<usize, NoMemory>
     requires { length words.old.items % 8 ≡ 0 }
-    ensures { MatchResult result (λ row. IsRowAdded words.old.items words.new.items row)
+    ensures low { IfOk result (λ row. row < 2 ^ 60) }
+    ensures added { MatchResult result (λ row. IsRowAdded words.old.items words.new.items row)
         (λ _. words.new.items ≡ words.old.items) }
 {
     let row = (words.len() / ROW).max(1);
-    let Ok(number) = u32::try_from(row) else {
-        return Err(NoMemory);
-    };
     words.resize((row + 1) * ROW, 0)?;
-    Ok(number)
+    Ok(row)
 }
 
 /// Adds eight empty rows, and gives the number of the first.
-fn add_rows(words: &mut Vec<u64>) -> Result<u32, NoMemory>
+fn add_rows(words: &mut Vec<u64>) -> Result<usize, NoMemory>
     requires { length words.old.items % 8 ≡ 0 }
-    ensures { MatchResult result (λ first. AreRowsAdded words.old.items words.new.items first)
+    ensures low { IfOk result (λ first. first + 7 < 2 ^ 60) }
+    ensures added { MatchResult result (λ first. AreRowsAdded words.old.items words.new.items first)
         (λ _. words.new.items ≡ words.old.items) }
 {
     let first = (words.len() / ROW).max(1);
-    let Ok(number) = u32::try_from(first) else {
-        return Err(NoMemory);
-    };
     words.resize(first * ROW + TABLE, 0)?;
-    Ok(number)
+    Ok(first)
 }
 
 /// Writes the words of a row over those of another one.

@@ -7,7 +7,7 @@ use Rattle.radix_tables.proofs.levels.Levels.make_second.Goals as goal
 pub returns-then-number-eq0-clause-same : goal.returns-then-number-eq0-clause-same
 returns-then-number-eq0-clause-same c =
     let l = c.args.self.now in
-    first_levels _ _ ([]) _ _ (from_third l) c.requires.levels refl refl refl refl refl c.first_table.ensures.entries c.first_table.ensures.whole c.first_table.ensures.more
+    first_levels _ _ ([]) _ _ (from_third l) c.requires.levels refl refl refl refl refl c.first_table.ensures.entries c.first_table.ensures.whole c.first_table.ensures.more c.first_table.ensures.few
 
 pub place-requires : goal.place-requires
 place-requires c =

@@ -2,7 +2,7 @@ use Rattle.std.proofs.Common.{◌/◌, ℕ, length, ap, sym, subst, ◌∙◌, a
 use Rattle.std.specs.Prelude.{slice_index}
 use Rattle.radix_tables.specs.Maps.{is_marked, marked}
 use Rattle.radix_tables.specs.Levels.{from_second, AreBits}
-use Rattle.radix_tables.proofs.Steps.{table_small}
+use Rattle.radix_tables.proofs.Steps.{table_small, words_few}
 use Rattle.radix_tables.proofs.TableBits.{none_word, some_word, found_none, unmarked, with_mark}
 use Rattle.radix_tables.proofs.levels.Levels.next_mark.Goals as goal
 
@@ -20,4 +20,4 @@ returns c =
 pub place-requires : goal.place-requires
 place-requires c =
     let l = c.args.self.now in
-    omega (arith, c.requires.table.0, table_small (from_second l) (c.args.page / 64) (length l.words.items) c.requires.levels.tables (omega (arith, c.facts.ensures.few)))
+    omega (arith, c.requires.table.0, table_small (from_second l) (c.args.page / 64) (length l.words.items) c.requires.levels.tables (words_few l c.requires.levels))

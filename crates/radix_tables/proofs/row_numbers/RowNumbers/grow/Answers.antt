@@ -14,7 +14,7 @@ add_heads-requires c =
 pub invariant_of-self-2 : goal.invariant_of-self-2
 invariant_of-self-2 c =
     let e = c.in_ok-add_heads.ensures in
-    heads_longer c.self.inside.heads.items c.add_heads.new.heads.items c.self.invariant e.0 (omega (arith, e.1, c.if-tables-gt-MOST.false))
+    heads_longer c.self.inside.heads.items c.add_heads.new.heads.items c.self.invariant e.0
 
 pub returns : goal.returns
 returns c =
@@ -24,5 +24,4 @@ returns c =
     let more : length heads ≤ length now = omega (arith, e.1, c.requires, ap (λ (ns : List ℕ). length ns) c.self.view_is, over_length (number_at heads) heads) in (
       subst (λ (ns : List ℕ). IsLonger ns (over (number_at now) now)) c.self.view_is (numbers_longer heads now e.0 more),
       omega (arith, over_length (number_at now) now, e.1),
-      omega (arith, c.if-tables-gt-MOST.false),
     )

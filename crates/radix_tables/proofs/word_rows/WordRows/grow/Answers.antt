@@ -12,7 +12,7 @@ grow-requires c =
 pub invariant_of-self-2 : goal.invariant_of-self-2
 invariant_of-self-2 c =
     let e = c.in_ok-grow.ensures in
-    rows_longer c.self.inside.rows c.grow.new.self c.self.inside.words.items c.self.invariant e.0 (omega (arith, e.1)) (omega (arith, e.1, e.2))
+    rows_longer c.self.inside.rows c.grow.new.self c.self.inside.words.items c.self.invariant e.0 (omega (arith, e.1))
 
 pub returns : goal.returns
 returns c =
@@ -21,7 +21,7 @@ returns c =
     let now = c.grow.new.self in
     let e = c.in_ok-grow.ensures in
     let more : length rows ≤ length now = omega (arith, e.1, c.requires, ap (λ (w : Words). length w.items) c.self.view_is, over_length (word_in rows words) rows) in
-    let sound = rows_longer rows now words c.self.invariant e.0 (omega (arith, e.1)) (omega (arith, e.1, e.2)) in (
+    let sound = rows_longer rows now words c.self.invariant e.0 (omega (arith, e.1)) in (
       subst (λ (w : Words). IsLonger w.items (over (word_in now words) now)) c.self.view_is (items_longer rows now words c.self.invariant sound e.0 more),
       subst (λ (w : Words). IsLonger w.room (over (row_at now) now)) c.self.view_is (room_longer rows now e.0 more),
       omega (arith, over_length (word_in now words) now, e.1),

@@ -35,7 +35,7 @@ invariant_of-self-in-None c =
     let none : get_or rows (at / 8) 0 ≡ 0 = sym (room_at rows at) ∙ (ap (λ (w : Words). get_or w.room at 0) c.self.view_is ∙ c.requires.none) in
     let now = c.add_row.new.words.items in
     let row = c.in_ok-row-in-None.row in
-    subst (λ (rs : List ℕ). AreRows rs now) (sym c.set.ensures) (row_added rows words now (at / 8) row c.self.invariant c.in_ok-row-in-None.ensures inside none)
+    subst (λ (rs : List ℕ). AreRows rs now) (sym c.set.ensures) (row_added rows words now (at / 8) row c.self.invariant c.in_ok-row-in-None.ensures.added inside none)
 
 pub returns-in_ok-row-in-None-clause-items : goal.returns-in_ok-row-in-None-clause-items
 returns-in_ok-row-in-None-clause-items c =
@@ -47,7 +47,7 @@ returns-in_ok-row-in-None-clause-items c =
     let now = c.add_row.new.words.items in
     let row = c.in_ok-row-in-None.row in
     ap (λ (rs : List ℕ). over (word_in rs now) rs) c.set.ensures
-    ∙ (items_added rows words now (at / 8) row c.self.invariant c.in_ok-row-in-None.ensures inside none ∙ ap (λ (w : Words). w.items) c.self.view_is)
+    ∙ (items_added rows words now (at / 8) row c.self.invariant c.in_ok-row-in-None.ensures.added inside none ∙ ap (λ (w : Words). w.items) c.self.view_is)
 
 pub returns-in_ok-row-in-None-clause-room : goal.returns-in_ok-row-in-None-clause-room
 returns-in_ok-row-in-None-clause-room c =
@@ -59,7 +59,7 @@ returns-in_ok-row-in-None-clause-room c =
     let now = c.add_row.new.words.items in
     let row = c.in_ok-row-in-None.row in
     subst (λ (w : Words). IsRoomMade w.room (over (row_at c.set.new.self) c.set.new.self) at) c.self.view_is
-    (subst (λ (rs : List ℕ). IsRoomMade (over (row_at rows) rows) (over (row_at rs) rs) at) (sym c.set.ensures) (room_added rows words now at row c.in_ok-row-in-None.ensures inside none))
+    (subst (λ (rs : List ℕ). IsRoomMade (over (row_at rows) rows) (over (row_at rs) rs) at) (sym c.set.ensures) (room_added rows words now at row c.in_ok-row-in-None.ensures.added inside none))
 
 pub spread-requires-clause-inside : goal.spread-requires-clause-inside
 spread-requires-clause-inside c =
@@ -76,7 +76,7 @@ invariant_of-self-in-Some c =
     let more = c.add_rows.new.words.items in
     let copied = c.copy_row.new.words.items in
     let first = c.in_ok-first-in-Some.first in
-    spread_rows rows c.spread.new.self words more copied (c.args.at / 64) c.in-Some.which c.in-Some.row first c.self.invariant c.in-Some.ensures.one c.in_ok-first-in-Some.ensures c.copy_row.ensures c.spread.ensures
+    spread_rows rows c.spread.new.self words more copied (c.args.at / 64) c.in-Some.which c.in-Some.row first c.self.invariant c.in-Some.ensures.one c.in_ok-first-in-Some.ensures.added c.copy_row.ensures c.spread.ensures
 
 pub returns-in_ok-first-in-Some-clause-items : goal.returns-in_ok-first-in-Some-clause-items
 returns-in_ok-first-in-Some-clause-items c =
@@ -85,7 +85,7 @@ returns-in_ok-first-in-Some-clause-items c =
     let more = c.add_rows.new.words.items in
     let copied = c.copy_row.new.words.items in
     let first = c.in_ok-first-in-Some.first in
-    spread_items rows c.spread.new.self words more copied (c.args.at / 64) c.in-Some.which c.in-Some.row first c.self.invariant c.in-Some.ensures.one c.in_ok-first-in-Some.ensures c.copy_row.ensures c.spread.ensures
+    spread_items rows c.spread.new.self words more copied (c.args.at / 64) c.in-Some.which c.in-Some.row first c.self.invariant c.in-Some.ensures.one c.in_ok-first-in-Some.ensures.added c.copy_row.ensures c.spread.ensures
     ∙ ap (λ (w : Words). w.items) c.self.view_is
 
 pub returns-in_ok-first-in-Some-clause-room : goal.returns-in_ok-first-in-Some-clause-room
@@ -96,4 +96,4 @@ returns-in_ok-first-in-Some-clause-room c =
     let copied = c.copy_row.new.words.items in
     let first = c.in_ok-first-in-Some.first in
     subst (λ (w : Words). IsRoomMade w.room (over (row_at c.spread.new.self) c.spread.new.self) c.args.at) c.self.view_is
-    (spread_room rows c.spread.new.self words more copied (c.args.at / 64) c.in-Some.which c.in-Some.row first c.self.invariant c.in-Some.ensures.one c.in_ok-first-in-Some.ensures c.copy_row.ensures c.spread.ensures c.args.at refl)
+    (spread_room rows c.spread.new.self words more copied (c.args.at / 64) c.in-Some.which c.in-Some.row first c.self.invariant c.in-Some.ensures.one c.in_ok-first-in-Some.ensures.added c.copy_row.ensures c.spread.ensures c.args.at refl)

@@ -13,6 +13,3 @@ returns-clause-room c =
     let rows = c.self.inside.rows in
     sym (ap (λ (w : Words). length w.room) c.self.view_is)
     ∙ (over_length (row_at rows) rows ∙ (sym (over_length (word_in rows c.self.inside.words.items) rows) ∙ ap (λ (w : Words). length w.items) c.self.view_is))
-
-pub returns-clause-few : goal.returns-clause-few
-returns-clause-few c = omega (arith, c.tables.ensures.count, c.self.invariant.few)
