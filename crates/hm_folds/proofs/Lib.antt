@@ -14,6 +14,7 @@ pub mod OneWriter
 pub mod PlaceSteps
 pub mod HeldPools
 pub mod PastPages
+pub mod FewPages
 pub mod TableSizes
 pub mod PlaceAccepts
 mod SameBytes

@@ -83,6 +83,11 @@ less_then_more a b more fewer true false h = same_shares _ b (omega (arith, h.pa
 less_then_more a b more fewer false true h = same_shares _ b (omega (arith, h.pages)) (omega (arith, h.writers))
 less_then_more a b more fewer false false h = same_shares _ b (omega (arith, h.pages)) (omega (arith, h.writers))
 
+-- what came goes again
+pub more_undone : (n : Bool) (a b d more : Shares) → b ≡ after_more n a more → d ≡ after_less n b more → d ≡ a
+more_undone true a b d more e f = f ∙ ap (λ (z : Shares). less z more) e ∙ same_shares (less (plus a more) more) a (omega arith) (omega arith)
+more_undone false a b d more e f = f ∙ e
+
 -- a page has another place
 one_part : (o w : Bool) → one_if (o && w) ≡ part o (if w then 1 else 0)
 one_part true w = refl

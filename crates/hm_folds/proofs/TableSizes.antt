@@ -56,6 +56,9 @@ sizes_kept p v old y pools pool = by (freezes old y) (keeps_use old y)
     by false true = refl
     by false false = size_into p v (is_moving y) (names y) (without_use_of p v (names old) pools) pool ∙ size_out p v (names old) pools pool
 
+pub fitted_same : (x y : Tables) (held : List HeldNumbers) → IsFitted x held → SameTables x y → IsFitted y held
+fitted_same x y held h same = record { sizes = λ pool. h.sizes pool ∙ sym (same.pools.sizes pool) }
+
 pub fitted_next : (x y z : Tables) (held : List HeldNumbers) (p v : ℕ) (place : Place) → IsFitted x held → SameTables x y → z ≡ tables_next (Kind.Place p v place) y → IsFitted z held
 fitted_next x y z held p v place h same e = record { sizes = λ pool. h.sizes pool ∙ sym (same.pools.sizes pool) ∙ sym (sizes_kept p v (place_of y p v) place y.pools pool) ∙ sym (ap (λ (t : Tables). size_in t.pools pool) e) }
 

@@ -1,5 +1,5 @@
 -- For each frame, how many pages have to do with it, and how many of them are writable.
-use Rattle.std.specs.Prelude.{ℕ, ◌+◌, ◌-◌, Bool, ◌||◌, ◌==◌, nat_le, Option, Some, None, is_some, unwrap_or, List}
+use Rattle.std.specs.Prelude.{ℕ, ◌+◌, ◌-◌, ◌^◌, ◌<◌, Bool, ◌||◌, ◌==◌, nat_le, Option, Some, None, is_some, unwrap_or, List}
 use Rattle.std.specs.Prelude.{slice_get}
 use Rattle.std.specs.Ordering.{nat_cmp}
 use Rattle.std.specs.BTreeMap as tree
@@ -15,6 +15,14 @@ no_shares = record { pages = 0; writers = 0 }
 -- the pages of both
 abbrev pub plus : Shares → Shares → Shares
 plus x y = record { pages = x.pages + y.pages; writers = x.writers + y.writers }
+
+-- the numbers of both together can be written
+abbrev pub Fit : Shares → Shares → Type 0
+Fit x y = (x.pages + y.pages < 2 ^ 64) × (x.writers + y.writers < 2 ^ 64)
+
+-- so it is whatever frame they come to
+abbrev pub AllFit : (Frame → Shares) → Shares → Type 0
+AllFit shares more = (f : Frame) → Fit (shares f) more
 
 -- the pages of the first without those of the second
 abbrev pub less : Shares → Shares → Shares

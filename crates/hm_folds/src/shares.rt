@@ -1,9 +1,10 @@
 // For each frame, how many pages have to do with it, and how many of them are writable.
-ghost use Rattle.std.specs.Prelude.{◌≡◌, ◌==◌, ℕ, if◌then◌else◌, true, IfOk, OnOk, OnErr};
+ghost use Rattle.std.specs.Prelude.{◌≡◌, ◌==◌, ℕ, if◌then◌else◌, true, OnOk, OnErr};
 ghost use Rattle.hm_base.specs.declared.Frame.{Frame as AnyFrame};
 ghost use Rattle.hm_base.specs.PlaceWords.{is_frame, moving_frame, with_frame};
 ghost use Rattle.hm_folds.specs.Standing.{share_of};
 ghost use Rattle.hm_folds.specs.Shares.{no_shares, plus, less, has_one_writer, shares_in, has_shares, shares_at};
+ghost use Rattle.hm_folds.specs.Shares.{Fit, AllFit};
 
 use hm_base::frames::pool_index;
 use hm_base::{Frame, NoMemory, Place};
@@ -28,17 +29,14 @@ impl Shares {
         }
     }
 
-    /// So many more; no history has as many pages as do not fit.
-    fn plus(self, more: Shares) -> Result<Shares, NoMemory>
-        ensures { IfOk result (λ x. x ≡ plus self more) }
+    /// So many more. No history has as many pages as do not fit.
+    fn plus(self, more: Shares) -> Shares
+        ensures { Fit self more → result ≡ plus self more }
     {
-        let Some(pages) = self.pages.checked_add(more.pages) else {
-            return Err(NoMemory);
-        };
-        let Some(writers) = self.writers.checked_add(more.writers) else {
-            return Err(NoMemory);
-        };
-        Ok(Shares { pages, writers })
+        Shares {
+            pages: self.pages.saturating_add(more.pages),
+            writers: self.writers.saturating_add(more.writers),
+        }
     }
 
     /// So many fewer.
@@ -161,7 +159,7 @@ impl FrameShares {
     /// So many more of a frame, if there is one; a failure changes nothing.
     pub(crate) fn add(&mut self, frame: &Option<Frame>, more: Shares) -> Result<(), NoMemory>
         ensures ok { OnOk result
-            ((f : AnyFrame)
+            (AllFit (shares_at self.old.pools) more → (f : AnyFrame)
             → shares_at self.new.pools f
             ≡
             (if is_frame frame.now f then plus (shares_at self.old.pools f) more else shares_at self.old.pools f)) }
@@ -170,7 +168,7 @@ impl FrameShares {
         match frame {
             None => Ok(()),
             Some(frame) => {
-                let shares = self.get(frame).plus(more)?;
+                let shares = self.get(frame).plus(more);
                 self.set(frame, shares)
             }
         }
@@ -229,19 +227,19 @@ pub(crate) fn share_more(
     place: &Place,
 ) -> Result<(), NoMemory>
     ensures standing { OnOk result
-        ((f : AnyFrame)
+        (AllFit (shares_at standing.old.pools) (share_of place.now) → (f : AnyFrame)
         → shares_at standing.new.pools f
         ≡
         (if is_frame to.now f then plus (shares_at standing.old.pools f) (share_of place.now)
         else shares_at standing.old.pools f)) }
     ensures moving { OnOk result
-        ((f : AnyFrame)
+        (AllFit (shares_at moving.old.pools) (share_of place.now) → (f : AnyFrame)
         → shares_at moving.new.pools f
         ≡
         (if is_frame (moving_frame place.now) f then plus (shares_at moving.old.pools f) (share_of place.now)
         else shares_at moving.old.pools f)) }
     ensures stands { OnErr result
-        ((f : AnyFrame) → shares_at standing.new.pools f ≡ shares_at standing.old.pools f) }
+        (AllFit (shares_at standing.old.pools) (share_of place.now) → (f : AnyFrame) → shares_at standing.new.pools f ≡ shares_at standing.old.pools f) }
     ensures moves { OnErr result
         ((f : AnyFrame) → shares_at moving.new.pools f ≡ shares_at moving.old.pools f) }
 {

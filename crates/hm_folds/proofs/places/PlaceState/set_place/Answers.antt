@@ -1,5 +1,5 @@
 use Rattle.std.proofs.Common.{◌≡◌, refl, sym, ap, ◌∙◌, subst}
-use Rattle.std.specs.Prelude.{Option}
+use Rattle.std.specs.Prelude.{Option, Result, Ok, Err, OnErr}
 use Rattle.std.proofs.lemmas.Bool.{and_parts}
 use Rattle.hm_base.specs.declared.Frame.{Frame}
 use Rattle.hm_base.specs.PlaceWords.{is_frame, names}
@@ -10,8 +10,11 @@ use Rattle.hm_tables.specs.Shown.{TablesShown}
 use Rattle.hm_tables.proofs.TablesKept.{tables_kept, shown_same}
 use Rattle.hm_folds.specs.Commits.{committed_at}
 use Rattle.hm_folds.specs.Standing.{is_backed, is_moving_of}
+use Rattle.hm_folds.specs.Places.{PlacesShown, ForShown}
+use Rattle.hm_folds.specs.Shares.{shares_at}
+use Rattle.hm_folds.proofs.FewPages.{page_fits}
 use Rattle.hm_folds.proofs.PlaceSteps.{backed_by, kept_place, named_placed}
-use Rattle.hm_folds.proofs.TableSizes.{fitted_next, named_fits, size_fits}
+use Rattle.hm_folds.proofs.TableSizes.{fitted_same, fitted_next, named_fits, size_fits}
 use Rattle.hm_folds.proofs.places.PlaceState.set_place.Goals as goal
 
 pub reserve-requires : goal.reserve-requires
@@ -38,9 +41,9 @@ returns-clause-ok c = λ p s h e.
       standing = λ f. kept_place s h.tables.once h.tables.listed (is_backed s f) refl c.args.proc c.args.page y old _ _ _ (is_frame c.backing-to.result f) (is_frame c.backing-from.result f) was
           (ap (λ (o : Option Frame). is_frame o f) (c.backing-to.ensures ∙ backed_by to s h.committed y))
           (ap (λ (o : Option Frame). is_frame o f) (c.backing-from.ensures ∙ backed_by to s h.committed old))
-          (h.standing f) (c.in_ok-share_more.ensures.standing f) (c.share_less.ensures.standing f);
+          (h.standing f) (c.in_ok-share_more.ensures.standing (page_fits p s x.tables h.tables (shares_at x.standing.pools) (is_backed s) (λ f. refl) h.standing y) f) (c.share_less.ensures.standing f);
       moving = λ f. kept_place s h.tables.once h.tables.listed (is_moving_of f) refl c.args.proc c.args.page y old _ _ _ (is_moving_of f y) (is_moving_of f old) was refl refl
-          (h.moving f) (c.in_ok-share_more.ensures.moving f) (c.share_less.ensures.moving f);
+          (h.moving f) (c.in_ok-share_more.ensures.moving (page_fits p s x.tables h.tables (shares_at x.moving.pools) is_moving_of (λ f. refl) h.moving y) f) (c.share_less.ensures.moving f);
       withdrawn = h.withdrawn;
       removed = h.removed;
       table = h.table;
@@ -48,3 +51,28 @@ returns-clause-ok c = λ p s h e.
       named = named_placed s h.named c.args.proc c.args.page y parts.0;
       one = parts.1;
     }
+
+pub step-requires-clause-fits : goal.step-requires-clause-fits
+step-requires-clause-fits c =
+    let x = c.args.self.now in
+    named_fits c.reserve.new.self x.held.pools (fitted_same x.tables c.reserve.new.self x.held.pools x.fitted c.reserve.ensures.same) (names c.args.place.now) c.requires
+
+on_err : {T E P : Type 0} (r : Result T E) → P → OnErr r P
+on_err (Ok x) p = tt
+on_err (Err e) p = p
+
+pub returns-in_err-share_more-clause-err : goal.returns-in_err-share_more-clause-err
+returns-in_err-share_more-clause-err c = on_err {P = ForShown c.args.self.now (λ p s. PlacesShown p s _)} _ (λ p s h. let x = c.args.self.now in record {
+  tables = shown_same p s.place s.placed x.tables c.reserve.new.self c.reserve.ensures.same h.tables;
+  frames = h.frames;
+  held = h.held;
+  committed = h.committed;
+  standing = λ f. c.in_err-share_more.ensures.stands (page_fits p s x.tables h.tables (shares_at x.standing.pools) (is_backed s) (λ f. refl) h.standing c.args.place.now) f ∙ h.standing f;
+  moving = λ f. c.in_err-share_more.ensures.moves f ∙ h.moving f;
+  withdrawn = h.withdrawn;
+  removed = h.removed;
+  table = h.table;
+  device = h.device;
+  named = h.named;
+  one = h.one;
+})
