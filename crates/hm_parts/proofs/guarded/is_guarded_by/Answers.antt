@@ -3,7 +3,7 @@ use Rattle.hm_base.specs.declared.Place.{Place}
 use Rattle.hm_folds.specs.Kept.{sequences_of}
 use Rattle.hm_history.specs.Memory.Lookups.{is_guarded, loses, narrows_guarded}
 use Rattle.hm_history.specs.declared.Kind.{Kind}
-use Rattle.hm_parts.proofs.places.is_guarded_by.Goals as goal
+use Rattle.hm_parts.proofs.guarded.is_guarded_by.Goals as goal
 
 pub returns-in-Place : goal.returns-in-Place
 returns-in-Place c = λ script s shown.
