@@ -3,7 +3,7 @@ use Rattle.hm_base.specs.Program.{Program}
 use Rattle.hm_check.specs.Parts.{tail_of}
 use Rattle.hm_history.specs.Laws.{DueFrom}
 use Rattle.hm_history.specs.declared.Entry.{Entry}
-use Rattle.hm_judge.proofs.behind.put_ending.Goals as goal
+use Rattle.hm_check.proofs.taken.put_ending.Goals as goal
 
 pub put_tail-requires : goal.put_tail-requires
 put_tail-requires c =
