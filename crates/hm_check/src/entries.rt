@@ -45,7 +45,7 @@ fn take_line(
 }
 
 /// Adds the entries whose lines these are, as long as each is due, and gives the lines after them.
-pub fn take_entries<'a>(
+pub(crate) fn take_entries<'a>(
     alloc: Global,
     world: &mut World,
     out: &mut Buffer,

@@ -5,11 +5,12 @@ mod actor;
 mod entries;
 mod judging;
 mod tail;
+mod taken;
 mod verdict;
 mod waiting;
 
-pub use entries::take_entries;
 pub use judging::check_source;
 pub use tail::put_tail;
+pub use taken::{Taken, put_ending, take_all};
 pub use verdict::{Report, Verdict, check};
 pub use waiting::{put_frame, put_why};

@@ -1,5 +1,5 @@
 // The verdict on bytes that may be a report.
-ghost use Rattle.std.specs.Prelude.{◌≡◌, ◌+◌, ◌^◌, ◌≤◌, IfOk, ℕ, List, length};
+ghost use Rattle.std.specs.Prelude.{◌≡◌, ◌+◌, ◌^◌, ◌≤◌, IfOk, IfSome, MatchOption, ℕ, List, length};
 ghost use Rattle.hm_base.specs.Program.{Program};
 ghost use Rattle.hm_history.specs.declared.Entry.{Entry};
 ghost use Rattle.hm_report.specs.Report.{report};
@@ -7,10 +7,10 @@ ghost use Rattle.hm_script.specs.Automaton.{lines};
 ghost use Rattle.hm_script.specs.Spelling.{text};
 ghost use Rattle.hm_check.specs.FirstBad.{IsLegalReport};
 ghost use Rattle.hm_check.specs.Judged.{Judged, IsYes, JudgedBehind};
-ghost use Rattle.hm_check.specs.Parts.{TakenFrom};
+ghost use Rattle.hm_check.specs.Parts.{tail_of};
+ghost use Rattle.hm_report_front.specs.Parts.{Differ};
 
-use crate::entries::take_entries;
-use crate::tail::put_tail;
+use crate::taken::{Taken, put_ending, take_all};
 use hm_base::{NoMemory, Script};
 use hm_history::History;
 use hm_report::Buffer;
@@ -35,30 +35,17 @@ pub enum Verdict {
     No(u64),
 }
 
-/// The entries that were read, and what follows them.
-#[derive(Drop)]
-struct Taken<'a> {
-    script: Script,
-    history: History,
-    rest: &'a [u8],
-}
-
-/// The entries whose lines these are, as long as each is due.
-fn take_history(alloc: Global, script: Script, bytes: &[u8]) -> Result<Taken<'_>, NoMemory>
-    ensures { IfOk result (λ taken.
-        TakenFrom script bytes.now taken.script taken.history.entries taken.rest.now) }
+/// How many of the lines after the world's entries are the lines that end its report; none if they are these lines and
+/// nothing follows.
+fn same_as_ending(alloc: Global, world: &World, rest: &[u8]) -> Result<Option<u64>, NoMemory>
+    ensures differ { IfOk result (λ o. MatchOption o
+        (tail_of world.now.script world.now.history ≡ rest.now)
+        (Differ (lines (tail_of world.now.script world.now.history)) (lines rest.now))) }
+    ensures few { IfOk result (λ o. IfSome o (λ n. n ≤ 5000)) }
 {
     let mut out = Buffer::new(alloc)?;
-    let mut world = World::new(alloc, script)?;
-    let taken = take_entries(alloc, &mut world, &mut out, bytes);
-    world.facts();
-    let (script, history) = world.into_parts();
-    let rest = taken?;
-    Ok(Taken {
-        script,
-        history,
-        rest,
-    })
+    put_ending(&mut out, world);
+    Ok(first_difference(out.as_slice(), rest))
 }
 
 /// The verdict on the lines after `history`, of which the first has this number.
@@ -68,18 +55,14 @@ fn judge(alloc: Global, script: Script, first: u64, bytes: &[u8]) -> Result<Verd
 {
     hm_laws::every_history_is_legal();
     hm_script::one_text();
-    let Taken {
-        script,
-        history,
-        rest,
-    } = match take_history(alloc, script, bytes) {
+    let Taken { world, rest } = match take_all(alloc, script, bytes) {
         Ok(taken) => taken,
         Err(NoMemory) => return Err(NoMemory),
     };
-    script.facts();
-    let mut out = Buffer::new(alloc)?;
-    put_tail(&mut out, &script, &history);
-    match first_difference(out.as_slice(), rest) {
+    let same = same_as_ending(alloc, &world, rest);
+    world.facts();
+    let (script, history) = world.into_parts();
+    match same? {
         Some(same) => Ok(Verdict::No(first + history.len() + same)),
         None => Ok(Verdict::Yes(Report { script, history })),
     }

@@ -62,6 +62,11 @@ abbrev pub guard_of : Option KeptGuard → Option Guarded
 guard_of None = None
 guard_of (Some g) = Some (guarded g)
 
+-- the process and the span of an invalidation under way
+abbrev pub under_way : Option Guarded → Option (ℕ × Pages)
+under_way None = None
+under_way (Some g) = Some (g.proc, g.span)
+
 -- the guard is of that process
 abbrev pub guards_proc : ℕ → Option KeptGuard → Bool
 guards_proc p None = false

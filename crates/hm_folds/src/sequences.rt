@@ -5,7 +5,7 @@ ghost use Rattle.hm_history.specs.Memory.Sequences.{interval_proc, insert_deferr
 ghost use Rattle.hm_history.specs.Memory.Sequences.{is_next_told, is_last_end, interval_inserted, seq_inserted};
 ghost use Rattle.hm_history.specs.Memory.Lookups.{is_guarded};
 ghost use Rattle.hm_history.specs.declared.Kind.{Kind as AnyKind};
-ghost use Rattle.hm_folds.specs.Kept.{sequences_of, interval_of, guarded, stage_of, standing};
+ghost use Rattle.hm_folds.specs.Kept.{sequences_of, interval_of, guarded, stage_of, standing, under_way};
 
 use crate::guards::{
     KeptGuard, active, all_below, covers_told, has_some, is_done, is_free, lower_told, same_span,
@@ -75,7 +75,8 @@ impl SeqState {
         let _ = &self.seqs;
     }
 
-    fn interval_proc(&self, mirror: MirrorId) -> Proc
+    /// The process of the mirror's interval; 0 for a mirror that was never attached.
+    pub fn interval_proc(&self, mirror: MirrorId) -> Proc
         ensures { result ≡ interval_proc (sequences_of self.now) mirror }
     {
         proc_of(&self.intervals[mirror.number() as usize])
@@ -102,6 +103,16 @@ impl SeqState {
         covers_told(&self.guards[actor.number() as usize], proc, page)
     }
 
+    /// The process and the span of the invalidation that the actor has under way.
+    pub fn under_way(&self, actor: Actor) -> Option<(Proc, Span)>
+        ensures { result ≡ under_way ((sequences_of self.now).guard actor) }
+    {
+        match &self.guards[actor.number() as usize] {
+            None => None,
+            Some(guard) => Some((guard.proc, guard.span)),
+        }
+    }
+
     /// The least mirror above `after` that an invalidation of the span is to tell.
     pub fn next_told(&self, proc: Proc, span: Span, after: Option<MirrorId>) -> Option<MirrorId>
         ensures { result ≡ next_told (sequences_of self.now) proc span after }
@@ -126,7 +137,8 @@ impl SeqState {
         Ok(())
     }
 
-    fn accepts(&self, actor: Actor, kind: &Kind) -> bool
+    /// Whether there is a next state after an entry of the actor.
+    pub fn accepts(&self, actor: Actor, kind: &Kind) -> bool
         ensures { result ≡ sequences_accept (sequences_of self.now) actor kind.now }
     {
         match kind {

@@ -1,6 +1,6 @@
 // The judgement on the lines after `history`.
-ghost use Rattle.std.specs.Prelude.{◌≡◌, ◌+◌, ◌^◌, ◌≤◌, IfOk, length};
-ghost use Rattle.hm_check.specs.Parts.{BeginsNoEntry, TakenFrom, tail_of};
+ghost use Rattle.std.specs.Prelude.{◌≡◌, ◌+◌, ◌^◌, ◌≤◌, IfOk};
+ghost use Rattle.hm_check.specs.Parts.{BeginsNoEntry, tail_of};
 ghost use Rattle.hm_script.specs.Automaton.{lines};
 ghost use Rattle.hm_judge.specs.Judgements.{IsBadThere, IsFound, IsJudgementAt, IsNear};
 ghost use Rattle.hm_judge.specs.Nearest.{could_stand};
@@ -13,50 +13,13 @@ use crate::lines::{copy_line, line_or_empty};
 use crate::nearest::nearest_line;
 use crate::standing::standings;
 use hm_base::{NoMemory, Script, Text};
-use hm_check::{Report, put_tail, take_entries};
+use hm_check::{Report, Taken, put_ending, take_all};
 use hm_history::Progress;
 use hm_reads::Reads;
 use hm_report::Buffer;
 use hm_report_front::first_difference;
 use hm_world::World;
 use std::alloc::Global;
-
-/// The world after the entries that were due, and what follows them.
-#[derive(Drop)]
-struct Taken<'a> {
-    world: World,
-    rest: &'a [u8],
-}
-
-/// Goes on by the entries whose lines these are, as long as each is due.
-fn take_all(alloc: Global, script: Script, bytes: &[u8]) -> Result<Taken<'_>, NoMemory>
-    ensures taken { IfOk result (λ taken.
-        TakenFrom script bytes.now taken.world.script taken.world.history taken.rest.now) }
-    ensures ends { IfOk result (λ taken.
-        BeginsNoEntry taken.world.script taken.world.history (lines taken.rest.now)) }
-{
-    let mut out = Buffer::new(alloc)?;
-    let mut world = World::new(alloc, script)?;
-    let taken = take_entries(alloc, &mut world, &mut out, bytes);
-    world.facts();
-    match taken {
-        Ok(rest) => Ok(Taken { world, rest }),
-        Err(NoMemory) => {
-            // Taken apart, since a drop here would be proved once more, part by part.
-            let _ = world.into_parts();
-            Err(NoMemory)
-        }
-    }
-}
-
-/// Writes the lines that end the report of the world's history over the buffer.
-fn put_ending(out: &mut Buffer, world: &World)
-    ensures text { out.new ≡ tail_of world.now.script world.now.history }
-    ensures few { length out.new ≤ 5000 }
-{
-    world.facts();
-    put_tail(out, world.script(), world.history());
-}
 
 /// The nearest of the lines that could stand there, if the line is that of no entry; else nothing.
 fn nearest_to(

@@ -11,43 +11,19 @@ use crate::judgement::Fault;
 use crate::lines::line_at;
 use hm_base::{MOST_ENTRIES, NoMemory};
 use hm_history::Entry;
-use hm_parts::{Parts, ShownParts, parts_of, shown_of};
+use hm_parts::{Findings, find};
 use hm_report_reading::LineReader;
 use hm_world::World;
 use std::alloc::Global;
 
-/// Which parts of legality the entry meets after the world's history.
-fn parts_in(alloc: Global, world: &World, entry: &Entry) -> Result<Parts, NoMemory>
-    ensures { IfOk result (AreParts world.now.script world.now.history entry.now) }
-{
-    world.facts();
-    let records = world.records(entry.actor);
-    parts_of(alloc, world, world.history().as_slice(), records, entry)
-}
-
-/// What bears on each part after the world's history.
-fn shown_in(alloc: Global, world: &World, entry: &Entry) -> Result<ShownParts, NoMemory>
-    ensures { IfOk result (AreShown world.now.script world.now.history entry.now) }
-{
-    world.facts();
-    shown_of(alloc, world, world.history().as_slice(), entry)
-}
-
-/// Which parts of legality an entry meets, and what bears on each.
-#[derive(Drop)]
-struct Findings {
-    parts: Parts,
-    shown: ShownParts,
-}
-
 /// What is found of the entry after the world's history.
-fn find(alloc: Global, world: &World, entry: &Entry) -> Result<Findings, NoMemory>
+fn find_in(alloc: Global, world: &World, entry: &Entry) -> Result<Findings, NoMemory>
     ensures parts { IfOk result (λ x. AreParts world.now.script world.now.history entry.now x.parts) }
     ensures shown { IfOk result (λ x. AreShown world.now.script world.now.history entry.now x.shown) }
 {
-    let parts = parts_in(alloc, world, entry)?;
-    let shown = shown_in(alloc, world, entry)?;
-    Ok(Findings { parts, shown })
+    world.facts();
+    let records = world.records(entry.actor);
+    find(alloc, world, world.history().as_slice(), records, entry)
 }
 
 /// The entry that has this line at this position, if one has.
@@ -70,7 +46,7 @@ fn line_fault(alloc: Global, world: &World, line: &[u8]) -> Result<Fault, NoMemo
     }
     match entry_on(alloc, line, at)? {
         Some(entry) => {
-            let Findings { parts, shown } = find(alloc, world, &entry)?;
+            let Findings { parts, shown } = find_in(alloc, world, &entry)?;
             Ok(Fault::Entry(entry, parts, shown))
         }
         None => Ok(Fault::NoEntry),

@@ -1,9 +1,9 @@
 -- The rules of the entries so far, and those of the entries that are left.
-use Rattle.std.proofs.Common.{◌≡◌, ℕ, zero, suc, ◌+◌, ◌<◌, ◌≤◌, Bool, true, false, if◌then◌else◌, List, [], ◌∷◌, ◌++◌, length, get_or, take, drop, refl, sym, ap, ◌∙◌, arith, append_assoc, append-nil}
+use Rattle.std.proofs.Common.{◌≡◌, ℕ, ◌+◌, ◌<◌, ◌≤◌, Bool, true, false, if◌then◌else◌, List, [], ◌∷◌, ◌++◌, length, get_or, take, drop, sym, ap, ◌∙◌, append_assoc, append-nil}
 use Rattle.std.proofs.lemmas.List.{drop_all, drop_more}
 use Rattle.hm_base.specs.Program.{Program}
 use Rattle.hm_history.specs.declared.Entry.{Entry}
-use Rattle.hm_flaws.specs.Recalled.{Recalled, recalled_next, recalled_of, recalled_start}
+use Rattle.hm_flaws.specs.Recalled.{Recalled, recalled_next, recalled_of}
 use Rattle.hm_parts.specs.Follower.{AreRules, rules_in, rules_on}
 use Rattle.hm_parts.specs.Rules.{rules_from}
 use Rattle.hm_parts.specs.declared.rules.Rules.{Rules}

@@ -1,6 +1,4 @@
-pub mod Following
-pub mod Lasts
-pub mod PlacesOn
+pub mod Answered
 pub mod Saying
 pub mod Showing
 pub mod PastsOn
@@ -8,3 +6,4 @@ pub mod Recalling
 pub mod Going
 pub mod Steps
 pub mod Legally
+pub mod Standing

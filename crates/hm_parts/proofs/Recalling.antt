@@ -1,16 +1,16 @@
 -- The rules that an entry keeps by what is recalled are those that it keeps after the history.
-use Rattle.std.proofs.Common.{◌≡◌, ℕ, ◌+◌, ◌<◌, ◌≤◌, Bool, true, false, if◌then◌else◌, List, [], ◌∷◌, ◌++◌, length, get_or, take, drop, refl, sym, ap, ◌∙◌, arith, append_assoc, append-nil}
+use Rattle.std.proofs.Common.{◌≡◌, ℕ, ◌+◌, ◌<◌, ◌≤◌, Bool, if◌then◌else◌, List, [], ◌∷◌, ◌++◌, length, get_or, take, refl, sym, ap, ◌∙◌}
 use Rattle.std.proofs.lemmas.List.{length-take-le, take_more}
 use Rattle.std.proofs.lemmas.List.Sums.{fold-append}
 use Rattle.hm_base.specs.Program.{Program}
-use Rattle.hm_history.specs.Memory.After.{After, after}
+use Rattle.hm_history.specs.Memory.After.{After}
 use Rattle.hm_history.specs.Memory.Lookups.{narrows_guarded, uses_untold}
 use Rattle.hm_history.specs.Memory.Places.{places_accept}
 use Rattle.hm_history.specs.Memory.Plain.{mirror_owner, plain_accepts}
 use Rattle.hm_history.specs.Memory.Rules.{fails_rightly}
 use Rattle.hm_history.specs.Memory.Sequences.{sequences_accept}
 use Rattle.hm_history.specs.declared.Entry.{Entry}
-use Rattle.hm_flaws.specs.Recalled.{Recalled, fails_rightly_in, recalled_next, recalled_of, recalled_start, uses_untold_in}
+use Rattle.hm_flaws.specs.Recalled.{Recalled, fails_rightly_in, recalled_next, recalled_of, recalled_start}
 use Rattle.hm_flaws.proofs.Recalling.{IsRecalled, fails_by, is_recalled, uses_by}
 use Rattle.hm_parts.specs.Follower.{AreRules, rules_in, rules_on}
 use Rattle.hm_parts.specs.Rules.{leads_on, rules_at, rules_from}
@@ -62,6 +62,10 @@ rules_said c r e x are =
         ∙ ap (λ z. of y.answers y.places y.frames y.sequences z x.guarded x.goes_on) f
         ∙ ap (λ z. of y.answers y.places y.frames y.sequences y.untold z x.goes_on) g
         ∙ ap (λ z. of y.answers y.places y.frames y.sequences y.untold y.guarded z) h
+
+-- so those that a follower says are those after the history
+pub rules_after : (c : Program) (h : List Entry) (e : Entry) (x : Rules) → AreRules c (recalled_of c h) e x → x ≡ rules_at c h e
+rules_after c h e x are = rules_said c (recalled_of c h) e x are ∙ sym (rules_are c h e)
 
 -- ---- one entry more
 

@@ -5,6 +5,7 @@ use Rattle.hm_flaws.specs.Recalled.{Recalled, fails_rightly_in, recalled_next, u
 use Rattle.hm_folds.specs.Kept.{sequences_of}
 use Rattle.hm_folds.specs.Places.{PlacesShown, owners_of}
 use Rattle.hm_folds.specs.Plain.{plain_of}
+use Rattle.hm_history.specs.Memory.After.{After}
 use Rattle.hm_history.specs.Memory.Lookups.{narrows_guarded}
 use Rattle.hm_history.specs.Memory.Places.{places_accept}
 use Rattle.hm_history.specs.Memory.Plain.{mirror_owner, plain_accepts}
@@ -29,6 +30,12 @@ pub record IsFollowed (c : Program) (r : Recalled) (x : Follower) : Type 0 where
 -- so of each script, and of all that may be recalled if this is kept
 abbrev pub ForFollowed : Follower → (Program → Recalled → Type 0) → Type 0
 ForFollowed x P = (c : Program) (r : Recalled) → IsFollowed c r x → P c r
+
+-- what is kept stands for this state of the memory manager
+pub record StandsFor (c : Program) (s : After) (x : Follower) : Type 0 where
+  pub plain : plain_of x.plain ≡ s.plain
+  pub shown : PlacesShown c s.places x.places
+  pub sequences : sequences_of x.sequences ≡ s.sequences
 
 -- ---- the rules, by what is recalled
 

@@ -1,6 +1,4 @@
 pub mod Short
-pub mod Followed
-pub mod PlaceParts
 pub mod Reasons
 pub mod Parts
 pub mod Shown

@@ -1,7 +1,7 @@
 -- What shows why a part is broken: something that is so after the entries before, in the words of an entry that would
 -- say it. Of an entry that meets the part it is said too.
 use Rattle.std.specs.Prelude.{◌≡◌, ℕ, Bool, true, false, not, ◌&&◌, ◌==◌, nat_lt, if◌then◌else◌, Option, Some, None}
-use Rattle.std.specs.Prelude.{is_some, List, length, fold}
+use Rattle.std.specs.Prelude.{is_some, List, length}
 use Rattle.hm_base.specs.Pages.{Pages}
 use Rattle.hm_base.specs.Program.{Program}
 use Rattle.hm_base.specs.PlaceWords.{dev_frame, names}
@@ -16,14 +16,16 @@ use Rattle.hm_history.specs.Kernel.Legal.{kept_frame}
 use Rattle.hm_history.specs.Kernel.Operation.{op_mirror}
 use Rattle.hm_history.specs.Memory.Places.{Places, TableEntry, held_from, lowest_free, lowest_named}
 use Rattle.hm_history.specs.Memory.Plain.{Plain, area_refusal, cause_at, is_attached, mirror_proc, plain_bytes}
-use Rattle.hm_history.specs.Memory.Sequences.{interval_inserted, interval_seq, next_told, seq_ended, seq_started}
-use Rattle.hm_history.specs.Memory.Words.{page_of}
+use Rattle.hm_history.specs.Memory.Sequences.{Sequences, interval_inserted, interval_proc, interval_seq, seq_ended}
+use Rattle.hm_history.specs.Memory.Sequences.{seq_started, sequences_accept}
+use Rattle.hm_history.specs.Memory.Words.{least, page_of}
 use Rattle.hm_history.specs.declared.Entry.{Entry}
 use Rattle.hm_history.specs.declared.KeptAt.{KeptAt}
 use Rattle.hm_history.specs.declared.KeptWhy.{KeptWhy}
 use Rattle.hm_history.specs.declared.Kind.{Kind}
 use Rattle.hm_history.specs.declared.Who.{Who}
 use Rattle.hm_history.specs.declared.Who.TheVariants.{Cpu, Mirror}
+use Rattle.hm_folds.specs.Kept.{under_way}
 use Rattle.hm_parts.specs.declared.show_answers.Reading.{Reading}
 use Rattle.hm_parts.specs.declared.shown.Shown.{Shown}
 use Rattle.hm_parts.specs.declared.shown.ShownParts.{ShownParts}
@@ -198,53 +200,49 @@ shows_places c s k = entry_of k (table_of s k)
 
 -- ---- sequences
 
--- the last mirror that an invalidation told, after one entry more of its actor
-abbrev pub told_after : Option ℕ → Kind → Option ℕ
-told_after last (Kind.Start p r q) = None
-told_after last (Kind.Told m r q) = Some m
-told_after last _ = last
+-- these words, if sequences allow them as the actor's next entry
+abbrev pub if_right : Sequences → ℕ → Kind → Option Shown
+if_right s a k = if sequences_accept s a k then Some (Shown.Words k) else None
 
--- the last mirror that an actor's invalidation told, after one entry more
-abbrev pub told_next : ℕ → Option ℕ → Entry → Option ℕ
-told_next a last e = if e.actor == a then told_after last e.kind else last
+-- that this mirror is told of an invalidation of the span
+abbrev pub telling : Sequences → ℕ → Pages → ℕ → Kind
+telling s p r m = Kind.Told m r (s.seq p)
 
--- the last mirror that the actor told since its last start; none if it told none
-abbrev pub last_told : List Entry → ℕ → Option ℕ
-last_told h a = fold (told_next a) None h
+-- that an invalidation of the span starts, with the sequence that it would have
+abbrev pub starting : Sequences → ℕ → Pages → Kind
+starting s p r = Kind.Start p r (seq_started s p r)
 
--- that this mirror is told of the invalidation
-abbrev pub told : Pages → ℕ → Option ℕ → Option Shown
-told r q None = None
-told r q (Some m) = Some (Shown.Words (Kind.Told m r q))
+-- that it ends
+abbrev pub ending : Sequences → ℕ → Pages → Kind
+ending s p r = Kind.End p r (seq_ended s p)
 
--- that the next mirror is told of the actor's invalidation of this span, if one is left to be told
-unfoldable pub tells : After → ℕ → Pages → Option ℕ → Option Shown
-tells s p r last = told r (s.sequences.seq p) (next_told s.sequences p r last)
+-- the least mirror that the actor may tell of the invalidation
+abbrev pub next_of : Sequences → ℕ → Pages → ℕ → Option ℕ
+next_of s p r a = least (λ m. sequences_accept s a (telling s p r m)) 0 32
 
--- that an invalidation starts with this sequence
-unfoldable pub starts : After → ℕ → Pages → Shown
-starts s p r = Shown.Words (Kind.Start p r (seq_started s.sequences p r))
+-- how the actor's invalidation of this span may go on: the next mirror is told, or it ends
+abbrev pub goes_on : Sequences → ℕ → ℕ → Pages → Option Shown
+goes_on s a p r = elim (next_of s p r a) [
+  | Some m ↦ Some (Shown.Words (telling s p r m))
+  | None ↦ if_right s a (ending s p r)
+]
 
--- that it ends with this sequence
-abbrev pub ends : After → ℕ → Pages → Shown
-ends s p r = Shown.Words (Kind.End p r (seq_ended s.sequences p))
+-- so it may, if the actor has one under way
+abbrev pub guard_goes_on : Sequences → ℕ → Option (ℕ × Pages) → Option Shown
+guard_goes_on s a None = None
+guard_goes_on s a (Some x) = goes_on s a x.0 x.1
 
--- the entry of an interval or a look-up with the sequence that it would have
-abbrev pub shows_interval : After → Kind → Option Shown
-shows_interval s (Kind.Attached m d p r q) =
-    Some (Shown.Words (Kind.Attached m d p r (interval_inserted s.sequences p)))
-shows_interval s (Kind.Detaching m q) =
-    Some (Shown.Words (Kind.Detaching m (s.sequences.seq (mirror_proc s.plain m))))
-shows_interval s (Kind.Begin m q) = Some (Shown.Words (Kind.Begin m (interval_seq s.sequences m)))
-shows_interval s _ = None
-
--- the entry with the sequence that it would have; or the next mirror that the invalidation is to tell, if this is the
--- last that it told
-abbrev pub shows_sequences : After → Option ℕ → Kind → Option Shown
-shows_sequences s last (Kind.Start p r q) = Some (starts s p r)
-shows_sequences s last (Kind.Told m r q) = tells s (mirror_proc s.plain m) r last
-shows_sequences s last (Kind.End p r q) = or_else (tells s p r last) (Some (ends s p r))
-shows_sequences s last k = shows_interval s k
+-- an entry that sequences allow in its place: one that goes on with the invalidation under way, or the entry with the
+-- sequence that it would have
+abbrev pub shows_sequences : Sequences → ℕ → Kind → Option Shown
+shows_sequences s a (Kind.Start p r q) =
+    or_else (guard_goes_on s a (under_way (s.guard a))) (if_right s a (starting s p r))
+shows_sequences s a (Kind.Told m r q) = guard_goes_on s a (under_way (s.guard a))
+shows_sequences s a (Kind.End p r q) = guard_goes_on s a (under_way (s.guard a))
+shows_sequences s a (Kind.Attached m d p r q) = if_right s a (Kind.Attached m d p r (interval_inserted s p))
+shows_sequences s a (Kind.Detaching m q) = if_right s a (Kind.Detaching m (s.seq (interval_proc s m)))
+shows_sequences s a (Kind.Begin m q) = if_right s a (Kind.Begin m (interval_seq s m))
+shows_sequences s a _ = None
 
 -- ---- guards
 
@@ -260,42 +258,66 @@ abbrev pub kept_place : Places → ℕ → KeptAt → Option Shown
 kept_place s p (KeptAt.Page v) = Some (place_shown s p v)
 kept_place s p (KeptAt.Frame f) = None
 
--- that a frame is kept since this actor has it locked
-abbrev pub locked_by : Frame → Option ℕ → Option Shown
-locked_by f None = None
-locked_by f (Some b) = Some (Shown.Words (Kind.Kept (KeptAt.Frame f) (KeptWhy.LockedBy b)))
+-- that a frame is kept since another actor has it locked
+abbrev pub locked_by : ℕ → Frame → Option ℕ → Option Shown
+locked_by a f None = None
+locked_by a f (Some b) =
+    if a == b then None else Some (Shown.Words (Kind.Kept (KeptAt.Frame f) (KeptWhy.LockedBy b)))
 
--- who has the frame locked that is kept
-abbrev pub locker_shown : After → Option Frame → Option Shown
-locker_shown s None = None
-locker_shown s (Some f) = locked_by f (s.locks.frame f)
+-- which other actor has the frame locked that is kept
+abbrev pub locker_shown : After → ℕ → Option Frame → Option Shown
+locker_shown s a None = None
+locker_shown s a (Some f) = locked_by a f (s.locks.frame f)
 
--- what bears on the reason, in an operation on the process
-abbrev pub shows_reason : Program → After → Op → ℕ → KeptAt → KeptWhy → Option Shown
-shows_reason c s o p what KeptWhy.NoFrame = taken (lowest_free c s.places (pool_of s o))
-shows_reason c s o p what (KeptWhy.LockedBy b) =
-    or_else (locker_shown s (kept_frame s p what)) (kept_place s.places p what)
-shows_reason c s o p what KeptWhy.NotHere = kept_place s.places p what
-shows_reason c s o p what KeptWhy.Lost = kept_place s.places p what
-shows_reason c s o p what KeptWhy.Skipped = None
+-- what bears on the reason, in an operation of the actor on the process
+abbrev pub shows_reason : Program → After → ℕ → Op → ℕ → KeptAt → KeptWhy → Option Shown
+shows_reason c s a o p what KeptWhy.NoFrame = taken (lowest_free c s.places (pool_of s o))
+shows_reason c s a o p what (KeptWhy.LockedBy b) =
+    or_else (locker_shown s a (kept_frame s p what)) (kept_place s.places p what)
+shows_reason c s a o p what KeptWhy.NotHere = kept_place s.places p what
+shows_reason c s a o p what KeptWhy.Lost = kept_place s.places p what
+shows_reason c s a o p what KeptWhy.Skipped = None
+
+-- the operation keeps such things: pages in a migration of a process's pages, frames in any
+abbrev pub keeps_such : Op → KeptAt → Bool
+keeps_such (Op.ToDevice m r) what = true
+keeps_such (Op.ToSystem m r) what = true
+keeps_such o (KeptAt.Page v) = false
+keeps_such o (KeptAt.Frame f) = true
 
 -- so for the actor's operation
-abbrev pub shows_kept_in : Program → After → Option Op → Kind → Option Shown
-shows_kept_in c s (Some o) (Kind.Kept what why) = shows_reason c s o (mirror_proc s.plain (op_mirror o)) what why
-shows_kept_in c s _ _ = None
+abbrev pub shows_kept_in : Program → After → ℕ → Option Op → Kind → Option Shown
+shows_kept_in c s a (Some o) (Kind.Kept what why) =
+    if keeps_such o what then shows_reason c s a o (mirror_proc s.plain (op_mirror o)) what why else None
+shows_kept_in c s a _ _ = None
 
 -- why the reason of what is kept does not hold
 abbrev pub shows_kept : Program → State → Entry → Option Shown
-shows_kept c t e = shows_kept_in c t.after (op_at c e.actor (t.going e.actor).index) e.kind
+shows_kept c t e = shows_kept_in c t.after e.actor (op_at c e.actor (t.going e.actor).index) e.kind
 
 -- ---- all parts
 
--- each field is what bears on its part, after the history
-pub record AreShown (c : Program) (h : List Entry) (e : Entry) (x : ShownParts) : Type 0 where
-  pub answers : x.answers ≡ shows_answers (after h).plain e.kind
-  pub places : x.places ≡ shows_places c (after h).places e.kind
-  pub frames : x.frames ≡ taken (lowest_free c (after h).places PoolId.System)
-  pub sequences : x.sequences ≡ shows_sequences (after h) (last_told h e.actor) e.kind
-  pub untold : x.untold ≡ entry_of e.kind (table_of (after h).places e.kind)
-  pub guarded : x.guarded ≡ shows_guarded (after h).places e.kind
-  pub kept : x.kept ≡ shows_kept c (state_of c h) e
+-- sequences allow these words as the actor's next entry
+abbrev pub IsAllowed : Sequences → ℕ → Shown → Type 0
+IsAllowed s a (Shown.Words k) = sequences_accept s a k ≡ true
+IsAllowed s a (Shown.Unset m v) = ⊥
+
+-- each field is what bears on its part, in the state
+pub record AreShownIn (c : Program) (t : State) (e : Entry) (x : ShownParts) : Type 0 where
+  pub answers : x.answers ≡ shows_answers t.after.plain e.kind
+  pub places : x.places ≡ shows_places c t.after.places e.kind
+  pub frames : x.frames ≡ taken (lowest_free c t.after.places PoolId.System)
+  pub sequences : x.sequences ≡ shows_sequences t.after.sequences e.actor e.kind
+  pub untold : x.untold ≡ entry_of e.kind (table_of t.after.places e.kind)
+  pub guarded : x.guarded ≡ shows_guarded t.after.places e.kind
+  pub kept : x.kept ≡ shows_kept c t e
+
+-- so it is after the history
+abbrev pub AreShown : Program → List Entry → Entry → ShownParts → Type 0
+AreShown c h e x = AreShownIn c (state_of c h) e x
+
+-- what is shown of sequences is an entry that sequences allow of the actor
+abbrev pub ShownAreRight : Type 0
+ShownAreRight =
+    (c : Program) (h : List Entry) (e : Entry) (x : ShownParts) (y : Shown) → AreShown c h e x → x.sequences ≡ Some y
+    → IsAllowed (after h).sequences e.actor y

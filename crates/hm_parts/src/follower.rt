@@ -1,14 +1,15 @@
 // The state after a history of any entries, and which rules the next entry keeps.
-ghost use Rattle.std.specs.Prelude.{◌≡◌, ℕ, false, true, IfOk, OnOk, slice_index_or};
-ghost use Rattle.hm_flaws.specs.Recalled.{fails_rightly_in, recalled_next, recalled_start};
+ghost use Rattle.std.specs.Prelude.{◌≡◌, ℕ, false, true, [], IfOk, OnOk, slice_index_or};
+ghost use Rattle.hm_flaws.specs.Recalled.{fails_rightly_in, recalled_next, recalled_of, recalled_start};
 ghost use Rattle.hm_folds.specs.Places.{ForShown};
+ghost use Rattle.hm_history.specs.Laws.{DueFrom};
 ghost use Rattle.hm_parts.specs.Short.{short_next};
 ghost use Rattle.hm_parts.specs.Follower.{AreRules, ForFollowed, IsFollowed};
 
 use crate::answers::has_taken;
 use crate::frames::{is_full, needs_full, short_next};
+use crate::guarded::is_guarded_by;
 use crate::pasts::Pasts;
-use crate::places::is_guarded_by;
 use crate::rules::{Rules, leads_on};
 use hm_base::{NoMemory, Script};
 use hm_folds::{PlaceState, PlainState, SeqState};
@@ -18,9 +19,9 @@ use std::alloc::Global;
 /// What the rules ask of a history.
 #[derive(Drop)]
 pub struct Follower {
-    plain: PlainState,
-    places: PlaceState,
-    sequences: SeqState,
+    pub(crate) plain: PlainState,
+    pub(crate) places: PlaceState,
+    pub(crate) sequences: SeqState,
     pasts: Pasts,
     // Of each actor, whether no frame was free when it last asked for one to bring a page home or to empty a frame.
     short: [bool; 16],
@@ -47,6 +48,23 @@ impl Follower {
             places: PlaceState::start(alloc, script)?,
             short: [false; 16],
         })
+    }
+
+    /// After these entries, each of which was due after those before it.
+    pub(crate) fn after(
+        alloc: Global,
+        script: &Script,
+        entries: &[Entry],
+    ) -> Result<Follower, NoMemory>
+        requires { DueFrom script.now [] entries.now }
+        ensures { IfOk result (IsFollowed script.now (recalled_of script.now entries.now)) }
+    {
+        script.facts();
+        let mut so_far = Follower::start(alloc, script)?;
+        for at in 0..entries.len() {
+            so_far.take(&entries[at], at as u64)?;
+        }
+        Ok(so_far)
     }
 
     /// Whether the entry fails for want of a frame only if none was free.

@@ -4,15 +4,14 @@
 
 mod all_entries;
 mod answers;
+mod findings;
 mod follower;
 mod frames;
 mod guarded;
 mod kept;
 mod laws;
-mod lookups;
 mod parts;
 mod pasts;
-mod places;
 mod rules;
 mod sets;
 mod show_answers;
@@ -22,10 +21,11 @@ mod show_sequences;
 mod shown;
 
 pub use all_entries::follow;
-pub use answers::{has_taken, meets_plain};
+pub use answers::has_taken;
+pub use findings::{Findings, find};
 pub use follower::Follower;
 pub use kept::meets_kept;
-pub use laws::may_follow;
-pub use parts::{Parts, parts_of};
+pub use laws::{may_follow, shown_sequences_are_right};
+pub use parts::Parts;
 pub use rules::Rules;
-pub use shown::{Shown, ShownParts, shown_of};
+pub use shown::{Shown, ShownParts};

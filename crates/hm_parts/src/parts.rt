@@ -1,18 +1,16 @@
 // All parts of what a legal history asks of its next entry.
-ghost use Rattle.std.specs.Prelude.{◌≡◌, [], IfOk};
+ghost use Rattle.std.specs.Prelude.{◌≡◌, IfOk};
+ghost use Rattle.hm_flaws.specs.Recalled.{recalled_of};
 ghost use Rattle.hm_history.specs.Kernel.Going.{state_of};
-ghost use Rattle.hm_history.specs.Laws.{DueFrom};
+ghost use Rattle.hm_parts.specs.Follower.{IsFollowed};
 ghost use Rattle.hm_parts.specs.Parts.{AreParts, parts_hold};
 
-use crate::answers::meets_plain;
+use crate::follower::Follower;
 use crate::kept::meets_kept;
-use crate::lookups::meets_untold;
-use crate::places::meets_places;
 use hm_base::NoMemory;
 use hm_history::Entry;
 use hm_history::phases::Migrating;
 use hm_reads::Reads;
-use std::alloc::Global;
 
 /// Which parts an entry meets, besides being due to its actor.
 #[derive(Clone, Copy)]
@@ -48,31 +46,29 @@ impl Parts {
     }
 }
 
-/// Which parts the entry meets after a history of entries that were due. The world is that after the history, and the
-/// records are those of the entry's actor. It goes over the history twice, and once more if the entry uses a mirror's
-/// table.
-pub fn parts_of<W: Reads>(
-    alloc: Global,
+/// Which parts the entry meets after a history of entries that were due, which was followed. The world is that after the
+/// history, and the records are those of the entry's actor. The entry is taken, so what is kept stands for the history no
+/// longer.
+pub(crate) fn parts_of<W: Reads>(
     world: &W,
+    followed: &mut Follower,
     entries: &[Entry],
     records: &[Migrating],
     entry: &Entry,
 ) -> Result<Parts, NoMemory>
     requires state { W.state world.now ≡ state_of (W.program world.now) entries.now }
-    requires due { DueFrom (W.program world.now) [] entries.now }
+    requires followed { IsFollowed (W.program world.now) (recalled_of (W.program world.now) entries.now) followed.old }
     requires records { records.now ≡ ((W.state world.now).going entry.now.actor).pages }
     ensures { IfOk result (AreParts (W.program world.now) entries.now entry.now) }
 {
-    let script = world.script();
-    let answers = meets_plain(alloc, script, entries, entry)?;
-    let places = meets_places(alloc, script, entries, entry)?;
+    let rules = followed.take(entry, entries.len() as u64)?;
     Ok(Parts {
-        answers,
-        places: places.places,
-        frames: places.frames,
-        sequences: places.sequences,
-        untold: meets_untold(entries, &entry.kind),
-        guarded: places.guarded,
+        answers: rules.answers,
+        places: rules.places,
+        frames: rules.frames,
+        sequences: rules.sequences,
+        untold: rules.untold,
+        guarded: rules.guarded,
         kept: meets_kept(world, records, entry),
     })
 }

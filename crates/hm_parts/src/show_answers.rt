@@ -1,19 +1,16 @@
 // What shows why an entry is no answer by plain bytes, areas, processes and mirrors.
-ghost use Rattle.std.specs.Prelude.{◌≡◌, ◌+◌, ◌<◌, ◌≤◌, ◌^◌, [], IfOk, IfSome};
-ghost use Rattle.hm_history.specs.Kernel.Going.{state_of};
-ghost use Rattle.hm_history.specs.Laws.{DueFrom};
-ghost use Rattle.hm_history.specs.Memory.Plain as plain;
+ghost use Rattle.std.specs.Prelude.{◌≡◌, ◌+◌, ◌<◌, ◌≤◌, ◌^◌, IfOk, IfSome};
+ghost use Rattle.hm_history.specs.Memory.Plain as memory_plain;
 ghost use Rattle.hm_history.specs.Memory.Words.{bytes_from};
 ghost use Rattle.hm_folds.specs.Plain.{plain_of};
 ghost use Rattle.hm_parts.specs.Shown.{add_read, against, area_shown, change_shown, failed, held_bytes, is_forbidden};
 ghost use Rattle.hm_parts.specs.Shown.{is_free_name, read_of, read_shown, refused, shows_answers, shows_areas};
 ghost use Rattle.hm_parts.specs.Shown.{shows_change, unless};
 
-use crate::answers::plain_after;
 use crate::shown::Shown;
 use hm_base::{Bytes, Cause, MirrorId, NoMemory, Op, Page, Proc, Rights};
 use hm_folds::PlainState;
-use hm_history::{Entry, Kind, Who};
+use hm_history::{Kind, Who};
 use hm_reads::Reads;
 use hm_reads::decisions::one_page;
 use std::alloc::Global;
@@ -22,7 +19,7 @@ use std::alloc::Global;
 
 /// The process of an access, if it has one, and else 0.
 fn proc_of<W: Reads>(world: &W, who: &Who) -> Proc
-    ensures { result ≡ plain.proc_of (W.state world.now).after.plain who.now }
+    ensures { result ≡ memory_plain.proc_of (W.state world.now).after.plain who.now }
 {
     match who {
         Who::Cpu(proc) => *proc,
@@ -32,7 +29,7 @@ fn proc_of<W: Reads>(world: &W, who: &Who) -> Proc
 
 /// Whether the mirror is not attached, or the page lies outside its window.
 fn is_outside<W: Reads>(world: &W, who: &Who, page: Page) -> bool
-    ensures { result ≡ plain.outside_cause (W.state world.now).after.plain who.now page }
+    ensures { result ≡ memory_plain.outside_cause (W.state world.now).after.plain who.now page }
 {
     match who {
         Who::Cpu(_) => false,
@@ -42,7 +39,7 @@ fn is_outside<W: Reads>(world: &W, who: &Who, page: Page) -> bool
 
 /// The cause against a piece of an access, if there is one that does not ask for frames.
 fn cause_at<W: Reads>(world: &W, who: &Who, page: Page, writes: bool) -> Option<Cause>
-    ensures { result ≡ plain.cause_at (W.state world.now).after.plain who.now page writes }
+    ensures { result ≡ memory_plain.cause_at (W.state world.now).after.plain who.now page writes }
 {
     if is_outside(world, who, page) {
         return Some(Cause::Outside);
@@ -110,21 +107,19 @@ fn bytes_of(
 fn held_bytes<W: Reads>(
     alloc: Global,
     world: &W,
-    entries: &[Entry],
+    plain: &PlainState,
     who: &Who,
     addr: u64,
     len: u64,
 ) -> Result<Option<Shown>, NoMemory>
-    requires state { W.state world.now ≡ state_of (W.program world.now) entries.now }
-    requires due { DueFrom (W.program world.now) [] entries.now }
+    requires plain { plain_of plain.now ≡ (W.state world.now).after.plain }
     requires few { len < 2 ^ 63 }
     ensures { IfOk result (λ x. x ≡ held_bytes (W.state world.now).after.plain who.now addr len) }
 {
     if addr >= 1 << 48 {
         return Ok(None);
     }
-    let state = plain_after(alloc, world.script(), entries)?;
-    let bytes = bytes_of(alloc, &state, proc_of(world, who), addr, len)?;
+    let bytes = bytes_of(alloc, plain, proc_of(world, who), addr, len)?;
     Ok(Some(Shown::Words(Kind::Loaded {
         who: *who,
         addr,
@@ -147,17 +142,16 @@ pub struct Reading {
 fn read_shown<W: Reads>(
     alloc: Global,
     world: &W,
-    entries: &[Entry],
+    plain: &PlainState,
     read: &Reading,
 ) -> Result<Option<Shown>, NoMemory>
-    requires state { W.state world.now ≡ state_of (W.program world.now) entries.now }
-    requires due { DueFrom (W.program world.now) [] entries.now }
+    requires plain { plain_of plain.now ≡ (W.state world.now).after.plain }
     requires few { read.now.shown < 2 ^ 63 }
     ensures { IfOk result (λ x. x ≡ read_shown (W.state world.now).after.plain read.now) }
 {
     match against(world, &read.who, read.addr, read.len, read.writes) {
         Some(shown) => Ok(Some(shown)),
-        None => held_bytes(alloc, world, entries, &read.who, read.addr, read.shown),
+        None => held_bytes(alloc, world, plain, &read.who, read.addr, read.shown),
     }
 }
 
@@ -318,15 +312,14 @@ fn shows_change<W: Reads>(world: &W, kind: &Kind) -> Option<Shown>
 pub(crate) fn shows_answers<W: Reads>(
     alloc: Global,
     world: &W,
-    entries: &[Entry],
+    plain: &PlainState,
     kind: &Kind,
 ) -> Result<Option<Shown>, NoMemory>
-    requires state { W.state world.now ≡ state_of (W.program world.now) entries.now }
-    requires due { DueFrom (W.program world.now) [] entries.now }
+    requires plain { plain_of plain.now ≡ (W.state world.now).after.plain }
     ensures { IfOk result (λ x. x ≡ shows_answers (W.state world.now).after.plain kind.now) }
 {
     match read_of(kind) {
-        Some(read) => read_shown(alloc, world, entries, &read),
+        Some(read) => read_shown(alloc, world, plain, &read),
         None => Ok(shows_change(world, kind)),
     }
 }

@@ -1,20 +1,18 @@
 // What shows why places, frames, mirror tables or guards do not allow an entry.
-ghost use Rattle.std.specs.Prelude.{◌≡◌, [], IfOk, Option, Some};
+ghost use Rattle.std.specs.Prelude.{◌≡◌, Option, Some};
 ghost use Rattle.hm_folds.specs.Standing.{entry_read};
-ghost use Rattle.hm_history.specs.Laws.{DueFrom};
-ghost use Rattle.hm_history.specs.Memory.After.{after};
 ghost use Rattle.hm_history.specs.Memory.Places.{TableEntry};
+ghost use Rattle.hm_folds.specs.Places.{ForShown};
 ghost use Rattle.hm_parts.specs.Shown.{dropped, entry_at, entry_of, entry_shown, named_at, named_first, place_at};
 ghost use Rattle.hm_parts.specs.Shown.{place_shown, shows_guarded, shows_places, table_at, table_of, through};
 ghost use Rattle.hm_parts.specs.Shown.{withdrawn};
 
-use crate::places::places_after;
 use crate::shown::{Shown, or_else, taken};
 use hm_base::frames::{dev_frame, names};
-use hm_base::{Actor, Dev, Frame, MirrorId, NoMemory, Page, PoolId, Proc, Script};
-use hm_history::{Entry, Kind, TableRight, Who};
+use hm_base::{Dev, Frame, MirrorId, Page, PoolId, Proc};
+use hm_folds::PlaceState;
+use hm_history::{Kind, TableRight, Who};
 use hm_reads::Reads;
-use std::alloc::Global;
 
 /// What a mirror's table has for a page: its frame, its right, and the position of its look-up's begin.
 pub type Found = Option<(Option<Frame>, TableRight, u64)>;
@@ -189,37 +187,22 @@ pub(crate) fn entry_of(kind: &Kind, found: &Found) -> Option<Shown>
     entry_at(through(kind), found)
 }
 
-/// What the mirror's table has for the page of the address, after the entries.
-fn table_at(
-    alloc: Global,
-    script: &Script,
-    entries: &[Entry],
-    mirror: MirrorId,
-    addr: u64,
-) -> Result<Found, NoMemory>
-    requires { DueFrom script.now [] entries.now }
-    ensures { IfOk result (λ x. x ≡ entry_read (table_at (after entries.now).places (Some (mirror, addr)))) }
+/// What the mirror's table has for the page of the address, in these places.
+fn table_at(places: &PlaceState, mirror: MirrorId, addr: u64) -> Found
+    ensures { ForShown places.now (λ c s. result ≡ entry_read (table_at s (Some (mirror, addr)))) }
 {
     if addr >= 1 << 48 {
-        return Ok(None);
+        return None;
     }
-    let so_far = places_after(alloc, script, entries, Actor::new(0))?;
-    Ok(so_far.state.table(mirror, Page::new(addr / 4096)))
+    places.table(mirror, Page::new(addr / 4096))
 }
 
-/// What the mirror's table has for the page of an access through it, after the entries, each of which was due after
-/// those before it.
-pub(crate) fn table_of(
-    alloc: Global,
-    script: &Script,
-    entries: &[Entry],
-    kind: &Kind,
-) -> Result<Found, NoMemory>
-    requires { DueFrom script.now [] entries.now }
-    ensures { IfOk result (λ x. x ≡ entry_read (table_of (after entries.now).places kind.now)) }
+/// What the mirror's table has for the page of an access through it, in these places.
+pub(crate) fn table_of(places: &PlaceState, kind: &Kind) -> Found
+    ensures { ForShown places.now (λ c s. result ≡ entry_read (table_of s kind.now)) }
 {
     match through(kind) {
-        None => Ok(None),
-        Some((mirror, addr)) => table_at(alloc, script, entries, mirror, addr),
+        None => None,
+        Some(at) => table_at(places, at.0, at.1),
     }
 }

@@ -1,147 +1,144 @@
-// What shows why an invalidation, an interval or a look-up has another sequence.
-ghost use Rattle.std.specs.Prelude.{◌≡◌};
-ghost use Rattle.hm_history.specs.Memory.Plain.{mirror_proc};
-ghost use Rattle.hm_parts.specs.Shown.{ends, last_told, shows_interval, shows_sequences, starts, tells, told};
-ghost use Rattle.hm_parts.specs.Shown.{told_after, told_next};
+// What sequences allow in the place of an entry that they do not allow.
+ghost use Rattle.std.specs.Prelude.{◌≡◌, Option, Some, None};
+ghost use Rattle.hm_folds.specs.Kept.{sequences_of, under_way};
+ghost use Rattle.hm_parts.specs.Shown.{ending, goes_on, guard_goes_on, if_right, next_of, shows_sequences, starting};
+ghost use Rattle.hm_parts.specs.Shown.{telling};
 
 use crate::shown::{Shown, or_else};
 use hm_base::{Actor, MirrorId, Proc, Span};
-use hm_history::{Entry, Kind};
+use hm_folds::SeqState;
+use hm_history::Kind;
 use hm_reads::Reads;
 
-// ---- the last mirror that was told
-
-fn told_after(last: Option<MirrorId>, kind: &Kind) -> Option<MirrorId>
-    ensures { result ≡ told_after last kind.now }
+/// These words, if sequences allow them as the actor's next entry.
+fn if_right(sequences: &SeqState, actor: Actor, kind: Kind) -> Option<Shown>
+    ensures { result ≡ if_right (sequences_of sequences.now) actor kind }
 {
-    match kind {
-        Kind::Start { .. } => None,
-        Kind::Told { mirror, .. } => Some(*mirror),
-        _ => last,
-    }
-}
-
-fn told_next(actor: Actor, last: Option<MirrorId>, entry: &Entry) -> Option<MirrorId>
-    ensures { result ≡ told_next actor last entry.now }
-{
-    if entry.actor == actor {
-        told_after(last, &entry.kind)
+    if sequences.accepts(actor, &kind) {
+        Some(Shown::Words(kind))
     } else {
-        last
+        None
     }
 }
 
-/// The last mirror that the actor told since its last start; none if it told none.
-pub(crate) fn last_told(entries: &[Entry], actor: Actor) -> Option<MirrorId>
-    ensures { result ≡ last_told entries.now actor }
+/// That this mirror is told of an invalidation of the span.
+fn telling(sequences: &SeqState, proc: Proc, span: Span, mirror: MirrorId) -> Kind
+    ensures { result ≡ telling (sequences_of sequences.now) proc span mirror }
 {
-    let mut last = None;
-    for entry in entries {
-        last = told_next(actor, last, entry);
-    }
-    last
-}
-
-// ---- what is shown
-
-/// That the mirror is told of the invalidation.
-fn told(span: Span, seq: u64, mirror: Option<MirrorId>) -> Option<Shown>
-    ensures { result ≡ told span seq mirror }
-{
-    match mirror {
-        None => None,
-        Some(mirror) => Some(Shown::Words(Kind::Told { mirror, span, seq })),
-    }
-}
-
-/// That the next mirror is told of an invalidation of the span, if this is the last that it told.
-#[tactic(auto, unfolding(crate::specs::Shown::tells))]
-fn tells<W: Reads>(world: &W, proc: Proc, span: Span, last: Option<MirrorId>) -> Option<Shown>
-    ensures { result ≡ tells (W.state world.now).after proc span last }
-{
-    told(
+    Kind::Told {
+        mirror,
         span,
-        world.process_seq(proc),
-        world.next_told(proc, span, last),
-    )
+        seq: sequences.process_seq(proc),
+    }
 }
 
-/// That an invalidation starts with this sequence.
-#[tactic(auto, unfolding(crate::specs::Shown::starts))]
-fn starts<W: Reads>(world: &W, proc: Proc, span: Span) -> Shown
-    ensures { result ≡ starts (W.state world.now).after proc span }
+/// The least mirror that the actor may tell of the invalidation.
+fn next_of(sequences: &SeqState, actor: Actor, proc: Proc, span: Span) -> Option<MirrorId>
+    ensures { result ≡ next_of (sequences_of sequences.now) proc span actor }
 {
-    Shown::Words(Kind::Start {
+    for number in 0..32u32 {
+        let mirror = MirrorId::new(number);
+        if sequences.accepts(actor, &telling(sequences, proc, span, mirror)) {
+            return Some(mirror);
+        }
+    }
+    None
+}
+
+/// That an invalidation of the span starts, with the sequence that it would have.
+fn starting<W: Reads>(world: &W, proc: Proc, span: Span) -> Kind
+    ensures { result ≡ starting (W.state world.now).after.sequences proc span }
+{
+    Kind::Start {
         proc,
         span,
         seq: world.seq_started(proc, span),
-    })
+    }
 }
 
-/// That the invalidation ends with this sequence.
-fn ends<W: Reads>(world: &W, proc: Proc, span: Span) -> Shown
-    ensures { result ≡ ends (W.state world.now).after proc span }
+/// That it ends.
+fn ending<W: Reads>(world: &W, proc: Proc, span: Span) -> Kind
+    ensures { result ≡ ending (W.state world.now).after.sequences proc span }
 {
-    Shown::Words(Kind::End {
+    Kind::End {
         proc,
         span,
         seq: world.seq_ended(proc),
-    })
+    }
 }
 
-/// The sequence of the mirror's process.
-fn mirror_seq<W: Reads>(world: &W, mirror: MirrorId) -> u64
-    ensures { result ≡ (W.state world.now).after.sequences.seq (mirror_proc (W.state world.now).after.plain mirror) }
+/// How the actor's invalidation of this span may go on: the next mirror is told, or it ends.
+fn goes_on<W: Reads>(
+    world: &W,
+    sequences: &SeqState,
+    actor: Actor,
+    proc: Proc,
+    span: Span,
+) -> Option<Shown>
+    requires { sequences_of sequences.now ≡ (W.state world.now).after.sequences }
+    ensures { result ≡ goes_on (W.state world.now).after.sequences actor proc span }
 {
-    world.process_seq(world.mirror_proc(mirror))
+    match next_of(sequences, actor, proc, span) {
+        Some(mirror) => Some(Shown::Words(telling(sequences, proc, span, mirror))),
+        None => if_right(sequences, actor, ending(world, proc, span)),
+    }
 }
 
-/// The entry of an interval or a look-up with the sequence that it would have.
-fn shows_interval<W: Reads>(world: &W, kind: &Kind) -> Option<Shown>
-    ensures { result ≡ shows_interval (W.state world.now).after kind.now }
+/// So it may, if the actor has one under way.
+fn guard_goes_on<W: Reads>(world: &W, sequences: &SeqState, actor: Actor) -> Option<Shown>
+    requires { sequences_of sequences.now ≡ (W.state world.now).after.sequences }
+    ensures { result
+        ≡ guard_goes_on (W.state world.now).after.sequences actor
+        (under_way ((W.state world.now).after.sequences.guard actor)) }
+{
+    match sequences.under_way(actor) {
+        None => None,
+        Some((proc, span)) => goes_on(world, sequences, actor, proc, span),
+    }
+}
+
+/// An entry that sequences allow in the place of this one. The sequences are those of the world.
+pub(crate) fn shows_sequences<W: Reads>(
+    world: &W,
+    sequences: &SeqState,
+    actor: Actor,
+    kind: &Kind,
+) -> Option<Shown>
+    requires { sequences_of sequences.now ≡ (W.state world.now).after.sequences }
+    ensures { result ≡ shows_sequences (W.state world.now).after.sequences actor kind.now }
 {
     match kind {
+        Kind::Start { proc, span, .. } => or_else(
+            guard_goes_on(world, sequences, actor),
+            if_right(sequences, actor, starting(world, *proc, *span)),
+        ),
+        Kind::Told { .. } | Kind::End { .. } => guard_goes_on(world, sequences, actor),
         Kind::Attached {
             mirror,
             dev,
             proc,
             span,
             ..
-        } => Some(Shown::Words(Kind::Attached {
-            mirror: *mirror,
-            dev: *dev,
-            proc: *proc,
-            span: *span,
-            seq: world.interval_inserted(*proc),
-        })),
-        Kind::Detaching { mirror, .. } => Some(Shown::Words(Kind::Detaching {
-            mirror: *mirror,
-            seq: mirror_seq(world, *mirror),
-        })),
-        Kind::Begin { mirror, .. } => Some(Shown::Words(Kind::Begin {
-            mirror: *mirror,
-            seq: world.interval_seq(*mirror),
-        })),
+        } => {
+            let attached = Kind::Attached {
+                mirror: *mirror,
+                dev: *dev,
+                proc: *proc,
+                span: *span,
+                seq: world.interval_inserted(*proc),
+            };
+            if_right(sequences, actor, attached)
+        }
+        Kind::Detaching { mirror, .. } => {
+            let seq = world.process_seq(sequences.interval_proc(*mirror));
+            let mirror = *mirror;
+            if_right(sequences, actor, Kind::Detaching { mirror, seq })
+        }
+        Kind::Begin { mirror, .. } => {
+            let seq = world.interval_seq(*mirror);
+            let mirror = *mirror;
+            if_right(sequences, actor, Kind::Begin { mirror, seq })
+        }
         _ => None,
-    }
-}
-
-/// The entry with the sequence that it would have; or the next mirror that the invalidation is to tell, if this is the
-/// last that it told.
-pub(crate) fn shows_sequences<W: Reads>(
-    world: &W,
-    last: Option<MirrorId>,
-    kind: &Kind,
-) -> Option<Shown>
-    ensures { result ≡ shows_sequences (W.state world.now).after last kind.now }
-{
-    match kind {
-        Kind::Start { proc, span, .. } => Some(starts(world, *proc, *span)),
-        Kind::Told { mirror, span, .. } => tells(world, world.mirror_proc(*mirror), *span, last),
-        Kind::End { proc, span, .. } => or_else(
-            tells(world, *proc, *span, last),
-            Some(ends(world, *proc, *span)),
-        ),
-        _ => shows_interval(world, kind),
     }
 }

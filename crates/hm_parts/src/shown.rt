@@ -1,15 +1,15 @@
 // What shows why a part is broken.
-ghost use Rattle.std.specs.Prelude.{◌≡◌, [], IfOk};
+ghost use Rattle.std.specs.Prelude.{◌≡◌, IfOk};
 ghost use Rattle.hm_base.specs.declared.PoolId as pool;
-ghost use Rattle.hm_history.specs.Kernel.Going.{state_of};
-ghost use Rattle.hm_history.specs.Laws.{DueFrom};
 ghost use Rattle.hm_history.specs.Memory.Places.{lowest_free};
-ghost use Rattle.hm_parts.specs.Shown.{AreShown, or_else, taken};
+ghost use Rattle.hm_parts.specs.Follower.{StandsFor};
+ghost use Rattle.hm_parts.specs.Shown.{AreShownIn, or_else, taken};
 
+use crate::follower::Follower;
 use crate::show_answers::shows_answers;
 use crate::show_kept::shows_kept;
 use crate::show_places::{entry_of, shows_guarded, shows_places, table_of};
-use crate::show_sequences::{last_told, shows_sequences};
+use crate::show_sequences::shows_sequences;
 use hm_base::{Frame, MirrorId, NoMemory, Page, PoolId};
 use hm_history::{Entry, Kind};
 use hm_reads::Reads;
@@ -63,27 +63,24 @@ fn system_taken<W: Reads>(world: &W) -> Option<Shown>
     taken(world.lowest_free(PoolId::System))
 }
 
-/// What bears on each part of the entry, after a history of entries that were due. The world is that after the
-/// history. It goes over the history once if the entry answers bytes, and once if it goes through a mirror's table.
-pub fn shown_of<W: Reads>(
+/// What bears on each part of the entry, in the state of the world, for which what was followed stands.
+pub(crate) fn shown_of<W: Reads>(
     alloc: Global,
     world: &W,
-    entries: &[Entry],
+    followed: &Follower,
     entry: &Entry,
 ) -> Result<ShownParts, NoMemory>
-    requires state { W.state world.now ≡ state_of (W.program world.now) entries.now }
-    requires due { DueFrom (W.program world.now) [] entries.now }
-    ensures { IfOk result (AreShown (W.program world.now) entries.now entry.now) }
+    requires { StandsFor (W.program world.now) (W.state world.now).after followed.now }
+    ensures { IfOk result (AreShownIn (W.program world.now) (W.state world.now) entry.now) }
 {
     let kind = &entry.kind;
-    let found = table_of(alloc, world.script(), entries, kind)?;
-    let last = last_told(entries, entry.actor);
-    let answers = shows_answers(alloc, world, entries, kind)?;
+    let found = table_of(&followed.places, kind);
+    let answers = shows_answers(alloc, world, &followed.plain, kind)?;
     Ok(ShownParts {
         answers,
         places: shows_places(world, kind, &found),
         frames: system_taken(world),
-        sequences: shows_sequences(world, last, kind),
+        sequences: shows_sequences(world, &followed.sequences, entry.actor, kind),
         untold: entry_of(kind, &found),
         guarded: shows_guarded(world, kind),
         kept: shows_kept(world, entry),

@@ -1,4 +1,4 @@
-use Rattle.std.proofs.Common.{◌≡◌, ℕ, Bool, Option, sym, ap, ◌∙◌}
+use Rattle.std.proofs.Common.{ℕ, Bool, Option, sym, ap, ◌∙◌}
 use Rattle.std.proofs.Math.Path.{fun_ext}
 use Rattle.hm_folds.specs.Kept.{sequences_of}
 use Rattle.hm_folds.proofs.Tables.{owners}
@@ -6,7 +6,7 @@ use Rattle.hm_history.specs.Memory.Lookups.{narrows_guarded}
 use Rattle.hm_history.specs.Memory.Places.{places_accept}
 use Rattle.hm_history.specs.Memory.Plain.{Plain, plain_accepts}
 use Rattle.hm_history.specs.Memory.Sequences.{Sequences, sequences_accept}
-use Rattle.hm_parts.proofs.PlacesOn.{may_follow, took}
+use Rattle.hm_parts.proofs.Answered.{may_follow, took}
 use Rattle.hm_parts.specs.Short.{short_next}
 use Rattle.hm_parts.proofs.Steps.{errs_same, on_parts, owners_on, plain_on, sequences_on, shown_on}
 use Rattle.hm_parts.proofs.follower.Follower.take.Goals as goal
