@@ -25,6 +25,13 @@ if [ "$name" = hmmtrace ]; then     # a trace of a report is made by a program o
 fi
 crate=$top/crates/$name
 program=$crate/out/$name
+self=$name.sh
+installed=no                        # of a package (tools/release.sh): the proved programs lie in bin/, and nothing is built
+if [ -x "$top/bin/$name" ]; then
+    program=$top/bin/$name
+    self=$name
+    installed=yes
+fi
 built=$program.built                # the sum of what the proved program was made from
 quick=$crate/out/quick/$name        # the unproved one, with its sum in $quick.built
 rules='compare compare-sequence entry-right mmap-lock own-device begin-waits begin-first set-sequence erase erase-all
@@ -35,7 +42,7 @@ fresh-right back-right lock-page put-back drop-unnamed'     # hmmwithout takes o
 trace_rules=${rules%% tell-first*}   # those that hmmtrace judges: events have no bytes
 trace_rules=${trace_rules/copy-all clear /}
 
-say() { echo "$name.sh: $*" >&2; }
+say() { echo "$self: $*" >&2; }
 
 fail() {
     say "$*"
@@ -127,6 +134,17 @@ usage() {
     [ "$name" = hmmjudge ] && takes='[--standing | --all]'
     [ "$name" = hmmtrace ] && takes='[--expect RULE .. | --script RULE | --of-report]'
     [ "$name" = hmmevents ] && takes=
+    if [ "$installed" = yes ]; then
+        cat <<END
+usage: $name ${takes:+$takes }[FILE${several:-}]
+
+$("words_$name")
+
+What is read is FILE, or standard input. A FILE whose name is a number is given as ./NAME. The program is the proved
+one. --path writes the name of its file, --version the commit. Pages and examples: $top/docs, $top/examples.
+END
+        return
+    fi
     cat <<END
 usage: ./$name.sh [--quick | --ready] ${takes:+$takes }[FILE${several:-}]
 
@@ -366,7 +384,7 @@ read_words() {
                     need_bytes "${@:2:3}"
                     takes=3 ;;
                 *)
-                    [ ! -f "$1" ] || refuse "a word is missing before the file: \`./hmmrun.sh --quick replay $1\`"
+                    [ ! -f "$1" ] || refuse "a word is missing before the file: \`replay $1\`, say"
                     refuse "there is no word \`$1\`$(nearest "$1" replay threads race generate trial upgrade check peek \
                     advise why --quick --ready --path --help --version)" ;;
             esac
@@ -443,6 +461,7 @@ sum_of() {
 is_fresh() { [ -x "$1" ] && [ -e "$1.built" ] && [ "$(cat "$1.built")" = "$2" ]; }
 is_quick_fresh() { is_fresh "$quick" "$(sum_of src : quick)"; }
 is_proved_fresh() {
+    [ "$installed" = no ] || return 0
     [ -x "$program" ] && [ -e "$built" ] && [ "$(cat "$built")" = "$(sum_of src specs : proved)" ]
 }
 
@@ -665,6 +684,10 @@ make_proved() {
 
 version() {
     local commit
+    if [ "$installed" = yes ]; then
+        echo "$name, commit $(cat "$top/COMMIT"), proved with logic $logic"
+        return
+    fi
     commit=$(git -C "$top" describe --always --dirty=' with changes' 2>/dev/null) || commit='that is not known'
     echo "$name, commit $commit"
     echo "kit: logic $logic is needed; here is: $(kit_here)"
@@ -672,7 +695,7 @@ version() {
     echo "unproved program (--quick): $(is_quick_fresh && echo compiled || echo 'not compiled')"
 }
 
-[ -d "$crate/src" ] && declare -F "words_$name" >/dev/null || fail "there is no program $name"
+{ [ "$installed" = yes ] || [ -d "$crate/src" ]; } && declare -F "words_$name" >/dev/null || fail "there is no program $name"
 for word in "$@"; do
     case $word in
         --help | -h) usage; exit 0 ;;
@@ -688,6 +711,7 @@ for word in "$@"; do                # wherever they stand
     esac
 done
 set -- "${given[@]}"
+[ "$installed" = no ] || how=proved
 path=no
 if [ "${1-}" = --path ]; then
     path=yes
