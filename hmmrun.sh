@@ -25,6 +25,13 @@ if [ "$name" = hmmtrace ]; then     # a trace of a report is made by a program o
 fi
 crate=$top/crates/$name
 program=$crate/out/$name
+self=$name.sh
+installed=no                        # of a package (tools/release.sh): the proved programs lie in bin/, and nothing is built
+if [ -x "$top/bin/$name" ]; then
+    program=$top/bin/$name
+    self=$name
+    installed=yes
+fi
 built=$program.built                # the sum of what the proved program was made from
 quick=$crate/out/quick/$name        # the unproved one, with its sum in $quick.built
 rules='compare compare-sequence entry-right mmap-lock own-device begin-waits begin-first set-sequence erase erase-all
@@ -35,7 +42,7 @@ fresh-right back-right lock-page put-back drop-unnamed'     # hmmwithout takes o
 trace_rules=${rules%% tell-first*}   # those that hmmtrace judges: events have no bytes
 trace_rules=${trace_rules/copy-all clear /}
 
-say() { echo "$name.sh: $*" >&2; }
+say() { echo "$self: $*" >&2; }
 
 fail() {
     say "$*"
@@ -127,6 +134,17 @@ usage() {
     [ "$name" = hmmjudge ] && takes='[--standing | --all]'
     [ "$name" = hmmtrace ] && takes='[--expect RULE .. | --script RULE | --of-report]'
     [ "$name" = hmmevents ] && takes=
+    if [ "$installed" = yes ]; then
+        cat <<END
+usage: $name ${takes:+$takes }[FILE${several:-}]
+
+$("words_$name")
+
+What is read is FILE, or standard input. A FILE whose name is a number is given as ./NAME. The program is the proved
+one. --path writes the name of its file, --version the commit. Pages and examples: $top/docs, $top/examples.
+END
+        return
+    fi
     cat <<END
 usage: ./$name.sh [--quick | --ready] ${takes:+$takes }[FILE${several:-}]
 
@@ -365,7 +383,9 @@ read_words() {
                     [ $# -ge 4 ] || refuse '`peek` takes three words: P ADDR LEN'
                     need_bytes "${@:2:3}"
                     takes=3 ;;
-                *) refuse "there is no word \`$1\`$(nearest "$1" replay threads race generate trial upgrade check peek \
+                *)
+                    [ ! -f "$1" ] || refuse "a word is missing before the file: \`replay $1\`, say"
+                    refuse "there is no word \`$1\`$(nearest "$1" replay threads race generate trial upgrade check peek \
                     advise why --quick --ready --path --help --version)" ;;
             esac
             words=("${@:1:takes + 1}")
@@ -441,6 +461,7 @@ sum_of() {
 is_fresh() { [ -x "$1" ] && [ -e "$1.built" ] && [ "$(cat "$1.built")" = "$2" ]; }
 is_quick_fresh() { is_fresh "$quick" "$(sum_of src : quick)"; }
 is_proved_fresh() {
+    [ "$installed" = no ] || return 0
     [ -x "$program" ] && [ -e "$built" ] && [ "$(cat "$built")" = "$(sum_of src specs : proved)" ]
 }
 
@@ -475,18 +496,71 @@ Without a kit, tools/reference/cli.py replays a short script, by a program in Py
     fail "$here. To try it all the same: HMMRUN_ANY_KIT=1 ./$name.sh .."
 }
 
+reads_script() {
+    case $name:${words[0]-} in
+        hmmraces:* | hmmwithout:* | hmmrun:replay | hmmrun:threads | hmmrun:race | hmmrun:upgrade | hmmrun:peek | \
+            hmmrun:advise) return 0 ;;
+    esac
+    return 1
+}
+
+begins_exactly() {
+    local first
+    read -r first <"$1"
+    [[ $first =~ ^hmm\ [12]$ ]]
+}
+
+# Why a script is refused: by the rules of exact ones, or of those for people.
+explain() {
+    if begins_exactly "$1"; then
+        "$top/tools/hmm.py" --explain "$1" | tail -n +2 >&2
+    else
+        "$top/tools/hmm.py" "$1" >/dev/null
+    fi
+}
+
+# If this is a script for people, and not one that begins as an exact one does, it is written exactly, and the program
+# is run on that.
+run_readable() {
+    local exact status
+    begins_exactly "$2" && return
+    exact=$(mktemp) || return
+    if "$top/tools/hmm.py" "$2" >"$exact" 2>/dev/null; then
+        say 'this is a script for people (docs/SCRIPT.md); tools/hmm.py wrote the exact one, which is run now'
+        "$1" "${words[@]}" <"$exact"
+        status=$?
+        rm -f "$exact"
+        exit "$status"
+    fi
+    rm -f "$exact"
+}
+
+# Keeps a script that comes through a pipe, so that more can be said of it; all that a program reads of it, and a byte.
+keep_script() {
+    local kept
+    kept=$(mktemp) || return
+    head -c 4194305 >"$kept"
+    exec <"$kept"
+    rm -f "$kept"
+}
+
 # Runs the program in place of this script. If it reads a file, this script stays, to say more of one that is refused.
 run() {
     local status text=$file
     [ ${#files[@]} -eq 0 ] || run_traces "$1"
-    does_read && [ -f /dev/stdin ] && command -v python3 >/dev/null || exec "$1" "${words[@]}"
+    command -v python3 >/dev/null || exec "$1" "${words[@]}"
+    if reads_script && [ -p /dev/stdin ]; then
+        keep_script
+    fi
+    does_read && [ -f /dev/stdin ] || exec "$1" "${words[@]}"
+    [ "$text" = - ] && text=/dev/stdin
+    reads_script && run_readable "$1" "$text"
     "$1" "${words[@]}"
     status=$?
-    [ "$text" = - ] && text=/dev/stdin
     if [ "$name" = hmmtrace ]; then
         :
     elif [ $status -eq 3 ]; then
-        "$top/tools/hmm.py" --explain "$text" | tail -n +2 >&2
+        explain "$text"
     elif [ "$name" = hmmraces ] || [ "$name" = hmmwithout ]; then
         :
     elif [ $status -eq 1 ] && [ "$(head -c 4 "$text")" = 'hmm ' ] && ! grep -q '^history$' "$text"; then
@@ -499,18 +573,35 @@ run() {
 
 # The unproved program.
 
+# Ctrl-C, or a signal to this script alone, ends a build that is under way.
+compiler=
+end_build() {
+    [ -z "$compiler" ] || { kill -TERM "$compiler"; wait "$compiler"; } 2>/dev/null
+    say 'the build was ended, and nothing was run'
+    exit "$1"
+}
+
 make_quick() {
     is_quick_fresh && return
     check_kit
+    trap 'end_build 130' INT
+    trap 'end_build 143' TERM HUP
     lock "$quick.lock"
     if ! is_quick_fresh; then
         local sum
         sum=$(sum_of src : quick)
         say 'compiling the unproved program: about a minute, once; later runs start at once'
-        "$top/tools/quick_build.sh" "$name" "$quick" 2>"$quick.said" || return 1
+        local status=0
+        "$top/tools/quick_build.sh" "$name" "$quick" 2>"$quick.said" &
+        compiler=$!
+        wait "$compiler" || status=$?
+        compiler=
+        [ "$status" -lt 128 ] || exit "$status"
+        [ "$status" -eq 0 ] || return 1
         echo "$sum" >"$quick.built"
         rm -f "$quick.said"
     fi
+    trap - INT TERM HUP
     unlock
 }
 
@@ -593,6 +684,10 @@ make_proved() {
 
 version() {
     local commit
+    if [ "$installed" = yes ]; then
+        echo "$name, commit $(cat "$top/COMMIT"), proved with logic $logic"
+        return
+    fi
     commit=$(git -C "$top" describe --always --dirty=' with changes' 2>/dev/null) || commit='that is not known'
     echo "$name, commit $commit"
     echo "kit: logic $logic is needed; here is: $(kit_here)"
@@ -600,7 +695,7 @@ version() {
     echo "unproved program (--quick): $(is_quick_fresh && echo compiled || echo 'not compiled')"
 }
 
-[ -d "$crate/src" ] && declare -F "words_$name" >/dev/null || fail "there is no program $name"
+{ [ "$installed" = yes ] || [ -d "$crate/src" ]; } && declare -F "words_$name" >/dev/null || fail "there is no program $name"
 for word in "$@"; do
     case $word in
         --help | -h) usage; exit 0 ;;
@@ -608,9 +703,15 @@ for word in "$@"; do
     esac
 done
 how=proved
-case ${1-} in
-    --quick | --ready) how=${1#--}; shift ;;
-esac
+given=()
+for word in "$@"; do                # wherever they stand
+    case $word in
+        --quick | --ready) how=${word#--} ;;
+        *) given+=("$word") ;;
+    esac
+done
+set -- "${given[@]}"
+[ "$installed" = no ] || how=proved
 path=no
 if [ "${1-}" = --path ]; then
     path=yes

@@ -3,7 +3,8 @@
 #
 # Ends with status 1 if something is wrong: a number of tools/house.py grew, a copy of an example differs, an edit does
 # not apply, a field of a record is in no law, a case of tools/hmm.py has another answer, a tool cannot be executed, a
-# page names a page or a file that is not there, or a rule's word is missing in one of the places that have all of them.
+# stored output is not read by tools/as_json.py, a page names a page or a file that is not there, or a rule's word is
+# missing in one of the places that have all of them.
 set -u
 cd "$(dirname "$(realpath "$0")")/.." || exit 2
 wrong=0
@@ -24,6 +25,11 @@ esac
 # each tool with a first line that names an interpreter can be executed
 for tool in *.sh tools/*.py tools/*.sh tools/*/*.py tools/*/*.sh; do
     if head -n 1 "$tool" | grep -q '^#!' && [ ! -x "$tool" ]; then say "$tool cannot be executed"; fi
+done
+
+# what the programs wrote, as stored, is read by the tool that writes it as JSON
+for said in examples/races/*.outcomes examples/races/*.rulings examples/*/*.shortest examples/traces/*.verdicts; do
+    tools/as_json.py "$said" > /dev/null || say "tools/as_json.py does not read $said"
 done
 
 # pages name pages and examples that are there

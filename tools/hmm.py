@@ -515,6 +515,10 @@ def check_spaces(text):
 
 def read(data, exact):
     """The script, or Trouble with its line."""
+    if b'\0' in data:
+        trouble = Trouble('this is no text: it has bytes of 0')
+        trouble.line = data[:data.index(b'\0')].count(b'\n') + 1
+        raise trouble
     lines = decoded(data).split('\n')
     has_end = lines[-1] == ''
     if has_end:
@@ -616,16 +620,24 @@ def exact_text(data, runs):
 
 # What is said.
 
+def visible(text):
+    """The text with each character that a terminal would carry out, or cannot show, as its number."""
+    byte = lambda char: ord(char) - 0xdc00 if 0xdc80 <= ord(char) <= 0xdcff else ord(char)
+    return ''.join(char if char.isprintable() else f'\\x{byte(char):02x}' for char in text)
+
+
 def shown_as(trouble, data, name):
     lines = decoded(data).split('\n')
     text = lines[trouble.line - 1] if trouble.line and trouble.line <= len(lines) else ''
-    text = text.rstrip('\r').replace('\t', ' ')
-    text = text.lstrip('\ufeff').encode('utf-8', 'replace').decode()
+    text = text.rstrip('\r').replace('\t', ' ').lstrip('\ufeff')
+    before, after = text[:max(trouble.column - 1, 0)], text[max(trouble.column - 1, 0):]
+    marked = len(visible(after[:trouble.width]))
+    column, text = len(visible(before)) + 1 if trouble.column else 0, visible(text)
     place = f'{name}:{trouble.line}:' + (f'{trouble.column}:' if trouble.column else '')
     cut = text[:WIDTH] + ('..' if len(text) > WIDTH else '')
     shown = f'\n    {cut}' if text.strip() else ''
-    width = max(1, min(trouble.width, WIDTH - trouble.column + 1))
-    mark = f'\n    {" " * (trouble.column - 1)}{"^" * width}' if shown and 0 < trouble.column <= WIDTH else ''
+    width = max(1, min(max(marked, trouble.width), WIDTH - column + 1))
+    mark = f'\n    {" " * (column - 1)}{"^" * width}' if shown and 0 < column <= WIDTH else ''
     return f'{place} {trouble.said}{shown}{mark}'
 
 
@@ -751,8 +763,11 @@ def main():
             command, words = words[1:words.index('--')], words[words.index('--') + 1:]
         else:
             command, words = words[1:], []
-    if len(words) > 1 or words and words[0].startswith('-') and words[0] != '-':
-        return usage(f'`{words[1]}` is a word too many' if len(words) > 1 else f'there is no `{words[0]}`')
+    for word in words:
+        if word.startswith('-') and word != '-':
+            return usage(f'there is no `{word}`' + did_you_mean(word, ['--explain', '--due', '--test', '--with']))
+    if len(words) > 1:
+        return usage(f'`{words[1]}` is a word too many')
     if words and words[0] != '-':
         try:
             with open(words[0], 'rb') as it:

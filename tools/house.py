@@ -19,6 +19,8 @@ The other parts count, and tools/house_limits.tsv has how many there may be of e
     unused      public items that no other code names, but for laws, and calls of crates that no program stands on yet,
                 if docs/PROVED.md names them
     unnamed     definitions of specs/ that nothing else names
+    twice       definitions of hm_history/specs that functions of more than one crate compute, outside the machine: those
+                that stand alone right of `≡` in a clause. docs/DECISIONS.md says of some why (`computed twice: NAME`)
 
 Ends with status 1 if the map is wrong, or there is more of something than there may be. It reads text and proves
 nothing.
@@ -318,8 +320,53 @@ def unnamed():
     return rows
 
 
+# The rooms of crates.txt in which one part of the kernel's state, or one step, is computed in place and fast.
+MACHINE = ('types', 'leaves', 'steps', 'state', 'one value shared by threads', 'run')
+USES = re.compile(r'^\s*ghost use Rattle\.hm_history\.specs\.[\w.]+\.\{([^}]*)\}', re.M)
+ALONE = re.compile(r'≡\s*([a-z]\w*)((?:\s+(?:[\w.«»]+|\((?:[^()]|\((?:[^()]|\([^()]*\))*\))*\)))+)\s*\)*\s*$')
+DECISIONS = os.path.join(TOP, 'docs', 'DECISIONS.md')
+
+
+def clauses(lines, at):
+    """The bodies of the `ensures` of the function whose head begins at a line."""
+    head, depth, body = [], 0, None
+    for line in lines[at:at + 60]:
+        if line.strip() in ('{', '{}') or line.rstrip().endswith(';') and not head:
+            break
+        head.append(line)
+    text = ' '.join(head)
+    for found in re.finditer(r'\bensures\b[^{]*\{', text):
+        depth, end = 1, found.end()
+        while end < len(text) and depth:
+            depth += {'{': 1, '}': -1}.get(text[end], 0)
+            end += 1
+        yield text[found.end():end - 1].strip()
+
+
+def twice():
+    """Definitions with the functions that compute them, by what stands alone right of `≡`."""
+    rooms, _ = crates()
+    of_machine = {name for room, names in rooms.items() if room.split(':')[0].split(',')[0].startswith(MACHINE)
+                  for name in names}
+    computed = collections.defaultdict(set)
+    for crate, path, text in files('.rt', 'src'):
+        if crate in of_machine or is_test(crate):
+            continue
+        known = {name.split(' as ')[-1].strip() for names in USES.findall(text) for name in names.split(',')}
+        lines = text.split('\n')
+        for at, line in enumerate(lines):
+            found = FUNCTION.match(line)
+            for clause in clauses(lines, at) if found else ():
+                alone = ALONE.search(clause)
+                if alone and alone.group(1) in known and clause.count('≡') <= 2:
+                    computed[alone.group(1)].add(f'{path}:{at + 1}')
+    excused = set(re.findall(r'computed twice: `(\w+)`', read(DECISIONS)))
+    return [f'{name}: {", ".join(sorted(places))}' for name, places in sorted(computed.items())
+            if len({place.split('/')[0] for place in places}) > 1 and name not in excused]
+
+
 COUNTED = {'idle': idle, 'functions': functions, 'comments': comments, 'lemmas': lemmas, 'uncited': uncited,
-           'unused': unused, 'unnamed': unnamed}
+           'unused': unused, 'unnamed': unnamed, 'twice': twice}
 PARTS = ('map', *COUNTED)
 
 
