@@ -239,7 +239,8 @@ pub(crate) fn share_more(
         (if is_frame (moving_frame place.now) f then plus (shares_at moving.old.pools f) (share_of place.now)
         else shares_at moving.old.pools f)) }
     ensures stands { OnErr result
-        (AllFit (shares_at standing.old.pools) (share_of place.now) → (f : AnyFrame) → shares_at standing.new.pools f ≡ shares_at standing.old.pools f) }
+        (AllFit (shares_at standing.old.pools) (share_of place.now)
+        → (f : AnyFrame) → shares_at standing.new.pools f ≡ shares_at standing.old.pools f) }
     ensures moves { OnErr result
         ((f : AnyFrame) → shares_at moving.new.pools f ≡ shares_at moving.old.pools f) }
 {
