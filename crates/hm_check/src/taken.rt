@@ -6,6 +6,7 @@ ghost use Rattle.hm_check.specs.Parts.{BeginsNoEntry, TakenFrom, tail_of};
 use crate::entries::take_entries;
 use crate::tail::put_tail;
 use hm_base::{NoMemory, Script};
+use hm_reads::Reads;
 use hm_report::Buffer;
 use hm_world::World;
 use std::alloc::Global;

@@ -62,7 +62,8 @@ fn judge(alloc: Global, script: Script, first: u64, bytes: &[u8]) -> Result<Verd
     let same = same_as_ending(alloc, &world, rest);
     world.facts();
     let (script, history) = world.into_parts();
-    match same? {
+    let same = same?;
+    match same {
         Some(same) => Ok(Verdict::No(first + history.len() + same)),
         None => Ok(Verdict::Yes(Report { script, history })),
     }
