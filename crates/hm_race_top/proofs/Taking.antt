@@ -1,36 +1,32 @@
 -- What a state without positions and sequences asks of the entry that is due there.
-use Rattle.std.proofs.Common.{◌≡◌, ℕ, zero, suc, ◌+◌, ◌^◌, ◌<◌, ◌≤◌, Bool, true, false, if◌then◌else◌, nat_lt, Option, Some, None, List, [], ◌∷◌, length, refl, sym, ap, ◌∙◌, subst, arith}
-use Rattle.std.proofs.lemmas.Bool.Decides.{nat_tests}
+use Rattle.std.proofs.Common.{◌≡◌, ℕ, zero, suc, ◌+◌, ◌≤◌, Bool, true, false, if◌then◌else◌, Option, Some, None, List, [], ◌∷◌, length, refl, sym, ap, ◌∙◌, subst, arith}
 use Rattle.std.specs.Prelude.{IsTrue, slice_get}
-use Rattle.hm_base.specs.Pages.{Pages}
 use Rattle.hm_base.specs.Program.{Program}
-use Rattle.hm_base.specs.declared.Frame.{Frame}
-use Rattle.hm_base.specs.declared.Place.{Place}
 use Rattle.hm_base.specs.declared.ops.Op.{Op}
 use Rattle.hm_history.proofs.Updates.{here_at}
 use Rattle.hm_history.specs.Memory.After.{After}
 use Rattle.hm_history.specs.Memory.Plain.{Plain}
 use Rattle.hm_history.specs.Memory.Sequences.{Sequences, Guarded}
-use Rattle.hm_history.specs.Kernel.Due.{due_in, due_top, proc_of_op}
+use Rattle.hm_history.specs.Kernel.Due.{due_in, due_top}
 use Rattle.hm_history.specs.Kernel.Stacks.{stack_after}
 use Rattle.hm_history.specs.Kernel.Going.{State, Going, op_at, going_on, going_top, going_next, state_next}
 use Rattle.hm_history.specs.declared.Kind.{Kind}
 use Rattle.hm_history.specs.declared.Entry.{Entry}
 use Rattle.hm_history.specs.declared.Progress.{Progress}
-use Rattle.hm_history.specs.declared.phases.Body.{Body}
 use Rattle.hm_history.specs.declared.phases.Migrating.{Migrating}
 use Rattle.hm_history.specs.declared.phases.Phase.{Phase}
 use Rattle.hm_history.specs.declared.phases.Seen.{Seen}
 use Rattle.hm_laws.specs.Allowed.{Allowed}
 use Rattle.hm_laws.specs.Past.{Past}
 use Rattle.hm_laws.specs.Sound.{Sound, SequenceRules, guards, count_guards}
-use Rattle.hm_laws.specs.Facts.{Knows, HoldsAll, under, beneath, facts, facts_of}
+use Rattle.hm_laws.specs.Facts.{Knows, HoldsAll, facts, facts_of}
 use Rattle.hm_phases.specs.Items.{takes_count, below_takes_count}
 use Rattle.hm_reads.specs.Ranges.{phase_in_range, top_in_range}
 use Rattle.hm_actors.specs.Actors.{IsSeen}
 use Rattle.hm_spaces.specs.Spaces.{SpacesFit}
-use Rattle.hm_world.proofs.Depth.{depth}
+use Rattle.hm_world.proofs.Depth.{counts, depth}
 use Rattle.hm_world.proofs.FitsOf.{spaces_fit}
+use Rattle.hm_world.proofs.Ranged.{stack_ranged}
 use Rattle.hm_race_laws.specs.Positions.{forget_phase, forget_stack, forget_going, forget_kind}
 use Rattle.hm_race_laws.specs.Numbers.{small_phase, small_stack, small_going, small_kind}
 use Rattle.hm_race_laws.specs.Blur.{tidied}
@@ -59,57 +55,14 @@ HasCounted c a g = HasStack IsCounted c a g
 
 -- ---- after a history
 
-less : (n most : ℕ) → n < most → nat_lt n most ≡ true
-less n most l = grind (arith, nat_tests)
-
-fork_at : (c : Program) (s : After) (t : Past) (a : ℕ) (o : Op) (xs : List Migrating) (q : ℕ) (r : Pages) (met : Bool) (told : Option ℕ) (v : ℕ) (below : List Phase) → Sound c s t → HoldsAll s t a (facts o xs (Phase.Guard q r met told (Body.Fork v true) ∷ below)) → nat_lt v (2 ^ 36) ≡ true
-fork_at c s t a o xs q r met told v (Phase.Answer ∷ []) so h = less v (2 ^ 36) (so.places.ranged (proc_of_op o) v (h.1.1.1.1.0.1 refl).1)
-fork_at c s t a o xs q r met told v below so h = absurd h.0
-
-top_at : (c : Program) (s : After) (t : Past) (a : ℕ) (o : Op) (xs : List Migrating) (st : List Phase) → Sound c s t → HoldsAll s t a (facts o xs st) → IsTrue (top_in_range (slice_get st 0))
-top_at c s t a o xs [] so h = refl
-top_at c s t a o xs (Phase.Guard q r met told (Body.Fork v true) ∷ below) so h = fork_at c s t a o xs q r met told v below so h
-top_at c s t a o xs (top ∷ below) so h = refl
-
--- frames are counted below the top only while one of them is emptied
-under_count : (s : After) (t : Past) (a : ℕ) (o : Op) (v n : ℕ) (below : List Phase) → HoldsAll s t a (under o (Phase.Frames v n ∷ below)) → n ≤ s.length
-under_count s t a o v n [] h = h.1.1.1.1.0
-under_count s t a o v n (x ∷ below) h = absurd h.0
-
-beneath_count : (s : After) (t : Past) (a : ℕ) (o : Op) (xs : List Migrating) (l : List Frame) (v n : ℕ) (below : List Phase) → HoldsAll s t a (beneath o xs l (Phase.Frames v n ∷ below)) → n ≤ s.length
-beneath_count s t a o xs l v n [] h = h.1.1.1.1.0
-beneath_count s t a o xs l v n (x ∷ below) h = absurd h.0
-
-count_at : (s : After) (t : Past) (a : ℕ) (o : Op) (xs : List Migrating) (v n : ℕ) (top : Phase) (below : List Phase) → HoldsAll s t a (facts o xs (top ∷ Phase.Frames v n ∷ below)) → n ≤ s.length
-count_at s t a o xs v n (Phase.Guard q r met told (Body.Zap m)) below h = absurd h.0
-count_at s t a o xs v n (Phase.Guard q r met told (Body.Narrow m)) below h = absurd h.0
-count_at s t a o xs v n (Phase.Guard q r met told (Body.Fork m half)) below h = absurd h.0
-count_at s t a o xs v n (Phase.Guard q r met told Body.Nothing) below h = absurd h.0
-count_at s t a o xs v n (Phase.Guard q r met told (Body.Replace over g)) below h = absurd h.0
-count_at s t a o xs v n (Phase.Guard q r met told (Body.Catch f)) below h = under_count s t a o v n below h.1.1.1.1
-count_at s t a o xs v n (Phase.Guard q r met told (Body.Freeze f)) below h = absurd h.0
-count_at s t a o xs v n (Phase.Taken touch g Place.Zero) below h = absurd h.0
-count_at s t a o xs v n (Phase.Emptying f at) below h = under_count s t a o v n below h.1.1.1
-count_at s t a o xs v n (Phase.Copied f g) below h = under_count s t a o v n below h.1.1.1.1
-count_at s t a o xs v n (Phase.Finish f None) below h = beneath_count s t a o xs (f ∷ []) v n below h.1.1.1.1
-count_at s t a o xs v n (Phase.Finish f (Some g)) below h = beneath_count s t a o xs (f ∷ g ∷ []) v n below h.1.1.1.1
-count_at s t a o xs v n (Phase.Settle g) below h = beneath_count s t a o xs (g ∷ []) v n below h.1.1.1.1
-count_at s t a o xs v n top below h = absurd h.0
-
-counts_at : (s : After) (t : Past) (a : ℕ) (o : Op) (xs : List Migrating) (st : List Phase) → s.length ≤ 2000000 → HoldsAll s t a (facts o xs st) → IsCounted st
-counts_at s t a o xs [] few h = refl
-counts_at s t a o xs (top ∷ []) few h = refl
-counts_at s t a o xs (top ∷ Phase.Frames v n ∷ below) few h = less (n + 1) (2 ^ 64) (omega (arith, few, count_at s t a o xs v n top below h))
-counts_at s t a o xs (top ∷ next ∷ below) few h = refl
-
 pub known_short : (c : Program) (s : After) (t : Past) (a : ℕ) (g : Going) → Sound c s t → Knows c s t a g → HasShort c a g
-known_short c s t a g so k o e = record { low = depth s t a o g.pages g.stack h; ranged = top_at c s t a o g.pages g.stack so h }
+known_short c s t a g so k o e = record { low = depth s t a o g.pages g.stack h; ranged = stack_ranged c s t a o g.pages g.stack so h }
   where
     h : HoldsAll s t a (facts o g.pages g.stack)
     h = subst (λ y. HoldsAll s t a (facts_of y g.pages g.stack)) e k
 
 pub known_counted : (c : Program) (s : After) (t : Past) (a : ℕ) (g : Going) → s.length ≤ 2000000 → Knows c s t a g → HasCounted c a g
-known_counted c s t a g few k o e = counts_at s t a o g.pages g.stack few (subst (λ y. HoldsAll s t a (facts_of y g.pages g.stack)) e k)
+known_counted c s t a g few k o e = counts s t a o g.pages g.stack few (subst (λ y. HoldsAll s t a (facts_of y g.pages g.stack)) e k)
 
 -- ---- without positions and sequences
 
