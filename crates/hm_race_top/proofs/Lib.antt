@@ -24,7 +24,7 @@ pub mod Asking
 pub mod Ruled
 pub mod Ending
 pub mod SetUps
-pub mod Lows
+pub mod Taking
 pub mod Turning
 mod Systems
 mod Outcomes

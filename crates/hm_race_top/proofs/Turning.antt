@@ -1,12 +1,14 @@
 -- A turn at a state that a race has come to.
-use Rattle.std.proofs.Common.{◌≡◌, ℕ, ◌+◌, ◌<◌, false, Some, None, List, [], ◌∷◌, ◌++◌, length, get_or, take, refl, sym, ap, ◌∙◌, subst}
-use Rattle.std.proofs.lemmas.List.{take_more}
+use Rattle.std.proofs.Common.{◌≡◌, ℕ, ◌+◌, ◌<◌, ◌≤◌, ◌⊎◌, inl, inr, false, Some, None, List, [], ◌∷◌, ◌++◌, length, map, get_or, take, refl, sym, ap, ◌∙◌, subst, zero-add, arith}
+use Rattle.std.proofs.lemmas.Bool.{cases_lt}
+use Rattle.std.specs.Rc.{rc_value}
+use Rattle.std.proofs.lemmas.List.{take_more, length-append, length-map}
 use Rattle.hm_base.specs.Program.{Program, IsScript}
 use Rattle.hm_history.proofs.RunLemmas.{DueFrom-append, DueFrom-join, due_at}
 use Rattle.hm_history.proofs.Tests.{true_false}
 use Rattle.hm_history.specs.Kernel.Due.{due, due_in}
-use Rattle.hm_history.specs.Memory.After.{after}
-use Rattle.hm_history.specs.Kernel.Going.{State, state_next, state_of, state_of-snoc}
+use Rattle.hm_history.specs.Memory.After.{After, after}
+use Rattle.hm_history.specs.Kernel.Going.{Going, State, state_next, state_of, state_of-snoc, state_start}
 use Rattle.hm_history.specs.Laws.{DueFrom}
 use Rattle.hm_history.specs.Kernel.Run.{is_entry}
 use Rattle.hm_history.specs.declared.Kind.{Kind}
@@ -25,13 +27,14 @@ use Rattle.hm_race_states.specs.declared.key.StateKey.{StateKey}
 use Rattle.hm_race_laws.specs.Forms.{ListsPlaces, Adds, AddsAlike, TurnsAlike, opened_form}
 use Rattle.hm_race_laws.specs.Blur.{blurred_entry, tidied, unlisted, form_of}
 use Rattle.hm_race_laws.specs.Laws.{FormsGoOn}
-use Rattle.hm_race_states.specs.Afters.{StaysLow}
+use Rattle.hm_race_states.specs.Afters.{ActorTakes, PartsTake}
 use Rattle.hm_race_states.specs.States.{state_in}
 use Rattle.hm_race_states.specs.declared.state.RaceState.{RaceState}
-use Rattle.hm_race_top.specs.Run.Turns.{Shows, IsTurned}
+use Rattle.hm_race_top.specs.Run.Turns.{Shows, IsShown, IsTurned}
 use Rattle.hm_race_top.specs.declared.run.turn.Turned.{Turned}
-use Rattle.hm_race_top.proofs.Lows.{known_short, tidied_short, stays_low}
-use Rattle.hm_history.proofs.Going.{own_actor}
+use Rattle.hm_race_top.proofs.Taking.{HasCounted, HasShort, actor_takes, blurred_counted, due_phase, known_counted, known_short, parts_take, tidied_short}
+use Rattle.hm_history.proofs.Going.{lengths, own_actor}
+use Rattle.hm_race_states.proofs.Lists.{past}
 use Rattle.hm_race_laws.proofs.Points.{state_after, point_made}
 
 -- the point after a history, which is all of the race
@@ -86,15 +89,46 @@ module _ (law : FormsGoOn) (c : Program) (sc : IsScript c) (h : List Entry) (x :
     stands : laws.Stands c more
     stands = history_stands c sc more dues
 
+    before : laws.Stands c h
+    before = history_stands c sc h shows.due
+
     come : state_next c at.state e ≡ state_of c more
     come = ap (λ (v : State). state_next c v e) there ∙ sym (state_of-snoc c h e)
 
     nexts : tidied c (state_next c at.state e) ≡ tidied c (state_next c u (blurred_entry d))
     nexts = ap (λ (y : Point). y.state) adds.holds.next
 
-    -- the stack stays low
-    pub low : StaysLow c u (blurred_entry d)
-    low = stays_low c u (blurred_entry d) (tidied_short c (state_of c more) (state_next c u (blurred_entry d)) d.actor (ap (tidied c) (sym come) ∙ nexts) (known_short c (after more) stands.past d.actor ((state_of c more).going d.actor) (stands.known d.actor)))
+    -- all that has to do with the actor takes the entry
+    pub takes : length h ≤ 2000000 → ActorTakes c u (blurred_entry d)
+    takes few = actor_takes c u (blurred_entry d) counted short
+      where
+        far : (after h).length ≡ length h
+        far = ap (λ (s : After). s.length) (sym before.same_after) ∙ (lengths c (state_start c) h ∙ zero-add (length h))
+
+        counted : HasCounted c d.actor (u.going d.actor)
+        counted = subst (HasCounted c d.actor) (sym (ap (λ (v : State). v.going d.actor) shows.same))
+            (blurred_counted c (state_of c h).after.sequences d.actor ((state_of c h).going d.actor)
+            (known_counted c (after h) before.past d.actor ((state_of c h).going d.actor) (omega (arith, few, far)) (before.known d.actor)))
+
+        short : HasShort c d.actor ((state_next c u (blurred_entry d)).going d.actor)
+        short = tidied_short c (state_of c more) (state_next c u (blurred_entry d)) d.actor (ap (tidied c) (sym come) ∙ nexts)
+            (known_short c (after more) stands.past d.actor ((state_of c more).going d.actor) stands.rules (stands.known d.actor))
+
+    -- so do the other parts
+    pub parts : PartsTake u (blurred_entry d).kind
+    parts = subst (λ (x : Entry). PartsTake u x.kind) adds.holds.entry
+        (parts_take c (after h) before.past e.actor e.kind u
+        (ap (λ (v : State). v.after.plain) shows.same ∙ ap (λ (s : After). record s.plain { been = λ q. false }) before.same_after)
+        (ap (λ (v : State). v.after.sequences.active) shows.same ∙ ap (λ (s : After). s.sequences.active) before.same_after)
+        before.rules (before.allows e own_due))
+
+    -- and the state has the actor
+    pub has_actor : (blurred_entry d).actor < length x.tasks.items
+    has_actor = by (cases_lt d.actor (length x.tasks.items))
+      where
+        by : (d.actor < length x.tasks.items) ⊎ (length x.tasks.items ≤ d.actor) → d.actor < length x.tasks.items
+        by (inl l) = l
+        by (inr l) = absurd (due_phase c u a d did (subst (λ b. (u.going b).stack ≡ []) (own_actor c u a d did) (ap (λ (g : Going). g.stack) (past (map rc_value x.tasks.items) d.actor (omega (arith, l, length-map x.tasks.items rc_value))))))
 
     -- the state after it is shown
     pub goes_on : (y : RaceState) → unlisted (state_in y) ≡ tidied c (state_next c u (blurred_entry d)) → Shows c (h ++ e ∷ []) y
@@ -108,6 +142,14 @@ module _ (law : FormsGoOn) (c : Program) (sc : IsScript c) (h : List Entry) (x :
 
   pub not_turned : (p : Progress) → due_in c u a ≡ p → is_entry p ≡ false → IsTurned c h a None
   not_turned p is e = idle (ap is_entry is ∙ e)
+
+-- a state is that after a history of more entries too
+pub shown_upto : (c : Program) (x : RaceState) (n most : ℕ) → n ≤ most → IsShown c x n → IsShown c x most
+shown_upto c x n most l s = record { history = s.history; shows = s.shows; few = omega (arith, l, s.few) }
+
+-- the state after a turn is that after one entry more
+pub shown_next : (c : Program) (x : RaceState) (n a : ℕ) (t : Turned) → (s : IsShown c x n) → IsTurned c s.history a (Some t) → IsShown c t.state (n + 1)
+shown_next c x n a t s turned = record { history = s.history ++ turned.0 ∷ []; shows = turned.3; few = omega (arith, s.few, length-append s.history (turned.0 ∷ [])) }
 
 -- what is due is one entry
 did_of : Entry → Progress → Entry

@@ -5,21 +5,16 @@ use Rattle.hm_history.specs.Kernel.Going.{state_start}
 use Rattle.hm_history.specs.Kernel.Run.{is_entry}
 use Rattle.hm_history.specs.declared.Entry.{Entry}
 use Rattle.hm_race_laws.specs.Blur.{form_of}
-use Rattle.hm_race_laws.specs.Closed as race
 use Rattle.hm_race_laws.specs.Outcomes.{Point, Reached, point_from, point_turned, point_at}
 use Rattle.hm_history.proofs.Going.{lengths}
 use Rattle.hm_race_laws.proofs.Turned.{at_reached}
-use Rattle.hm_search.specs.Systems.{IsNext, Stands, form_after}
+use Rattle.hm_search.specs.Systems.{IsNext, form_after}
 use Rattle.hm_race_top.specs.Run.Known as known
 use Rattle.hm_race_top.specs.Run.Systems.{race_of}
 
 -- the entries that led to the start
 pub entries_from : (c : Program) (h : List Entry) → (point_from c h).state.after.length ≡ length h
 entries_from c h = lengths c (state_start c) h ∙ zero-add (length h)
-
--- a form to which turns lead is that of a state to which the race comes
-pub stands_for : (c : Program) (h : List Entry) (f : Point) → Stands (race_of c h) f → race.Stands c h (form_of c) f
-stands_for c h f s = record { point = point_at c h s.turns; reached = at_reached c h s.turns; has_key = s.has_form }
 
 -- what is due, and comes next, in a race is so in the system
 pub next_turn : {K : Type 0} (form : K → Point) (c : Program) (h : List Entry) (x : Point) (a : ℕ) (o : Option K) → known.IsNext form c x a o → IsNext form (race_of c h) x a o

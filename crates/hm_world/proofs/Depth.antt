@@ -97,13 +97,13 @@ counts_below s t a o xs v n (Phase.Finish f (Some g)) below h = beneath_counts s
 counts_below s t a o xs v n (Phase.Settle g) below h = beneath_counts s t a o xs (g ∷ []) v n below h.1.1.1.1
 counts_below s t a o xs v n top below h = absurd h.0
 
-takes_one_more : (n m : ℕ) → m < 2000000 → n ≤ m → nat_lt (n + 1) (2 ^ 64) ≡ true
+takes_one_more : (n m : ℕ) → m ≤ 2000000 → n ≤ m → nat_lt (n + 1) (2 ^ 64) ≡ true
 takes_one_more n m few l = below_limit (n + 1) (omega (arith, few, l))
   where
     below_limit : (k : ℕ) → k < 2 ^ 64 → nat_lt k (2 ^ 64) ≡ true
     below_limit k l = grind (arith, nat_tests)
 
-pub counts : (s : After) (t : Past) (a : ℕ) (o : Op) (xs : List Migrating) (st : List Phase) → s.length < 2000000 → HoldsAll s t a (facts o xs st) → IsTrue (below_takes_count st)
+pub counts : (s : After) (t : Past) (a : ℕ) (o : Op) (xs : List Migrating) (st : List Phase) → s.length ≤ 2000000 → HoldsAll s t a (facts o xs st) → IsTrue (below_takes_count st)
 counts s t a o xs [] few h = refl
 counts s t a o xs (top ∷ []) few h = refl
 counts s t a o xs (top ∷ Phase.Frames v n ∷ below) few h = takes_one_more n s.length few (counts_below s t a o xs v n top below h)

@@ -30,7 +30,7 @@ forks_ranged : (c : Program) (s : After) (t : Past) (a : ℕ) (o : Op) (xs : Lis
 forks_ranged c s t a o xs q r met told v (Phase.Answer ∷ []) so h = less v (so.places.ranged (proc_of_op o) v (h.1.1.1.1.0.1 refl).1)
 forks_ranged c s t a o xs q r met told v below so h = absurd h.0
 
-stack_ranged : (c : Program) (s : After) (t : Past) (a : ℕ) (o : Op) (xs : List Migrating) (st : List Phase) → Sound c s t → HoldsAll s t a (facts o xs st) → IsTrue (top_in_range (slice_get st 0))
+pub stack_ranged : (c : Program) (s : After) (t : Past) (a : ℕ) (o : Op) (xs : List Migrating) (st : List Phase) → Sound c s t → HoldsAll s t a (facts o xs st) → IsTrue (top_in_range (slice_get st 0))
 stack_ranged c s t a o xs [] so h = refl
 stack_ranged c s t a o xs (Phase.Guard q r met told (Body.Fork v true) ∷ below) so h = forks_ranged c s t a o xs q r met told v below so h
 stack_ranged c s t a o xs (top ∷ below) so h = refl

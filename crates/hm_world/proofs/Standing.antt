@@ -78,7 +78,7 @@ unfolding now
 depth_due t x s a k d seen is o e = depth_after t.script t.history s.script s.due a k d o e seen is
 
 counts_known : (s : After) (p : Past) (a : ℕ) (c : Program) (g : Going) (o : Op) → s.length < 2000000 → Knows c s p a g → op_at c a g.index ≡ Some o → IsTrue (below_takes_count g.stack)
-counts_known s p a c g o few h e = counts s p a o g.pages g.stack few (subst (λ y. HoldsAll s p a (facts_of y g.pages g.stack)) e h)
+counts_known s p a c g o few h e = counts s p a o g.pages g.stack (omega (arith, few)) (subst (λ y. HoldsAll s p a (facts_of y g.pages g.stack)) e h)
 
 -- the structures have what they ask for
 pub fits_due : (t : WorldValue) (x : Parts) → Stands t x → (a : ℕ) (k : Kind) → length t.history < 2000000 → due t.script t.history a ≡ Progress.Did (record { actor = a; kind = k }) → Fits t.script (now t) a k

@@ -1,5 +1,5 @@
 -- States that a race has come to, and turns there.
-use Rattle.std.specs.Prelude.{◌≡◌, ℕ, false, Option, None, Some, List, [], ◌∷◌, ◌++◌}
+use Rattle.std.specs.Prelude.{◌≡◌, ℕ, ◌≤◌, false, Option, None, Some, List, [], ◌∷◌, ◌++◌, length}
 use Rattle.hm_base.specs.Program.{Program}
 use Rattle.hm_history.specs.Kernel.Due.{due}
 use Rattle.hm_history.specs.Kernel.Going.{state_of}
@@ -17,10 +17,11 @@ pub record Shows (c : Program) (h : List Entry) (x : RaceState) : Type 0 where
   pub due : DueFrom c [] h
   pub same : unlisted (state_in x) ≡ tidied c (state_of c h)
 
--- it is that after some such history
-pub record IsShown (c : Program) (x : RaceState) : Type 0 where
+-- it is that after some such history of at most this many entries
+pub record IsShown (c : Program) (x : RaceState) (most : ℕ) : Type 0 where
   pub history : List Entry
   pub shows : Shows c history x
+  pub few : length history ≤ most
 
 -- what a turn after a history comes to: nothing, or the entry that is due and the state after it
 abbrev pub IsTurned : Program → List Entry → ℕ → Option Turned → Type 0

@@ -1,5 +1,5 @@
 // The keys of a race's states.
-ghost use Rattle.std.specs.Prelude.{◌≡◌, [], List, IfOk};
+ghost use Rattle.std.specs.Prelude.{◌≡◌, ◌+◌, ◌≤◌, ℕ, [], List, length, IfOk, IfSome};
 ghost use Rattle.hm_history.specs.Laws.{DueFrom};
 ghost use Rattle.hm_history.specs.declared.Entry.{Entry as AnyEntry};
 ghost use Rattle.hm_race_laws.specs.Blur.{form_of};
@@ -30,7 +30,8 @@ fn after_set_up<R: SkipRule>(
     rule: &R,
     set_up: &[Entry],
 ) -> Result<RaceState, NoMemory>
-    requires { DueFrom script.now [] set_up.now }
+    requires due { DueFrom script.now [] set_up.now }
+    requires few { length set_up.now ≤ 2000000 }
     ensures { IfOk result (λ x. Shows script.now set_up.now x) }
 {
     let mut state = RaceState::start(alloc, script)?;
@@ -50,8 +51,10 @@ pub fn first_key<R: SkipRule>(
     rule: &R,
     set_up: &[Entry],
 ) -> Result<StateKey, NoMemory>
-    requires { DueFrom script.now [] set_up.now }
-    ensures { IfOk result (λ k. form_in k ≡ form_of script.now (point_from script.now set_up.now)) }
+    requires due { DueFrom script.now [] set_up.now }
+    requires few { length set_up.now ≤ 2000000 }
+    ensures form { IfOk result (λ k. form_in k ≡ form_of script.now (point_from script.now set_up.now)) }
+    ensures kept { IfOk result (λ k. IsShown script.now k.state (length set_up.now)) }
 {
     let state = after_set_up(alloc, script, rule, set_up)?;
     let answers = Rc::new(alloc, SharedAnswers::new(alloc)?)?;
@@ -66,9 +69,11 @@ pub fn next_key<R: SkipRule>(
     key: &StateKey,
     actor: Actor,
 ) -> Result<Option<StateKey>, NoMemory>
-    requires { IsShown script.now key.now.state }
-    ensures { IfOk result (λ o. (h : List AnyEntry) (x : Point) → DueFrom script.now [] h → Reached script.now h x
+    requires { IsShown script.now key.now.state 2000000 }
+    ensures next { IfOk result (λ o. (h : List AnyEntry) (x : Point) → DueFrom script.now [] h → Reached script.now h x
         → form_of script.now x ≡ form_in key.now → IsNext form_in script.now x actor o) }
+    ensures kept { IfOk result (λ o. (n : ℕ) → IsShown script.now key.now.state n
+        → IfSome o (λ k. IsShown script.now k.state (n + 1))) }
 {
     match turn(alloc, script, rule, &key.state, actor)? {
         None => Ok(None),

@@ -1,12 +1,12 @@
 // The race of a script, for the search.
-ghost use Rattle.std.specs.Prelude.{◌≡◌, ◌≤◌, length, IfOk, IfErr};
+ghost use Rattle.std.specs.Prelude.{◌≡◌, ◌+◌, ◌≤◌, ℕ, length, IfOk, IfErr, IfSome};
 ghost use Rattle.hm_base.specs.declared.limits.TheConstants.{MOST_ACTORS, MOST_ENTRIES};
 ghost use Rattle.hm_history.specs.Kernel.Run.{run};
 ghost use Rattle.hm_race_laws.specs.Blur.{form_of};
-ghost use Rattle.hm_race_laws.specs.Closed.{Stands};
 ghost use Rattle.hm_race_laws.specs.Outcomes.{Point, Reached, point_from};
 ghost use Rattle.hm_race_top.specs.Run.Known.{IsNext, MayFail};
 ghost use Rattle.hm_race_top.specs.Run.Systems.{race_of};
+ghost use Rattle.hm_race_top.specs.Run.Turns.{IsShown};
 ghost use Rattle.hm_race_states.specs.Keyed.{form_in};
 ghost use Rattle.hm_world.specs.WorldValue.{opening};
 
@@ -125,7 +125,9 @@ impl<R: SkipRule> ScriptRace<R> {
 
     // The key after the set-up.
     fn first_key(&self) -> Result<StateKey, NoMemory>
-        ensures { IfOk result (λ k. form_in k ≡ form_of self.now.script (point_from self.now.script self.now.set_up)) }
+        ensures form { IfOk result
+            (λ k. form_in k ≡ form_of self.now.script (point_from self.now.script self.now.set_up)) }
+        ensures kept { IfOk result (λ k. IsShown self.now.script k.state (length self.now.set_up)) }
     {
         self.stands();
         first_key(self.alloc, &self.script, &self.rule, self.set_up.as_slice())
@@ -133,9 +135,11 @@ impl<R: SkipRule> ScriptRace<R> {
 
     // The key after a turn of the actor.
     fn next_key(&self, key: &StateKey, actor: Actor) -> Result<Option<StateKey>, NoMemory>
-        requires { Stands self.now.script self.now.set_up (form_of self.now.script) (form_in key.now) }
-        ensures { IfOk result (λ o. (x : Point) → Reached self.now.script self.now.set_up x
+        requires { IsShown self.now.script key.now.state 2000000 }
+        ensures next { IfOk result (λ o. (x : Point) → Reached self.now.script self.now.set_up x
             → form_of self.now.script x ≡ form_in key.now → IsNext form_in self.now.script x actor o) }
+        ensures kept { IfOk result (λ o. (n : ℕ) → IsShown self.now.script key.now.state n
+            → IfSome o (λ k. IsShown self.now.script k.state (n + 1))) }
     {
         self.stands();
         Ok(next_key(self.alloc, &self.script, &self.rule, key, actor)?)
@@ -152,6 +156,8 @@ impl<R: SkipRule> System for ScriptRace<R> {
     ghost form = { form_in };
 
     ghost value = { λ r. race_of r.script r.set_up };
+
+    ghost Kept = { λ r k n. IsShown r.script k.state n };
 
     fn facts(&self) {
         races_are_systems();
@@ -174,7 +180,12 @@ impl<R: SkipRule> System for ScriptRace<R> {
         }
     }
 
-    fn next(&self, key: &StateKey, actor: Actor) -> Result<Option<StateKey>, StepError> {
+    fn next(
+        &self,
+        key: &StateKey,
+        actor: Actor,
+        _entries: u64,
+    ) -> Result<Option<StateKey>, StepError> {
         match self.next_key(key, actor) {
             Ok(next) => Ok(next),
             Err(NoMemory) => Err(StepError::NoMemory),

@@ -53,7 +53,7 @@ pub(crate) fn turn<R: SkipRule>(
     state: &RaceState,
     actor: Actor,
 ) -> Result<Option<Turned>, NoMemory>
-    requires { IsShown script.now state.now }
+    requires { IsShown script.now state.now 2000000 }
     ensures { IfOk result (λ o. (h : List AnyEntry) → Shows script.now h state.now → IsTurned script.now h actor o) }
 {
     script.facts();

@@ -1,14 +1,24 @@
-use Rattle.std.proofs.Common.{sym, ap, ◌∙◌, subst, refl}
+use Rattle.std.proofs.Common.{◌<◌, length, sym, ap, ◌∙◌, subst, refl}
 use Rattle.hm_history.specs.Kernel.Going.{state_next}
 use Rattle.hm_history.specs.declared.Progress.{Progress}
 use Rattle.hm_race_laws.specs.Blur.{tidied}
-use Rattle.hm_race_states.specs.Afters.{StaysLow}
+use Rattle.hm_history.specs.declared.Entry.{Entry}
+use Rattle.hm_race_states.specs.Afters.{ActorTakes, PartsTake}
 use Rattle.hm_race_states.specs.States.{state_in}
-use Rattle.hm_race_top.proofs.Turning.{low, turned, not_turned}
+use Rattle.hm_race_top.proofs.Turning.{has_actor, parts, takes, turned, not_turned}
 use Rattle.hm_race_top.proofs.run.turn.turn.Goals as goal
 
-pub after-requires : goal.after-requires
-after-requires g c = subst (StaysLow c.args.script.now (state_in c.args.state.now)) (sym c.blurred_entry-entry.ensures) (low c.forms_go_on.ensures c.args.script.now c.facts.ensures c.requires.history c.args.state.now c.requires.shows c.facts-2.ensures c.args.actor c.in-Did.entry (sym c.in_ok-entry.ensures ∙ c.in-Did.is))
+pub after-requires-clause-there : goal.after-requires-clause-there
+after-requires-clause-there g c = subst (λ (e : Entry). e.actor < length c.args.state.now.tasks.items) (sym c.blurred_entry-entry.ensures)
+    (has_actor c.forms_go_on.ensures c.args.script.now c.facts.ensures c.requires.history c.args.state.now c.requires.shows c.facts-2.ensures c.args.actor c.in-Did.entry (sym c.in_ok-entry.ensures ∙ c.in-Did.is))
+
+pub after-requires-clause-actor : goal.after-requires-clause-actor
+after-requires-clause-actor g c = subst (ActorTakes c.args.script.now (state_in c.args.state.now)) (sym c.blurred_entry-entry.ensures)
+    (takes c.forms_go_on.ensures c.args.script.now c.facts.ensures c.requires.history c.args.state.now c.requires.shows c.facts-2.ensures c.args.actor c.in-Did.entry (sym c.in_ok-entry.ensures ∙ c.in-Did.is) c.requires.few)
+
+pub after-requires-clause-parts : goal.after-requires-clause-parts
+after-requires-clause-parts g c = subst (λ (e : Entry). PartsTake (state_in c.args.state.now) e.kind) (sym c.blurred_entry-entry.ensures)
+    (parts c.forms_go_on.ensures c.args.script.now c.facts.ensures c.requires.history c.args.state.now c.requires.shows c.facts-2.ensures c.args.actor c.in-Did.entry (sym c.in_ok-entry.ensures ∙ c.in-Did.is))
 
 pub returns-in_ok-state-in-Did : goal.returns-in_ok-state-in-Did
 returns-in_ok-state-in-Did g c = λ h shows.

@@ -1,20 +1,21 @@
-use Rattle.std.proofs.Common.{◌≡◌, List, [], ◌++◌, sym, subst}
+use Rattle.std.proofs.Common.{◌≡◌, ℕ, ◌+◌, List, [], sym, subst}
+use Rattle.std.specs.Prelude.{IfSome}
 use Rattle.hm_history.specs.Laws.{DueFrom}
 use Rattle.hm_history.specs.declared.Entry.{Entry}
 use Rattle.hm_race_laws.specs.Blur.{form_of}
 use Rattle.hm_race_laws.specs.Outcomes.{Point, Reached}
 use Rattle.hm_race_top.specs.Run.Known.{IsNext}
 use Rattle.hm_race_states.specs.Keyed.{form_in}
+use Rattle.hm_race_states.specs.declared.key.StateKey.{StateKey}
 use Rattle.hm_race_top.specs.Run.Races.{RaceValue}
 use Rattle.hm_race_top.specs.Run.Turns.{IsShown}
-use Rattle.hm_race_top.proofs.Turning.{shown}
 use Rattle.hm_race_top.proofs.run.race.ScriptRace.next_key.Goals as goal
 
 pub next_key-requires : goal.next_key-requires
-next_key-requires g c = subst (λ (v : RaceValue). IsShown v.script c.args.key.now.state) (sym c.self.view_is) (record {
-  history = c.args.self.now.set_up ++ c.requires.reached.entries;
-  shows = shown c.args.self.now.script c.args.self.now.set_up c.stands.ensures.due c.requires.point c.requires.reached c.args.key.now c.requires.has_key;
-})
+next_key-requires g c = subst (λ (v : RaceValue). IsShown v.script c.args.key.now.state 2000000) (sym c.self.view_is) c.requires
 
-pub returns : goal.returns
-returns g c = λ x r e. subst (λ (v : RaceValue). (h : List Entry) (x : Point) → DueFrom v.script [] h → Reached v.script h x → form_of v.script x ≡ form_in c.args.key.now → IsNext form_in v.script x c.args.actor c.in_ok-next_key.field-0) c.self.view_is c.in_ok-next_key.ensures c.args.self.now.set_up x c.stands.ensures.due r e
+pub returns-clause-next : goal.returns-clause-next
+returns-clause-next g c = λ x r e. subst (λ (v : RaceValue). (h : List Entry) (x : Point) → DueFrom v.script [] h → Reached v.script h x → form_of v.script x ≡ form_in c.args.key.now → IsNext form_in v.script x c.args.actor c.in_ok-next_key.field-0) c.self.view_is c.in_ok-next_key.ensures.next c.args.self.now.set_up x c.stands.ensures.due r e
+
+pub returns-clause-kept : goal.returns-clause-kept
+returns-clause-kept g c = subst (λ (v : RaceValue). (n : ℕ) → IsShown v.script c.args.key.now.state n → IfSome c.in_ok-next_key.field-0 (λ (k : StateKey). IsShown v.script k.state (n + 1))) c.self.view_is c.in_ok-next_key.ensures.kept
