@@ -1,0 +1,471 @@
+#!/usr/bin/env python3
+"""Tests a driver, rule by rule, with races that are made to happen (docs/STEER.md).
+
+    tools/trace/suite.py CONF --guest W [--driver RULE] [WORDS]     in a guest: W is the folder that build.sh filled
+    tools/trace/suite.py CONF --here DIR [WORDS]                    on this machine, as root: DIR has the modules
+    tools/trace/suite.py CONF --judge FILE                          judges runs that --keep has kept
+
+CONF names the driver's functions: test_hmm.conf, or a copy of template.conf. For each rule that the driver can break its
+shortest races are made, steered, and the trace of each run is judged by hmmtrace. Writes the Test Anything Protocol, as
+the kernel's own tests do, a line for each rule:
+
+    ok N RULE # kept: ..                it was put to the test, in so many steered runs, and kept; which hold was late
+    not ok N RULE # broken: ..          a trace breaks it, or a device's answer is one that no right driver gives
+    ok N RULE # SKIP not met: ..        its races did not come: which hold, and why
+    ok N RULE # SKIP not asked: ..      the driver has not what it needs
+
+    --driver RULE        the driver of edit_rules.py without that rule; `right` if it is not given
+    --rules RULE,RULE    these rules alone
+    --runs N             runs of each rule (20)
+    --seconds N          of a boot, or of all runs here (300)
+    --cpus N             processors of the guest (2)
+    --keep FILE          keeps the runs
+    --only-expect RULE   status 0 if just that rule is broken, or none if it is `right`; else 1: for a suite of drivers
+    --dry                writes the plan, and runs nothing
+
+Ends with status 0, 1 if a rule is broken, 2 if the words are wrong, 3 if CONF has a mistake (its line and the reason),
+4 if a file cannot be read, 10 if no rule is broken and the races of one were not met, 70 if something could not be built
+or loaded.
+"""
+import argparse
+import collections
+import os
+import re
+import shutil
+import subprocess
+import sys
+import tarfile
+import tempfile
+
+HERE = os.path.dirname(os.path.abspath(__file__))
+TOP = os.path.dirname(os.path.dirname(HERE))
+sys.path[:0] = [HERE, os.path.join(TOP, 'tools')]
+import holds as steering
+import holds_of_race as races
+import words as given
+
+# of each rule its races, as RULE.SCRIPT: the shortest one without RULE of examples/broken/SCRIPT.hmm. Those that may
+# spoil a kernel if the driver is wrong come last: the device writes there.
+RACES = {
+    'compare': ['compare.entry', 'compare.retry'],
+    'compare-sequence': ['compare.entry', 'compare-sequence.entry', 'compare.retry', 'compare-sequence.retry'],
+    'mmap-lock': ['mmap-lock.entry', 'compare.entry'],
+    'begin-waits': ['begin-waits.retry', 'begin-waits.entry'],
+    'begin-first': ['begin-first.entry', 'begin-first.retry'],
+    'set-sequence': ['set-sequence.entry', 'set-sequence.retry'],
+    'erase': ['erase.entry2', 'erase.retry', 'erase.entry'],
+    'erase-all': ['erase-all.two'],
+    'erase-in-time': ['erase-in-time.entry2'],
+    'stop-at-detach': ['stop-at-detach.detach'],
+    'set-right': ['set-right.readonly'],
+    'set-moved': ['set-moved.lost'],
+    'drop-lost': ['drop-lost.leak'],
+    'take-from-there': ['take-from-there.leak'],
+    'withdraw-first': ['withdraw-first.leak'],
+    'own-events': ['own-events.move', 'own-events.own'],
+    'own-sequence': ['own-sequence.move', 'own-sequence.own3'],
+    'own-entries': ['own-entries.own'],
+    'entry-right': ['entry-right.shared'],
+    'write-entry': ['write-entry.shared'],
+}
+MEMORY = {'set-right', 'set-moved', 'drop-lost', 'take-from-there', 'withdraw-first', 'own-events', 'own-sequence',
+          'own-entries'}
+# the names that a rule needs, beside `callback` (README.md, What each rule needs)
+NEEDS = {
+    'compare': 'set', 'compare-sequence': 'set', 'begin-first': 'set', 'entry-right': 'set', 'erase': 'set erase',
+    'erase-all': 'set erase', 'erase-in-time': 'set erase', 'own-events': 'set erase', 'own-sequence': 'set erase',
+    'own-entries': 'set erase', 'set-right': 'set', 'set-moved': 'set', 'write-entry': 'set reads writes',
+    'drop-lost': 'frees', 'take-from-there': 'withdraws takes', 'withdraw-first': 'withdraws'}
+NOT_ASKED = {
+    'own-device': 'it needs private memory of two devices', 'detach-waits': 'whoever calls the kernel keeps it',
+    'set-unless-invalidated': 'no race is known that punishes it', 'evict-first': 'a driver without it hangs there',
+    'wait-for-locked': 'a driver without it hangs there', 'exclusive-waits': 'no call for exclusive access',
+    'look-again': 'no call for exclusive access', 'copy-all': 'no trace has bytes', 'clear': 'no trace has bytes'}
+
+# the names of a CONF: of both modules, of one, or of neither
+BOTH = ('callback', 'set', 'reads', 'writes', 'takes', 'frees', 'withdraws', 'fetches', 'adds', 'table')
+PROBES = ('erase', 'object', 'owner', 'tag_mask', 'tag_write', 'tag_sole', 'model', 'size')
+STEER = ('lock', 'locks', 'exclusive', 'trap')
+OWN = ('calls', 'device', 'memory_device', 'load', 'module')
+NUMBERS = ('table', 'object', 'owner', 'tag_mask', 'tag_write', 'tag_sole', 'lock', 'device', 'memory_device', 'size')
+
+
+class Refused(Exception):
+    """A status, and what is said."""
+
+
+def conf_of(path):
+    """The names of a CONF: name -> what it is."""
+    try:
+        with open(path) as file:
+            lines = file.read().splitlines()
+    except OSError as error:
+        raise Refused(4, f'{path}: {error.strerror}') from None
+    conf = {}
+    for at, line in enumerate(lines, 1):
+        name, _, what = line.split('#')[0].strip().partition(' ')
+        what = what.strip()
+        if not name:
+            continue
+        why = mistake_of(name, what, conf)
+        if why:
+            raise Refused(3, f'{path} line {at}: `{name}` {why}')
+        conf[name] = what
+    if 'callback' not in conf:
+        raise Refused(3, f'{path} line {len(lines)}: `callback` is missing')
+    return conf
+
+
+def mistake_of(name, what, conf):
+    """What is wrong with a line of a CONF, or none."""
+    if name not in BOTH + PROBES + STEER + OWN:
+        return 'is no name of a CONF'
+    if name in conf:
+        return 'is there twice'
+    if not what:
+        return 'has nothing after it'
+    if name in NUMBERS and not re.fullmatch(r'-?(0x[0-9a-fA-F]+|\d+)', what):
+        return 'is no number'
+    if name != 'load' and ' ' in what:
+        return 'has more than one word after it'
+    return None
+
+
+# ---- the plan
+
+def read_race(name):
+    """The script's lines, and the holds' lines, of RULE.SCRIPT."""
+    rule, script = name.split('.')
+    path = os.path.join(TOP, 'examples', 'broken', script + '.hmm')
+    parsed = races.read_script(path)
+    with open(os.path.join(HERE, 'races', name + '.race')) as file:
+        entries = races.entries_of(parsed, rule, file.read().splitlines())
+    with open(path) as file:
+        return parsed, file.read().splitlines(), races.converted(parsed, entries, rule, None, 30_000)
+
+
+def operations_of(lines):
+    """The operations of each actor, as the script has them."""
+    actors = []
+    for line in lines:
+        words = line.split()
+        if words[0] == 'actor':
+            actors.append([])
+        elif actors and words[0] not in ('turns', 'drain'):
+            actors[-1].append(line)
+    return actors
+
+
+def plan_of_race(name, conf):
+    """The lines of a race for steer_runs."""
+    parsed, lines, holds = read_race(name)
+    start = races.Race(parsed, None, (), True)
+    actors = operations_of(lines)
+    if any(start.running) or any(start.ended[1:]):
+        raise Refused(70, f'{name}: the set-up ends within an operation, or has two actors')
+    needs_memory = any(x.split()[0] in ('todev', 'tosys', 'remove', 'evict') for a in actors for x in a)
+    device = conf.get('memory_device' if needs_memory else 'device', '0')
+    yield 'race ' + name
+    for line in actors[0][:start.ended[0]]:
+        words = line.split()
+        if words[0] == 'attach':
+            words[2] = device
+        yield ' '.join(words)
+    for at, operations in enumerate(actors):
+        yield f'actor {at}'
+        yield from operations[start.ended[at]:]
+    yield 'holds'
+    yield from (line for line in holds if not line.startswith('#'))
+    yield 'end'
+
+
+def why_not_asked(rule, conf):
+    """What the driver lacks for a rule, or none."""
+    if rule in NOT_ASKED:
+        return NOT_ASKED[rule]
+    if rule in MEMORY and 'memory_device' not in conf:
+        return 'no device with memory of its own'
+    missing = [x for x in NEEDS.get(rule, '').split() if x not in conf]
+    return 'it needs ' + ', '.join(missing) if missing else None
+
+
+def plan_of(rules, conf, runs):
+    for rule in rules:
+        yield f'rule {rule} {runs}'
+        for name in RACES[rule]:
+            yield from plan_of_race(name, conf)
+
+
+# ---- running
+
+def words_of(conf, it):
+    """What the modules are given: a line for each."""
+    as_words = lambda names: ' '.join(f'{x}={conf[x]}' for x in names if x in conf)
+    yield 'hmm_probes ' + as_words(BOTH + PROBES)
+    yield 'hmm_steer ' + as_words(BOTH + STEER)
+    yield 'module ' + conf.get('module', 'test_hmm.ko')
+    yield 'load ' + conf.get('load', '')
+    yield f'seconds {it.seconds}'
+
+
+def write(path, lines):
+    with open(path, 'w') as file:
+        file.write('\n'.join(lines) + '\n')
+
+
+def run_in_guest(it, conf, plan, folder):
+    """The text of the runs of one boot."""
+    inside, out = os.path.join(folder, 'inside'), os.path.join(folder, 'out')
+    os.makedirs(inside, exist_ok=True)
+    write(os.path.join(inside, 'plan'), plan)
+    write(os.path.join(inside, 'words'), words_of(conf, it))
+    driver = os.path.join(it.guest, 'drivers', it.driver, 'test_hmm.ko')
+    if 'module' in conf:
+        driver = os.path.join(os.path.dirname(os.path.abspath(it.conf)), conf['module'])
+    shutil.copy(driver, os.path.join(inside, os.path.basename(conf.get('module', 'test_hmm.ko'))))
+    with tarfile.open(os.path.join(folder, 'in.tar'), 'w') as tar:
+        for name in os.listdir(inside):
+            tar.add(os.path.join(inside, name), name)
+    memory = 'memmap=32M$0x28000000' if 'spm_addr_dev0' in conf.get('load', '') else ''
+    environment = dict(os.environ, CPUS=str(it.cpus), APPEND=f'mitigations=off nokaslr {memory}')
+    subprocess.run([os.path.join(HERE, os.pardir, 'linux', 'boot.sh'), os.path.join(it.guest, 'steer'), 'debian',
+                    os.path.join(folder, 'in.tar'), out, str(it.seconds)], env=environment, check=False)
+    with open(out, errors='replace') as file, open(out + '.console', errors='replace') as console:
+        return file.read().replace('\r', ''), console.read()
+
+
+def run_here(it, conf, plan, folder):
+    for name in ('hmm_probes.ko', 'hmm_steer.ko', 'steer_runs'):
+        if not os.path.exists(os.path.join(it.here, name)):
+            raise Refused(70, f'there is no {it.here}/{name}')
+        shutil.copy(os.path.join(it.here, name), folder)
+    write(os.path.join(folder, 'plan'), plan)
+    write(os.path.join(folder, 'words'), words_of(conf, it))
+    out = os.path.join(folder, 'out')
+    done = subprocess.run(['sh', os.path.join(HERE, 'suite_run.sh'), folder, out, str(it.seconds)], check=False)
+    if not os.path.exists(out):
+        raise Refused(70, f'suite_run.sh ended with status {done.returncode}: the end of dmesg says why')
+    with open(out, errors='replace') as file:
+        return file.read(), ''
+
+
+class Run:
+    """One run of a rule: its trace, and what the comments say."""
+
+    def __init__(self, rule, number):
+        self.rule, self.number, self.trace, self.status = rule, number, [], None
+        self.held, self.said, self.came = [], [], []    # (race, text)
+        self.is_over, self.verdicts = False, {}
+
+    def line(self, line):
+        words = line.split(' ', 3)
+        if line.startswith('# status '):
+            self.status = int(words[2])
+        elif line.startswith(('# held ', '# said ', '# came ')) and len(words) == 4:
+            getattr(self, words[1]).append((words[2], words[3]))
+        elif not line.startswith('#'):
+            self.trace.append(line)
+
+    def bad_holds(self):
+        """The holds that had to be met and were not: race, hold, outcome."""
+        bad = []
+        for race, text in self.held:
+            hold, _, outcome = text.partition(': ')
+            if text.startswith('hold ') and outcome.split()[:1] not in (['waited'], ['free']):
+                bad.append((race, hold, outcome))
+            elif not text.startswith(('hold ', 'try ', 'missed ')):
+                bad.append((race, text, 'refused'))
+        return bad
+
+    def turned(self):
+        """The first try of each race that was not met."""
+        found = {}
+        for race, text in self.held:
+            hold, _, outcome = text.partition(': ')
+            if text.startswith('try ') and outcome.split()[:1] in (['late'], ['unmet']):
+                found.setdefault(race, (hold, outcome.split()[0]))
+        return [(race, *x) for race, x in found.items()]
+
+
+def runs_of(text):
+    """The runs of a boot; the last one may have been cut off."""
+    runs = []
+    for line in text.split('\n'):
+        words = line.split()
+        if line.startswith('# run ') and len(words) == 4:
+            runs.append(Run(words[2], int(words[3])))
+        elif line == '# over' and runs:
+            runs[-1].is_over = True
+        elif runs and not runs[-1].is_over:
+            runs[-1].line(line)
+    return runs
+
+
+def all_runs(it, conf, rules, keep):
+    """The runs of all rules; a guest that stops is booted again, without the rule at which it did."""
+    runs, stopped, left = [], {}, list(rules)
+    while left and len(stopped) < 6:
+        with tempfile.TemporaryDirectory() as folder:
+            run = run_in_guest if it.guest else run_here
+            text, console = run(it, conf, plan_of(left, conf, it.runs), folder)
+        keep(text)
+        new = runs_of(text)
+        runs += new
+        counts = collections.Counter(x.rule for x in new if x.is_over)
+        if '\n# all' in text or text.startswith('# all'):
+            break
+        if it.here:
+            break
+        at = next((x for x in left if counts[x] < it.runs), left[-1])
+        alarm = re.findall(r'(?:BUG|Oops|general protection|WARNING|panic)[^\n]*', console)
+        stopped[at] = f'the guest stopped in run {counts[at]}' + (': ' + alarm[0][:80] if alarm else '')
+        if not new and not runs:
+            raise Refused(70, 'the guest made no run: ' + ' '.join(console.split('\n')[-6:])[:400])
+        left = left[left.index(at) + 1:]
+    return runs, stopped
+
+
+# ---- judging
+
+def judge(runs):
+    """Gives each run its verdicts, and gives those of all together: rule -> what is said."""
+    done = [x for x in runs if x.is_over and x.trace]
+    if not done:
+        return {}
+    text = ''.join(f'trace {x.rule}.{x.number}\n' + '\n'.join(x.trace) + '\n' for x in done)
+    said = subprocess.run(given.ready('hmmtrace'), input=text.encode(), stdout=subprocess.PIPE, stderr=subprocess.PIPE,
+                          check=False)
+    if said.returncode not in (0, 1):
+        raise Refused(70, 'hmmtrace: ' + said.stderr.decode().strip())
+    at, together, verdicts, last = -1, {}, {}, None
+    for line in said.stdout.decode().splitlines():
+        words = line.split()
+        if line.startswith('trace '):
+            at += 1
+            verdicts = done[at].verdicts
+        elif line.startswith('all '):
+            verdicts = together
+        elif line.startswith('  ') and last:
+            verdicts[last] += ' ' + line.strip()
+        elif words[0] != 'events':
+            last, verdicts[words[0]] = words[0], ' '.join(words[1:])
+    return together
+
+
+def most(items):
+    """The one that comes most often, and how often."""
+    return collections.Counter(items).most_common(1)[0]
+
+
+def broken_in(rule, runs):
+    """The first run in which a rule is broken, and what is said of it."""
+    for run in runs:
+        if run.verdicts.get(rule, '').startswith(('broken', 'maybe')):
+            return f'{run.rule} run {run.number}: line {run.verdicts[rule].split(" ", 1)[1]}'
+    return ''
+
+
+def result(rule, runs, together, stopped, conf):
+    """The word for a rule, and why."""
+    mine = [x for x in runs if x.rule == rule and x.is_over]
+    what = together.get(rule, 'unseen')
+    if what.startswith('broken') or re.fullmatch(r'maybe in \d+', what):
+        return 'broken', f'{what}; {broken_in(rule, runs)}'
+    why = why_not_asked(rule, conf)
+    if why:
+        return 'not asked', why
+    if mine and any(x.status == 4 for x in mine):
+        return 'not asked', 'the program has not the calls'
+    if what.startswith('maybe'):
+        return 'not met', what
+    steered = [x for x in mine if not x.bad_holds() and x.status == 0]
+    tested = [x for x in steered if x.verdicts.get(rule, '').startswith('kept')]
+    if tested:
+        turns = [turn for x in tested for turn in x.turned()]
+        late = f'; turned away: {most(turns)[0][1]} was {most(turns)[0][2]} in {most(turns)[1]}' if turns else ''
+        return 'kept', f'steered in {len(tested)} of {len(mine)}{late}'
+    if not mine:
+        return 'not met', stopped.get(rule, 'no run came to its end')
+    bad = [(hold, outcome.split()[0]) for x in mine for _, hold, outcome in x.bad_holds()]
+    if bad:
+        (hold, outcome), count = most(bad)
+        return 'not met', f'{hold} was {outcome} in {count} of {len(mine)}'
+    if not steered:
+        return 'not met', f'status {mine[0].status}' + (f': {mine[0].said[0][1]}' if mine[0].said else '')
+    return 'not met', 'no event tests it'
+
+
+def tap(rules, results):
+    print('TAP version 13')
+    print(f'1..{len(rules)}')
+    for at, rule in enumerate(rules, 1):
+        word, why = results[rule]
+        print(('not ok' if word == 'broken' else 'ok') + f' {at} {rule} # '
+              + ('SKIP ' if word in ('not met', 'not asked') else '') + f'{word}: {why}')
+    counts = collections.Counter(word for word, _ in results.values())
+    print('# ' + ', '.join(f'{counts[x]} {x}' for x in ('kept', 'broken', 'not met', 'not asked')))
+
+
+def status_of(it, results):
+    broken = {rule for rule, (word, _) in results.items() if word == 'broken'}
+    if it.only_expect:
+        return int(broken != ({it.only_expect} - {'right'}))
+    return 1 if broken else 10 if any(word == 'not met' for word, _ in results.values()) else 0
+
+
+def ask():
+    words = argparse.ArgumentParser(description=__doc__, formatter_class=argparse.RawDescriptionHelpFormatter)
+    words.add_argument('conf')
+    words.add_argument('--guest')
+    words.add_argument('--here')
+    words.add_argument('--judge')
+    words.add_argument('--driver', default='right')
+    words.add_argument('--rules')
+    words.add_argument('--runs', type=int, default=20)
+    words.add_argument('--seconds', type=int, default=300)
+    words.add_argument('--cpus', type=int, default=2)
+    words.add_argument('--keep')
+    words.add_argument('--only-expect')
+    words.add_argument('--dry', action='store_true')
+    it = words.parse_args()
+    if sum(x is not None for x in (it.guest, it.here, it.judge)) + it.dry != 1:
+        words.error('one of --guest, --here, --judge, --dry')
+    return it
+
+
+def main():
+    it = ask()
+    conf = conf_of(it.conf)
+    rules = it.rules.split(',') if it.rules else list(RACES) + list(NOT_ASKED)
+    for rule in rules:
+        if rule not in RACES and rule not in NOT_ASKED:
+            raise Refused(2, f'there is no rule {rule}')
+    asked = [x for x in rules if not why_not_asked(x, conf)]
+    if it.dry:
+        print(*plan_of(asked, conf, it.runs), sep='\n')
+        return 0
+    if it.keep:
+        open(it.keep, 'w').close()
+
+    def keep(text):
+        if it.keep:
+            with open(it.keep, 'a') as file:
+                file.write(text)
+
+    if it.judge:
+        with open(it.judge) as file:
+            runs, stopped = runs_of(file.read()), {}
+    else:
+        runs, stopped = all_runs(it, conf, asked, keep)
+    together = judge(runs)
+    results = {rule: result(rule, runs, together, stopped, conf) for rule in rules}
+    tap(rules, results)
+    return status_of(it, results)
+
+
+if __name__ == '__main__':
+    try:
+        sys.exit(main())
+    except Refused as refused:
+        print('suite.py: ' + refused.args[1], file=sys.stderr)
+        sys.exit(refused.args[0])
