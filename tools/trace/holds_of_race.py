@@ -5,7 +5,7 @@
     tools/trace/holds_of_race.py --outcome N SCRIPT [OUTCOMES]  OUTCOMES is what hmmraces SCRIPT has written
     .. --model HOLDS      in place of a hold at each change of the actor, these: `a0 after runlock 1 waits for a1 told 1`,
                           `a1 at first waits for a0 rlock 1`; 1 may be left out
-    .. --us MICROSECONDS  the bound of each hold (30000)
+    .. --us MICROSECONDS  the bound of each hold (100000); of a try it is 30000 at the most
 
 Without RACE or OUTCOMES it reads standard input. Each event of the model has its place in the kernel, or none
 (docs/STEER.md). Where the actor changes, from X with entry e to Y with entry f, Y is held where a thread is that has made
@@ -36,6 +36,7 @@ import holds as steering
 LINE = re.compile(r'^\s*(\d+) a(\d+) (.*)')
 MODEL = re.compile(r'a(\d+) (?:at first|after (\w+)(?: (\d+))?) waits for a(\d+) (\w+)(?: (\d+))?')
 MOST_CHOICES = 600
+HOLD_US, TRY_US = 100_000, 30_000               # a right driver waits for a try to its end
 PAGE_AT = 0x200000                              # steer_runs.c: page N of the script lies that many pages further
 
 
@@ -133,11 +134,21 @@ class Thread:
 
     # ---- operations
     def operation(self, word, entries):
+        """Its calls of the driver keep the file open; to detach is to close it, which waits for them."""
         self.p('go')
-        self.is_in = {'dload': self.access, 'dstore': self.access, 'load': self.cpu, 'store': self.cpu,
-                      'todev': self.migration, 'tosys': self.migration, 'detach': self.detach,
-                      'remove': self.removal}.get(word, self.area)
-        self.is_in(word, entries)
+        is_call = word in ('dload', 'dstore', 'todev', 'tosys', 'remove', 'snap')
+        if is_call or word == 'detach':
+            self.take('file', word == 'detach')
+        self.make(word, entries)
+        if is_call or word == 'detach':
+            self.give('file')
+        self.p('done')
+
+    def make(self, word, entries):
+        how = {'dload': self.access, 'dstore': self.access, 'load': self.cpu, 'store': self.cpu,
+               'todev': self.migration, 'tosys': self.migration, 'detach': self.detach,
+               'remove': self.removal}.get(word, self.area)
+        how(word, entries)
 
     def invalidation(self, entry):
         """An entry of an invalidation, or of its guard's body; whether it is one."""
@@ -210,7 +221,6 @@ class Thread:
                     self.give('driver')
                 if walks:
                     self.give('mmap')
-                self.p('done')
             else:
                 if not is_faulting:
                     self.p('fault')
@@ -230,7 +240,6 @@ class Thread:
                 self.give('mmap')
             elif not self.invalidation(entry):
                 self.e(entry)
-        self.p('done')
 
     def area(self, word, entries):
         has_lock = False
@@ -245,7 +254,6 @@ class Thread:
                 self.e(entry)
         if has_lock:
             self.give('mmap')
-        self.p('done')
 
     def until_stage(self, stage):
         """A migration goes on to this stage."""
@@ -293,7 +301,6 @@ class Thread:
                 self.e(entry)
                 if is_inside:
                     self.give('mmap')
-                self.p('done')
             else:
                 self.e(entry)
 
@@ -301,7 +308,7 @@ class Thread:
         self.p('remove')
         for entry in entries:
             self.e(entry)
-        self.p('removed', 'done')
+        self.p('removed')
 
     def removal(self, word, entries):
         for entry in entries:
@@ -310,7 +317,7 @@ class Thread:
             self.e(entry)
             if entry.word == 'withdrawn':       # the function of that name comes after it
                 self.p('withdraw', 'withdrawn', 'evict')
-        self.p('gone', 'done')
+        self.p('gone')
 
 
 def threads_of(script, entries, rule):
@@ -400,6 +407,7 @@ def choices(wish, threads, entries, us):
     if not there:                               # no place says that it was made: the last one before it is near
         there = places_between(other, None, wish.until)[-1:]
     here = [x for x in here[::-1] if not x[2]] + [x for x in here[::-1] if x[2]]
+    us = min(us, TRY_US) if wish.is_try else us
     return [steering.Hold(f'a{wish.actor}', place, n, f'a{other.actor}', until, m, us, wish.is_try)
             for place, n, _ in here for until, m, _ in there[:3]]
 
@@ -540,7 +548,7 @@ def main():
     ask.add_argument('--rule')
     ask.add_argument('--outcome', type=int)
     ask.add_argument('--model')
-    ask.add_argument('--us', type=int, default=30_000)
+    ask.add_argument('--us', type=int, default=HOLD_US)
     ask.add_argument('script')
     ask.add_argument('race', nargs='?')
     it = ask.parse_args()

@@ -398,9 +398,11 @@ static int one_race(FILE *out)
 	return !gone ? 9 : WIFEXITED(status) ? WEXITSTATUS(status) : 7;
 }
 
+#define TRACE_BYTES (1 << 22)
+static char *trace;			// no process of a race has it
+
 static void one_run(FILE *out, const char *rule, int number)
 {
-	static char trace[1 << 22];
 	int clear = open(TRACE, O_WRONLY), status = 0;
 
 	if (clear >= 0 && write(clear, "0", 1) < 0)
@@ -413,7 +415,7 @@ static void one_run(FILE *out, const char *rule, int number)
 		fprintf(out, "# made %s status %d\n", race->name, was);
 		status = was ? was : status;
 	}
-	if (text_of(TRACE, trace, sizeof trace))
+	if (text_of(TRACE, trace, TRACE_BYTES))
 		fputs(trace, out);
 	fprintf(out, "# status %d\n# over\n", status);
 	fflush(out);
@@ -483,6 +485,8 @@ int main(int count, char **words)
 		return 2;
 	}
 	shared = mmap(NULL, sizeof *shared, PROT_READ | PROT_WRITE, MAP_SHARED | MAP_ANONYMOUS, -1, 0);
+	trace = mmap(NULL, TRACE_BYTES, PROT_READ | PROT_WRITE, MAP_PRIVATE | MAP_ANONYMOUS, -1, 0);
+	madvise(trace, TRACE_BYTES, MADV_DONTFORK);
 	while (fgets(line, sizeof line, plan)) {
 		if (sscanf(line, "rule %63s %d", rule, &runs) != 2)
 			continue;

@@ -18,7 +18,7 @@ the kernel's own tests do, a line for each rule:
     --rules RULE,RULE    these rules alone
     --runs N             runs of each rule (20)
     --seconds N          of a boot, or of all runs here (300)
-    --cpus N             processors of the guest (2)
+    --cpus N             processors of the guest (3)
     --keep FILE          keeps the runs
     --only-expect RULE   status 0 if just that rule is broken, or none if it is `right`; else 1: for a suite of drivers
     --dry                writes the plan, and runs nothing
@@ -141,7 +141,7 @@ def read_race(name):
     with open(os.path.join(HERE, 'races', name + '.race')) as file:
         entries = races.entries_of(parsed, rule, file.read().splitlines())
     with open(path) as file:
-        return parsed, file.read().splitlines(), races.converted(parsed, entries, rule, None, 30_000)
+        return parsed, file.read().splitlines(), races.converted(parsed, entries, rule, None, races.HOLD_US)
 
 
 def operations_of(lines):
@@ -423,7 +423,7 @@ def ask():
     words.add_argument('--rules')
     words.add_argument('--runs', type=int, default=20)
     words.add_argument('--seconds', type=int, default=300)
-    words.add_argument('--cpus', type=int, default=2)
+    words.add_argument('--cpus', type=int, default=3)
     words.add_argument('--keep')
     words.add_argument('--only-expect')
     words.add_argument('--dry', action='store_true')
