@@ -386,7 +386,7 @@ def places_between(thread, after, before):
     """The places (place, n, whether a lock is held) that the thread comes to after an entry and before another."""
     is_on, locks, found = after is None, set(), []
     for item in thread.items:
-        if item[0] == 'L':
+        if item[0] == 'L' and item[1] != 'file':
             locks.add(item[1])
         elif item[0] == 'U':
             locks.discard(item[1])

@@ -219,11 +219,7 @@ static void *actor(void *number_of)
 {
 	int a = (uintptr_t)number_of;
 	char name[8];
-	cpu_set_t set;
 
-	CPU_ZERO(&set);
-	CPU_SET((a + 1) % sysconf(_SC_NPROCESSORS_ONLN), &set);
-	sched_setaffinity(0, sizeof set, &set);
 	shared->ready++;
 	while (shared->ready < shared->wanted)
 		sched_yield();
@@ -245,14 +241,22 @@ static int process_of(const struct operation *o)
 	return strchr("lsupmz", o->word[0]) && strcmp(o->word, "snap") && strcmp(o->word, "remove") ? number(o, 0) : 0;
 }
 
+// a thread for each actor of this process, on a processor of its own if there are so many: a thread that is held spins
 static void threads(void)
 {
 	pthread_t of[ACTORS];
+	pthread_attr_t how;
+	cpu_set_t set;
 	int n = 0;
 
 	for (int a = 0; a < ACTORS; a++)
-		if (race->counts[a] && process_of(race->of[a]) == me)
-			pthread_create(of + n++, NULL, actor, (void *)(uintptr_t)a);
+		if (race->counts[a] && process_of(race->of[a]) == me) {
+			CPU_ZERO(&set);
+			CPU_SET((a + 1) % sysconf(_SC_NPROCESSORS_ONLN), &set);
+			pthread_attr_init(&how);
+			pthread_attr_setaffinity_np(&how, sizeof set, &set);
+			pthread_create(of + n++, &how, actor, (void *)(uintptr_t)a);
+		}
 	while (n > 0)
 		pthread_join(of[--n], NULL);
 }
@@ -410,9 +414,10 @@ static void one_run(FILE *out, const char *rule, int number)
 	close(clear);
 	fprintf(out, "# run %s %d\n", rule, number);
 	for (race = races; race < races + race_count; race++) {
+		double from = now();
 		int was = one_race(out);
 
-		fprintf(out, "# made %s status %d\n", race->name, was);
+		fprintf(out, "# made %s status %d in %.1f ms\n", race->name, was, (now() - from) * 1000);
 		status = was ? was : status;
 	}
 	if (text_of(TRACE, trace, TRACE_BYTES))

@@ -29,6 +29,7 @@ or loaded.
 """
 import argparse
 import collections
+import itertools
 import os
 import re
 import shutil
@@ -44,17 +45,18 @@ import holds as steering
 import holds_of_race as races
 import words as given
 
-# of each rule its races, as RULE.SCRIPT: the shortest one without RULE of examples/broken/SCRIPT.hmm. Those that may
-# spoil a kernel if the driver is wrong come last: the device writes there.
+# of each rule its races, as RULE.SCRIPT: the shortest one without RULE of SCRIPT.hmm, in races or examples/broken; or as
+# RULE.SCRIPT.NAME, with the model's holds of races/RULE.SCRIPT.NAME.holds. Those that may spoil a kernel if the driver is
+# wrong come last: the device writes there.
 RACES = {
     'compare': ['compare.entry', 'compare.retry'],
-    'compare-sequence': ['compare.entry', 'compare-sequence.entry', 'compare.retry', 'compare-sequence.retry'],
+    'compare-sequence': ['compare.entry', 'compare-sequence.entry', 'compare-sequence.retry', 'compare-sequence.retry.past'],
     'mmap-lock': ['mmap-lock.entry', 'compare.entry'],
     'begin-waits': ['begin-waits.retry', 'begin-waits.entry'],
     'begin-first': ['begin-first.entry', 'begin-first.retry'],
     'set-sequence': ['set-sequence.entry', 'set-sequence.retry'],
     'erase': ['erase.entry2', 'erase.retry', 'erase.entry'],
-    'erase-all': ['erase-all.two'],
+    'erase-all': ['erase-all.both'],
     'erase-in-time': ['erase-in-time.entry2'],
     'stop-at-detach': ['stop-at-detach.detach'],
     'set-right': ['set-right.readonly'],
@@ -134,14 +136,20 @@ def mistake_of(name, what, conf):
 # ---- the plan
 
 def read_race(name):
-    """The script's lines, and the holds' lines, of RULE.SCRIPT."""
-    rule, script = name.split('.')
-    path = os.path.join(TOP, 'examples', 'broken', script + '.hmm')
+    """The script, its lines, and the holds' lines, of RULE.SCRIPT."""
+    rule, script, *model = name.split('.')
+    path = os.path.join(HERE, 'races', script + '.hmm')
+    if not os.path.exists(path):
+        path = os.path.join(TOP, 'examples', 'broken', script + '.hmm')
     parsed = races.read_script(path)
-    with open(os.path.join(HERE, 'races', name + '.race')) as file:
-        entries = races.entries_of(parsed, rule, file.read().splitlines())
+    entries = races.entries_of(parsed, rule, lines_of(os.path.join(HERE, 'races', f'{rule}.{script}.race')))
+    model = lines_of(os.path.join(HERE, 'races', name + '.holds')) if model else None
+    return parsed, lines_of(path), races.converted(parsed, entries, rule, model, races.HOLD_US)
+
+
+def lines_of(path):
     with open(path) as file:
-        return parsed, file.read().splitlines(), races.converted(parsed, entries, rule, None, races.HOLD_US)
+        return file.read().splitlines()
 
 
 def operations_of(lines):
@@ -255,7 +263,7 @@ class Run:
     def __init__(self, rule, number):
         self.rule, self.number, self.trace, self.status = rule, number, [], None
         self.held, self.said, self.came = [], [], []    # (race, text)
-        self.is_over, self.verdicts = False, {}
+        self.is_over, self.verdicts, self.harm, self.made = False, {}, [], {}
 
     def line(self, line):
         words = line.split(' ', 3)
@@ -263,6 +271,8 @@ class Run:
             self.status = int(words[2])
         elif line.startswith(('# held ', '# said ', '# came ')) and len(words) == 4:
             getattr(self, words[1]).append((words[2], words[3]))
+        elif line.startswith('# made ') and len(words) == 4:
+            self.made[words[2]] = int(words[3].split()[1])
         elif not line.startswith('#'):
             self.trace.append(line)
 
@@ -325,6 +335,83 @@ def all_runs(it, conf, rules, keep):
     return runs, stopped
 
 
+# ---- harm: answers that no order of the operations has, in which an operation that ended comes before one that began later
+
+TIME = re.compile(r'(a\d) (\w+) (\d+) at (-?\d+) us')
+
+
+class Answers:
+    """The accesses' answers of a right driver, for each order of the operations of a race."""
+
+    def __init__(self, name):
+        self.script = read_race(name)[0]
+        start = races.Race(self.script, None, (), True)
+        self.of = [(a, n) for a, words in enumerate(self.script.actors) for n in range(start.ended[a], len(words))]
+        self.first, self.known = dict(enumerate(start.ended)), {}
+
+    def word(self, operation):
+        return self.script.actors[operation[0]][operation[1]][0]
+
+    def in_order(self, order):
+        """The answers of accesses if the operations are made so, one after the other."""
+        if order not in self.known:
+            race, said = races.Race(self.script, None, (), True), collections.defaultdict(list)
+            for actor, number in order:
+                while race.ended[actor] == number and races.stepped(race, actor):
+                    pass
+                text = races.reports.entry_text(race.history[-1][1])
+                if self.word((actor, number)) in ('load', 'store', 'dload', 'dstore'):
+                    said[actor].append(text)
+            self.known[order] = dict(said)
+        return self.known[order]
+
+
+def spans_of(answers, came):
+    """When each operation took place: a device's access since it looked last into its table. Or none, if it did not end."""
+    times, counts = collections.defaultdict(list), {}
+    for text in came:
+        match = TIME.match(text)
+        if match:
+            times[int(match[1][1:]), match[2]].append(int(match[4]))
+    for actor, number in answers.of:
+        at = number - answers.first[actor]
+        go, done = times[actor, 'go'], times[actor, 'done']
+        if len(done) <= at or len(go) <= at:
+            return None
+        looks = [x for x in times[actor, 'using'] if go[at] < x < done[at]]
+        counts[actor, number] = (looks[-1] if looks and answers.word((actor, number)).startswith('d') else go[at], done[at])
+    return counts
+
+
+def is_harm(answers, said, came):
+    """Whether the answers are those of no order that the operations' times allow."""
+    spans = spans_of(answers, came)
+    if not spans:
+        return False
+    heard = collections.defaultdict(list)
+    for text in said:
+        actor, _, answer = text.partition(' ')
+        if answer.split()[0] in ('loaded', 'stored', 'failed'):
+            heard[int(actor[1:])].append(answer)
+    for order in itertools.permutations(answers.of):
+        before = [(x, y) for at, x in enumerate(order) for y in order[at + 1:]]
+        if all(spans[y][1] >= spans[x][0] and not (x[0] == y[0] and x[1] > y[1]) for x, y in before):
+            if answers.in_order(order) == dict(heard):
+                return False
+    return True
+
+
+def harm_of(runs):
+    """Notes for each run the races in which it did harm."""
+    known = {}
+    for run in runs:
+        for name in {name for name, _ in run.came}:
+            answers = known.setdefault(name, Answers(name)) if name not in known else known[name]
+            of = lambda pairs: [text for race, text in pairs if race == name]
+            if run.made.get(name) == 0 and is_harm(answers, of(run.said), of(run.came)):
+                run.harm.append((name, '; '.join(of(run.said))))
+
+
 # ---- judging
 
 def judge(runs):
@@ -369,8 +456,12 @@ def result(rule, runs, together, stopped, conf):
     """The word for a rule, and why."""
     mine = [x for x in runs if x.rule == rule and x.is_over]
     what = together.get(rule, 'unseen')
+    harmed = [x for x in mine if x.harm]
+    harm = f'; harm in {len(harmed)} of {len(mine)}' if harmed else ''
     if what.startswith('broken') or re.fullmatch(r'maybe in \d+', what):
-        return 'broken', f'{what}; {broken_in(rule, runs)}'
+        return 'broken', f'{what}; {broken_in(rule, runs)}{harm}'
+    if harmed and not any(x.startswith('broken') for x in together.values()):
+        return 'broken', f'run {harmed[0].number} of {harmed[0].harm[0][0]}: {harmed[0].harm[0][1]}{harm}'
     why = why_not_asked(rule, conf)
     if why:
         return 'not asked', why
@@ -383,7 +474,7 @@ def result(rule, runs, together, stopped, conf):
     if tested:
         turns = [turn for x in tested for turn in x.turned()]
         late = f'; turned away: {most(turns)[0][1]} was {most(turns)[0][2]} in {most(turns)[1]}' if turns else ''
-        return 'kept', f'steered in {len(tested)} of {len(mine)}{late}'
+        return 'kept', f'steered in {len(tested)} of {len(mine)}{late}' + (harm and harm + ', by another rule')
     if not mine:
         return 'not met', stopped.get(rule, 'no run came to its end')
     bad = [(hold, outcome.split()[0]) for x in mine for _, hold, outcome in x.bad_holds()]
@@ -458,6 +549,7 @@ def main():
     else:
         runs, stopped = all_runs(it, conf, asked, keep)
     together = judge(runs)
+    harm_of(runs)
     results = {rule: result(rule, runs, together, stopped, conf) for rule in rules}
     tap(rules, results)
     return status_of(it, results)
