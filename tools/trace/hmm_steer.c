@@ -107,7 +107,7 @@ static struct hold holds[HOLDS];
 static int hold_count;
 static int counts[ROLES][WORDS];
 static enum call call_of[ROLES];
-static unsigned long first_page, page_count_ = ~0UL;	// invalidations and faults of these pages alone are places
+static unsigned long first_page, page_span = ~0UL;	// invalidations and faults of these pages alone are places
 static bool is_walked[ROLES], is_told[ROLES];
 static struct { u64 ns; u8 role, word; u16 nth; } events[LOG];
 static atomic_t next = ATOMIC_INIT(0);
@@ -278,7 +278,7 @@ static bool has_page(unsigned long start, unsigned long end)
 {
 	unsigned long from = start >> PAGE_SHIFT, to = end >> PAGE_SHIFT, first = READ_ONCE(first_page);
 
-	return role() >= 0 && to > first && (from < first || from - first < READ_ONCE(page_count_));
+	return role() >= 0 && to > first && (from < first || from - first < READ_ONCE(page_span));
 }
 
 static bool has_range(struct mmu_notifier_range *r) { return has_page(r->start, r->end); }
@@ -516,7 +516,7 @@ static void pages_line(int line, char **fields, int count)
 		mistake(line, "is no count of pages", fields[2]);
 	else {
 		WRITE_ONCE(first_page, first);
-		WRITE_ONCE(page_count_, pages);
+		WRITE_ONCE(page_span, pages);
 	}
 }
 
@@ -555,7 +555,7 @@ static void forget_run(void)
 	memset(is_walked, 0, sizeof(is_walked));
 	memset(is_told, 0, sizeof(is_told));
 	first_page = 0;
-	page_count_ = ~0UL;
+	page_span = ~0UL;
 	atomic_set(&next, 0);
 	mistake_count = mistakes_not_kept = 0;
 	began = ktime_get_mono_fast_ns();
@@ -564,7 +564,7 @@ static void forget_run(void)
 static ssize_t holds_write(struct file *file, const char __user *from, size_t n, loff_t *at)
 {
 	char *text, *rest, *line;
-	int number = 0, count;
+	int number = 0;
 
 	if (*at || n > 16384)
 		return -E2BIG;		// all in one write
@@ -576,7 +576,6 @@ static ssize_t holds_write(struct file *file, const char __user *from, size_t n,
 	rest = text;
 	while ((line = strsep(&rest, "\n")))
 		one_line(++number, line);
-	count = hold_count;
 	if (mistake_count)
 		smp_store_release(&hold_count, 0);
 	mutex_unlock(&writing);

@@ -9,7 +9,8 @@ CONF names the driver's functions: test_hmm.conf, or a copy of template.conf. Fo
 shortest races are made, steered, and the trace of each run is judged by hmmtrace. Writes the Test Anything Protocol, as
 the kernel's own tests do, a line for each rule:
 
-    ok N RULE # kept: ..                it was put to the test, in so many steered runs, and kept; which hold was late
+    ok N RULE # kept: ..                its races were steered, in so many runs, and the trace says `kept`, or the driver
+                                        turned away: which hold was late
     not ok N RULE # broken: ..          a trace breaks it, or a device's answer is one that no right driver gives
     ok N RULE # SKIP not met: ..        its races did not come: which hold, and why
     ok N RULE # SKIP not asked: ..      the driver has not what it needs
@@ -50,7 +51,7 @@ import words as given
 # wrong come last: the device writes there.
 RACES = {
     'compare': ['compare.entry', 'compare.retry'],
-    'compare-sequence': ['compare.entry', 'compare-sequence.entry', 'compare-sequence.retry', 'compare-sequence.retry.past'],
+    'compare-sequence': ['compare.entry', 'compare-sequence.entry', 'compare-sequence.retry'],
     'mmap-lock': ['mmap-lock.entry', 'compare.entry'],
     'begin-waits': ['begin-waits.retry', 'begin-waits.entry'],
     'begin-first': ['begin-first.entry', 'begin-first.retry'],
@@ -470,11 +471,12 @@ def result(rule, runs, together, stopped, conf):
     if what.startswith('maybe'):
         return 'not met', what
     steered = [x for x in mine if not x.bad_holds() and x.status == 0]
+    turns = [turn for x in steered for turn in x.turned() if turn[0].startswith(rule + '.')]
     tested = [x for x in steered if x.verdicts.get(rule, '').startswith('kept')]
-    if tested:
-        turns = [turn for x in tested for turn in x.turned()]
+    if tested or turns:
         late = f'; turned away: {most(turns)[0][1]} was {most(turns)[0][2]} in {most(turns)[1]}' if turns else ''
-        return 'kept', f'steered in {len(tested)} of {len(mine)}{late}' + (harm and harm + ', by another rule')
+        return 'kept', (f'steered in {len(steered)} of {len(mine)}; kept by the trace in {len(tested)}{late}'
+                        + (harm and harm + ', by another rule'))
     if not mine:
         return 'not met', stopped.get(rule, 'no run came to its end')
     bad = [(hold, outcome.split()[0]) for x in mine for _, hold, outcome in x.bad_holds()]
