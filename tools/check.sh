@@ -21,6 +21,8 @@ case $cases in
     *) say "tools/hmm.py --test: $cases" ;;
 esac
 
+steered=$(tools/trace/steer_check.py --twin) || say "tools/trace/steer_check.py --twin: $steered"
+
 # each tool with a first line that names an interpreter can be executed
 for tool in *.sh tools/*.py tools/*.sh tools/*/*.py tools/*/*.sh; do
     if head -n 1 "$tool" | grep -q '^#!' && [ ! -x "$tool" ]; then say "$tool cannot be executed"; fi

@@ -5,8 +5,8 @@
 #include <errno.h>
 #include "steer_calls.h"
 
-// Device `device` (0, or another one of the file NAME.conf) is to see the pages from `first` on: open its file, and give
-// it the span if it wants one. What is returned is given to all other calls.
+// Device `device` (0, or another one of the file NAME.conf) is to see the pages from `first` on: open its file, and
+// give it the span if it wants one. What is returned is given to all other calls.
 int calls_map(int device, void *first, size_t bytes)
 {
 	return -ENOSYS;

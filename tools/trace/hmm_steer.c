@@ -2,9 +2,9 @@
 // Makes a race happen on a running kernel: holds a thread at a place until another thread has come to one of its own.
 // docs/STEER.md has the language of holds and all places. In debugfs:
 //
-//   hmm_steer/holds   write: all holds of a run, in one write. That forgets what came before, and begins anew. If a line
-//                     is wrong, none is taken, and reading says the line and the reason of each mistake. read: what
-//                     became of each hold
+//   hmm_steer/holds   write: all holds of a run, in one write. That forgets what came before, and begins anew. If a
+//                     line is wrong, none is taken, and reading says the line and the reason of each mistake.
+//                     read: what became of each hold
 //   hmm_steer/mark    a thread writes a word, `go` or `done`: a place that only the program knows of
 //   hmm_steer/log     the places that threads came to, one in a line, with microseconds
 //
@@ -87,9 +87,10 @@ static u64 there = BIT(GO) | BIT(DONE);		// the places that are probed
 #define INVALIDATES (BIT_ULL(START) | BIT_ULL(TELL) | BIT_ULL(TOLD) | BIT_ULL(END) | BIT_ULL(ENDED))
 
 // what a role does, for what locks it has: `wide` calls have the mmap lock for writing, as long as they invalidate
-enum call { UNKNOWN, READS, WRITES, LOADS, STORES, UNMAPS, MAPS, PROTECTS, FORKS, TODEV, TOSYS, DETACHES, REMOVES, CALLS };
-static const char * const calls[] = { "-", "dload", "dstore", "load", "store", "unmap", "map", "protect", "fork", "todev",
-	"tosys", "detach", "remove" };
+enum call { UNKNOWN, READS, WRITES, LOADS, STORES, UNMAPS, MAPS, PROTECTS, FORKS, TODEV, TOSYS, DETACHES, REMOVES,
+	CALLS };
+static const char * const calls[] = { "-", "dload", "dstore", "load", "store", "unmap", "map", "protect", "fork",
+	"todev", "tosys", "detach", "remove" };
 static_assert(ARRAY_SIZE(calls) == CALLS);
 
 // ---- holds
@@ -726,34 +727,23 @@ static void remove_probes(void)
 
 static struct dentry *folder;
 
-static int __init steer_init(void)
+// the kernel's functions that every driver calls
+static int probe_kernel(void)
 {
-	int i, failed;
-
-	if (!callbacks) {
-		pr_err("hmm_steer: callback=NAME is missing\n");
-		return -EINVAL;
-	}
-	if (abs(table) > MOST_OFFSET || abs(lock) > MOST_OFFSET) {
-		pr_err("hmm_steer: table or lock is beyond %d\n", MOST_OFFSET);
-		return -EINVAL;
-	}
-	if (!lock_count)
-		locks[lock_count++] = "mutex_lock";
-	failed = probe_return("mmu_interval_notifier_remove", remove_in, removed_out, BIT_ULL(REMOVE) | BIT_ULL(REMOVED)) ?:
+	return probe_return("mmu_interval_notifier_remove", remove_in, removed_out, BIT_ULL(REMOVE) | BIT_ULL(REMOVED)) ?:
 		probe_return("mmu_interval_read_begin", seek_in, begin_out, BIT_ULL(SEEK) | BIT_ULL(BEGIN)) ?:
 		probe_return("hmm_range_fault", walk_in, walk_out, WALKS) ?:
 		probe_return("handle_mm_fault", fault_in, faulted_out, BIT_ULL(FAULT) | BIT_ULL(FAULTED)) ?:
 		probe_entry("__mmu_notifier_invalidate_range_start", 0, start_in, BIT_ULL(START)) ?:
-		probe_return("__mmu_notifier_invalidate_range_end", end_in, ended_out, BIT_ULL(END) | BIT_ULL(ENDED)) ?:
-		probe_return(set, set_in, set_out, BIT_ULL(SET)) ?:
-		probe_return(reads, using_in, use_out, BIT_ULL(USING) | BIT_ULL(USE)) ?:
-		probe_return(writes, using_in, use_out, BIT_ULL(USING) | BIT_ULL(USE)) ?:
-		probe_return(takes, role_in, take_out, BIT_ULL(TAKE)) ?:
-		probe_entry(frees, 0, free_in, BIT_ULL(FREE)) ?:
-		probe_return(fetches, role_in, fetch_out, BIT_ULL(FETCH)) ?:
-		probe_return(adds, role_in, add_out, BIT_ULL(ADD));
-	if (!failed && *withdraws)
+		probe_return("__mmu_notifier_invalidate_range_end", end_in, ended_out, BIT_ULL(END) | BIT_ULL(ENDED));
+}
+
+// those of a device with memory of its own, and of exclusive access
+static int probe_memory(void)
+{
+	int failed = 0;
+
+	if (*withdraws)
 		failed = probe_return(withdraws, withdraw_in, withdrawn_out, BIT_ULL(WITHDRAW) | BIT_ULL(WITHDRAWN)) ?:
 			probe_return("memunmap_pages", unplug_in, gone_out, BIT_ULL(UNPLUG) | BIT_ULL(GONE));
 	if (!failed && IS_ENABLED(CONFIG_DEVICE_MIGRATION))
@@ -765,12 +755,43 @@ static int __init steer_init(void)
 	if (!failed && exclusive)
 		failed = probe_return("make_device_exclusive_range", exclude_in, excluded_out,
 				      BIT_ULL(EXCLUDE) | BIT_ULL(EXCLUDED));
+	return failed;
+}
+
+static int probe_driver(void)
+{
+	int i, failed = probe_return(set, set_in, set_out, BIT_ULL(SET)) ?:
+		probe_return(reads, using_in, use_out, BIT_ULL(USING) | BIT_ULL(USE)) ?:
+		probe_return(writes, using_in, use_out, BIT_ULL(USING) | BIT_ULL(USE)) ?:
+		probe_return(takes, role_in, take_out, BIT_ULL(TAKE)) ?:
+		probe_entry(frees, 0, free_in, BIT_ULL(FREE)) ?:
+		probe_return(fetches, role_in, fetch_out, BIT_ULL(FETCH)) ?:
+		probe_return(adds, role_in, add_out, BIT_ULL(ADD));
+
 	for (i = 0; !failed && i < callbacks; i++)
 		failed = probe_return(callback[i], tell_in, told_out, BIT_ULL(TELL) | BIT_ULL(TOLD));
 	for (i = 0; !failed && i < lock_count; i++)
 		failed = probe_entry(locks[i], 0, lock_in, BIT_ULL(LOOK) | BIT_ULL(COMMIT));
+	return failed;
+}
+
+static int __init steer_init(void)
+{
+	int failed;
+
+	if (!callbacks) {
+		pr_err("hmm_steer: callback=NAME is missing\n");
+		return -EINVAL;
+	}
+	if (abs(table) > MOST_OFFSET || abs(lock) > MOST_OFFSET) {
+		pr_err("hmm_steer: table or lock is beyond %d\n", MOST_OFFSET);
+		return -EINVAL;
+	}
+	if (!lock_count)
+		locks[lock_count++] = "mutex_lock";
+	failed = probe_kernel() ?: probe_memory() ?: probe_driver() ?: probe_trap();
 	if (!failed)		// last: no interval is known before all other probes are there
-		failed = probe_trap() ?: probe_entry("mmu_interval_notifier_insert", 0, insert_in, 0) ?:
+		failed = probe_entry("mmu_interval_notifier_insert", 0, insert_in, 0) ?:
 			probe_entry("mmu_interval_notifier_insert_locked", 0, insert_in, 0);
 	if (failed) {
 		remove_probes();

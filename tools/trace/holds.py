@@ -7,8 +7,8 @@
 Writes the holds, one in a line, or the mistakes: `line N: WORD REASON`. --with names the parameters that the module is
 given, with commas, as `set,reads`: without one that it needs a place is refused. Unless it is named, all are given.
 
-Ends with status 0, or 3 if there is a mistake, 2 if the words are wrong, 4 if the file cannot be read. docs/STEER.md has
-the language.
+Ends with status 0, or 3 if there is a mistake, 2 if the words are wrong, 4 if the file cannot be read. docs/STEER.md
+has the language.
 """
 import os
 import re
@@ -22,9 +22,10 @@ PLACES = {
     'using': 'reads', 'use': 'reads', 'fault': '', 'faulted': '', 'start': '', 'tell': '', 'told': '', 'end': '',
     'ended': '', 'setup': '', 'ready': '', 'take': 'takes', 'pages': '', 'moved': '', 'finalize': '', 'finalized': '',
     'evict': '', 'evicted': '', 'free': 'frees', 'remove': '', 'removed': '', 'withdraw': 'withdraws',
-    'withdrawn': 'withdraws', 'unplug': 'withdraws', 'gone': 'withdraws', 'exclude': 'exclusive', 'excluded': 'exclusive',
-    'fetch': 'fetches', 'add': 'adds', 'trap': 'trap'}
-CALLS = ('-', 'dload', 'dstore', 'load', 'store', 'unmap', 'map', 'protect', 'fork', 'todev', 'tosys', 'detach', 'remove')
+    'withdrawn': 'withdraws', 'unplug': 'withdraws', 'gone': 'withdraws', 'exclude': 'exclusive',
+    'excluded': 'exclusive', 'fetch': 'fetches', 'add': 'adds', 'trap': 'trap'}
+CALLS = ('-', 'dload', 'dstore', 'load', 'store', 'unmap', 'map', 'protect', 'fork', 'todev', 'tosys', 'detach',
+         'remove')
 WIDE = ('protect', 'fork', 'map')               # these have the mmap lock for writing as long as they invalidate
 LOCKED = ('set', 'using', 'use')                # the driver's lock is held there
 WALKS = ('walk', 'walked')

@@ -3,15 +3,15 @@
 
     tools/trace/holds_of_race.py --rule RULE SCRIPT [RACE]      RACE is what hmmwithout RULE SCRIPT has written
     tools/trace/holds_of_race.py --outcome N SCRIPT [OUTCOMES]  OUTCOMES is what hmmraces SCRIPT has written
-    .. --model HOLDS      in place of a hold at each change of the actor, these: `a0 after runlock 1 waits for a1 told 1`,
-                          `a1 at first waits for a0 rlock 1`; 1 may be left out
+    .. --model HOLDS      in place of a hold at each change of the actor, these: `a0 after runlock 1 waits for a1 told
+                          1`, `a1 at first waits for a0 rlock 1`; 1 may be left out
     .. --us MICROSECONDS  the bound of each hold (100000); of a try it is 30000 at the most
 
 Without RACE or OUTCOMES it reads standard input. Each event of the model has its place in the kernel, or none
-(docs/STEER.md). Where the actor changes, from X with entry e to Y with entry f, Y is held where a thread is that has made
-its entry before f and not made f, until X is where one comes that has made e. Of several such places those are taken with
-which no order of turns is stuck: a thread may be held with a lock that the other needs. A hold after the first entry that
-is not due to a right driver is a `try`: a right driver may be late there.
+(docs/STEER.md). Where the actor changes, from X with entry e to Y with entry f, Y is held where a thread is that has
+made its entry before f and not made f, until X is where one comes that has made e. Of several such places those are
+taken with which no order of turns is stuck: a thread may be held with a lock that the other needs. A hold after the
+first entry that is not due to a right driver is a `try`: a right driver may be late there.
 
 Ends with status 0, 2 if the words are wrong, 3 if the race is none of this script, 4 if a file cannot be read, and 10,
 with the reason, if the holds cannot be met.
@@ -112,11 +112,13 @@ def first_wrong(script, entries):
 # ---- what a thread does: places, entries, and locks that it takes and gives back
 
 class Thread:
-    """The items of an actor in their order: ('P', place, n), ('E', entry), ('L', lock, writes), ('U', lock), ('D', lock)."""
+    """The items of an actor in their order: ('P', place, n), ('E', entry), ('L', lock, writes), ('U', lock), and
+    ('D', lock) if a lock for writing becomes one for reading."""
 
     def __init__(self, actor, rule):
         self.actor, self.rule, self.items, self.counts = actor, rule, [], {}
-        self.stages = []
+        self.stages = []                        # of a migration, those that are to come
+        self.is_looking = self.is_faulting = self.has_walk_lock = False
 
     def p(self, *places):
         for place in places:
@@ -169,64 +171,77 @@ class Thread:
             return False
         return True
 
+    def access(self, word, entries):
+        self.is_faulting, self.has_walk_lock = False, False
+        self.looks()
+        for entry in entries:
+            if self.is_looking and entry.word not in ('loaded', 'stored', 'failed'):
+                self.give('driver')             # the table does not have it
+                self.is_looking = False
+            how = {'begin': self.begins, 'rlock': self.walks, 'runlock': self.has_walked, 'set': self.commits,
+                   'retry': self.commits, 'loaded': self.has_accessed, 'stored': self.has_accessed,
+                   'failed': self.has_accessed}.get(entry.word, self.faults)
+            how(entry)
+
     def looks(self):
         """The driver looks into its table: it has its lock from here on."""
         self.p('look')
         self.take('driver')
         self.p('using')
+        self.is_looking = True
 
-    def access(self, word, entries):
-        self.looks()
-        is_looking, is_faulting, walks = True, False, False
-        for entry in entries:
-            if is_looking and entry.word not in ('loaded', 'stored', 'failed'):
-                self.give('driver')
-                is_looking = False
-            if entry.word == 'begin':
-                is_there = self.rule != 'begin-waits'
-                if is_there:
-                    self.p('seek')
-                self.e(entry)
-                if is_there:
-                    self.p('begin')
-            elif entry.word == 'rlock':
-                walks = self.rule != 'mmap-lock'
-                if walks:
-                    self.take('mmap')
-                self.e(entry)
-                self.p('walk')
-            elif entry.word == 'runlock':
-                if is_faulting:
-                    self.p('faulted')
-                self.p('walked')
-                is_faulting = False
-                self.e(entry)
-                if walks:
-                    self.give('mmap')
-                walks = False
-            elif entry.word in ('set', 'retry'):
-                self.p('commit')
-                self.take('driver')
-                self.e(entry)
-                if entry.word == 'set':
-                    self.p('set')
-                self.give('driver')
-                if entry.word == 'set':
-                    self.looks()
-                    is_looking = True
-            elif entry.word in ('loaded', 'stored', 'failed'):
-                self.e(entry)
-                if is_looking:
-                    self.p('use')
-                    self.give('driver')
-                if walks:
-                    self.give('mmap')
-            else:
-                if not is_faulting:
-                    self.p('fault')
-                    is_faulting = True
-                if not self.invalidation(entry):
-                    self.e(entry)
+    def begins(self, entry):
+        is_there = self.rule != 'begin-waits'   # such a driver calls nothing there
+        if is_there:
+            self.p('seek')
+        self.e(entry)
+        if is_there:
+            self.p('begin')
+
+    def walks(self, entry):
+        self.has_walk_lock = self.rule != 'mmap-lock'
+        if self.has_walk_lock:
+            self.take('mmap')
+        self.e(entry)
+        self.p('walk')
+
+    def faults(self, entry):
+        """What the walk does to a page that does not serve."""
+        if not self.is_faulting:
+            self.p('fault')
+        self.is_faulting = True
+        if not self.invalidation(entry):
+            self.e(entry)
+
+    def has_walked(self, entry):
+        if self.is_faulting:
+            self.p('faulted')
+        self.p('walked')
+        self.e(entry)
+        self.is_faulting = False
+        self.give_walk_lock()
+
+    def give_walk_lock(self):
+        if self.has_walk_lock:
+            self.give('mmap')
+        self.has_walk_lock = False
+
+    def commits(self, entry):
+        self.p('commit')
+        self.take('driver')
+        self.e(entry)
+        if entry.word == 'set':
+            self.p('set')
+        self.give('driver')
+        if entry.word == 'set':
+            self.looks()
+
+    def has_accessed(self, entry):
+        self.e(entry)
+        if self.is_looking:
+            self.p('use')
+            self.give('driver')
+        self.give_walk_lock()
 
     def cpu(self, word, entries):
         for entry in entries:
@@ -271,38 +286,44 @@ class Thread:
 
     def migration(self, word, entries):
         self.stages = ['ready', 'take', 'pages', 'moved', 'look', 'looked', 'finalize', 'finalized']
-        is_inside = False
         for entry in entries:
-            if entry.word == 'rlock':
-                self.take('mmap')
-                self.e(entry)
-                self.p('setup')
-                is_inside = True
-            elif entry.word in ('start', 'told', 'end'):
-                if 'take' not in self.stages:
-                    self.until_stage('pages')
-                self.invalidation(entry)
-            elif entry.word == 'take':
-                self.until_stage('ready')
-                self.e(entry)
-                self.until_stage('take')
-            elif entry.word in ('committed', 'kept') or entry.word == 'place' and 'take' not in self.stages:
-                self.until_stage('pages')
-                if entry.word == 'place' and 'look' not in self.stages:
-                    self.until_stage('finalize')
-                self.e(entry)
-            elif entry.word == 'set':
-                self.until_stage('look')
-                self.e(entry)
-                self.p('set')
-                self.until_stage('looked')
-            elif entry.word in ('migrated', 'refused'):
+            how = {'rlock': self.sets_up, 'start': self.migrates, 'told': self.migrates, 'end': self.migrates,
+                   'take': self.takes, 'committed': self.moves, 'kept': self.moves, 'place': self.moves,
+                   'set': self.sets}.get(entry.word, self.e)
+            if entry.word in ('migrated', 'refused'):
                 self.until_stage('finalized')
-                self.e(entry)
-                if is_inside:
-                    self.give('mmap')
-            else:
-                self.e(entry)
+            how(entry)
+        if any(x.word == 'rlock' for x in entries) and entries[-1].word in ('migrated', 'refused'):
+            self.give('mmap')
+
+    def sets_up(self, entry):
+        self.take('mmap')
+        self.e(entry)
+        self.p('setup')
+
+    def migrates(self, entry):
+        """An invalidation: that of the set-up, or that of a fresh page's place."""
+        if 'take' not in self.stages:
+            self.until_stage('pages')
+        self.invalidation(entry)
+
+    def takes(self, entry):
+        self.until_stage('ready')
+        self.e(entry)
+        self.until_stage('take')
+
+    def moves(self, entry):
+        if entry.word != 'place' or 'take' not in self.stages:
+            self.until_stage('pages')
+        if entry.word == 'place' and 'look' not in self.stages:
+            self.until_stage('finalize')
+        self.e(entry)
+
+    def sets(self, entry):
+        self.until_stage('look')
+        self.e(entry)
+        self.p('set')
+        self.until_stage('looked')
 
     def detach(self, word, entries):
         self.p('remove')

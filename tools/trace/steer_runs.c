@@ -12,9 +12,11 @@
 //   holds                   hold, try, call, pages: for hmm_steer, up to `end`
 //   end
 //
-// OUT gets for each run what hmm_probes recorded, between `# run NAME NUMBER status S` and `# over`, and in comments what
-// was answered (`# said RACE ..`), what became of each hold (`# held RACE ..`), and the places that threads came to
-// (`# came RACE ..`). Status 0: each race came to its end. It stops after SECONDS.
+// OUT gets of each run what hmm_probes recorded, between `# run NAME NUMBER` and `# over`, and in comments what was
+// answered (`# said RACE ..`), what became of each hold (`# held RACE ..`), the places that threads came to (`# came
+// RACE ..`), how each race ended (`# made RACE status S in M ms`), and `# status S` of the run: 0 if all did, 2 the set-up
+// failed, 3 a mark was not made, 4 a call is missing, 7 a signal, 8 the holds were refused, 9 it did not end in time.
+// After SECONDS no run begins.
 //
 // A race is made in a process of its own, with a thread for each actor; a forked process of the script is one of the
 // system. Page N of the script lies at BASE + N * 4096. The device writes a whole page, with zeros but for its bytes.
@@ -62,7 +64,7 @@ static int race_count;
 
 // what the processes of a run share: answers, and the order to a forked process
 static struct shared {
-	char said[ACTORS][1024];
+	char said[ACTORS][SAID];
 	atomic_int ready, ended, order[PROCESSES], is_absent;
 	int wanted;
 } *shared;
@@ -264,7 +266,7 @@ static void threads(void)
 // a forked process: makes the operations that it is told, by their number from 1; -1 is the race, -2 the end
 static void child(int number)
 {
-	char unused[1024] = "";
+	char unused[SAID] = "";
 
 	me = number;
 	for (int m = 0; m < MIRRORS; m++)
@@ -292,37 +294,45 @@ static void tell(int process, int order)
 		usleep(20);			// it has made that operation
 }
 
-static void make_race(void)
+// the set-up, by the processes that the operations are about; gives how many were forked
+static int set_up(void)
 {
-	struct sigaction on = { .sa_sigaction = on_fault, .sa_flags = SA_SIGINFO };
-	char said[1024] = "";
-	int n = 0, children = 0;
+	char said[SAID] = "";
+	int children = 0;
 
-	sigaction(SIGSEGV, &on, NULL);
-	sigaction(SIGBUS, &on, NULL);
-	for (int m = 0; m < MIRRORS; m++)
-		mirrors[m] = -1;
 	for (int i = 0; i < race->setup_count; i++) {
 		struct operation *o = race->setup + i;
 
 		said[0] = 0;
 		if (!strcmp(o->word, "fork")) {
-			n = number(o, 1);
-			if (n >= PROCESSES)
+			if (number(o, 1) >= PROCESSES)
 				_exit(2);
 			children++;
 			if (!fork())
-				child(n);
+				child(number(o, 1));
 		} else if (process_of(o) != me) {
 			tell(process_of(o), i + 1);
 		} else {
 			operate(o, said);
-			if (!strncmp(said, "refused", 7)) {
-				say(shared->said[0], "setup %s %s", o->word, said);
-				_exit(shared->is_absent ? 4 : 2);
-			}
+		}
+		if (!strncmp(said, "refused", 7)) {
+			say(shared->said[0], "setup %s %s", o->word, said);
+			_exit(shared->is_absent ? 4 : 2);
 		}
 	}
+	return children;
+}
+
+static void make_race(void)
+{
+	struct sigaction on = { .sa_sigaction = on_fault, .sa_flags = SA_SIGINFO };
+	int n, children;
+
+	sigaction(SIGSEGV, &on, NULL);
+	sigaction(SIGBUS, &on, NULL);
+	for (int m = 0; m < MIRRORS; m++)
+		mirrors[m] = -1;
+	children = set_up();
 	for (int a = 0; a < ACTORS; a++)
 		shared->wanted += race->counts[a] > 0;
 	for (n = 1; n < PROCESSES; n++)
@@ -334,7 +344,7 @@ static void make_race(void)
 		tell(n, -2);
 	while (children--)
 		wait(NULL);
-	_exit(shared->ready >= 1000 ? 3 : 0);
+	_exit(shared->ready >= 1000 ? 3 : shared->is_absent ? 4 : 0);
 }
 
 // ---- the plan

@@ -5,12 +5,12 @@
     tools/trace/suite.py CONF --here DIR [WORDS]                    on this machine, as root: DIR has the modules
     tools/trace/suite.py CONF --judge FILE                          judges runs that --keep has kept
 
-CONF names the driver's functions: test_hmm.conf, or a copy of template.conf. For each rule that the driver can break its
-shortest races are made, steered, and the trace of each run is judged by hmmtrace. Writes the Test Anything Protocol, as
-the kernel's own tests do, a line for each rule:
+CONF names the driver's functions: test_hmm.conf, or a copy of template.conf. For each rule that the driver can break
+its shortest races are made, steered, and the trace of each run is judged by hmmtrace. Writes the Test Anything
+Protocol, as the kernel's own tests do, a line for each rule:
 
-    ok N RULE # kept: ..                its races were steered, in so many runs, and the trace says `kept`, or the driver
-                                        turned away: which hold was late
+    ok N RULE # kept: ..                its races were steered, in so many runs, and the trace says `kept`, or the
+                                        driver turned away: which hold was late
     not ok N RULE # broken: ..          a trace breaks it, or a device's answer is one that no right driver gives
     ok N RULE # SKIP not met: ..        its races did not come: which hold, and why
     ok N RULE # SKIP not asked: ..      the driver has not what it needs
@@ -25,8 +25,8 @@ the kernel's own tests do, a line for each rule:
     --dry                writes the plan, and runs nothing
 
 Ends with status 0, 1 if a rule is broken, 2 if the words are wrong, 3 if CONF has a mistake (its line and the reason),
-4 if a file cannot be read, 10 if no rule is broken and the races of one were not met, 70 if something could not be built
-or loaded.
+4 if a file cannot be read, 10 if no rule is broken and the races of one were not met, 70 if something could not be
+built or loaded.
 """
 import argparse
 import collections
@@ -46,9 +46,9 @@ import holds as steering
 import holds_of_race as races
 import words as given
 
-# of each rule its races, as RULE.SCRIPT: the shortest one without RULE of SCRIPT.hmm, in races or examples/broken; or as
-# RULE.SCRIPT.NAME, with the model's holds of races/RULE.SCRIPT.NAME.holds. Those that may spoil a kernel if the driver is
-# wrong come last: the device writes there.
+# of each rule its races, as RULE.SCRIPT: the shortest one without RULE of SCRIPT.hmm, in races or examples/broken; or
+# as RULE.SCRIPT.NAME, with the model's holds of races/RULE.SCRIPT.NAME.holds. Those that may spoil a kernel if the
+# driver is wrong come last: the device writes there.
 RACES = {
     'compare': ['compare.entry', 'compare.retry'],
     'compare-sequence': ['compare.entry', 'compare-sequence.entry', 'compare-sequence.retry'],
@@ -115,7 +115,7 @@ def conf_of(path):
             raise Refused(3, f'{path} line {at}: `{name}` {why}')
         conf[name] = what
     if 'callback' not in conf:
-        raise Refused(3, f'{path} line {len(lines)}: `callback` is missing')
+        raise Refused(3, f'{path} line {max(1, len(lines))}: `callback` is missing')
     return conf
 
 
@@ -336,7 +336,7 @@ def all_runs(it, conf, rules, keep):
     return runs, stopped
 
 
-# ---- harm: answers that no order of the operations has, in which an operation that ended comes before one that began later
+# ---- harm: answers that no order of the operations has in which each comes before all that began after its end
 
 TIME = re.compile(r'(a\d) (\w+) (\d+) at (-?\d+) us')
 
@@ -368,7 +368,7 @@ class Answers:
 
 
 def spans_of(answers, came):
-    """When each operation took place: a device's access since it looked last into its table. Or none, if it did not end."""
+    """When each operation took place: an access of a device since the last look into its table. None if one is open."""
     times, counts = collections.defaultdict(list), {}
     for text in came:
         match = TIME.match(text)
@@ -380,7 +380,8 @@ def spans_of(answers, came):
         if len(done) <= at or len(go) <= at:
             return None
         looks = [x for x in times[actor, 'using'] if go[at] < x < done[at]]
-        counts[actor, number] = (looks[-1] if looks and answers.word((actor, number)).startswith('d') else go[at], done[at])
+        is_device = answers.word((actor, number)) in ('dload', 'dstore')
+        counts[actor, number] = (looks[-1] if looks and is_device else go[at], done[at])
     return counts
 
 
@@ -407,8 +408,9 @@ def harm_of(runs):
     known = {}
     for run in runs:
         for name in {name for name, _ in run.came}:
-            answers = known.setdefault(name, Answers(name)) if name not in known else known[name]
-            of = lambda pairs: [text for race, text in pairs if race == name]
+            if name not in known:
+                known[name] = Answers(name)
+            answers, of = known[name], lambda pairs: [text for race, text in pairs if race == name]
             if run.made.get(name) == 0 and is_harm(answers, of(run.said), of(run.came)):
                 run.harm.append((name, '; '.join(of(run.said))))
 
