@@ -420,13 +420,14 @@ def places_between(thread, after, before):
     return found
 
 
-def choices(wish, threads, entries, us):
-    """The holds of the kernel that say what the wish says, the best first."""
+def choices(wish, threads, entries, us, given):
+    """The holds of the kernel that say what the wish says, the best first, with places that these parameters have."""
+    is_there = lambda x: given is None or not steering.PLACES[x[0]] or steering.PLACES[x[0]] in given
     other = threads[entries[wish.until].actor]
-    here = places_between(threads[wish.actor], wish.after, wish.before)
-    there = places_between(other, wish.until, next_of(entries, other.actor, wish.until))
+    here = list(filter(is_there, places_between(threads[wish.actor], wish.after, wish.before)))
+    there = list(filter(is_there, places_between(other, wish.until, next_of(entries, other.actor, wish.until))))
     if not there:                               # no place says that it was made: the last one before it is near
-        there = places_between(other, None, wish.until)[-1:]
+        there = list(filter(is_there, places_between(other, None, wish.until)))[-1:]
     here = [x for x in here[::-1] if not x[2]] + [x for x in here[::-1] if x[2]]
     us = min(us, TRY_US) if wish.is_try else us
     return [steering.Hold(f'a{wish.actor}', place, n, f'a{other.actor}', until, m, us, wish.is_try)
@@ -503,11 +504,11 @@ def judged(threads, holds):
     return (2 if not orders.stuck else 1 if orders.ends else 0), orders.stuck
 
 
-def can_be_met(wishes, threads, entries, us):
+def can_be_met(wishes, threads, entries, us, given):
     """The holds of all wishes, of which no order of turns is stuck, or as few as can be."""
     options = []
     for wish in wishes:
-        found = choices(wish, threads, entries, us)
+        found = choices(wish, threads, entries, us, given)
         if not found:
             raise NotMet(f'{wish.text(entries)}: no place lies there')
         options.append(found)
@@ -547,14 +548,14 @@ def lines_of(script, entries, holds, is_sure):
         yield hold.text()
 
 
-def converted(script, entries, rule, model, us):
-    """The lines of the holds of a race."""
+def converted(script, entries, rule, model, us, given=None):
+    """The lines of the holds of a race; `given` are the parameters that the module has, or none for all."""
     wrong = first_wrong(script, entries)
     threads = threads_of(script, entries, rule)
     wishes = list(wishes_of(model, entries, wrong) if model is not None else changes(entries, wrong))
     if not wishes:
         return list(lines_of(script, entries, [], True))
-    holds, is_sure = can_be_met(wishes, threads, entries, us)
+    holds, is_sure = can_be_met(wishes, threads, entries, us, given)
     lines = list(lines_of(script, entries, holds, is_sure))
     return [*(f'# {wish.text(entries)}' for wish in wishes), *lines]
 

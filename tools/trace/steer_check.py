@@ -192,12 +192,12 @@ def twins():
 
 
 def races_of_suite():
-    """Races whose holds are refused, or that have none but could."""
+    """Races whose holds are refused, or that have none but could, with all names and with few."""
     conf = suite.conf_of(os.path.join(HERE, 'test_hmm.conf'))
-    for names in suite.RACES.values():
-        for name in names:
-            text = '\n'.join(suite.read_race(name)[2])
-            holds, mistakes = steering.read(text, set(conf))
+    for given in (set(conf), {'callback', 'set', 'erase'}, {'callback'}):
+        for name in (name for names in suite.RACES.values() for name in names):
+            text = '\n'.join(suite.read_race(name, given)[2])
+            holds, mistakes = steering.read(text, given)
             if mistakes or not holds and 'waits' in text or 'stuck' in text:
                 yield f'{name}: {mistakes or text}'
 

@@ -136,7 +136,7 @@ def mistake_of(name, what, conf):
 
 # ---- the plan
 
-def read_race(name):
+def read_race(name, given=None):
     """The script, its lines, and the holds' lines, of RULE.SCRIPT."""
     rule, script, *model = name.split('.')
     path = os.path.join(HERE, 'races', script + '.hmm')
@@ -145,7 +145,7 @@ def read_race(name):
     parsed = races.read_script(path)
     entries = races.entries_of(parsed, rule, lines_of(os.path.join(HERE, 'races', f'{rule}.{script}.race')))
     model = lines_of(os.path.join(HERE, 'races', name + '.holds')) if model else None
-    return parsed, lines_of(path), races.converted(parsed, entries, rule, model, races.HOLD_US)
+    return parsed, lines_of(path), races.converted(parsed, entries, rule, model, races.HOLD_US, given)
 
 
 def lines_of(path):
@@ -167,7 +167,7 @@ def operations_of(lines):
 
 def plan_of_race(name, conf):
     """The lines of a race for steer_runs."""
-    parsed, lines, holds = read_race(name)
+    parsed, lines, holds = read_race(name, set(conf))
     start = races.Race(parsed, None, (), True)
     actors = operations_of(lines)
     if any(start.running) or any(start.ended[1:]):
@@ -202,7 +202,10 @@ def plan_of(rules, conf, runs):
     for rule in rules:
         yield f'rule {rule} {runs}'
         for name in RACES[rule]:
-            yield from plan_of_race(name, conf)
+            try:
+                yield from list(plan_of_race(name, conf))
+            except races.NotMet:                # without its places; other races of the rule may do
+                pass
 
 
 # ---- running
@@ -481,6 +484,8 @@ def result(rule, runs, together, stopped, conf):
                         + (harm and harm + ', by another rule'))
     if not mine:
         return 'not met', stopped.get(rule, 'no run came to its end')
+    if not any(x.made for x in mine):
+        return 'not met', 'no race of it has holds that can be met with these names'
     bad = [(hold, outcome.split()[0]) for x in mine for _, hold, outcome in x.bad_holds()]
     if bad:
         (hold, outcome), count = most(bad)
