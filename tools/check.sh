@@ -3,7 +3,8 @@
 #
 # Ends with status 1 if something is wrong: a number of tools/house.py grew, a copy of an example differs, an edit does
 # not apply, a field of a record is in no law, a case of tools/hmm.py has another answer, a tool cannot be executed, a
-# page names a page or a file that is not there, or a rule's word is missing in one of the places that have all of them.
+# page names a page or a file that is not there, a race of tools/trace/suite.py has holds that its reader refuses, or a
+# rule's word is missing in one of the places that have all of them.
 set -u
 cd "$(dirname "$(realpath "$0")")/.." || exit 2
 wrong=0

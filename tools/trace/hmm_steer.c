@@ -76,7 +76,7 @@ static const char * const words[] = { "go", "done", "look", "seek", "begin", "wa
 	"finalize", "finalized", "evict", "evicted", "free", "remove", "removed", "withdraw", "withdrawn", "unplug", "gone",
 	"exclude", "excluded", "fetch", "add", "trap" };
 static_assert(ARRAY_SIZE(words) == WORDS);
-static u64 there = BIT(GO) | BIT(DONE);		// the places that are probed
+static u64 there = BIT_ULL(GO) | BIT_ULL(DONE);		// the places that are probed
 
 #define IS(word, of) (BIT_ULL(word) & (of))
 // a thread has the driver's lock there; it has or had to take it to come there
@@ -501,6 +501,8 @@ static void call_line(int line, char **fields, int count)
 		mistake(line, "is no role: a0 to a3", fields[1]);
 	else if (c < 0)
 		mistake(line, "is no call", fields[2]);
+	else if (hold_count)
+		mistake(line, "comes after a hold, which was judged without it", fields[0]);
 	else
 		call_of[r] = c;
 }
@@ -591,6 +593,7 @@ static int holds_show(struct seq_file *f, void *v)
 	struct hold *h;
 	int i;
 
+	mutex_lock(&writing);
 	for (i = 0; i < mistake_count; i++)
 		seq_printf(f, "line %d: `%s` %s\n", mistakes[i].line, mistakes[i].word, mistakes[i].why);
 	if (mistakes_not_kept)
@@ -599,6 +602,7 @@ static int holds_show(struct seq_file *f, void *v)
 		seq_printf(f, "%s a%d %s %d until a%d %s %d us %u: %s %llu us%s\n", h->is_try ? "try" : "hold", h->role,
 			   words[h->word], h->nth, h->other, words[h->until], h->until_nth, h->us, outcomes[h->outcome],
 			   h->ns / 1000, h->irqs_off ? " irqs off" : "");
+	mutex_unlock(&writing);
 	if (missed_calls())
 		seq_printf(f, "missed %u\n", missed_calls());
 	return 0;

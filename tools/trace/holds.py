@@ -120,8 +120,8 @@ def hold_of(fields, given, calls, count):
     return hold
 
 
-def other_line(fields, calls):
-    """A line `call` or `pages`, or none that there is."""
+def other_line(fields, calls, count):
+    """A line `call` or `pages`, or none that there is, after so many holds."""
     if fields[0] == 'call':
         if len(fields) != 3:
             raise Mistake(fields[0], 'is not followed by: ROLE CALL')
@@ -129,6 +129,8 @@ def other_line(fields, calls):
             raise Mistake(fields[1], 'is no role: a0 to a3')
         if fields[2] not in CALLS:
             raise Mistake(fields[2], 'is no call')
+        if count:
+            raise Mistake(fields[0], 'comes after a hold, which was judged without it')
         calls[fields[1]] = fields[2]
     elif fields[0] == 'pages':
         if len(fields) != 3:
@@ -150,7 +152,7 @@ def read(text, given=None):
             if fields and fields[0] in ('hold', 'try'):
                 holds.append(hold_of(fields, given, calls, len(holds)))
             elif fields:
-                other_line(fields, calls)
+                other_line(fields, calls, len(holds))
         except Mistake as mistake:
             mistakes.append((at, *mistake.args))
     return ([] if mistakes else holds), mistakes

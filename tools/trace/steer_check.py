@@ -24,8 +24,8 @@ import suite
 GOOD = 'hold a0 commit 1 until a1 told 1 us 30000'
 # files of holds, each with a mistake; the module has set, reads, writes and trap, and nothing else
 BAD = [
-    'hold', 'hold a0 commit 1 until a1 told 1', 'hold a0 commit 1 until a1 told 1 us', GOOD + ' more',
-    GOOD + ' more more', 'hold a0 commit 1 till a1 told 1 us 30000', 'hold a0 commit 1 until a1 told 1 ms 30000',
+    'hold', GOOD + '\ncall a1 unmap', 'hold a0 commit 1 until a1 told 1', 'hold a0 commit 1 until a1 told 1 us',
+    GOOD + ' more', GOOD + ' more more', 'hold a0 commit 1 till a1 told 1 us 30000', 'hold a0 commit 1 until a1 told 1 ms 30000',
     'hold a4 commit 1 until a1 told 1 us 1', 'hold b0 commit 1 until a1 told 1 us 1',
     'hold a00 commit 1 until a1 told 1 us 1', 'hold a0 comit 1 until a1 told 1 us 1',
     'hold a0 commit 0 until a1 told 1 us 1', 'hold a0 commit -1 until a1 told 1 us 1',
@@ -180,7 +180,7 @@ def twins():
         twin = file.read()
     if array(source, 'words') != list(steering.PLACES) or array(source, 'calls') != list(steering.CALLS):
         yield 'hmm_steer.c and holds.py have other places, or calls'
-    for why in re.findall(r"""["']((?:is|would) [^"\n]*?)["'][,;)\n]""", twin):
+    for why in re.findall(r"""["']((?:is|would|comes) [^"\n]*?)["'][,;)\n]""", twin):
         if f'"{why}"' not in source:
             yield f'hmm_steer.c has no reason `{why}`'
     for text in BAD:

@@ -22,6 +22,7 @@ Protocol, as the kernel's own tests do, a line for each rule:
     --cpus N             processors of the guest (3)
     --keep FILE          keeps the runs
     --only-expect RULE   status 0 if just that rule is broken, or none if it is `right`; else 1: for a suite of drivers
+    --unsteered          without holds, to compare: what the same calls do if nobody is held
     --dry                writes the plan, and runs nothing
 
 Ends with status 0, 1 if a rule is broken, 2 if the words are wrong, 3 if CONF has a mistake (its line and the reason),
@@ -165,7 +166,7 @@ def operations_of(lines):
     return actors
 
 
-def plan_of_race(name, conf):
+def plan_of_race(name, conf, is_steered):
     """The lines of a race for steer_runs."""
     parsed, lines, holds = read_race(name, set(conf))
     start = races.Race(parsed, None, (), True)
@@ -184,7 +185,8 @@ def plan_of_race(name, conf):
         yield f'actor {at}'
         yield from operations[start.ended[at]:]
     yield 'holds'
-    yield from (line for line in holds if not line.startswith('#'))
+    words = ('pages', 'call', 'hold', 'try') if is_steered else ('pages', 'call')
+    yield from (line for line in holds if line.startswith(words))
     yield 'end'
 
 
@@ -198,12 +200,12 @@ def why_not_asked(rule, conf):
     return 'it needs ' + ', '.join(missing) if missing else None
 
 
-def plan_of(rules, conf, runs):
+def plan_of(rules, conf, runs, is_steered=True):
     for rule in rules:
         yield f'rule {rule} {runs}'
         for name in RACES[rule]:
             try:
-                yield from list(plan_of_race(name, conf))
+                yield from list(plan_of_race(name, conf, is_steered))
             except races.NotMet:                # without its places; other races of the rule may do
                 pass
 
@@ -321,7 +323,7 @@ def all_runs(it, conf, rules, keep):
     while left and len(stopped) < 6:
         with tempfile.TemporaryDirectory() as folder:
             run = run_in_guest if it.guest else run_here
-            text, console = run(it, conf, plan_of(left, conf, it.runs), folder)
+            text, console = run(it, conf, plan_of(left, conf, it.runs, not it.unsteered), folder)
         keep(text)
         new = runs_of(text)
         runs += new
@@ -526,6 +528,7 @@ def ask():
     words.add_argument('--cpus', type=int, default=3)
     words.add_argument('--keep')
     words.add_argument('--only-expect')
+    words.add_argument('--unsteered', action='store_true')
     words.add_argument('--dry', action='store_true')
     it = words.parse_args()
     if sum(x is not None for x in (it.guest, it.here, it.judge)) + it.dry != 1:
@@ -542,7 +545,7 @@ def main():
             raise Refused(2, f'there is no rule {rule}')
     asked = [x for x in rules if not why_not_asked(x, conf)]
     if it.dry:
-        print(*plan_of(asked, conf, it.runs), sep='\n')
+        print(*plan_of(asked, conf, it.runs, not it.unsteered), sep='\n')
         return 0
     if it.keep:
         open(it.keep, 'w').close()
