@@ -67,7 +67,7 @@ RACES = {
     'take-from-there': ['take-from-there.leak'],
     'withdraw-first': ['withdraw-first.leak'],
     'own-events': ['own-events.move', 'own-events.own', 'own-events.two_files'],
-    'own-sequence': ['own-sequence.move', 'own-sequence.own3'],
+    'own-sequence': ['own-events.own', 'own-sequence.move', 'own-sequence.own3'],
     'own-entries': ['own-entries.own'],
     'entry-right': ['entry-right.shared'],
     'write-entry': ['write-entry.shared'],
