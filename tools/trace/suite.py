@@ -374,7 +374,7 @@ class Answers:
 
 def spans_of(answers, came):
     """When each operation took place: an access of a device since the last look into its table. None if one is open."""
-    times, counts = collections.defaultdict(list), {}
+    times, calls, spans = collections.defaultdict(list), {}, {}
     for text in came:
         match = TIME.match(text)
         if match:
@@ -386,8 +386,12 @@ def spans_of(answers, came):
             return None
         looks = [x for x in times[actor, 'using'] if go[at] < x < done[at]]
         is_device = answers.word((actor, number)) in ('dload', 'dstore')
-        counts[actor, number] = (looks[-1] if looks and is_device else go[at], done[at])
-    return counts
+        calls[actor, number] = go[at], done[at]
+        spans[actor, number] = (looks[-1] if looks and is_device else go[at], done[at])
+    for one in spans:
+        if answers.word(one) == 'detach':       # a file is closed when the calls under way have returned
+            spans[one] = spans[one][0], max(end for start, end in calls.values() if start <= spans[one][1])
+    return spans
 
 
 def is_harm(answers, said, came):
