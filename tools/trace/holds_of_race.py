@@ -342,11 +342,13 @@ class Thread:
 
 
 def threads_of(script, entries, rule):
-    """A thread for each actor of the race."""
+    """A thread for each actor; one that makes no entry in the race comes to its first call."""
     threads = {}
-    for actor in sorted({entry.actor for entry in entries}):
+    for actor in range(len(script.actors)):
         threads[actor] = Thread(actor, rule)
         mine = [entry for entry in entries if entry.actor == actor]
+        if not mine:
+            threads[actor].p('go')
         for operation, group in itertools.groupby(mine, key=lambda entry: entry.operation):
             threads[actor].operation(script.actors[actor][operation][0], list(group))
     return threads
