@@ -5,7 +5,7 @@
 # If it is told to end, qemu ends with it.
 #
 # In the environment: ACCEL (tcg, which works without /dev/kvm; kvm is faster where it works), CPU (max; host with
-# kvm), CPUS (2), MEM (768), APPEND (more words for the kernel).
+# kvm), CPUS (2), MEM (768), APPEND (more words for the kernel), QEMU (more words for qemu).
 set -eu
 work=${1:?the folder that build.sh filled}
 kernel=$work/bzImage.${2:?stock or changed}
@@ -24,8 +24,9 @@ case ${ACCEL:-tcg} in
     *) accel=$ACCEL ;;
 esac
 words="console=ttyS0 earlyprintk=ttyS0 quiet panic=-1 no_timer_check rdinit=/runner random.trust_cpu=on"
+# shellcheck disable=SC2086   # each of QEMU is a word
 timeout --kill-after=10 "$most" qemu-system-x86_64 -accel "$accel" \
-    -cpu "${CPU:-max}" -smp "${CPUS:-2}" -m "${MEM:-768}" \
+    -cpu "${CPU:-max}" -smp "${CPUS:-2}" -m "${MEM:-768}" ${QEMU:-} \
     -nodefaults -no-user-config -display none -no-reboot -kernel "$kernel" -initrd "$folder/initrd" \
     -serial "file:$out.console" -serial "file:$out" \
     -append "$words ${APPEND:-}" \

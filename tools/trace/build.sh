@@ -1,5 +1,6 @@
 #!/bin/sh
-# build.sh W: fills the folder W with all that boot.sh needs: Debian's stock kernel, busybox, the probes, the drivers.
+# build.sh W: fills the folder W with all that boot.sh and suite.py need: Debian's stock kernel, busybox, the probes, the
+# module of holds, the drivers.
 #
 # Needs Debian 12 and these packages (as root):
 #   apt-get install build-essential cpio qemu-system-x86 python3 linux-source-6.1 linux-headers-6.1.0-57-amd64
@@ -26,11 +27,16 @@ mkdir -p probes
 cp "$here/hmm_probes.c" probes/
 echo 'obj-m := hmm_probes.o' > probes/Makefile
 make -s -C "$headers" M="$work/probes" modules
+mkdir -p steer
+cp "$here/hmm_steer.c" steer/
+echo 'obj-m := hmm_steer.o' > steer/Makefile
+make -s -C "$headers" M="$work/steer" modules
 for rule in $(python3 "$here/edit_rules.py" --rules); do
     python3 "$here/edit_rules.py" linux-source-6.1 "$rule" "drivers/$rule"
     make -s -C "$headers" M="$work/drivers/$rule" modules
 done
 gcc -O2 -static -Wall -pthread -Idrivers/right -o racer "$here/racer.c"
+gcc -O2 -static -Wall -pthread -Idrivers/right -o steer/steer_runs "$here/steer_runs.c" "$here/calls_test_hmm.c"
 
 # the guest, but for the driver and its plan
 rm -rf guest
@@ -40,4 +46,14 @@ cp racer probes/hmm_probes.ko "$here/record.sh" guest/
 cp "$here/init.sh" guest/runner
 chmod +x guest/runner
 (cd guest && find . | cpio -o -H newc --quiet) > base.cpio
+
+# the guest of suite.py
+rm -rf steer/guest
+mkdir -p steer/guest/bin steer/guest/dev steer/guest/steer
+cp busybox steer/guest/bin/busybox
+cp probes/hmm_probes.ko steer/hmm_steer.ko steer/steer_runs "$here/suite_run.sh" steer/guest/steer/
+cp "$here/suite_init.sh" steer/guest/runner
+chmod +x steer/guest/runner
+(cd steer/guest && find . | cpio -o -H newc --quiet) > steer/base.cpio
+ln -sf ../bzImage.debian steer/bzImage.debian
 echo "built: Linux $version-amd64"
