@@ -83,6 +83,9 @@ module _ {K X F G : Type 0} (y : SystemValue X F) (form : K → F) (own : K → 
   pub depth_read : (d : Known K) → d ≡ get_or ns at d → d.depth ≡ length turns
   depth_read d e = ap (λ (z : Known K). z.depth) e ∙ (sym (get_or-map (λ (z : Known K). z.depth) ns at d 0 below) ∙ depth_here)
 
+  pub few_here : (entries used : ℕ) (d : Known K) → d ≡ get_or ns at d → used ≡ y.entries y.start → entries ≡ used + d.depth → entries ≤ 2000000
+  few_here entries used d e is many = omega (arith, there.adds, there.room, depth_read d e, is, many)
+
   -- the state after it is known already
   pub known_already : ((k l : K) → own k ≡ own l → form k ≡ form l) → (k : K) (depth : ℕ) → depth ≡ length turns + 1 → IsListed (key_forms own ns) (own k) → Within vs (form k) depth
   known_already alike k depth deep l = by (from_map (λ (n : KnownValue F). n.form) vs (form k) (subst (λ z. IsListed z (form k)) (sym (known_forms form ns)) (other_listed own form alike ns k l)))

@@ -1,11 +1,12 @@
 -- The table of the states that a search knows.
-use Rattle.std.proofs.Common.{◌≡◌, ℕ, ◌<◌, ◌≤◌, ◌⊎◌, inl, inr, suc, zero, Bool, true, false, Option, Some, List, [], ◌∷◌, ◌++◌, refl, sym, ap, ◌∙◌, subst, length, map, get_or, arith}
-use Rattle.std.proofs.lemmas.List.{map-append, length-map}
+use Rattle.std.proofs.Common.{◌≡◌, ℕ, ◌+◌, ◌<◌, ◌≤◌, ◌⊎◌, inl, inr, suc, zero, Bool, true, false, Option, Some, List, [], ◌∷◌, ◌++◌, refl, sym, ap, ◌∙◌, subst, length, map, get_or, arith}
+use Rattle.std.proofs.lemmas.List.{map-append, length-map, get_or_default}
 use Rattle.hm_race_laws.specs.Closed.{IsListed, AreDistinct}
 use Rattle.hm_race_laws.proofs.Searching.{listed_cases, distinct_more}
 use Rattle.hm_search.specs.declared.known.Known.{Known}
 use Rattle.hm_search.specs.Buckets.{BucketsValue, slot_in, slot_at, IsLast}
-use Rattle.hm_search.specs.Values.{key_forms, Fits}
+use Rattle.hm_search.specs.Values.{key_forms, AreKept, Fits}
+use Rattle.hm_search.specs.Systems.{SystemValue}
 use Rattle.hm_search.proofs.Exploring.{listed_item}
 use Rattle.hm_search.proofs.Chains.{UpTo, StandsIn, stands_last, up_to_last}
 use Rattle.std.proofs.lemmas.Bool.{cases_lt}
@@ -122,3 +123,21 @@ fits_more form number Valid ns ms n b d bucket fits is v new pushed grown = reco
 
     distinct : AreDistinct (key_forms form ms)
     distinct = subst AreDistinct (sym (ap (key_forms form) grown ∙ map-append (λ (m : Known _). form m.key) ns (n ∷ []))) (distinct_more (key_forms form ns) (form n.key) fits.distinct new)
+
+-- ---- what is kept of keys
+
+-- of the key at a place, whose depth was read too
+pub kept_at : {K X F : Type 0} (y : SystemValue X F) (Kept : K → ℕ → Type 0) (ns : List (Known K)) (at entries : ℕ) (d e : Known K) → AreKept y Kept ns → at < length ns → d ≡ get_or ns at d → e ≡ get_or ns at e → entries ≡ y.entries y.start + d.depth → Kept e.key entries
+kept_at y Kept ns at entries d e kept l is same many = subst (Kept e.key) (sym (many ∙ ap (λ (z : Known _). y.entries y.start + z.depth) one)) (kept e (subst (IsListed ns) (sym same) (listed_item ns at e l)))
+  where
+    one : d ≡ e
+    one = is ∙ (get_or_default ns at d e l ∙ sym same)
+
+-- with one state more
+pub kept_more : {K X F : Type 0} (y : SystemValue X F) (Kept : K → ℕ → Type 0) (ns ms : List (Known K)) (n : Known K) → AreKept y Kept ns → Kept n.key (y.entries y.start + n.depth) → ms ≡ ns ++ n ∷ [] → AreKept y Kept ms
+kept_more y Kept ns ms n kept made grown m l = by (listed_cases ns (n ∷ []) m (subst (λ z. IsListed z m) grown l))
+  where
+    by : IsListed ns m ⊎ IsListed (n ∷ []) m → Kept m.key (y.entries y.start + m.depth)
+    by (inl h) = kept m h
+    by (inr (inl e)) = subst (λ (z : Known _). Kept z.key (y.entries y.start + z.depth)) e made
+    by (inr (inr h)) = absurd h

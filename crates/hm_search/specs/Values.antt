@@ -1,5 +1,5 @@
 -- What a search keeps, as its definitions see it.
-use Rattle.std.specs.Prelude.{◌≡◌, ℕ, ◌<◌, ◌≤◌, Bool, false, ◌&&◌, Option, Some, None, List, [], ◌∷◌, ◌++◌}
+use Rattle.std.specs.Prelude.{◌≡◌, ℕ, ◌+◌, ◌<◌, ◌≤◌, Bool, false, ◌&&◌, Option, Some, None, List, [], ◌∷◌, ◌++◌}
 use Rattle.std.specs.Prelude.{map, fold, length, get_or, slice_get}
 use Rattle.hm_race_laws.specs.Closed.{IsListed, AreDistinct}
 use Rattle.hm_search.specs.Buckets.{BucketsValue}
@@ -48,6 +48,10 @@ pub record Fits {K F : Type 0} (form : K → F) (number : K → ℕ) (Valid : K 
 abbrev pub AreDeep : {K F : Type 0} → (K → F) → List (Known K) → Type 0
 AreDeep form ns =
     (i : ℕ) → i < length ns → get_or (map (λ n. n.depth) ns) i 0 ≡ length (turns_at (all_known form ns) i)
+
+-- of the key of each holds what is kept of keys, with the entries that led there: those at the start and its turns
+abbrev pub AreKept : {K X F : Type 0} → SystemValue X F → (K → ℕ → Type 0) → List (Known K) → Type 0
+AreKept y Kept ns = (n : Known _) → IsListed ns n → Kept n.key (y.entries y.start + n.depth)
 
 -- a search that is to go on from the state at this place, with what is kept of it; `own` is the form by which keys are
 -- compared

@@ -5,7 +5,7 @@ ghost use Rattle.hm_history.specs.declared.StepError.{StepError as AnyError};
 ghost use Rattle.hm_race_laws.specs.Closed.{AreDistinct};
 ghost use Rattle.hm_search.specs.Systems.{point_at};
 ghost use Rattle.hm_search.specs.Goals.{AreMissed, IsSoon, Reaches};
-ghost use Rattle.hm_search.specs.Values.{all_known, at_goal, HasGrown, HasSearched, Searching};
+ghost use Rattle.hm_search.specs.Values.{all_known, at_goal, AreKept, HasGrown, HasSearched, Searching};
 ghost use Rattle.hm_search.specs.Known.{forms, turns_at, Within, LeadsOn, GoesOn};
 ghost use Rattle.hm_search.specs.Known.{HaveFewer, HaveForms, AreKnown, AreRising, AreFewest};
 ghost use Rattle.hm_search.specs.Known.{IsCut, IsNear, MayFail};
@@ -58,10 +58,13 @@ fn add<S: System>(
     requires depth { depth ≡ length (turns_at (all_known S.form states.old.known.items) turn.state) + 1 }
     requires leads { LeadsOn (S.value system.now)
         (turns_at (all_known S.form states.old.known.items) turn.state) turn.actor (S.form key) }
+    requires kept { AreKept (S.value system.now) (S.Kept system.now) states.old.known.items }
+    requires made { S.Kept system.now key ((S.value system.now).entries (S.value system.now).start + depth) }
     ensures searching { OnOk result (Searching (S.value system.now) S.form S.Key.form S.Key.number
         S.Key.Valid states.new.known.items states.new.buckets turn.state) }
     ensures grown { OnOk result (HasGrown states.old.known.items states.new.known.items 1) }
     ensures within { OnOk result (Within (all_known S.form states.new.known.items) (S.form key) depth) }
+    ensures kept { OnOk result (AreKept (S.value system.now) (S.Kept system.now) states.new.known.items) }
     ensures fails { IfErr result (λ e. e ≡ AnyError.NoMemory) }
 {
     system.facts();
@@ -94,6 +97,7 @@ fn go<S: System>(
         states.old.known.items states.old.buckets turn.state }
     requires state { turn.state < length states.old.known.items }
     requires actor { turn.actor < (S.value system.now).actors }
+    requires kept { AreKept (S.value system.now) (S.Kept system.now) states.old.known.items }
     ensures searching { OnOk result (Searching (S.value system.now) S.form S.Key.form S.Key.number
         S.Key.Valid states.new.known.items states.new.buckets turn.state) }
     ensures grown { OnOk result (HasGrown states.old.known.items states.new.known.items 1) }
@@ -101,14 +105,16 @@ fn go<S: System>(
         (point_at (S.value system.now)
         (turns_at (all_known S.form states.old.known.items) turn.state))
         (length (turns_at (all_known S.form states.old.known.items) turn.state) + 1) turn.actor) }
+    ensures kept { OnOk result (AreKept (S.value system.now) (S.Kept system.now) states.new.known.items) }
     ensures fails { IfErr result (λ e. MayFail (S.value system.now) e) }
 {
     system.facts();
     let depth = states.known[turn.state].depth;
-    match system.next(&states.known[turn.state].key, turn.actor)? {
+    let entries = system.entries() + depth;
+    match system.next(&states.known[turn.state].key, turn.actor, entries)? {
         None => Ok(()),
         Some(key) => {
-            if depth >= MOST_ENTRIES - system.entries() {
+            if entries >= MOST_ENTRIES {
                 return Err(StepError::Full(MOST_ENTRIES));
             }
             add(system, alloc, states, key, turn, depth + 1)
@@ -126,10 +132,12 @@ fn step<S: System>(
     requires searching { Searching (S.value system.now) S.form S.Key.form S.Key.number S.Key.Valid
         states.old.known.items states.old.buckets at }
     requires at { at < length states.old.known.items }
+    requires kept { AreKept (S.value system.now) (S.Kept system.now) states.old.known.items }
     ensures searching { OnOk result (Searching (S.value system.now) S.form S.Key.form S.Key.number
         S.Key.Valid states.new.known.items states.new.buckets (at + 1)) }
     ensures grown { OnOk result (HasGrown states.old.known.items states.new.known.items
         ((S.value system.now).actors)) }
+    ensures kept { OnOk result (AreKept (S.value system.now) (S.Kept system.now) states.new.known.items) }
     ensures fails { IfErr result (λ e. MayFail (S.value system.now) e) }
 {
     system.facts();
@@ -148,6 +156,7 @@ fn begin<S: System>(system: &S, alloc: Global) -> Result<States<S::Key>, StepErr
     ensures searching { IfOk result (λ s. Searching (S.value system.now) S.form S.Key.form S.Key.number
         S.Key.Valid s.known.items s.buckets 0) }
     ensures one { IfOk result (λ s. length s.known.items ≡ 1) }
+    ensures kept { IfOk result (λ s. AreKept (S.value system.now) (S.Kept system.now) s.known.items) }
     ensures fails { IfErr result (λ e. e ≡ AnyError.NoMemory) }
 {
     system.facts();

@@ -1,5 +1,5 @@
 // What a search asks of what it searches.
-ghost use Rattle.std.specs.Prelude.{◌≡◌, ℕ, List, true, IfOk, IfErr};
+ghost use Rattle.std.specs.Prelude.{◌≡◌, ◌+◌, ◌≤◌, ℕ, List, true, IfOk, IfErr, IfSome};
 ghost use Rattle.hm_history.specs.declared.StepError.{StepError as AnyError};
 ghost use Rattle.hm_search.specs.Systems.{SystemValue, IsSystem, IsNext, Stands, form_after, point_at};
 
@@ -45,6 +45,10 @@ pub trait System {
 
     ghost value: { Self → SystemValue Points Forms };
 
+    /// What holds of a key that was made, beside its form, if its state has this many entries: those at the start, and
+    /// one for each turn.
+    ghost Kept: { Self → Self.Key → ℕ → Type 0 };
+
     /// Costs nothing: it hands the prover what holds of every system.
     fn facts(&self)
         ensures system { IsSystem (value self.now) }
@@ -62,11 +66,21 @@ pub trait System {
     /// The key of the state at the start.
     fn first(&self) -> Result<Self::Key, StepError>
         ensures form { IfOk result (λ k. form k ≡ (value self.now).form (value self.now).start) }
+        ensures kept { IfOk result (λ k. Kept self.now k ((value self.now).entries (value self.now).start)) }
         ensures fails { IfErr result (λ e. e ≡ AnyError.NoMemory) };
 
-    /// The key of the state after a turn of the actor, or `None` if nothing is due to it.
-    fn next(&self, key: &Self::Key, actor: Actor) -> Result<Option<Self::Key>, StepError>
-        requires { Stands (value self.now) (form key.now) }
+    /// The key of the state after a turn of the actor, or `None` if nothing is due to it. `entries` is how many the
+    /// key's state has, those at the start and one for each turn.
+    fn next(
+        &self,
+        key: &Self::Key,
+        actor: Actor,
+        entries: u64,
+    ) -> Result<Option<Self::Key>, StepError>
+        requires stands { Stands (value self.now) (form key.now) }
+        requires kept { Kept self.now key.now entries }
+        requires room { entries ≤ 2000000 }
+        ensures kept { IfOk result (λ o. IfSome o (λ k. Kept self.now k (entries + 1))) }
         ensures next { IfOk result (λ o. (turns : List ℕ)
             → form_after (value self.now) turns ≡ form key.now
             → IsNext form (value self.now) (point_at (value self.now) turns) actor o) }

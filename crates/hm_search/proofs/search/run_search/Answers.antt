@@ -22,6 +22,7 @@ loop-at-init g c =
       reached = omega arith;
       near = inr c.in_ok-states.ensures.one;
       missed = missed_step g.G.Goal.read (g.G.Goal.reached c.args.goal.now) [] first 1 0 c.in_ok-has_come.field-0 (grown_first first c.in_ok-states.ensures.one) refl c.in_ok-has_come.ensures.come (λ n l e. absurd l) c.if-branch.false;
+      kept = c.in_ok-states.ensures.kept;
     }
 
 pub returns-then-branch-2-clause-reached : goal.returns-then-branch-2-clause-reached
@@ -44,4 +45,5 @@ loop-at-preserved g c =
       near = inl (omega (arith, c.if-found-most.false, c.len-found.ensures, grown.1));
       missed = missed_step g.G.Goal.read (g.G.Goal.reached c.args.goal.now) c.loop-at.states.known.items c.step.new.states.known.items more c.len-found.result c.in_ok-has_come-2.field-0
           c.in_ok-step.ensures.grown (search rules) (search rules) c.loop-at.invariant.missed c.if-branch-2.false;
+      kept = c.in_ok-step.ensures.kept;
     }

@@ -1,7 +1,7 @@
 use Rattle.std.proofs.Common.{◌≤◌, length}
 use Rattle.hm_search.specs.Goals.{AreMissed}
 use Rattle.hm_search.specs.Known.{IsNear}
-use Rattle.hm_search.specs.Values.{all_known, Searching}
+use Rattle.hm_search.specs.Values.{all_known, AreKept, Searching}
 use Rattle.hm_search.proofs.search.run_search.Given as goal
 
 -- the states up to this place were gone on from, and none reaches the goal
@@ -15,4 +15,5 @@ invariant-loop-at g l =
       reached : l.at ≤ length known;
       near : IsNear y.actors l.most (length known);
       missed : AreMissed (g.G.Goal.reached l.goal) (all_known g.G.Goal.read known);
+      kept : AreKept y (g.S.System.Kept l.system) known;
     }

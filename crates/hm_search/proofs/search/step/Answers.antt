@@ -3,7 +3,7 @@ use Rattle.hm_search.proofs.Steps.{grown_none, grown_on, grown_upto, grown_lengt
 use Rattle.hm_search.proofs.search.step.Goals as goal
 
 pub loop-number-init : goal.loop-number-init
-loop-number-init g c = record { searching = c.requires.searching; grown = grown_none c.args.states.now.known.items 0; below = λ a l. absurd (omega (arith, l)); bound = omega arith }
+loop-number-init g c = record { searching = c.requires.searching; grown = grown_none c.args.states.now.known.items 0; below = λ a l. absurd (omega (arith, l)); bound = omega arith; kept = c.requires.kept }
 
 pub go-requires-clause-state : goal.go-requires-clause-state
 go-requires-clause-state g c = omega (arith, c.requires.at, (grown_length c.args.states.now.known.items c.loop-number.states.known.items c.loop-number.number c.loop-number.invariant.grown).0)
@@ -18,6 +18,7 @@ loop-number-preserved g c =
       grown = grown_on before now c.go.new.states.known.items c.loop-number.number kept.grown c.in_ok-go.ensures.grown;
       below = below_next g.S.System.form (g.S.System.value c.args.system.now) before now c.go.new.states.known.items c.args.at c.loop-number.number c.loop-number.number c.new.result c.requires.at kept.grown c.in_ok-go.ensures.grown c.new.ensures kept.below c.in_ok-go.ensures.goes;
       bound = omega (arith, c.loop-number-test.true, c.actors-number-end.ensures);
+      kept = c.in_ok-go.ensures.kept;
     }
 
 pub returns-clause-searching : goal.returns-clause-searching

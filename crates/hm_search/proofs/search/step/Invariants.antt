@@ -1,7 +1,7 @@
 use Rattle.std.proofs.Common.{◌+◌, ◌≤◌, length}
 use Rattle.hm_search.specs.Systems.{point_at}
 use Rattle.hm_search.specs.Known.{turns_at, GoneOnBelow}
-use Rattle.hm_search.specs.Values.{all_known, HasGrown, Searching}
+use Rattle.hm_search.specs.Values.{all_known, AreKept, HasGrown, Searching}
 use Rattle.hm_search.proofs.search.step.Given as goal
 
 -- the search has gone on from the state by the actors so far
@@ -17,4 +17,5 @@ invariant-loop-number g l =
       grown : HasGrown before known l.number;
       below : GoneOnBelow y (all_known g.S.System.form known) (point_at y turns) (length turns + 1) l.number;
       bound : l.number ≤ y.actors;
+      kept : AreKept y (g.S.System.Kept l.system) known;
     }
