@@ -1,10 +1,14 @@
 mod Erasing
+mod Exacts
 mod Late
 mod Writing
 mod Finding
 mod Pages
 mod Committed
-mod Rooms
+mod Standing
+mod Quieting
+mod Storing
+mod Standings
 mod Wholes
 mod Windows
 mod NextParts

@@ -8,7 +8,7 @@ ghost use Rattle.hm_history.specs.declared.Progress.{Progress as AnyProgress};
 ghost use Rattle.hm_flaws.specs.Drivers.{driver_of};
 ghost use Rattle.hm_folds.specs.Kept.{interval_at};
 ghost use Rattle.hm_flaw_states.specs.Owns.{driver_in, seq_in};
-ghost use Rattle.hm_race_states.specs.Small.{between_seqs};
+ghost use Rattle.hm_flaw_states.specs.Exact.{exact_in};
 ghost use Rattle.hm_flaw_parts.specs.Races.Races.{point_from};
 ghost use Rattle.hm_flaw_states.specs.States.{state_in};
 ghost use Rattle.hm_flaw_states.specs.Keyed.{entries_in, form_in};
@@ -136,7 +136,7 @@ fn none_past(intervals: &[Option<KeptInterval>; 32])
 
 // The sequences of all intervals.
 fn seqs_of(seqs: &ExactSeqs) -> [u64; 32]
-    ensures { (m : ℕ) → seq_in result m ≡ interval_seq (between_seqs seqs.now.kept) m }
+    ensures { (m : ℕ) → seq_in result m ≡ interval_seq (exact_in seqs.now.kept) m }
 {
     none_past(&seqs.kept.intervals);
     let mut all = [0; 32];

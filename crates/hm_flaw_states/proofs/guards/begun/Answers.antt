@@ -1,7 +1,7 @@
 use Rattle.std.proofs.Common.{ℕ, false, Some, List, replicate, ap, ◌∙◌}
 use Rattle.hm_base.specs.Pages.{Pages}
 use Rattle.hm_history.specs.Memory.Sequences.{Guarded, overlapping}
-use Rattle.hm_race_states.specs.Small.{between_seqs}
+use Rattle.hm_flaw_states.specs.Exact.{exact_in}
 use Rattle.hm_flaw_states.specs.Seqs.{mirrors_in}
 use Rattle.hm_flaw_states.proofs.Mirrors.{none_in, those_in}
 use Rattle.hm_flaw_states.proofs.guards.begun.Goals as goal
@@ -13,5 +13,5 @@ pub returns : goal.returns
 returns c =
     let p = c.args.proc in
     let r = c.args.span in
-    ap (λ (ms : List ℕ). Some (made p r ms (mirrors_in (replicate 32 false)))) (those_in c.overlapping.result (overlapping (between_seqs c.args.seqs.now.kept) p r) c.overlapping.ensures)
-    ∙ ap (λ (ms : List ℕ). Some (made p r (overlapping (between_seqs c.args.seqs.now.kept) p r) ms)) none_in
+    ap (λ (ms : List ℕ). Some (made p r ms (mirrors_in (replicate 32 false)))) (those_in c.overlapping.result (overlapping (exact_in c.args.seqs.now.kept) p r) c.overlapping.ensures)
+    ∙ ap (λ (ms : List ℕ). Some (made p r (overlapping (exact_in c.args.seqs.now.kept) p r) ms)) none_in
