@@ -66,7 +66,7 @@ leads_more j c h e each on i d below is = elim (cases_lt i (length h)) [
         let before : take i (h ++ e ∷ []) ≡ h = ap (λ k. take k (h ++ e ∷ [])) same ∙ take-append_seam h (e ∷ []) in
         subst (λ (g : List Entry). LeadsOn j c g d) (sym before) (subst (LeadsOn j c h) (sym at) on)
 
-due_taken : (c : Program) (g h : List Entry) (i : ℕ) → DueFrom c g h → DueFrom c g (take i h)
+pub due_taken : (c : Program) (g h : List Entry) (i : ℕ) → DueFrom c g h → DueFrom c g (take i h)
 due_taken c g [] i d = subst (DueFrom c g) (taken i) tt
   where
     taken : (i : ℕ) → [] ≡ take i []
@@ -74,16 +74,15 @@ due_taken c g [] i d = subst (DueFrom c g) (taken i) tt
 due_taken c g (x ∷ h) 0 d = tt
 due_taken c g (x ∷ h) (suc i) d = (d.0, due_taken c (g ++ x ∷ []) h i d.1)
 
--- the right driver's entries
-pub right_leads : RightBreaksNone → RightIsDue → (j : Judging) (c : Program) → IsScript c → (h : List Entry) → DueFrom c [] h → EachLeads j c h
-right_leads right same j c sc h d i e below is = record {
-  going = (state_of c g).going;
-  none = subst (λ (x : List Entry). broken_part (judged_parts j) c x (state_of c g).going e ≡ None) (append-nil g)
-      (right (judged_parts j) c sc g (due_taken c [] h i d) [] tt e (same c (flawed_from (state_of c g)) e.actor ∙ was));
+-- what is due to the right driver
+pub right_on : RightBreaksNone → RightIsDue → (j : Judging) (c : Program) → IsScript c → (h : List Entry) → DueFrom c [] h → (e : Entry) → due c h e.actor ≡ Progress.Did e → LeadsOn j c h e
+right_on right same j c sc h d e is = record {
+  going = (state_of c h).going;
+  none = subst (λ (x : List Entry). broken_part (judged_parts j) c x (state_of c h).going e ≡ None) (append-nil h)
+      (right (judged_parts j) c sc h d [] tt e (same c (flawed_from (state_of c h)) e.actor ∙ is));
 }
-  where
-    g : List Entry
-    g = take i h
 
-    was : due c g e.actor ≡ Progress.Did e
-    was = subst (λ (x : Entry). due c g x.actor ≡ Progress.Did x) (sym is) (due_at c [] h i e below d)
+-- so it is with all of its entries
+pub right_leads : RightBreaksNone → RightIsDue → (j : Judging) (c : Program) → IsScript c → (h : List Entry) → DueFrom c [] h → EachLeads j c h
+right_leads right same j c sc h d i e below is = right_on right same j c sc (take i h) (due_taken c [] h i d) e
+    (subst (λ (x : Entry). due c (take i h) x.actor ≡ Progress.Did x) (sym is) (due_at c [] h i e below d))

@@ -2,7 +2,7 @@
 use Rattle.std.proofs.Common.{◌≡◌, ℕ, ◌+◌, ◌-◌, ◌<◌, ◌≤◌, ◌==◌, Bool, true, false, if◌then◌else◌, Option, None, List, length, slice_set, slice_index_or, refl, sym, ap, ◌∙◌, subst, arith}
 use Rattle.std.proofs.lemmas.Bool.Decides.{nat_tests}
 use Rattle.hm_history.specs.Memory.Words.{with_at}
-use Rattle.hm_history.specs.Memory.Sequences.{Sequences, Interval, sequences_next, seq_started, seq_ended, seq_inserted}
+use Rattle.hm_history.specs.Memory.Sequences.{Sequences, Interval, sequences_next, seq_started, seq_ended, seq_inserted, sequences_start}
 use Rattle.hm_history.specs.declared.Kind.{Kind}
 use Rattle.hm_folds.specs.declared.intervals.KeptInterval.{KeptInterval}
 use Rattle.hm_folds.specs.Kept.{interval_of, interval_at}
@@ -76,5 +76,12 @@ paced_next x y a k n e h = record {
   active = λ p. omega (arith, ap (λ (s : Sequences). s.active p) e, active_rises (exact_in x) a k p, h.active p);
 }
 
-pub paced_more : (x : ExactParts) (n : ℕ) → IsPaced x n → IsPaced x (n + 1)
-paced_more x n h = record { seqs = λ p. omega (arith, h.seqs p); active = λ p. omega (arith, h.active p) }
+pub paced_more : (x : ExactParts) (n m : ℕ) → n ≤ m → IsPaced x n → IsPaced x m
+paced_more x n m l h = record { seqs = λ p. omega (arith, l, h.seqs p); active = λ p. omega (arith, l, h.active p) }
+
+-- before the first entry
+pub paced_first : (x : ExactParts) → exact_in x ≡ sequences_start → IsPaced x 0
+paced_first x e = record {
+  seqs = λ p. omega (arith, ap (λ (s : Sequences). s.seq p) e);
+  active = λ p. omega (arith, ap (λ (s : Sequences). s.active p) e);
+}

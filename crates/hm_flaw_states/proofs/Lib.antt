@@ -24,6 +24,7 @@ mod Following
 mod Forms
 mod SetUps
 mod Waits
+mod Kept
 mod Going
 mod Setting
 mod Stays

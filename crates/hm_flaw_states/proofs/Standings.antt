@@ -2,6 +2,8 @@
 use Rattle.std.proofs.Common.{◌≡◌, ℕ, suc, ◌+◌, ◌<◌, ◌≤◌, ◌==◌, ◌⊎◌, inl, inr, Bool, true, false, if◌then◌else◌, Option, Some, None, List, [], ◌∷◌, length, map, refl, sym, ap, ◌∙◌, subst, arith}
 use Rattle.std.specs.Prelude.{⊤, slice_get}
 use Rattle.std.proofs.lemmas.Bool.{cases_lt}
+use Rattle.std.proofs.lemmas.List.{length-map}
+use Rattle.std.specs.Rc.{rc_value}
 use Rattle.hm_base.specs.Program.{Program}
 use Rattle.hm_base.specs.declared.ops.Op.{Op}
 use Rattle.hm_history.specs.Memory.After.{After}
@@ -22,6 +24,8 @@ use Rattle.hm_race_states.specs.Afters.{TaskTakes}
 use Rattle.hm_race_states.specs.States.{goings_in, nobody}
 use Rattle.hm_race_states.specs.declared.tasks.RaceTask.{RaceTask}
 use Rattle.hm_flaw_states.specs.Follows.{Standing}
+use Rattle.hm_flaw_states.specs.States.{state_in}
+use Rattle.hm_flaw_states.specs.declared.state.FlawState.{FlawState}
 use Rattle.hm_flaw_states.specs.Rooms.{IsQuietAt, PlacesPage, StackStands}
 use Rattle.hm_flaw_states.proofs.Quieting.{due_quiet}
 use Rattle.hm_flaw_states.proofs.Standing.{counted_stack, first_stands, low_stack, ranged_stack, stack_stands, stands_by, stands_more}
@@ -116,3 +120,6 @@ actor_there ts l c t a e same is = elim (cases_lt a (length ts)) [
   | inl k ↦ k
   | inr k ↦ absurd (idle l c t.driver (found l c t) a (op_at c a (t.state.going a).index) (t.state.going a).pages (t.state.going a).stack e (ap (λ (f : ℕ → Going). (f a).stack) same ∙ ap (λ (g : Going). g.stack) (past ts a k)) is)
 ]
+
+pub actor_kept : (x : FlawState) (l : Flaw) (c : Program) (d : Driver) (a : ℕ) (e : Entry) → due_by l c (record { state = state_in x; driver = d }) a ≡ Progress.Did e → a < length x.tasks.items
+actor_kept x l c d a e is = omega (arith, actor_there (map rc_value x.tasks.items) l c (record { state = state_in x; driver = d }) a e refl is, length-map x.tasks.items rc_value)

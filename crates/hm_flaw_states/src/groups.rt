@@ -1,6 +1,6 @@
 // The parts of a state in groups of three or four. What makes a whole state makes the groups one after the other: few
 // are alive at each of its ways out.
-ghost use Rattle.std.specs.Prelude.{◌≡◌, ◌≤◌, ℕ, false, None, [], length, IfOk};
+ghost use Rattle.std.specs.Prelude.{◌≡◌, ◌+◌, ◌≤◌, ℕ, false, None, [], length, IfOk};
 ghost use Rattle.hm_history.specs.Memory.Contents.{contents_next};
 ghost use Rattle.hm_history.specs.Memory.Locks.{frame_next, map_next};
 ghost use Rattle.hm_history.specs.Memory.Places.{places_next};
@@ -14,13 +14,14 @@ ghost use Rattle.hm_race_states.specs.Mirrors.{mirrors_in};
 ghost use Rattle.hm_race_states.specs.Small.{unguarded};
 ghost use Rattle.hm_flaw_states.specs.Exact.{exact_in, IsPaced};
 ghost use Rattle.hm_race_states.specs.Spaces.{bare, spaces_in};
+ghost use Rattle.hm_spaces.specs.Spaces.{SpacesFit};
 ghost use Rattle.hm_flaw_states.specs.Commits.{commits_in, commits_next};
 ghost use Rattle.hm_flaw_states.specs.FrameBytes.{contents_in};
 ghost use Rattle.hm_flaw_states.specs.OwnTables.{table_in};
 ghost use Rattle.hm_flaw_states.specs.Placed.{pages_in, placed_next};
 ghost use Rattle.hm_flaw_states.specs.Owns.{StaysInPage};
 ghost use Rattle.hm_flaw_states.specs.Seqs.{guards_in, seqs_in};
-ghost use Rattle.hm_flaw_states.specs.States.{state_in};
+ghost use Rattle.hm_flaw_states.specs.States.{plain_in, state_in};
 ghost use Rattle.hm_flaw_states.specs.Windows.{SameWindows};
 
 use crate::commits::{FrameCommits, commits_after};

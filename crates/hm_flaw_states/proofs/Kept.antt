@@ -1,0 +1,90 @@
+-- What holds of a key after a turn.
+use Rattle.std.proofs.Common.{◌≡◌, ℕ, ◌+◌, ◌≤◌, Bool, true, false, Option, Some, None, List, [], ◌∷◌, ◌++◌, refl, sym, ap, ◌∙◌, subst, arith}
+use Rattle.hm_base.specs.Program.{Program}
+use Rattle.hm_base.specs.declared.ops.Op.{Op}
+use Rattle.hm_history.specs.Memory.After.{After}
+use Rattle.hm_history.specs.Memory.Plain.{plain_accepts}
+use Rattle.hm_history.specs.declared.Entry.{Entry}
+use Rattle.hm_history.specs.declared.Progress.{Progress}
+use Rattle.hm_history.specs.declared.phases.Migrating.{Migrating}
+use Rattle.hm_history.specs.declared.phases.Phase.{Phase}
+use Rattle.hm_history.proofs.RunLemmas.{progress_own}
+use Rattle.hm_flaws.specs.Drivers.{Driver}
+use Rattle.hm_flaws.specs.Flawed.{Flawed, as_read, due_by, due_flawed_top, found}
+use Rattle.hm_flaws.specs.Overrides.{due_flawed}
+use Rattle.hm_flaws.specs.Parts.{broken_part}
+use Rattle.hm_flaws.specs.declared.flaws.Flaw.{Flaw}
+use Rattle.hm_flaws.specs.declared.parts.Part.{Part}
+use Rattle.hm_flaw_parts.specs.Judged.{EachLeads, LeadsOn, judged_parts}
+use Rattle.hm_flaw_parts.specs.declared.judged.Judging.{Judging}
+use Rattle.hm_flaw_parts.specs.Races.Races.{FlawPoint, broken_at}
+use Rattle.hm_flaw_parts.proofs.Leading.{leads_more}
+use Rattle.hm_flaw_states.specs.Follows.{Follows, Standing}
+use Rattle.hm_flaw_states.specs.Keyed.{entries_in, form_in}
+use Rattle.hm_flaw_states.specs.Owns.{driver_in}
+use Rattle.hm_flaw_states.specs.States.{state_in}
+use Rattle.hm_flaw_states.specs.Turns.{IsKept}
+use Rattle.hm_flaw_states.specs.declared.key.FlawKey.{FlawKey}
+use Rattle.hm_flaw_states.specs.declared.owns.Own.{Own}
+use Rattle.hm_flaw_states.specs.declared.state.FlawState.{FlawState}
+use Rattle.hm_flaw_states.proofs.Following.{broken_here}
+
+-- what the state that is kept goes on by
+pub follows_kept : (l : Flaw) (c : Program) (x y : FlawState) (d o : Own) (e : Entry) → x ≡ y → d ≡ o → Follows l c y (driver_in o) e → Follows l c x (driver_in d) e
+follows_kept l c x y d o e s t f =
+    subst (λ (z : FlawState). Follows l c z (driver_in d) e) (sym s) (subst (λ (z : Own). Follows l c y (driver_in z) e) (sym t) f)
+
+-- ---- what is due
+
+own_top : (l : Flaw) (c : Program) (x : Driver) (s : After) (a : ℕ) (o : Option Op) (xs : List Migrating) (st : List Phase) (e : Entry) → due_flawed_top l c x s a o xs st ≡ Progress.Did e → a ≡ e.actor
+own_top l c x s a (Some o) xs (top ∷ below) e d = progress_own a (as_read l x (due_flawed l c s a o xs top)) e d
+own_top l c x s a (Some o) xs [] e d = cc
+own_top l c x s a None xs st e d = cc
+
+-- what is due to an actor is due to the actor of the entry
+pub own_due : (l : Flaw) (c : Program) (t : Flawed) (a : ℕ) (e : Entry) → due_by l c t a ≡ Progress.Did e → due_by l c t e.actor ≡ Progress.Did e
+own_due l c t a e d = subst (λ b. due_by l c t b ≡ Progress.Did e) (own_top l c t.driver (found l c t) a _ _ _ e d) d
+
+-- ---- what breaks no part
+
+met : (b : Bool) (part : Part) (rest : Option Part) → elim b [ true ↦ rest | false ↦ Some part ] ≡ None → b ≡ true
+met true part rest e = refl
+met false part rest e = cc
+
+pub answers_unbroken : (j : Judging) (c : Program) (x : FlawPoint) (e : Entry) → broken_at (judged_parts j) c x e ≡ None → plain_accepts x.flawed.state.after.plain e.kind ≡ true
+answers_unbroken Judging.AllParts c x e n = met _ Part.Answers _ n
+answers_unbroken Judging.AnswersAlone c x e n = met _ Part.Answers _ n
+
+-- the entry leads on after those of the key
+pub unbroken_leads : (j : Judging) (c : Program) (k : FlawKey) (e : Entry) → k.frames ≡ c.frames → broken_at (judged_parts j) c (form_in k) e ≡ None → LeadsOn j c (entries_in k) e
+unbroken_leads j c k e f n = record {
+  going = (form_in k).flawed.state.going;
+  none = broken_here (judged_parts j) c (entries_in k) (form_in k) e k.led (k.noted c (sym f)) ∙ n;
+}
+
+-- the key with the entry among its entries
+pub kept_on : (j : Judging) (c : Program) (k n : FlawKey) (e : Entry) → IsKept j c k → broken_at (judged_parts j) c (form_in k) e ≡ None → entries_in n ≡ entries_in k ++ e ∷ [] → n.frames ≡ k.frames
+    → Standing (state_in n.state.value) → IsKept j c n
+kept_on j c k n e h b t f s = record {
+  frames = f ∙ h.frames;
+  leads = subst (EachLeads j c) (sym t) (leads_more j c (entries_in k) e h.leads (unbroken_leads j c k e h.frames b));
+  standing = s;
+}
+
+-- the key with an entry that broke a part beside them
+pub kept_beside : (j : Judging) (c : Program) (k n : FlawKey) → IsKept j c k → (form_in n).flawed ≡ (form_in k).flawed → entries_in n ≡ entries_in k → n.frames ≡ k.frames → IsKept j c n
+kept_beside j c k n h same t f = record {
+  frames = f ∙ h.frames;
+  leads = subst (EachLeads j c) (sym t) h.leads;
+  standing = subst (λ (x : Flawed). Standing x.state) (sym same) h.standing;
+}
+
+-- what a turn goes on by
+pub turn_follows : (j : Judging) (l : Flaw) (c : Program) (k : FlawKey) (a : ℕ) (e : Entry) → IsKept j c k → k.state.value.entries ≤ 2000000 → due_by l c (form_in k).flawed a ≡ Progress.Did e → broken_at (judged_parts j) c (form_in k) e ≡ None
+    → Follows l c k.state.value (driver_in k.own.value) e
+turn_follows j l c k a e h few d b = record {
+  is_due = own_due l c (form_in k).flawed a e d;
+  answers = answers_unbroken j c (form_in k) e b;
+  standing = h.standing;
+  room = few;
+}
