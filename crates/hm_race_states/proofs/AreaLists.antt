@@ -1,11 +1,19 @@
 -- Area lists that processes share.
-use Rattle.std.proofs.Common.{◌≡◌, ℕ, ◌<◌, ◌==◌, Bool, true, false, List, [], length, map, replicate, slice_set, slice_index_or, get_or, sym, ap, ◌∙◌, arith}
+use Rattle.std.proofs.Common.{◌≡◌, ℕ, ◌<◌, ◌==◌, Bool, true, false, if◌then◌else◌, Some, None, List, [], length, refl, map, replicate, slice_set, slice_index_or, get_or, sym, ap, ◌∙◌, arith}
 use Rattle.std.proofs.lemmas.List.{map-set, length-map, get_or-map}
 use Rattle.std.proofs.lemmas.Bool.Decides.{nat_tests}
 use Rattle.std.proofs.Math.Path.{fun_ext}
+use Rattle.std.specs.Prelude.{not, nat_le}
+use Rattle.hm_base.specs.Pages.{Pages}
+use Rattle.hm_base.specs.Areas.{all_mapped, with_rights}
 use Rattle.hm_base.specs.declared.area.Area.{Area}
+use Rattle.hm_base.specs.declared.cause.Cause.{Cause}
+use Rattle.hm_base.specs.declared.ops.Op.{Op}
+use Rattle.hm_base.specs.declared.ops.Rights.{Rights}
+use Rattle.vm_areas.specs.Refusals.{protect_refusal}
+use Rattle.vm_areas.specs.declared.AreaRefusal.{AreaRefusal}
 use Rattle.hm_history.specs.Memory.Words.{with_at}
-use Rattle.hm_history.specs.Memory.Plain.{Plain, plain_start}
+use Rattle.hm_history.specs.Memory.Plain.{Plain, area_refusal, plain_start}
 use Rattle.hm_folds.proofs.Writes.{shown, set_at}
 use Rattle.hm_folds.proofs.SeqSteps.{all_alike}
 use Rattle.hm_race_states.specs.Spaces.{bare}
@@ -40,3 +48,13 @@ spaces_start xs h =
     ap (λ t. made t (λ p. slice_index_or (replicate 32 false) p false) f) first_there
     ∙ ap (λ n. made plain_start.there n f) (fun_ext (λ p. all_alike false 32 p))
     ∙ ap (λ r. made plain_start.there plain_start.named r) (fun_ext (λ p. ap (λ (ys : List (List Area)). slice_index_or ys p []) h ∙ all_alike none 32 p))
+
+-- a change of rights that no cause refuses is not refused
+pub protects : (s : Plain) (p : ℕ) (r : Pages) (w : Rights) → area_refusal s (Op.Protect p r w) ≡ None → protect_refusal r w (s.areas p) ≡ None
+protects s p r w = by (all_mapped r (s.areas p)) (nat_le (length (with_rights r w (s.areas p))) 64)
+  where
+    by : (mapped few : Bool) → (if not mapped then Some Cause.Unmapped else if few then None else Some Cause.TooManyAreas) ≡ None
+        → (if not mapped then Some AreaRefusal.Unmapped else if few then None else Some AreaRefusal.TooMany) ≡ None
+    by true true e = refl
+    by true false e = cc
+    by false few e = cc

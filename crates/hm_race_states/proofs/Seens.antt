@@ -15,7 +15,7 @@ use Rattle.hm_history.specs.declared.phases.Phase.{Phase}
 use Rattle.hm_actors.specs.Actors.{IsSeen, task_next, task_top}
 use Rattle.hm_race_keys.specs.FrameTables.{lockers_in}
 use Rattle.hm_race_keys.specs.PagePlaces.{places_of}
-use Rattle.hm_race_states.specs.Afters.{AtPhase, IsLow, StaysLow}
+use Rattle.hm_race_states.specs.Afters.{AtPhase, ActorTakes, TaskTakes}
 use Rattle.hm_race_states.specs.States.{state_in}
 use Rattle.hm_race_states.specs.declared.state.RaceState.{RaceState}
 
@@ -29,9 +29,9 @@ pub seen_is : (c : Program) (s : After) (a : ℕ) (g : Going) (k : Kind) (n : �
     IsSeen c s a g k (record { at = n; overlapped = ov; place = pl; orphan = left; page = pg })
 seen_is c s a g k n ov pl left pg en ev ep el eg o top below fo ft = rw (en, ev, ep o top below fo ft, el, eg o top below fo ft) refl
 
--- the stack stays low, for what an actor is found to be
-pub low_here : (c : Program) (u : State) (e : Entry) (seen : Seen) (g : Going) → u.going e.actor ≡ g → StaysLow c u e → IsSeen c u.after e.actor (u.going e.actor) e.kind seen → IsLow c e.actor g e.kind seen
-low_here c u e seen g i low is = subst (λ z. IsLow c e.actor z e.kind seen) i (low seen is)
+-- an actor takes the entry, for what it is found to be
+pub takes_here : (c : Program) (u : State) (e : Entry) (seen : Seen) (g : Going) → u.going e.actor ≡ g → ActorTakes c u e → IsSeen c u.after e.actor (u.going e.actor) e.kind seen → TaskTakes c e.actor g e.kind seen
+takes_here c u e seen g i takes is = subst (λ z. TaskTakes c e.actor z e.kind seen) i (takes seen is)
 
 top_is : (c : Program) (s : After) (a : ℕ) (g : Going) (o : Op) (k : Kind) (seen : Seen) (st : List Phase) → ((top : Phase) (below : List Phase) → st ≡ top ∷ below → seen ≡ seen_at s o g.pages top k) → (task_top c a (record { going = g; spare = 1 }) o st k seen).going ≡ going_top c s a g o st k
 top_is c s a g o k seen [] is = refl

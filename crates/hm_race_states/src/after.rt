@@ -10,12 +10,15 @@ ghost use Rattle.hm_race_keys.specs.PagePlaces.{places_in, places_of};
 ghost use Rattle.hm_race_keys.specs.TableEntries.{table_in};
 ghost use Rattle.hm_race_keys.specs.Trail.{answers_in, entry_old, held_next, lockers_next, mirrors_next, place_next};
 ghost use Rattle.hm_race_keys.specs.Trail.{removed_next, table_next, withdrawn_next};
-ghost use Rattle.hm_race_states.specs.Afters.{bytes_next};
+ghost use Rattle.hm_race_states.specs.Afters.{bytes_next, BytesTake, PartsTake};
 ghost use Rattle.hm_race_states.specs.Bytes.{bytes_in};
 ghost use Rattle.hm_race_states.specs.Mirrors.{mirrors_in, plain_by};
 ghost use Rattle.hm_race_states.specs.Parts.{ActorsGo, PlacesGo, ProcessesGo};
 ghost use Rattle.hm_race_states.specs.Small.{kept_seqs};
 ghost use Rattle.hm_race_states.specs.Spaces.{bare, spaces_in};
+ghost use Rattle.hm_race_states.specs.States.{state_in};
+ghost use Rattle.hm_laws.specs.Allowed.{InPage};
+ghost use Rattle.hm_spaces.specs.Spaces.{SpacesFit};
 
 use crate::memory::RaceBytes;
 use crate::mirrors::RaceMirrors;
@@ -41,6 +44,7 @@ fn spaces_after(
     spaces: &Rc<RaceSpaces>,
     kind: &Kind,
 ) -> Result<Rc<RaceSpaces>, NoMemory>
+    requires { SpacesFit (spaces_in spaces.now.value) kind.now }
     ensures { IfOk result (λ x. spaces_in x.value ≡ bare (plain_next (spaces_in spaces.now.value) kind.now)) }
 {
     match kind {
@@ -72,6 +76,7 @@ fn with_written(
     addr: u64,
     written: &[u8],
 ) -> Result<Rc<RaceBytes>, NoMemory>
+    requires { InPage addr (length written.now) }
     ensures { IfOk result (λ x. bytes_in x.value
         ≡ written_for (bytes_in bytes.now.value) proc addr written.now) }
 {
@@ -121,6 +126,7 @@ fn bytes_after(
     mirrors: &RaceMirrors,
     kind: &Kind,
 ) -> Result<Rc<RaceBytes>, NoMemory>
+    requires { BytesTake kind.now }
     ensures { IfOk result (λ x. bytes_in x.value
         ≡ bytes_next (bytes_in bytes.now.value) (mirrors_in mirrors.now) kind.now) }
 {
@@ -300,6 +306,7 @@ pub(crate) fn processes_after(
     kind: &Kind,
     seqs: Rc<SmallSeqs>,
 ) -> Result<ProcessParts, NoMemory>
+    requires { PartsTake (state_in state.now) kind.now }
     ensures parts { IfOk result (ProcessesGo state.now kind.now) }
     ensures seqs { IfOk result (λ y. y.seqs ≡ seqs) }
 {

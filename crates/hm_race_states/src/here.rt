@@ -5,6 +5,7 @@ ghost use Rattle.std.specs.Rc.{rc_value};
 ghost use Rattle.hm_history.specs.Memory.Places.{is_exclusive_by, may_read, may_write};
 ghost use Rattle.hm_history.specs.Memory.Words.{bytes_from};
 ghost use Rattle.hm_history.specs.Kernel.Going.{is_direct, sets_now, concerns};
+ghost use Rattle.hm_laws.specs.Allowed.{InPage};
 ghost use Rattle.hm_race_states.specs.Bytes.{bytes_in};
 ghost use Rattle.hm_race_states.specs.Tasks.{going_in};
 ghost use Rattle.hm_race_states.specs.States.{state_in};
@@ -54,7 +55,7 @@ impl<'a> Concerns for Asking<'a> {
     }
 }
 
-/// The bytes of a process from an address on.
+/// The bytes of a process from an address on, in one page.
 pub fn bytes_of(
     alloc: Global,
     bytes: &RaceBytes,
@@ -62,14 +63,12 @@ pub fn bytes_of(
     addr: u64,
     len: u64,
 ) -> Result<Bytes, NoMemory>
+    requires { InPage addr len }
     ensures { IfOk result (λ x. x ≡ bytes_from (bytes_in bytes.now proc) addr len) }
 {
     let mut all = Vec::with_capacity(alloc, len as usize)?;
     for number in 0..len {
-        match addr.checked_add(number) {
-            Some(at) => all.push(bytes.byte(proc, at))?,
-            None => return Err(NoMemory),
-        }
+        all.push(bytes.byte(proc, addr + number))?;
     }
     Bytes::from_slice(alloc, &all)
 }

@@ -3,6 +3,7 @@ ghost use Rattle.std.specs.Prelude.{◌≡◌, ◌==◌, ◌&&◌, ◌*◌, ◌+
 ghost use Rattle.std.specs.Prelude.{is_some, if◌then◌else◌, IfOk, OnOk};
 ghost use Rattle.hm_history.specs.Memory.Words.{with_at};
 ghost use Rattle.hm_history.specs.Memory.Plain.{with_bytes, with_zeros};
+ghost use Rattle.hm_laws.specs.Allowed.{InPage};
 ghost use Rattle.hm_race_keys.specs.Sparse.{found, mixed_items};
 ghost use Rattle.hm_race_states.specs.Bytes.{bytes_in, mixed_byte};
 
@@ -79,18 +80,15 @@ impl RaceBytes {
         self.items.set(proc.number(), addr, Written { byte })
     }
 
-    /// Writes bytes of a process from an address on. It fails if memory runs out, or an address has more than 64 bits;
-    /// then some may be written.
+    /// Writes bytes of a process from an address on, in one page. It fails if memory runs out; then some may be written.
     pub fn write(&mut self, proc: Proc, addr: u64, bytes: &[u8]) -> Result<(), NoMemory>
+        requires { InPage addr (length bytes.now) }
         ensures { OnOk result
             (bytes_in self.new
             ≡ with_at (bytes_in self.old) proc (with_bytes (bytes_in self.old proc) addr bytes.now)) }
     {
         for number in 0..bytes.len() {
-            match addr.checked_add(number as u64) {
-                Some(at) => self.put(proc, at, bytes[number])?,
-                None => return Err(NoMemory),
-            }
+            self.put(proc, addr + number as u64, bytes[number])?;
         }
         Ok(())
     }

@@ -6,7 +6,7 @@ ghost use Rattle.hm_history.specs.Kernel.Going.{going_next, op_at, state_next};
 ghost use Rattle.hm_race_laws.specs.Blur.{tidied, unlisted};
 ghost use Rattle.hm_race_laws.specs.Positions.{forget_going};
 ghost use Rattle.hm_race_laws.specs.Numbers.{mirror_of, small_going};
-ghost use Rattle.hm_race_states.specs.Afters.{StaysLow};
+ghost use Rattle.hm_race_states.specs.Afters.{ActorTakes, PartsTake};
 ghost use Rattle.hm_race_states.specs.Goings.{blurred_goings, goings_with};
 ghost use Rattle.hm_history.specs.Memory.Sequences.{sequences_next};
 ghost use Rattle.hm_race_states.specs.Small.{kept_seqs, settled};
@@ -104,7 +104,7 @@ fn tasks_after<C: Came>(
 impl RaceState {
     // The actor after its entry.
     fn moved(&self, alloc: Global, script: &Script, entry: &Entry) -> Result<Rc<RaceTask>, NoMemory>
-        requires low { StaysLow script.now (state_in self.now) entry.now }
+        requires takes { ActorTakes script.now (state_in self.now) entry.now }
         requires there { entry.now.actor < length self.now.tasks.items }
         ensures { IfOk result (λ t. going_in t.value
             ≡ going_next script.now (state_in self.now).after entry.now.actor
@@ -136,6 +136,7 @@ impl RaceState {
             ≡ blurred_goings script.now
             (sequences_next (state_in self.now).after.sequences entry.now.actor entry.now.kind)
             (state_next script.now (state_in self.now) entry.now).going a }
+        requires parts { PartsTake (state_in self.now) entry.now.kind }
         ensures { IfOk result (λ x. unlisted (state_in x)
             ≡ tidied script.now (state_next script.now (state_in self.now) entry.now)) }
     {
@@ -158,10 +159,11 @@ impl RaceState {
         requires moved { going_in moved.now.value
             ≡ going_next script.now (state_in self.now).after entry.now.actor
             ((state_in self.now).going entry.now.actor) entry.now.kind }
+        requires parts { PartsTake (state_in self.now) entry.now.kind }
         ensures { IfOk result (λ x. unlisted (state_in x)
             ≡ tidied script.now (state_next script.now (state_in self.now) entry.now)) }
     {
-        let between = self.seqs.after(&entry.kind)?;
+        let between = self.seqs.after(&entry.kind);
         let seqs = Rc::new(alloc, between.settled(alloc)?)?;
         let tasks = tasks_after(
             alloc,
@@ -191,6 +193,7 @@ impl RaceState {
         requires steady { settled (kept_seqs self.now.seqs.value) ≡ kept_seqs self.now.seqs.value }
         requires still { sequences_next (kept_seqs self.now.seqs.value) entry.now.actor entry.now.kind
             ≡ kept_seqs self.now.seqs.value }
+        requires parts { PartsTake (state_in self.now) entry.now.kind }
         ensures { IfOk result (λ x. unlisted (state_in x)
             ≡ tidied script.now (state_next script.now (state_in self.now) entry.now)) }
     {
@@ -207,21 +210,19 @@ impl RaceState {
         Ok(self.rest_after(alloc, script, entry, seqs, tasks)?)
     }
 
-    /// The state after an entry, again without positions and absolute sequences. It fails if memory runs out, if a
-    /// change of areas is refused, and if the state does not have the entry's actor.
+    /// The state after an entry, again without positions and absolute sequences.
     pub fn after(
         &self,
         alloc: Global,
         script: &Script,
         entry: &Entry,
     ) -> Result<RaceState, NoMemory>
-        requires { StaysLow script.now (state_in self.now) entry.now }
+        requires there { entry.now.actor < length self.now.tasks.items }
+        requires actor { ActorTakes script.now (state_in self.now) entry.now }
+        requires parts { PartsTake (state_in self.now) entry.now.kind }
         ensures { IfOk result (λ x. unlisted (state_in x)
             ≡ tidied script.now (state_next script.now (state_in self.now) entry.now)) }
     {
-        if entry.actor.number() as usize >= self.tasks.len() {
-            return Err(NoMemory);
-        }
         let moved = self.moved(alloc, script, entry)?;
         if is_still(&entry.kind) && self.seqs.is_steady() {
             return Ok(self.after_still(alloc, script, entry, &moved)?);

@@ -1,6 +1,6 @@
 // Small sequences, and how they go on by an entry: of a process's sequence counts whether it is odd, of an interval's
 // whether it is its process's.
-ghost use Rattle.std.specs.Prelude.{◌≡◌, ◌≤◌, ◌+◌, ℕ, true, false, None, nat_le, length, filter, find, slice_index_or};
+ghost use Rattle.std.specs.Prelude.{◌≡◌, ◌<◌, ◌≤◌, ◌+◌, ℕ, true, false, None, nat_le, length, filter, find, slice_index_or};
 ghost use Rattle.std.specs.Prelude.{IfOk};
 ghost use Rattle.hm_base.specs.Pages.{Pages};
 ghost use Rattle.hm_history.specs.Memory.Words.{numbers};
@@ -56,16 +56,6 @@ fn odd_of(seq: u64) -> bool
     ensures { result ≡ is_odd seq }
 {
     seq % 2 == 1
-}
-
-/// One more than a count. It fails if there is no such count.
-pub fn one_more(count: u8) -> Result<u8, NoMemory>
-    ensures { IfOk result (λ n. n ≡ count + 1) }
-{
-    match count.checked_add(1) {
-        Some(more) => Ok(more),
-        None => Err(NoMemory),
-    }
 }
 
 // An interval after these sequences of the processes: what counts is whether it has its process's.
@@ -247,6 +237,7 @@ impl Between {
 }
 
 impl SmallSeqs {
+    ghost use Rattle.hm_race_states.specs.Afters.{SeqsTake};
     ghost use Rattle.hm_race_states.specs.Small.{between_seqs, kept_seqs, settled, unguarded};
 
     /// Before the first entry. It takes no memory.
@@ -395,16 +386,16 @@ impl SmallSeqs {
         }
     }
 
-    fn begin(&self, proc: Proc, span: Span) -> Result<Between, NoMemory>
-        ensures { IfOk result (λ x. (a q : ℕ) → between_seqs x
-            ≡ unguarded (sequences_next (kept_seqs self.now) a (AnyKind.Start proc span q))) }
+    fn begin(&self, proc: Proc, span: Span) -> Between
+        requires { (kept_seqs self.now).active proc < 255 }
+        ensures { (a q : ℕ) → between_seqs result
+            ≡ unguarded (sequences_next (kept_seqs self.now) a (AnyKind.Start proc span q)) }
     {
-        let active = one_more(self.active(proc))?;
         let at = proc.number() as usize;
         let mut next = self.spread();
         next.seqs[at] = self.seq_started(proc, span);
-        next.active[at] = active;
-        Ok(next)
+        next.active[at] = self.active(proc) + 1;
+        next
     }
 
     fn tell(&self, mirror: MirrorId) -> Between
@@ -456,36 +447,33 @@ impl SmallSeqs {
         next
     }
 
-    /// What an entry makes of them. It fails if more invalidations are under way than can be counted.
-    pub fn after(&self, kind: &Kind) -> Result<Between, NoMemory>
-        ensures { IfOk result (λ x. (a : ℕ) → between_seqs x
-            ≡ unguarded (sequences_next (kept_seqs self.now) a kind.now)) }
+    /// What an entry makes of them.
+    pub fn after(&self, kind: &Kind) -> Between
+        requires { SeqsTake (kept_seqs self.now) kind.now }
+        ensures { (a : ℕ) → between_seqs result ≡ unguarded (sequences_next (kept_seqs self.now) a kind.now) }
     {
         match kind {
-            Kind::Start { proc, span, seq: _ } => Ok(self.begin(*proc, *span)?),
+            Kind::Start { proc, span, seq: _ } => self.begin(*proc, *span),
             Kind::Told {
                 mirror,
                 span: _,
                 seq: _,
-            } => Ok(self.tell(*mirror)),
+            } => self.tell(*mirror),
             Kind::End {
                 proc,
                 span: _,
                 seq: _,
-            } => Ok(self.end(*proc)),
+            } => self.end(*proc),
             Kind::Attached {
                 mirror,
                 dev: _,
                 proc,
                 span,
                 seq: _,
-            } => Ok(self.attach(*mirror, *proc, *span)),
-            Kind::Detaching { mirror, seq: _ } => Ok(self.stand(
-                *mirror,
-                KeptStage::RemoveDeferred,
-            )),
-            Kind::Detached(mirror) => Ok(self.stand(*mirror, KeptStage::Out)),
-            _ => Ok(self.spread()),
+            } => self.attach(*mirror, *proc, *span),
+            Kind::Detaching { mirror, seq: _ } => self.stand(*mirror, KeptStage::RemoveDeferred),
+            Kind::Detached(mirror) => self.stand(*mirror, KeptStage::Out),
+            _ => self.spread(),
         }
     }
 }

@@ -1,6 +1,6 @@
 // Which processes are there, and their areas. Processes with the same areas share them.
 ghost use Rattle.std.specs.Prelude.{◌≡◌, ◌<◌, ℕ, [], false, length, map, replicate, slice_set, slice_index_or, IfOk};
-ghost use Rattle.std.specs.Prelude.{OnOk};
+ghost use Rattle.std.specs.Prelude.{None, OnOk};
 ghost use Rattle.std.specs.Rc.{rc_value};
 ghost use Rattle.hm_base.specs.Areas.{without, with_rights, with_area};
 ghost use Rattle.std.specs.Option.{option_map};
@@ -8,7 +8,8 @@ ghost use Rattle.hm_history.specs.Memory.Words.{with_at};
 ghost use Rattle.hm_history.specs.Memory.Plain.{plain_start, plain_next, rights_of, area_refusal, meets};
 ghost use Rattle.hm_history.specs.declared.Kind.{Kind as AnyKind};
 ghost use Rattle.hm_spaces.specs.Refusals.{refusal_cause};
-ghost use Rattle.hm_race_states.specs.Changes.{changed_to};
+ghost use Rattle.hm_spaces.specs.Spaces.{SpacesFit};
+ghost use Rattle.hm_race_states.specs.Changes.{changed_to, refusal_of};
 
 use hm_base::{Area, Cause, NoMemory, Op, Page, Proc, Rights, Span};
 use hm_history::Kind;
@@ -33,8 +34,9 @@ enum Change {
     Protect(Span, Rights),
 }
 
-// The areas after the change. It fails if the change is refused, or memory runs out.
+// The areas after a change that is not refused.
 fn changed(alloc: Global, areas: &Areas, change: Change) -> Result<Areas, NoMemory>
+    requires { refusal_of change areas.now ≡ None }
     ensures { IfOk result (λ x. x ≡ changed_to change areas.now) }
 {
     let mut new = Areas::new(alloc)?;
@@ -47,7 +49,7 @@ fn changed(alloc: Global, areas: &Areas, change: Change) -> Result<Areas, NoMemo
     };
     match done {
         Ok(()) => Ok(new),
-        Err(_) => Err(NoMemory),
+        Err(_) => unreachable!(),
     }
 }
 
@@ -166,6 +168,7 @@ impl RaceSpaces {
     }
 
     fn change(&mut self, alloc: Global, proc: Proc, change: Change) -> Result<(), NoMemory>
+        requires { refusal_of change ((spaces_in self.old).areas proc) ≡ None }
         ensures { OnOk result (spaces_in self.new ≡ record (spaces_in self.old) {
           areas = with_at (spaces_in self.old).areas proc
               (changed_to change ((spaces_in self.old).areas proc));
@@ -196,6 +199,7 @@ impl RaceSpaces {
     }
 
     fn go_on(&mut self, alloc: Global, kind: &Kind) -> Result<(), NoMemory>
+        requires { SpacesFit (spaces_in self.old) kind.now }
         ensures { OnOk result (spaces_in self.new ≡ bare (plain_next (spaces_in self.old) kind.now)) }
     {
         match kind {
@@ -204,6 +208,7 @@ impl RaceSpaces {
             }
             Kind::Unmapped { proc, span } => self.change(alloc, *proc, Change::Remove(*span)),
             Kind::Protected { proc, span, rights } => {
+                proc.facts();
                 self.change(alloc, *proc, Change::Protect(*span, *rights))
             }
             Kind::Named { parent: _, child } => {
@@ -216,8 +221,9 @@ impl RaceSpaces {
         }
     }
 
-    /// The processes after an entry. It fails if a change of areas is refused, or memory runs out.
+    /// The processes after an entry.
     pub fn after(&self, alloc: Global, kind: &Kind) -> Result<RaceSpaces, NoMemory>
+        requires { SpacesFit (spaces_in self.now) kind.now }
         ensures { IfOk result (λ x. spaces_in x ≡ bare (plain_next (spaces_in self.now) kind.now)) }
     {
         let mut next = self.copy(alloc)?;

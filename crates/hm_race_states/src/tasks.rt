@@ -1,10 +1,10 @@
 // How far an actor is, and how it goes on.
 ghost use Rattle.std.specs.Prelude.{◌≡◌, ◌+◌, ◌<◌, ◌^◌, ℕ, [], true, map, slice_get, count_by, option_copied, is_none};
-ghost use Rattle.std.specs.Prelude.{IfOk, OnOk};
+ghost use Rattle.std.specs.Prelude.{IfOk, OnOk, IsTrue};
 ghost use Rattle.hm_history.specs.Kernel.Going.{going_from, going_seen, op_at, first_stack};
-ghost use Rattle.hm_actors.specs.Actors.{task_next, task_top, StackFits};
-ghost use Rattle.hm_phases.specs.Items.{phases_of, below_takes_count};
-ghost use Rattle.hm_race_states.specs.Afters.{IsLow};
+ghost use Rattle.hm_actors.specs.Actors.{task_next, task_top};
+ghost use Rattle.hm_phases.specs.Items.{phases_of};
+ghost use Rattle.hm_race_states.specs.Afters.{StackTakes, TaskTakes};
 ghost use Rattle.hm_race_states.specs.Blurs.{blurred_phase};
 ghost use Rattle.hm_reads.specs.Ranges.{top_in_range};
 
@@ -14,8 +14,8 @@ use crate::shared_records::SharedRecords;
 use hm_actors::op_at;
 use hm_base::{Actor, NoMemory, Op, Script};
 use hm_history::Kind;
-use hm_history::phases::{Body, Phase, Seen};
-use hm_phases::{Items, Stack};
+use hm_history::phases::{Phase, Seen};
+use hm_phases::Stack;
 use std::alloc::Global;
 
 /// How far an actor is: the number of its operation, its phases, and the records of its migration. If it is quiet, no
@@ -30,49 +30,21 @@ pub struct RaceTask {
     ghost notes: { quiet ≡ true → (own small : ℕ) → map (blurred_phase own small) stack ≡ stack },
 }
 
-/// Whether a fork between the two halves of a page is at a page; all other phases always pass.
-pub fn in_range(stack: &SharedPhases) -> bool
-    ensures { result ≡ top_in_range (slice_get stack.now 0) }
-{
-    match stack.top() {
-        Some(
-            Phase::Guard {
-                body: Body::Fork { next, half: true },
-                ..
-            },
-        ) => *next < 1 << 36,
-        _ => true,
-    }
-}
-
-// Whether one more frame can be counted below the top phase.
-fn takes_count(stack: &SharedPhases) -> bool
-    ensures { result ≡ below_takes_count stack.now }
-{
-    match stack.items() {
-        Items::Two(_, Phase::Frames { emptied, .. })
-        | Items::Three(_, Phase::Frames { emptied, .. }, _) => emptied < u64::MAX,
-        _ => true,
-    }
-}
-
 impl RaceTask {
     ghost use Rattle.hm_race_states.specs.Tasks.{going_in};
 
-    // An actor of these parts. It fails if a fork is past the last page, where none ever is.
-    fn made(index: u64, stack: SharedPhases, records: SharedRecords) -> Result<RaceTask, NoMemory>
-        ensures { IfOk result (λ t. going_in t ≡ record { index = index; stack = stack; pages = records }) }
+    // An actor of these parts.
+    fn made(index: u64, stack: SharedPhases, records: SharedRecords) -> RaceTask
+        requires { IsTrue (top_in_range (slice_get stack 0)) }
+        ensures { going_in result ≡ record { index = index; stack = stack; pages = records } }
     {
-        if !in_range(&stack) {
-            return Err(NoMemory);
-        }
         let quiet = all_note_nothing(&stack.items());
-        Ok(RaceTask {
+        RaceTask {
             index,
             stack,
             records,
             quiet,
-        })
+        }
     }
 
     // The actor at the beginning of an operation.
@@ -84,7 +56,7 @@ impl RaceTask {
             stack.begin(op);
         }
         let stack = SharedPhases::of(alloc, &stack.items(), &SharedPhases::none())?;
-        RaceTask::made(index, stack, SharedRecords::none())
+        Ok(RaceTask::made(index, stack, SharedRecords::none()))
     }
 
     /// The actor at its first operation.
@@ -124,11 +96,8 @@ impl RaceTask {
     fn copy(&self, alloc: Global) -> Result<RaceTask, NoMemory>
         ensures { IfOk result (λ t. going_in t ≡ going_in self.now) }
     {
-        RaceTask::made(
-            self.index,
-            SharedPhases::of(alloc, &self.stack.items(), &self.stack)?,
-            self.records.share()?,
-        )
+        let stack = SharedPhases::of(alloc, &self.stack.items(), &self.stack)?;
+        Ok(RaceTask::made(self.index, stack, self.records.share()?))
     }
 
     // The actor, at this operation and this phase, after its entry.
@@ -142,7 +111,7 @@ impl RaceTask {
         seen: &Seen,
     ) -> Result<RaceTask, NoMemory>
         requires below { self.now.index + 1 < 2 ^ 64 }
-        requires fits { StackFits op.now self.now.stack kind.now seen.now }
+        requires takes { StackTakes op.now self.now.stack kind.now seen.now }
         ensures { IfOk result (λ t. going_in t
             ≡ (task_top script.now actor (record { going = going_in self.now; spare = 1 }) op.now self.now.stack
             kind.now seen.now).going) }
@@ -157,11 +126,10 @@ impl RaceTask {
         }
         let records = self.records.after(alloc, top, seen.page, kind)?;
         let stack = SharedPhases::of(alloc, &stack.items(), &self.stack)?;
-        RaceTask::made(self.index, stack, records)
+        Ok(RaceTask::made(self.index, stack, records))
     }
 
-    /// The actor after its entry, given what the state showed just before it. It fails if memory runs out, and if an
-    /// eviction has emptied more frames than can be counted.
+    /// The actor after its entry, given what the state showed just before it.
     pub fn after(
         &self,
         alloc: Global,
@@ -170,13 +138,10 @@ impl RaceTask {
         kind: &Kind,
         seen: &Seen,
     ) -> Result<RaceTask, NoMemory>
-        requires { IsLow script.now actor (going_in self.now) kind.now seen.now }
+        requires { TaskTakes script.now actor (going_in self.now) kind.now seen.now }
         ensures { IfOk result (λ t. going_in t
             ≡ (task_next script.now actor (record { going = going_in self.now; spare = 1 }) kind.now seen.now).going) }
     {
-        if !takes_count(&self.stack) {
-            return Err(NoMemory);
-        }
         match op_at(script, actor, self.index) {
             Some(op) => self.after_top(alloc, script, actor, op, kind, seen),
             None => self.copy(alloc),
@@ -191,11 +156,8 @@ impl RaceTask {
         }) }
     {
         let items = blurred_items(own, small, self.stack.items());
-        RaceTask::made(
-            self.index,
-            SharedPhases::of(alloc, &items, &self.stack)?,
-            self.records.share()?,
-        )
+        let stack = SharedPhases::of(alloc, &items, &self.stack)?;
+        Ok(RaceTask::made(self.index, stack, self.records.share()?))
     }
 }
 

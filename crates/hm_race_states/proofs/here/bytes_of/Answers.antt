@@ -8,6 +8,6 @@ pub loop-number-preserved : goal.loop-number-preserved
 loop-number-preserved c =
     let f : ℕ → ℕ = bytes_in c.args.bytes.now c.args.proc in
     let n = c.loop-number.number in
-    c.in_ok-push-in-Some.ensures.items ∙ ap (λ (xs : List ℕ). xs ++ c.byte.result ∷ []) c.loop-number.invariant
-    ∙ ap (λ b. bytes_from f c.args.addr n ++ b ∷ []) (c.byte.ensures ∙ ap f c.in-Some.ensures.1)
+    c.in_ok-push.ensures.items ∙ ap (λ (xs : List ℕ). xs ++ c.byte.result ∷ []) c.loop-number.invariant
+    ∙ ap (λ b. bytes_from f c.args.addr n ++ b ∷ []) c.byte.ensures
     ∙ bytes_next f c.args.addr n

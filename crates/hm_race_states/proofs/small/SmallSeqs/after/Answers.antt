@@ -9,8 +9,8 @@ use Rattle.hm_race_states.proofs.small.SmallSeqs.after.Goals as goal
 nothing : Pages
 nothing = record { first = 0; count = 0 }
 
-pub returns-in_ok-begin-in-Start : goal.returns-in_ok-begin-in-Start
-returns-in_ok-begin-in-Start c = λ a. c.in_ok-begin-in-Start.ensures a 0 ∙ sym (ap (λ (k : Kind). unguarded (sequences_next (kept_seqs c.args.self.now) a k)) c.in-Start.is)
+pub returns-in-Start : goal.returns-in-Start
+returns-in-Start c = λ a. c.begin.ensures a 0 ∙ sym (ap (λ (k : Kind). unguarded (sequences_next (kept_seqs c.args.self.now) a k)) c.in-Start.is)
 
 pub returns-in-Told : goal.returns-in-Told
 returns-in-Told c = λ a. c.tell.ensures a 0 nothing ∙ sym (ap (λ (k : Kind). unguarded (sequences_next (kept_seqs c.args.self.now) a k)) c.in-Told.is)

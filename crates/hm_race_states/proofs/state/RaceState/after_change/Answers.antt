@@ -13,7 +13,7 @@ pub rest_after-requires-clause-seqs : goal.rest_after-requires-clause-seqs
 rest_after-requires-clause-seqs c =
     let x = c.args.self.now in
     let e = c.args.entry.now in
-    c.in_ok-seqs-2.ensures ∙ (ap kept_seqs c.in_ok-seqs.ensures.ok ∙ (c.in_ok-settled.ensures ∙ ap settled (c.in_ok-between.ensures e.actor ∙ ap (λ q. unguarded (sequences_next (kept_seqs q) e.actor e.kind)) c.deref.ensures)))
+    c.in_ok-seqs-2.ensures ∙ (ap kept_seqs c.in_ok-seqs.ensures.ok ∙ (c.in_ok-settled.ensures ∙ ap settled (c.after-between.ensures e.actor ∙ ap (λ q. unguarded (sequences_next (kept_seqs q) e.actor e.kind)) c.deref.ensures)))
 
 pub rest_after-requires-clause-goings : goal.rest_after-requires-clause-goings
 rest_after-requires-clause-goings c =
@@ -21,5 +21,5 @@ rest_after-requires-clause-goings c =
     let e = c.args.entry.now in
     let g = going_in c.args.moved.now.value in
     λ a. c.in_ok-tasks.ensures.goings a
-    ∙ (ap (λ (ts : List (Rc RaceTask Global)). blurred_goings c.args.script.now (between_seqs c.in_ok-between.between) (goings_with (map rc_value ts) e.actor g) a) c.deref-2.ensures.value
-    ∙ goings_on c.args.script.now x e (between_seqs c.in_ok-between.between) g (c.in_ok-between.ensures e.actor ∙ ap (λ q. unguarded (sequences_next (kept_seqs q) e.actor e.kind)) c.deref.ensures) c.requires.moved a)
+    ∙ (ap (λ (ts : List (Rc RaceTask Global)). blurred_goings c.args.script.now (between_seqs c.after-between.result) (goings_with (map rc_value ts) e.actor g) a) c.deref-2.ensures.value
+    ∙ goings_on c.args.script.now x e (between_seqs c.after-between.result) g (c.after-between.ensures e.actor ∙ ap (λ q. unguarded (sequences_next (kept_seqs q) e.actor e.kind)) c.deref.ensures) c.requires.moved a)

@@ -4,13 +4,13 @@ use Rattle.hm_actors.specs.Actors.{IsSeen}
 use Rattle.hm_race_states.specs.States.{state_in}
 use Rattle.hm_race_states.specs.Tasks.{going_in}
 use Rattle.hm_race_states.proofs.Lists.{task_there}
-use Rattle.hm_race_states.proofs.Seens.{low_here, task_is}
+use Rattle.hm_race_states.proofs.Seens.{takes_here, task_is}
 use Rattle.hm_race_states.proofs.state.RaceState.moved.Goals as goal
 
 pub after-requires : goal.after-requires
-after-requires c = low_here c.args.script.now (state_in c.args.self.now) c.args.entry.now c.seen-seen.result (going_in c.deref.result.now)
+after-requires c = takes_here c.args.script.now (state_in c.args.self.now) c.args.entry.now c.seen-seen.result (going_in c.deref.result.now)
     (task_there c.args.self.now.tasks.items c.number.result c.args.entry.now.actor c.index-task.result.now c.number.ensures.same c.requires.there c.index-task.ensures ∙ ap going_in (sym c.deref.ensures))
-    c.requires.low c.seen-seen.ensures
+    c.requires.takes c.seen-seen.ensures
 
 pub returns : goal.returns
 returns c =
