@@ -8,5 +8,5 @@ use Rattle.hm_flaw_states.proofs.guards.ActorGuards.step.Goals as goal
 pub returns-in-Start : goal.returns-in-Start
 returns-in-Start c =
     c.set.ensures
-    ∙ (ap (with_at (guards_in c.args.self.now.guards) c.args.actor) c.begun.ensures
+    ∙ (ap (with_at (guards_in c.args.self.now.guards.items) c.args.actor) c.in_ok-new.ensures
     ∙ sym (ap (λ (k : Kind). (sequences_next (seqs_in c.args.seqs.now c.args.self.now) c.args.actor k).guard) c.in-Start.is))
