@@ -1,5 +1,5 @@
 -- Entries that break no part, each after those before it.
-use Rattle.std.proofs.Common.{◌≡◌, ℕ, suc, ◌+◌, ◌<◌, inl, inr, Bool, true, false, Option, Some, None, List, [], ◌∷◌, ◌++◌, get_or, length, take, refl, sym, ap, ◌∙◌, subst, append-nil, arith}
+use Rattle.std.proofs.Common.{◌≡◌, ℕ, zero, suc, ◌+◌, ◌<◌, inl, inr, Bool, true, false, Option, Some, None, List, [], ◌∷◌, ◌++◌, get_or, length, take, refl, sym, ap, ◌∙◌, subst, append-nil, arith}
 use Rattle.std.proofs.lemmas.Bool.{cases_lt}
 use Rattle.std.proofs.lemmas.List.{get_or_append_left, length-append, take-append-le}
 use Rattle.std.proofs.Math.Seq.{get_or-append_seam, take-append_seam}
@@ -27,7 +27,7 @@ use Rattle.hm_flaw_parts.specs.declared.judged.Judging.{Judging}
 
 -- ---- which parts it meets
 
-met : (b : Bool) (part : Part) (rest : Option Part) → elim b [ true ↦ rest | false ↦ Some part ] ≡ None → (b ≡ true) × (rest ≡ None)
+met : (b : Bool) (part : Part) (rest : Option Part) → ◌≡◌ {A = Option Part} (elim b [ true ↦ rest | false ↦ Some part ]) None → (b ≡ true) × (rest ≡ None)
 met true part rest e = (refl, e)
 met false part rest e = cc
 
@@ -71,7 +71,7 @@ due_taken c g [] i d = subst (DueFrom c g) (taken i) tt
   where
     taken : (i : ℕ) → [] ≡ take i []
     taken i = grind arith
-due_taken c g (x ∷ h) 0 d = tt
+due_taken c g (x ∷ h) zero d = tt
 due_taken c g (x ∷ h) (suc i) d = (d.0, due_taken c (g ++ x ∷ []) h i d.1)
 
 -- what is due to the right driver

@@ -47,7 +47,7 @@ own_due l c t a e d = subst (λ b. due_by l c t b ≡ Progress.Did e) (own_top l
 
 -- ---- what breaks no part
 
-met : (b : Bool) (part : Part) (rest : Option Part) → elim b [ true ↦ rest | false ↦ Some part ] ≡ None → b ≡ true
+met : (b : Bool) (part : Part) (rest : Option Part) → ◌≡◌ {A = Option Part} (elim b [ true ↦ rest | false ↦ Some part ]) None → b ≡ true
 met true part rest e = refl
 met false part rest e = cc
 

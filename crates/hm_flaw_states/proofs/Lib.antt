@@ -4,6 +4,7 @@ mod Late
 mod Writing
 mod Finding
 mod Pages
+mod Past
 mod Committed
 mod Standing
 mod Quieting

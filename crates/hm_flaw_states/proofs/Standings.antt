@@ -1,5 +1,5 @@
 -- The stacks of all actors stand after an entry that is due.
-use Rattle.std.proofs.Common.{◌≡◌, ℕ, suc, ◌+◌, ◌<◌, ◌≤◌, ◌==◌, ◌⊎◌, inl, inr, Bool, true, false, if◌then◌else◌, Option, Some, None, List, [], ◌∷◌, length, map, refl, sym, ap, ◌∙◌, subst, arith}
+use Rattle.std.proofs.Common.{◌≡◌, ℕ, zero, suc, ◌+◌, ◌<◌, ◌≤◌, ◌==◌, ◌⊎◌, inl, inr, Bool, true, false, if◌then◌else◌, Option, Some, None, List, [], ◌∷◌, length, map, refl, sym, ap, ◌∙◌, subst, arith}
 use Rattle.std.specs.Prelude.{⊤, slice_get}
 use Rattle.std.proofs.lemmas.Bool.{cases_lt}
 use Rattle.std.proofs.lemmas.List.{length-map}
@@ -106,7 +106,7 @@ flawed_stands l c t e is pg h b = by (b == e.actor)
 
 past : (ts : List RaceTask) (a : ℕ) → length ts ≤ a → goings_in ts a ≡ nobody
 past [] a h = refl
-past (t ∷ ts) 0 h = absurd (omega (arith, h))
+past (t ∷ ts) zero h = absurd (omega (arith, h))
 past (t ∷ ts) (suc a) h = past ts a (omega (arith, h))
 
 idle : (l : Flaw) (c : Program) (x : Driver) (s : After) (a : ℕ) (o : Option Op) (xs : List Migrating) (st : List Phase) (e : Entry) → st ≡ [] → due_flawed_top l c x s a o xs st ≡ Progress.Did e → ⊥
