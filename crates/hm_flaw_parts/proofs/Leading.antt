@@ -67,10 +67,8 @@ leads_more j c h e each on i d below is = elim (cases_lt i (length h)) [
         subst (λ (g : List Entry). LeadsOn j c g d) (sym before) (subst (LeadsOn j c h) (sym at) on)
 
 pub due_taken : (c : Program) (g h : List Entry) (i : ℕ) → DueFrom c g h → DueFrom c g (take i h)
-due_taken c g [] i d = subst (DueFrom c g) (taken i) tt
-  where
-    taken : (i : ℕ) → [] ≡ take i []
-    taken i = grind arith
+due_taken c g [] zero d = tt
+due_taken c g [] (suc i) d = tt
 due_taken c g (x ∷ h) zero d = tt
 due_taken c g (x ∷ h) (suc i) d = (d.0, due_taken c (g ++ x ∷ []) h i d.1)
 

@@ -11,8 +11,8 @@ ghost use Rattle.hm_flaw_parts.specs.declared.judged.Judging.{Judging as AnyJudg
 use hm_base::{NoMemory, Script};
 use hm_flaws::Part;
 use hm_folds::PlainState;
-use hm_history::{Entry, FoldError};
 use hm_history::phases::Migrating;
+use hm_history::{Entry, FoldError};
 use hm_parts::{Follower, Rules, has_taken, meets_kept};
 use hm_reads::Reads;
 use std::alloc::Global;

@@ -242,9 +242,7 @@ pub fn next_key<R: SkipRule>(
         state: &key.state,
     };
     match due_by(&here, &key.own, flaw, rule, alloc, actor)? {
-        Progress::Did(entry) => Ok(Some(turned(
-            alloc, script, flaw, judging, key, actor, entry,
-        )?)),
+        Progress::Did(entry) => Ok(Some(turned(alloc, script, flaw, judging, key, actor, entry)?)),
         Progress::Waiting(_) => Ok(None),
         Progress::Idle => Ok(None),
     }

@@ -34,12 +34,13 @@ impl<'a, R: SkipRule> FlawRace<'a, R> {
             self.now.set_up turns.now) }
     {
         let mut key = self.first_key()?;
-        for at in 0..turns.len() {
-            let entries = (self.set_up.len() + at) as u64;
-            match self.next_key(&key, turns[at], entries)? {
+        let mut entries = self.set_up.len() as u64;
+        for actor in turns {
+            match self.next_key(&key, *actor, entries)? {
                 Some(next) => key = next,
                 None => (),
             }
+            entries += 1;
         }
         Ok(key)
     }

@@ -20,7 +20,7 @@ returns c = λ p t goings.
       devices = c.in_ok-devices.devices;
       locking = c.in_ok-locking.locking;
       windows = windows_first _ c.in_ok-locking.locking.seqs.value.kept c.in_ok-processes.ensures.mirrors c.in_ok-locking.ensures.seqs;
-  paced = paced_first c.in_ok-locking.locking.seqs.value.kept c.in_ok-locking.ensures.seqs;
+      paced = paced_first c.in_ok-locking.locking.seqs.value.kept c.in_ok-locking.ensures.seqs;
     }) t) (record {
       entries = refl;
       been = c.first_been.ensures;
