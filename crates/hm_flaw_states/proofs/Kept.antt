@@ -17,13 +17,13 @@ use Rattle.hm_flaws.specs.declared.flaws.Flaw.{Flaw}
 use Rattle.hm_flaws.specs.declared.parts.Part.{Part}
 use Rattle.hm_flaw_parts.specs.Judged.{EachLeads, LeadsOn, judged_parts}
 use Rattle.hm_flaw_parts.specs.declared.judged.Judging.{Judging}
-use Rattle.hm_flaw_parts.specs.Races.Races.{FlawPoint, broken_at}
+use Rattle.hm_flaw_parts.specs.Races.Races.{FlawPoint, broken_at, point_entry}
 use Rattle.hm_flaw_parts.proofs.Leading.{leads_more}
 use Rattle.hm_flaw_states.specs.Follows.{Follows, Standing}
-use Rattle.hm_flaw_states.specs.Keyed.{entries_in, form_in}
+use Rattle.hm_flaw_states.specs.Keyed.{broken_in, entries_in, form_in}
 use Rattle.hm_flaw_states.specs.Owns.{driver_in}
 use Rattle.hm_flaw_states.specs.States.{state_in}
-use Rattle.hm_flaw_states.specs.Turns.{IsKept}
+use Rattle.hm_flaw_states.specs.Turns.{IsKept, IsTurned}
 use Rattle.hm_flaw_states.specs.declared.key.FlawKey.{FlawKey}
 use Rattle.hm_flaw_states.specs.declared.owns.Own.{Own}
 use Rattle.hm_flaw_states.specs.declared.state.FlawState.{FlawState}
@@ -88,3 +88,41 @@ turn_follows j l c k a e h few d b = record {
   standing = h.standing;
   room = few;
 }
+
+-- ---- a turn
+
+break_with : Entry → Option Part → Option (Entry × Part)
+break_with e None = None
+break_with e (Some part) = Some (e, part)
+
+none≢some : (part : Part) (o : Option Part) → o ≡ None → o ≡ Some part → ⊥
+none≢some part o e h = cc
+
+pub turned_on : (parts : List Part) (l : Flaw) (c : Program) (k n : FlawKey) (a : ℕ) (e : Entry) → (form_in k).broken ≡ None → due_by l c (form_in k).flawed a ≡ Progress.Did e → broken_at parts c (form_in k) e ≡ None
+    → form_in n ≡ point_entry l c (form_in k) e None → entries_in n ≡ entries_in k ++ e ∷ [] → broken_in n ≡ None → IsTurned parts l c k a n
+turned_on parts l c k n a e none is b form trail broken = record {
+  entry = e;
+  none = none;
+  due = is;
+  form = form ∙ sym (ap (point_entry l c (form_in k) e) b);
+  on = λ z. (trail, broken);
+  ended = λ part z. absurd (none≢some part (broken_at parts c (form_in k) e) b z);
+}
+
+pub turned_ended : (parts : List Part) (l : Flaw) (c : Program) (k n : FlawKey) (a : ℕ) (e : Entry) (part : Part) → (form_in k).broken ≡ None → due_by l c (form_in k).flawed a ≡ Progress.Did e → broken_at parts c (form_in k) e ≡ Some part
+    → form_in n ≡ point_entry l c (form_in k) e (Some part) → entries_in n ≡ entries_in k → broken_in n ≡ Some (e, part) → IsTurned parts l c k a n
+turned_ended parts l c k n a e part none is b form trail broken = record {
+  entry = e;
+  none = none;
+  due = is;
+  form = form ∙ sym (ap (point_entry l c (form_in k) e) b);
+  on = λ z. absurd (none≢some part (broken_at parts c (form_in k) e) z b);
+  ended = λ other z. (trail, broken ∙ ap (λ (o : Option Part). break_with e o) (sym b ∙ z));
+}
+
+-- it adds one entry at most
+pub count_on : (l : Flaw) (c : Program) (k n : FlawKey) (e : Entry) → form_in n ≡ point_entry l c (form_in k) e None → n.state.value.entries ≤ k.state.value.entries + 1
+count_on l c k n e form = omega (arith, ap (λ (x : FlawPoint). x.flawed.state.after.length) form)
+
+pub count_ended : (l : Flaw) (c : Program) (k n : FlawKey) (e : Entry) (part : Part) → form_in n ≡ point_entry l c (form_in k) e (Some part) → n.state.value.entries ≤ k.state.value.entries + 1
+count_ended l c k n e part form = omega (arith, ap (λ (x : FlawPoint). x.flawed.state.after.length) form)

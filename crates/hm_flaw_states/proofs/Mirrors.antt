@@ -6,7 +6,7 @@ use Rattle.std.proofs.lemmas.Bool.Decides.{nat_tests}
 use Rattle.std.proofs.Math.ListN.{get_or-eq_default}
 use Rattle.hm_folds.specs.Kept.{has_mirror, mirrors_of}
 use Rattle.hm_folds.proofs.Sets.{all_true, any_here, one_told, same_set}
-use Rattle.hm_flaw_states.specs.Seqs.{mirrors_in}
+use Rattle.hm_flaw_states.specs.Guards.{mirrors_in}
 
 pub those_in : (xs : List Bool) (ms : List ℕ) → mirrors_of xs ≡ ms → mirrors_in xs ≡ ms
 unfolding mirrors_in

@@ -8,6 +8,7 @@ pub mod Placed
 pub mod Placing
 pub mod Commits
 pub mod Exact
+pub mod Guards
 pub mod Seqs
 pub mod Rooms
 pub mod Windows

@@ -4,7 +4,7 @@ ghost use Rattle.hm_history.specs.Memory.Words.{with_at};
 ghost use Rattle.hm_history.specs.Memory.Sequences.{Guarded, overlapping, sequences_next, with_told};
 ghost use Rattle.hm_folds.specs.Kept.{has_mirror};
 ghost use Rattle.hm_flaw_states.specs.Exact.{exact_in};
-ghost use Rattle.hm_flaw_states.specs.Seqs.{guard_in, guard_of, guards_in, mirrors_in, seqs_in};
+ghost use Rattle.hm_flaw_states.specs.Guards.{guard_in, guard_of, guarded_in, guards_in, mirrors_in};
 
 use crate::exact_seqs::ExactSeqs;
 use hm_base::{Actor, MirrorId, NoMemory, Proc, Span};
@@ -215,7 +215,7 @@ impl ActorGuards {
         kind: &Kind,
     ) -> Result<(), NoMemory>
         ensures { OnOk result
-            (guards_in self.new.guards.items ≡ (sequences_next (seqs_in seqs.now self.old) actor kind.now).guard) }
+            (guards_in self.new.guards.items ≡ (sequences_next (guarded_in seqs.now self.old.guards.items) actor kind.now).guard) }
     {
         match kind {
             Kind::Start { proc, span, seq: _ } => {
@@ -256,7 +256,7 @@ pub(crate) fn guards_after(
     kind: &Kind,
 ) -> Result<Rc<ActorGuards>, NoMemory>
     ensures { IfOk result (λ x. guards_in x.value.guards.items
-        ≡ (sequences_next (seqs_in seqs.now guards.now.value) actor kind.now).guard) }
+        ≡ (sequences_next (guarded_in seqs.now guards.now.value.guards.items) actor kind.now).guard) }
 {
     match kind {
         Kind::Start { .. } | Kind::Told { .. } | Kind::End { .. } => {

@@ -2,7 +2,7 @@ use Rattle.std.proofs.Common.{ℕ, Some, List, ap, ◌∙◌}
 use Rattle.hm_base.specs.Pages.{Pages}
 use Rattle.hm_history.specs.Memory.Sequences.{Guarded, overlapping}
 use Rattle.hm_flaw_states.specs.Exact.{exact_in}
-use Rattle.hm_flaw_states.specs.Seqs.{guard_of}
+use Rattle.hm_flaw_states.specs.Guards.{guard_of}
 use Rattle.hm_flaw_states.specs.declared.guards.ActorGuard.{ActorGuard}
 use Rattle.hm_flaw_states.proofs.Mirrors.{those_in}
 use Rattle.hm_flaw_states.proofs.guards.begun.Goals as goal
@@ -14,6 +14,6 @@ pub returns : goal.returns
 returns c =
     let p = c.args.proc in
     let r = c.args.span in
-    ap (λ (g : ActorGuard). Some (guard_of g)) c.in_ok-new-2.ensures.ok
+    ap (λ (g : ActorGuard). Some (guard_of g)) c.in_ok-new.ensures.ok
     ∙ (ap (λ (ms : List ℕ). Some (made p r ms c.new.result.items)) (those_in c.overlapping.result (overlapping (exact_in c.args.seqs.now.kept) p r) c.overlapping.ensures)
     ∙ ap (λ (ms : List ℕ). Some (made p r (overlapping (exact_in c.args.seqs.now.kept) p r) ms)) c.new.ensures.items)

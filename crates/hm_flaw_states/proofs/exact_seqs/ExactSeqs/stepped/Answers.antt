@@ -10,14 +10,14 @@ use Rattle.hm_flaw_states.proofs.exact_seqs.ExactSeqs.stepped.Goals as goal
 nothing : Pages
 nothing = record { first = 0; count = 0 }
 
-pub returns-begin-in-Start : goal.returns-begin-in-Start
-returns-begin-in-Start c = λ a. c.begin-in-Start.ensures a 0 ∙ sym (ap (λ (k : Kind). unguarded (sequences_next (exact_in c.args.self.now.kept) a k)) c.in-Start.is)
+pub returns-in-Start : goal.returns-in-Start
+returns-in-Start c = λ a. c.begin.ensures a 0 ∙ sym (ap (λ (k : Kind). unguarded (sequences_next (exact_in c.args.self.now.kept) a k)) c.in-Start.is)
 
-pub returns-tell-in-Told : goal.returns-tell-in-Told
-returns-tell-in-Told c = λ a. c.tell-in-Told.ensures a 0 nothing ∙ sym (ap (λ (k : Kind). unguarded (sequences_next (exact_in c.args.self.now.kept) a k)) c.in-Told.is)
+pub returns-in-Told : goal.returns-in-Told
+returns-in-Told c = λ a. c.tell.ensures a 0 nothing ∙ sym (ap (λ (k : Kind). unguarded (sequences_next (exact_in c.args.self.now.kept) a k)) c.in-Told.is)
 
-pub returns-end-in-End : goal.returns-end-in-End
-returns-end-in-End c = λ a. c.end-in-End.ensures a 0 nothing ∙ sym (ap (λ (k : Kind). unguarded (sequences_next (exact_in c.args.self.now.kept) a k)) c.in-End.is)
+pub returns-in-End : goal.returns-in-End
+returns-in-End c = λ a. c.end.ensures a 0 nothing ∙ sym (ap (λ (k : Kind). unguarded (sequences_next (exact_in c.args.self.now.kept) a k)) c.in-End.is)
 
-pub returns-attach-in-Attached : goal.returns-attach-in-Attached
-returns-attach-in-Attached c = λ a. c.attach-in-Attached.ensures a 0 0 ∙ sym (ap (λ (k : Kind). unguarded (sequences_next (exact_in c.args.self.now.kept) a k)) c.in-Attached.is)
+pub returns-in-Attached : goal.returns-in-Attached
+returns-in-Attached c = λ a. c.attach.ensures a 0 0 ∙ sym (ap (λ (k : Kind). unguarded (sequences_next (exact_in c.args.self.now.kept) a k)) c.in-Attached.is)

@@ -2,7 +2,7 @@ use Rattle.std.proofs.Common.{None, Global, refl, arith}
 use Rattle.std.specs.Prelude.{Option}
 use Rattle.std.specs.declared.rc.Rc.{Rc}
 use Rattle.hm_folds.proofs.Writes.{written_at}
-use Rattle.hm_flaw_states.specs.Seqs.{guard_in}
+use Rattle.hm_flaw_states.specs.Guards.{guard_in}
 use Rattle.hm_flaw_states.specs.declared.guards.ActorGuard.{ActorGuard}
 use Rattle.hm_flaw_states.proofs.guards.ActorGuards.set.Goals as goal
 
