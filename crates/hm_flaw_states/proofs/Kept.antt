@@ -91,7 +91,7 @@ turn_follows j l c k a e h few d b = record {
 
 -- ---- a turn
 
-break_with : Entry → Option Part → Option (Entry × Part)
+abbrev break_with : Entry → Option Part → Option (Entry × Part)
 break_with e None = None
 break_with e (Some part) = Some (e, part)
 

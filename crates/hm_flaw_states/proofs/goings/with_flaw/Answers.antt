@@ -12,6 +12,6 @@ use Rattle.hm_flaw_states.proofs.goings.with_flaw.Goals as goal
 pub made-requires : goal.made-requires
 made-requires c =
     let g = going_in c.args.task in
-    let o = option_copied c.args.op.entry in
+    let o = option_copied c.args.op in
     subst (λ (st : List Phase). IsTrue (top_in_range (slice_get st 0))) (sym (c.in_ok-stack.ensures ∙ c.stack_by-items.ensures))
     (ranged_stack (c.args.at + 1) _ (stands_by (c.args.at + 1) c.args.flaw o c.args.at c.args.before.now c.args.kind.now _ (phases_of c.items.result) (subst (StackStands (c.args.at + 1)) (sym c.items.ensures) c.requires)))

@@ -33,5 +33,5 @@ returns-clause-standing c = subst (λ (x : FlawState). Standing (state_in x)) (s
 pub own_after-requires : goal.own_after-requires
 own_after-requires c = due_stays c.args.flaw c.args.script.now c.facts.ensures (form_in c.args.key.now).flawed c.args.entry.now.actor c.args.entry.now c.requires.is_due
 
-pub after-requires : goal.after-requires
-after-requires c = follows_kept c.args.flaw c.args.script.now c.deref-3.result.now c.args.key.now.state.value c.deref-4.result.now c.args.key.now.own.value c.args.entry.now c.deref-3.ensures c.deref-4.ensures c.requires
+pub after-requires-2 : goal.after-requires-2
+after-requires-2 c = follows_kept c.args.flaw c.args.script.now c.deref-3.result.now c.args.key.now.state.value c.deref-4.result.now c.args.key.now.own.value c.args.entry.now c.deref-3.ensures c.deref-4.ensures c.requires
