@@ -1,5 +1,5 @@
 -- Entries that break no part, each after those before it.
-use Rattle.std.proofs.Common.{◌≡◌, ℕ, zero, suc, ◌+◌, ◌<◌, inl, inr, Bool, true, false, Option, Some, None, List, [], ◌∷◌, ◌++◌, get_or, length, take, refl, sym, ap, ◌∙◌, subst, append-nil, arith}
+use Rattle.std.proofs.Common.{◌≡◌, ℕ, zero, suc, inl, inr, Bool, true, false, Option, Some, None, List, [], ◌∷◌, ◌++◌, get_or, length, take, refl, sym, ap, ◌∙◌, subst, append-nil, arith}
 use Rattle.std.proofs.lemmas.Bool.{cases_lt}
 use Rattle.std.proofs.lemmas.List.{get_or_append_left, length-append, take-append-le}
 use Rattle.std.proofs.Math.Seq.{get_or-append_seam, take-append_seam}
@@ -7,7 +7,7 @@ use Rattle.hm_base.specs.Program.{Program, IsScript}
 use Rattle.hm_history.specs.Memory.After.{after}
 use Rattle.hm_history.specs.Memory.Plain.{plain_accepts}
 use Rattle.hm_history.specs.Kernel.Due.{due}
-use Rattle.hm_history.specs.Kernel.Going.{Going, state_of}
+use Rattle.hm_history.specs.Kernel.Going.{state_of}
 use Rattle.hm_history.specs.Laws.{DueFrom}
 use Rattle.hm_history.specs.declared.Entry.{Entry}
 use Rattle.hm_history.specs.declared.Kind.{Kind}

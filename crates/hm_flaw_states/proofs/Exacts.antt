@@ -1,5 +1,5 @@
 -- What entries write of sequences that are kept exactly, and by how much they raise them.
-use Rattle.std.proofs.Common.{◌≡◌, ℕ, ◌+◌, ◌-◌, ◌<◌, ◌≤◌, ◌==◌, Bool, true, false, if◌then◌else◌, Option, None, List, length, slice_set, slice_index_or, refl, sym, ap, ◌∙◌, subst, arith}
+use Rattle.std.proofs.Common.{◌≡◌, ℕ, ◌+◌, ◌-◌, ◌<◌, ◌≤◌, ◌==◌, Bool, true, false, if◌then◌else◌, Option, None, List, length, slice_set, refl, ap, ◌∙◌, arith}
 use Rattle.std.proofs.lemmas.Bool.Decides.{nat_tests}
 use Rattle.hm_history.specs.Memory.Words.{with_at}
 use Rattle.hm_history.specs.Memory.Sequences.{Sequences, Interval, sequences_next, seq_started, seq_ended, seq_inserted, sequences_start}

@@ -1,20 +1,13 @@
 -- What holds of a key after a turn.
 use Rattle.std.proofs.Common.{◌≡◌, ℕ, ◌+◌, ◌≤◌, Bool, true, false, Option, Some, None, List, [], ◌∷◌, ◌++◌, refl, sym, ap, ◌∙◌, subst, arith}
 use Rattle.hm_base.specs.Program.{Program}
-use Rattle.hm_base.specs.declared.ops.Op.{Op}
-use Rattle.hm_history.specs.Memory.After.{After}
 use Rattle.hm_history.specs.Memory.Plain.{plain_accepts}
 use Rattle.hm_history.specs.declared.Entry.{Entry}
 use Rattle.hm_history.specs.declared.Progress.{Progress}
-use Rattle.hm_history.specs.declared.phases.Migrating.{Migrating}
-use Rattle.hm_history.specs.declared.phases.Phase.{Phase}
-use Rattle.hm_history.proofs.RunLemmas.{progress_own}
-use Rattle.hm_flaws.specs.Drivers.{Driver}
-use Rattle.hm_flaws.specs.Flawed.{Flawed, as_read, due_by, due_flawed_top, found}
-use Rattle.hm_flaws.specs.Overrides.{due_flawed}
-use Rattle.hm_flaws.specs.Parts.{broken_part}
+use Rattle.hm_flaws.specs.Flawed.{Flawed, due_by}
 use Rattle.hm_flaws.specs.declared.flaws.Flaw.{Flaw}
 use Rattle.hm_flaws.specs.declared.parts.Part.{Part}
+use Rattle.hm_flaw_parts.proofs.Turns.{due_to_own}
 use Rattle.hm_flaw_parts.specs.Judged.{EachLeads, LeadsOn, judged_parts}
 use Rattle.hm_flaw_parts.specs.declared.judged.Judging.{Judging}
 use Rattle.hm_flaw_parts.specs.Races.Races.{FlawPoint, broken_at, point_entry}
@@ -35,15 +28,6 @@ follows_kept l c x y d o e s t f =
     subst (λ (z : FlawState). Follows l c z (driver_in d) e) (sym s) (subst (λ (z : Own). Follows l c y (driver_in z) e) (sym t) f)
 
 -- ---- what is due
-
-own_top : (l : Flaw) (c : Program) (x : Driver) (s : After) (a : ℕ) (o : Option Op) (xs : List Migrating) (st : List Phase) (e : Entry) → due_flawed_top l c x s a o xs st ≡ Progress.Did e → a ≡ e.actor
-own_top l c x s a (Some o) xs (top ∷ below) e d = progress_own a (as_read l x (due_flawed l c s a o xs top)) e d
-own_top l c x s a (Some o) xs [] e d = cc
-own_top l c x s a None xs st e d = cc
-
--- what is due to an actor is due to the actor of the entry
-pub own_due : (l : Flaw) (c : Program) (t : Flawed) (a : ℕ) (e : Entry) → due_by l c t a ≡ Progress.Did e → due_by l c t e.actor ≡ Progress.Did e
-own_due l c t a e d = subst (λ b. due_by l c t b ≡ Progress.Did e) (own_top l c t.driver (found l c t) a _ _ _ e d) d
 
 -- ---- what breaks no part
 
@@ -83,7 +67,7 @@ kept_beside j c k n h same t f = record {
 pub turn_follows : (j : Judging) (l : Flaw) (c : Program) (k : FlawKey) (a : ℕ) (e : Entry) → IsKept j c k → k.state.value.entries ≤ 2000000 → due_by l c (form_in k).flawed a ≡ Progress.Did e → broken_at (judged_parts j) c (form_in k) e ≡ None
     → Follows l c k.state.value (driver_in k.own.value) e
 turn_follows j l c k a e h few d b = record {
-  is_due = own_due l c (form_in k).flawed a e d;
+  is_due = due_to_own l c (form_in k).flawed a e d;
   answers = answers_unbroken j c (form_in k) e b;
   standing = h.standing;
   room = few;

@@ -1,11 +1,10 @@
 -- Sets of mirrors, and their numbers.
-use Rattle.std.proofs.Common.{◌≡◌, ℕ, ◌<◌, ◌==◌, Bool, true, false, nat_lt, inl, inr, List, [], ◌∷◌, ◌++◌, length, replicate, slice_set, refl, sym, ap, ◌∙◌, arith}
-use Rattle.std.specs.List.{list_all, list_any}
+use Rattle.std.proofs.Common.{◌≡◌, ℕ, ◌<◌, ◌==◌, Bool, false, inl, inr, List, length, sym, ap, ◌∙◌, arith}
+use Rattle.std.specs.List.{list_any}
 use Rattle.std.proofs.lemmas.Bool.{cases_lt}
-use Rattle.std.proofs.lemmas.Bool.Decides.{nat_tests}
 use Rattle.std.proofs.Math.ListN.{get_or-eq_default}
 use Rattle.hm_folds.specs.Kept.{has_mirror, mirrors_of}
-use Rattle.hm_folds.proofs.Sets.{all_true, any_here, one_told, same_set}
+use Rattle.hm_folds.proofs.Sets.{any_here, same_set}
 use Rattle.hm_flaw_states.specs.Guards.{mirrors_in}
 
 pub those_in : (xs : List Bool) (ms : List ℕ) → mirrors_of xs ≡ ms → mirrors_in xs ≡ ms

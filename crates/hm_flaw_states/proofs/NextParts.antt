@@ -5,10 +5,6 @@ use Rattle.hm_history.specs.Memory.Sequences.{Sequences, sequences_next}
 use Rattle.hm_history.specs.declared.Kind.{Kind}
 use Rattle.hm_folds.proofs.SeqSteps.{same_state}
 use Rattle.hm_race_states.specs.Small.{unguarded}
-use Rattle.hm_race_states.specs.Spaces.{spaces_in}
-use Rattle.hm_spaces.specs.Spaces.{SpacesFit}
-use Rattle.hm_flaw_states.specs.States.{plain_in}
-use Rattle.hm_flaw_states.specs.declared.state.FlawState.{FlawState}
 use Rattle.hm_flaw_states.specs.Commits.{commits_next}
 use Rattle.hm_flaw_states.specs.Placed.{placed_next}
 
@@ -36,10 +32,3 @@ pub seqs_go : (s y : Sequences) (a : ℕ) (k : Kind) → unguarded y ≡ unguard
 seqs_go s y a k e g =
     let all : unguarded y ≡ unguarded (sequences_next s a k) = e ∙ alone s a k in
     same_state _ _ (ap (λ (z : Sequences). z.seq) all) (ap (λ (z : Sequences). z.active) all) (ap (λ (z : Sequences). z.interval) all) g
-
--- what the spaces ask of an entry is what the plain state asks
-pub spaces_take : (x : FlawState) (k : Kind) → SpacesFit (plain_in x) k → SpacesFit (spaces_in x.spaces.value) k
-spaces_take x (Kind.Mapped p r w) h = h
-spaces_take x (Kind.Unmapped p r) h = h
-spaces_take x (Kind.Protected p r w) h = h
-spaces_take x k h = tt

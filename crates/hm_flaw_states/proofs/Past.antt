@@ -1,5 +1,5 @@
 -- Nothing lies past the last page.
-use Rattle.std.proofs.Common.{◌≡◌, ℕ, ◌+◌, ◌^◌, ◌≤◌, ◌%◌, Bool, true, false, Option, Some, None, List, refl, sym, ap, ◌∙◌, nat_lt, arith}
+use Rattle.std.proofs.Common.{◌≡◌, ℕ, ◌^◌, ◌≤◌, true, Option, Some, None, List, refl, sym, ap, ◌∙◌, nat_lt, arith}
 use Rattle.std.specs.Prelude.{is_some, not, unwrap_or, ◌&&◌}
 use Rattle.std.proofs.lemmas.Bool.{and_parts}
 use Rattle.std.proofs.lemmas.Bool.Decides.{nat_tests}

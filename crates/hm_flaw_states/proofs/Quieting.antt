@@ -15,7 +15,7 @@ use Rattle.hm_history.specs.Memory.Places.{is_page, with_page, with_place}
 use Rattle.hm_history.specs.Memory.Locks.{orphan}
 use Rattle.hm_history.specs.Memory.After.{After}
 use Rattle.hm_history.specs.Kernel.Due.{body_or_end, due_guard, due_phase, if_so, progress, to_tell}
-use Rattle.hm_history.specs.Kernel.Going.{Going, op_at, seen_at}
+use Rattle.hm_history.specs.Kernel.Going.{Going, op_at}
 use Rattle.hm_history.specs.declared.Entry.{Entry}
 use Rattle.hm_history.specs.declared.Kind.{Kind}
 use Rattle.hm_history.specs.declared.Progress.{Progress}

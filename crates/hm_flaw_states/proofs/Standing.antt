@@ -11,7 +11,7 @@ use Rattle.hm_base.specs.declared.ops.Rights.TheVariants.{Read, ReadWrite}
 use Rattle.hm_history.specs.Memory.Words.{names}
 use Rattle.hm_history.specs.Kernel.Operation.{op_pieces, is_evicting, is_remove}
 use Rattle.hm_history.specs.Kernel.Going.{first_stack, going_from, op_at}
-use Rattle.hm_history.specs.Kernel.Stacks.{piece_ends, with_guard, read_locked, after_begin, body_of, after_locked, after_ready, after_answer, after_pages, first_phase, first_touch, after_piece, is_added, after_fetched, after_walk, with_frame_taken, body_of_fault, after_decide, after_taken, is_place_of, page_of_entry, frames_past, caught_next, below_next, dropping, after_body, body_next, guard_goes_on, told_mirror, is_end, after_guard, giving_up, gives_up, after_emptying, with_one_more, after_copy, after_finish, after_give_up, number_of, catching, after_frames, freezing, freezing_in, next_cursor, copying, kept_step, dropping_lost, finishing, after_moves, after_migration, after_top, stack_after}
+use Rattle.hm_history.specs.Kernel.Stacks.{piece_ends, with_guard, read_locked, after_begin, body_of, after_locked, after_ready, after_answer, after_pages, first_phase, first_touch, after_piece, is_added, after_fetched, after_walk, with_frame_taken, body_of_fault, after_decide, after_taken, is_place_of, page_of_entry, frames_past, caught_next, dropping, after_body, body_next, guard_goes_on, told_mirror, is_end, after_guard, giving_up, gives_up, after_emptying, with_one_more, after_copy, after_finish, after_give_up, number_of, catching, after_frames, freezing, freezing_in, next_cursor, copying, kept_step, dropping_lost, finishing, after_moves, after_migration, after_top, stack_after}
 use Rattle.hm_history.specs.declared.KeptAt.{KeptAt}
 use Rattle.hm_history.specs.declared.KeptWhy.{KeptWhy}
 use Rattle.hm_history.specs.declared.Kind.{Kind}
@@ -22,11 +22,11 @@ use Rattle.hm_history.specs.declared.phases.Phase.{Phase}
 use Rattle.hm_history.specs.declared.phases.Seen.{Seen}
 use Rattle.hm_history.specs.declared.phases.Touch.{Touch}
 use Rattle.hm_history.specs.declared.phases.Touch.TheVariants.{Walk}
-use Rattle.hm_flaws.specs.Flawed.{freezing_late, led_on, page_to_freeze, set_on, some_device_access, stack_by, with_body, without_step}
+use Rattle.hm_flaws.specs.Flawed.{freezing_late, led_on, set_on, some_device_access, stack_by, with_body, without_step}
 use Rattle.hm_flaws.specs.declared.flaws.Flaw.{Flaw}
-use Rattle.hm_phases.specs.Items.{below_takes_count, first_takes_count}
+use Rattle.hm_phases.specs.Items.{below_takes_count}
 use Rattle.hm_reads.specs.Ranges.{top_in_range}
-use Rattle.hm_flaw_states.specs.Rooms.{BodyStands, IsQuietAt, PhaseStands, PlacesPage, StackStands, body_rises, is_quiet, rises}
+use Rattle.hm_flaw_states.specs.Rooms.{BodyStands, IsQuietAt, PhaseStands, PlacesPage, StackStands, body_rises, is_quiet}
 
 -- ---- phases
 

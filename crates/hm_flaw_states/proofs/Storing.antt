@@ -1,5 +1,5 @@
 -- What is stored lies in one page, whatever rule the driver leaves out.
-use Rattle.std.proofs.Common.{◌≡◌, ℕ, zero, suc, Bool, true, false, ◌&&◌, ◌==◌, if◌then◌else◌, nat_lt, not, Option, Some, None, List, [], ◌∷◌, length, refl, sym, ◌∙◌, subst, ◌+◌, arith}
+use Rattle.std.proofs.Common.{◌≡◌, ℕ, zero, suc, Bool, true, false, ◌&&◌, ◌==◌, if◌then◌else◌, nat_lt, Option, Some, None, List, [], ◌∷◌, length, refl, sym, ◌∙◌, subst, ◌+◌, arith}
 use Rattle.std.specs.Prelude.{⊤, ◌||◌, is_none}
 use Rattle.std.proofs.lemmas.Bool.{false≢true}
 use Rattle.hm_base.specs.Pages.{Pages, one_page}

@@ -1,5 +1,5 @@
-use Rattle.std.proofs.Common.{◌+◌, sym, ap, subst, ◌∙◌, arith}
-use Rattle.hm_flaw_states.specs.Exact.{IsPaced, exact_in}
+use Rattle.std.proofs.Common.{◌+◌, sym, subst}
+use Rattle.hm_flaw_states.specs.Exact.{IsPaced}
 use Rattle.hm_flaw_states.specs.declared.exact_seqs.ExactSeqs.{ExactSeqs}
 use Rattle.hm_flaw_states.proofs.Exacts.{paced_next}
 use Rattle.hm_flaw_states.proofs.exact_seqs.seqs_after.Goals as goal

@@ -4,7 +4,6 @@ use Rattle.hm_history.specs.declared.phases.Phase.{Phase}
 use Rattle.hm_race_states.specs.Tasks.{going_in}
 use Rattle.hm_phases.specs.Items.{phases_of}
 use Rattle.hm_reads.specs.Ranges.{top_in_range}
-use Rattle.hm_flaws.specs.Flawed.{stack_by}
 use Rattle.hm_flaw_states.specs.Rooms.{StackStands}
 use Rattle.hm_flaw_states.proofs.Standing.{ranged_stack, stands_by}
 use Rattle.hm_flaw_states.proofs.goings.with_flaw.Goals as goal

@@ -1,5 +1,4 @@
 use Rattle.std.proofs.Common.{sym, ap, ◌∙◌}
-use Rattle.hm_flaws.specs.Flawed.{Flawed}
 use Rattle.hm_flaw_parts.specs.Judged.{judged_parts}
 use Rattle.hm_flaw_parts.specs.Races.Races.{FlawPoint}
 use Rattle.hm_flaw_states.proofs.Kept.{count_ended, count_on, kept_beside, kept_on, turn_follows, turned_ended, turned_on}

@@ -1,4 +1,4 @@
-use Rattle.std.proofs.Common.{◌+◌, ap, ◌∙◌, arith}
+use Rattle.std.proofs.Common.{◌+◌, ap, arith}
 use Rattle.hm_history.specs.Memory.Sequences.{Sequences}
 use Rattle.hm_flaw_states.specs.Exact.{exact_in}
 use Rattle.hm_flaw_states.proofs.Exacts.{process_kept}

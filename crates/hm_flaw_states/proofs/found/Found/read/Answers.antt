@@ -1,4 +1,4 @@
-use Rattle.std.proofs.Common.{◌+◌, ◌%◌, refl, ap, ◌∙◌, arith}
+use Rattle.std.proofs.Common.{◌+◌, ◌%◌, refl, arith}
 use Rattle.hm_flaws.specs.Drivers.{target_at}
 use Rattle.hm_flaw_states.specs.Owns.{driver_in}
 use Rattle.hm_flaw_states.proofs.Past.{byte_past, target_past}

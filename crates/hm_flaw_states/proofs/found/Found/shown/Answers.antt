@@ -1,7 +1,6 @@
-use Rattle.std.proofs.Common.{◌+◌, ◌%◌, ap, ◌∙◌, arith}
+use Rattle.std.proofs.Common.{◌+◌, ◌%◌, arith}
 use Rattle.hm_history.specs.Memory.Words.{page_of}
 use Rattle.hm_history.specs.Memory.Contents.{backing}
-use Rattle.hm_flaws.specs.Flawed.{shown_bytes}
 use Rattle.hm_flaw_states.specs.Owns.{driver_in}
 use Rattle.hm_flaw_states.proofs.Past.{backing_past, byte_past}
 use Rattle.hm_flaw_states.proofs.found.Found.shown.Goals as goal

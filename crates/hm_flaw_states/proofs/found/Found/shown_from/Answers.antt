@@ -1,4 +1,4 @@
-use Rattle.std.proofs.Common.{ℕ, ◌%◌, List, [], ◌∷◌, ◌++◌, ap, ◌∙◌}
+use Rattle.std.proofs.Common.{ℕ, List, [], ◌∷◌, ◌++◌, ap, ◌∙◌}
 use Rattle.hm_history.specs.Memory.Words.{bytes_from}
 use Rattle.hm_flaws.specs.Flawed.{shown_bytes}
 use Rattle.hm_flaw_states.specs.Owns.{driver_in}

@@ -1,10 +1,5 @@
-use Rattle.std.proofs.Common.{arith, ℕ, List, ap, ◌∙◌, refl}
-use Rattle.hm_base.specs.PlaceWords.{pool_index}
-use Rattle.hm_history.specs.Memory.Words.{with_at}
-use Rattle.hm_history.specs.Memory.Plain.{with_bytes}
-use Rattle.hm_race_keys.specs.declared.sparse.Item.{Item}
+use Rattle.std.proofs.Common.{arith, ◌∙◌, refl}
 use Rattle.hm_race_states.specs.Bytes.{bytes_in}
-use Rattle.hm_race_states.specs.declared.memory.Written.{Written}
 use Rattle.hm_flaw_states.proofs.Writing.{written}
 use Rattle.hm_flaw_states.proofs.frame_bytes.FrameBytes.write.Goals as goal
 
