@@ -1,13 +1,13 @@
 -- Which part is broken first, by what the rules say.
-use Rattle.std.proofs.Common.{◌≡◌, ℕ, Bool, Option, List, sym, ap, ◌∙◌}
+use Rattle.std.proofs.Common.{◌≡◌, Bool, List, sym, ap, ◌∙◌}
 use Rattle.hm_base.specs.Program.{Program}
 use Rattle.hm_history.specs.Memory.After.{After, after}
-use Rattle.hm_history.specs.Kernel.Going.{Going, State}
+use Rattle.hm_history.specs.Kernel.Going.{State}
 use Rattle.hm_history.specs.Kernel.Legal.{kept_rightly}
 use Rattle.hm_history.specs.declared.Entry.{Entry}
 use Rattle.hm_flaws.specs.Parts.{all_parts, broken_part}
 use Rattle.hm_flaws.specs.Recalled.{recalled_of}
-use Rattle.hm_flaws.proofs.Recalling.{IsRecalled, broken_is, is_recalled}
+use Rattle.hm_flaws.proofs.Recalling.{broken_is, is_recalled}
 use Rattle.hm_parts.specs.Follower.{AreRules}
 use Rattle.hm_parts.specs.declared.rules.Rules.{Rules}
 use Rattle.hm_flaw_parts.specs.Judged.{first_of}

@@ -1,4 +1,5 @@
 pub mod Breaking
+pub mod Leading
 pub mod Marking
 pub mod Telling
 mod Alike

@@ -1,9 +1,8 @@
 -- Marks that are kept, part by part.
 use Rattle.std.proofs.Common.{◌≡◌, ℕ, Bool, Option, List, ap, ◌∙◌}
 use Rattle.std.proofs.Math.Path.{fun_ext}
-use Rattle.hm_flaw_parts.specs.Marks.{Marked, marks_in}
+use Rattle.hm_flaw_parts.specs.Marks.{Marked}
 use Rattle.hm_flaw_parts.specs.declared.told_spans.ToldSpan.{ToldSpan}
-use Rattle.hm_flaw_parts.specs.declared.marks.Marks.{Marks}
 
 abbrev of : (ℕ → ℕ → Option ℕ) → List ToldSpan → (ℕ → ℕ → Option (Bool × ℕ)) → (ℕ → Bool) → Marked
 of begun told set short = record { begun = begun; told = told; set = set; short = short }

@@ -1,9 +1,9 @@
 -- Which told a page last, after one span more.
-use Rattle.std.proofs.Common.{◌≡◌, ℕ, ◌+◌, Bool, true, false, not, ◌&&◌, ◌==◌, nat_le, nat_lt, if◌then◌else◌, Option, Some, None, List, [], ◌∷◌, refl, sym, ap, ◌∙◌, arith}
+use Rattle.std.proofs.Common.{◌≡◌, ℕ, Bool, true, false, not, ◌&&◌, ◌==◌, if◌then◌else◌, Option, Some, List, [], ◌∷◌, refl, ap, arith}
 use Rattle.std.specs.List.{filter}
 use Rattle.std.proofs.Math.Path.{fun_ext}
 use Rattle.std.proofs.lemmas.Bool.Decides.{nat_tests}
-use Rattle.hm_base.specs.Pages.{Pages, covers}
+use Rattle.hm_base.specs.Pages.{covers}
 use Rattle.hm_base.specs.Program.{Program}
 use Rattle.hm_history.specs.Memory.Lookups.{is_told_of}
 use Rattle.hm_history.specs.Memory.After.{After, after_entry}
@@ -11,7 +11,7 @@ use Rattle.hm_history.specs.declared.Entry.{Entry}
 use Rattle.hm_history.specs.declared.Kind.{Kind}
 use Rattle.hm_flaws.specs.Recalled.{Recalled, recalled_next}
 use Rattle.hm_flaw_parts.specs.Marks.{Marked, MarksRecall, marked_next, recalled_by, told_next}
-use Rattle.hm_flaw_parts.specs.Told.{is_covered, is_within, told_in, with_told}
+use Rattle.hm_flaw_parts.specs.Told.{is_covered, told_in, with_told}
 use Rattle.hm_flaw_parts.specs.declared.told_spans.ToldSpan.{ToldSpan}
 
 -- a page of what is covered is one of what covers it

@@ -41,7 +41,7 @@ flawed_lengths l c t (e ∷ es) = omega (arith, flawed_lengths l c (flawed_next 
 -- ---- entries that were due
 
 -- what is due to an actor is due to that of the entry
-due_to_own : (l : Flaw) (c : Program) (t : Flawed) (a : ℕ) (e : Entry) → due_by l c t a ≡ Progress.Did e → due_by l c t e.actor ≡ Progress.Did e
+pub due_to_own : (l : Flaw) (c : Program) (t : Flawed) (a : ℕ) (e : Entry) → due_by l c t a ≡ Progress.Did e → due_by l c t e.actor ≡ Progress.Did e
 due_to_own l c t a e d = subst (λ b. due_by l c t b ≡ Progress.Did e) (top (op_at c a (t.state.going a).index) (t.state.going a).stack d) d
   where
     top : (o : Option Op) (stack : List Phase) → due_flawed_top l c t.driver (found l c t) a o (t.state.going a).pages stack ≡ Progress.Did e → a ≡ e.actor

@@ -5,14 +5,14 @@ ghost use Rattle.hm_history.specs.Kernel.Going.{Going};
 ghost use Rattle.hm_history.specs.Memory.After.{after};
 ghost use Rattle.hm_flaws.specs.Parts.{broken_part};
 ghost use Rattle.hm_folds.specs.Plain.{plain_of};
-ghost use Rattle.hm_flaw_parts.specs.Judged.{first_of, judged_parts, IsFollowing};
+ghost use Rattle.hm_flaw_parts.specs.Judged.{first_of, judged_parts, EachLeads, IsFollowing};
 ghost use Rattle.hm_flaw_parts.specs.declared.judged.Judging.{Judging as AnyJudging};
 
 use hm_base::{NoMemory, Script};
 use hm_flaws::Part;
 use hm_folds::PlainState;
-use hm_history::Entry;
 use hm_history::phases::Migrating;
+use hm_history::{Entry, FoldError};
 use hm_parts::{Follower, Rules, has_taken, meets_kept};
 use hm_reads::Reads;
 use std::alloc::Global;
@@ -33,30 +33,31 @@ fn follower_after(
     script: &Script,
     entries: &[Rc<Entry>],
 ) -> Result<Follower, NoMemory>
+    requires { EachLeads AnyJudging.AllParts script.now (map rc_value entries.now) }
     ensures { IfOk result (IsFollowing script.now (map rc_value entries.now)) }
 {
     let mut so_far = Follower::start(alloc, script)?;
     for at in 0..entries.len() {
-        if !so_far.take(&entries[at], at as u64)?.goes_on {
-            return Err(NoMemory);
-        }
+        let _rules = so_far.take(&entries[at], at as u64)?;
     }
     Ok(so_far)
 }
 
-// The plain state after the entries, each of which is to answer rightly after those before it.
+// The plain state after the entries, each of which answers rightly after those before it.
 fn plain_after(
     alloc: Global,
     script: &Script,
     entries: &[Rc<Entry>],
 ) -> Result<PlainState, NoMemory>
+    requires { EachLeads AnyJudging.AnswersAlone script.now (map rc_value entries.now) }
     ensures { IfOk result (λ x. plain_of x ≡ (after (map rc_value entries.now)).plain) }
 {
     let mut so_far = PlainState::start(alloc, script)?;
     for at in 0..entries.len() {
         match so_far.apply(&entries[at]) {
             Ok(()) => (),
-            Err(_) => return Err(NoMemory),
+            Err(FoldError::NoMemory) => return Err(NoMemory),
+            Err(FoldError::NotLegal) => unreachable!(),
         }
     }
     Ok(so_far)
@@ -100,6 +101,7 @@ fn broken_of_all<W: Reads>(
 ) -> Result<Option<Part>, NoMemory>
     requires state { (W.state world.now).after ≡ after (map rc_value entries.now) }
     requires records { records.now ≡ ((W.state world.now).going entry.now.actor).pages }
+    requires leads { EachLeads AnyJudging.AllParts (W.program world.now) (map rc_value entries.now) }
     ensures { IfOk result (λ o. o
         ≡ broken_part (judged_parts AnyJudging.AllParts) (W.program world.now) (map rc_value entries.now)
         (W.state world.now).going entry.now) }
@@ -116,6 +118,7 @@ fn broken_of_answers(
     entries: &[Rc<Entry>],
     entry: &Entry,
 ) -> Result<Option<Part>, NoMemory>
+    requires { EachLeads AnyJudging.AnswersAlone script.now (map rc_value entries.now) }
     ensures { IfOk result (λ o. (g : ℕ → Going) → o
         ≡ broken_part (judged_parts AnyJudging.AnswersAlone) script.now (map rc_value entries.now) g entry.now) }
 {
@@ -128,8 +131,7 @@ fn broken_of_answers(
 }
 
 /// The first part that the entry breaks after these. The world is that after them, and the records are those of the
-/// entry's actor. It goes over all entries. It fails if memory runs out, and if one of the entries before breaks a part
-/// that is judged.
+/// entry's actor. Each of the entries before keeps the parts that are judged. It goes over all of them.
 pub fn first_broken<W: Reads>(
     alloc: Global,
     judging: Judging,
@@ -140,6 +142,7 @@ pub fn first_broken<W: Reads>(
 ) -> Result<Option<Part>, NoMemory>
     requires state { (W.state world.now).after ≡ after (map rc_value entries.now) }
     requires records { records.now ≡ ((W.state world.now).going entry.now.actor).pages }
+    requires leads { EachLeads judging (W.program world.now) (map rc_value entries.now) }
     ensures { IfOk result (λ o. o
         ≡ broken_part (judged_parts judging) (W.program world.now) (map rc_value entries.now)
         (W.state world.now).going entry.now) }

@@ -1,5 +1,5 @@
 -- What a state with other sequences answers as the one that it was made of, and what is due in it.
-use Rattle.std.proofs.Common.{◌≡◌, ℕ, ◌+◌, Bool, true, false, ◌&&◌, ◌==◌, not, if◌then◌else◌, Option, Some, None, refl, ap, arith}
+use Rattle.std.proofs.Common.{◌≡◌, ℕ, ◌+◌, Bool, ◌&&◌, ◌==◌, not, if◌then◌else◌, Option, Some, None, refl, ap}
 use Rattle.std.proofs.Math.Path.{fun_ext}
 use Rattle.std.specs.Prelude.{filter, find, length, nat_lt}
 use Rattle.hm_base.specs.Pages.{Pages, overlap}

@@ -1,10 +1,15 @@
 mod Erasing
+mod Exacts
 mod Late
 mod Writing
 mod Finding
 mod Pages
+mod Past
 mod Committed
-mod Rooms
+mod Standing
+mod Quieting
+mod Storing
+mod Standings
 mod Wholes
 mod Windows
 mod NextParts
@@ -20,6 +25,7 @@ mod Following
 mod Forms
 mod SetUps
 mod Waits
+mod Kept
 mod Going
 mod Setting
 mod Stays

@@ -1,30 +1,15 @@
 -- Sets of mirrors, and their numbers.
-use Rattle.std.proofs.Common.{◌≡◌, ℕ, ◌<◌, ◌==◌, Bool, true, false, nat_lt, inl, inr, List, [], ◌∷◌, ◌++◌, length, replicate, slice_set, refl, sym, ap, ◌∙◌, arith}
-use Rattle.std.specs.List.{list_all, list_any}
+use Rattle.std.proofs.Common.{◌≡◌, ℕ, ◌<◌, ◌==◌, Bool, false, inl, inr, List, length, sym, ap, ◌∙◌, arith}
+use Rattle.std.specs.List.{list_any}
 use Rattle.std.proofs.lemmas.Bool.{cases_lt}
-use Rattle.std.proofs.lemmas.Bool.Decides.{nat_tests}
 use Rattle.std.proofs.Math.ListN.{get_or-eq_default}
 use Rattle.hm_folds.specs.Kept.{has_mirror, mirrors_of}
-use Rattle.hm_folds.proofs.Sets.{all_true, any_here, one_told, same_set}
-use Rattle.hm_flaw_states.specs.Seqs.{mirrors_in}
+use Rattle.hm_folds.proofs.Sets.{any_here, same_set}
+use Rattle.hm_flaw_states.specs.Guards.{mirrors_in}
 
 pub those_in : (xs : List Bool) (ms : List ℕ) → mirrors_of xs ≡ ms → mirrors_in xs ≡ ms
 unfolding mirrors_in
 those_in xs ms e = e
-
-pub none_in : mirrors_in (replicate 32 false) ≡ []
-unfolding mirrors_in
-none_in = refl
-
--- all numbers of a set are below a mirror
-pub lower_in : (xs : List Bool) (m : ℕ) → ((k : ℕ) → k < 32 → has_mirror xs k ≡ true → k < m) → list_all (λ k. nat_lt k m) (mirrors_in xs) ≡ true
-unfolding mirrors_in
-lower_in xs m h = let P : ℕ → Bool = λ k. nat_lt k m in all_true (has_mirror xs) P 0 32 (λ k l j e. grind (arith, nat_tests, h k (omega (arith, j)) e))
-
--- one mirror more
-pub one_in : (xs : List Bool) (i m : ℕ) → i ≡ m → length xs ≡ 32 → m < 32 → list_all (λ k. nat_lt k m) (mirrors_in xs) ≡ true → mirrors_in (slice_set xs i true) ≡ mirrors_in xs ++ m ∷ []
-unfolding mirrors_in
-one_in xs i m e n l h = one_told xs i m e n l h
 
 -- sets that have the same mirrors, and the other way round
 pub same_in : (xs ys : List Bool) → ((k : ℕ) → has_mirror xs k ≡ has_mirror ys k) → mirrors_in xs ≡ mirrors_in ys

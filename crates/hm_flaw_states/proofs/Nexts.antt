@@ -23,11 +23,12 @@ use Rattle.hm_race_keys.specs.PagePlaces.{places_in}
 use Rattle.hm_race_keys.specs.declared.sparse.Item.{Item}
 use Rattle.hm_race_states.specs.Bytes.{bytes_in}
 use Rattle.hm_race_states.specs.Mirrors.{mirrors_in}
-use Rattle.hm_race_states.specs.Small.{between_seqs, unguarded}
+use Rattle.hm_race_states.specs.Small.{unguarded}
+use Rattle.hm_flaw_states.specs.Exact.{exact_in}
 use Rattle.hm_race_states.specs.Spaces.{bare, spaces_in}
 use Rattle.hm_race_states.specs.States.{goings_in}
 use Rattle.hm_race_states.specs.declared.mirrors.RaceMirror.{RaceMirror}
-use Rattle.hm_race_states.specs.declared.small.Between.{Between}
+use Rattle.hm_flaw_states.specs.declared.exact_seqs.ExactParts.{ExactParts}
 use Rattle.hm_flaw_states.specs.FrameBytes.{contents_in}
 use Rattle.hm_flaw_states.specs.OwnTables.{table_in}
 use Rattle.hm_flaw_states.specs.Commits.{commits_in, commits_next}
@@ -59,8 +60,8 @@ pub record PartsGo (x : FlawState) (e : Entry) (y : FlawState) : Type 0 where
   pub table : table_in y.tables.value ≡ (places_next (all_places x) e.kind).table
   pub frames : lockers_in y.locks.value ≡ frame_next (locks_in x) (all_places x) e.actor e.kind
   pub maps : lock_in y.maps.value.locks ≡ map_next (locks_in x) e.actor e.kind
-  pub seqs : (a : ℕ) → between_seqs y.seqs.value.kept ≡ unguarded (sequences_next (between_seqs x.seqs.value.kept) a e.kind)
-  pub guards : guards_in y.guards.value.guards ≡ (sequences_next (seqs_in x.seqs.value x.guards.value) e.actor e.kind).guard
+  pub seqs : (a : ℕ) → exact_in y.seqs.value.kept ≡ unguarded (sequences_next (exact_in x.seqs.value.kept) a e.kind)
+  pub guards : guards_in y.guards.value.guards.items ≡ (sequences_next (seqs_in x.seqs.value x.guards.value) e.actor e.kind).guard
   pub contents : contents_in y.contents.value ≡ contents_next (plain_in x) (all_places x) (contents_in x.contents.value) e.kind
 
 module _ (x : FlawState) (e : Entry) (y : FlawState) (p : PartsGo x e y) where
@@ -78,15 +79,15 @@ module _ (x : FlawState) (e : Entry) (y : FlawState) (p : PartsGo x e y) where
   memory_on = same_after _ _ p.entries plain_on places_on seqs_on (same_locks _ _ p.maps p.frames) p.contents
 
 -- mirrors and intervals after an entry have the same windows
-pub windows_on : (x : FlawState) (a : ℕ) (k : Kind) (ms : List (Item RaceMirror)) (xs : List (Option KeptInterval)) → mirrors_in ms ≡ (plain_next (plain_in x) k).mirrors → interval_at xs ≡ (sequences_next (between_seqs x.seqs.value.kept) a k).interval → SameWindows ms xs
+pub windows_on : (x : FlawState) (a : ℕ) (k : Kind) (ms : List (Item RaceMirror)) (xs : List (Option KeptInterval)) → mirrors_in ms ≡ (plain_next (plain_in x) k).mirrors → interval_at xs ≡ (sequences_next (exact_in x.seqs.value.kept) a k).interval → SameWindows ms xs
 windows_on x a k ms xs e h m =
     ap (λ (f : ℕ → Option MirrorState). window_of (f m)) e
-    ∙ (windows_go (plain_in x) (between_seqs x.seqs.value.kept) a k x.windows m ∙ sym (ap (λ (f : ℕ → Option Interval). window_in (f m)) h))
+    ∙ (windows_go (plain_in x) (exact_in x.seqs.value.kept) a k x.windows m ∙ sym (ap (λ (f : ℕ → Option Interval). window_in (f m)) h))
 
 -- ---- before the first entry
 
 -- before the first entry neither mirrors nor intervals have windows
-pub windows_first : (ms : List (Item RaceMirror)) (x : Between) → ms ≡ [] → between_seqs x ≡ sequences_start → SameWindows ms x.intervals
+pub windows_first : (ms : List (Item RaceMirror)) (x : ExactParts) → ms ≡ [] → exact_in x ≡ sequences_start → SameWindows ms x.intervals
 windows_first ms x none start m = ap (λ (xs : List (Item RaceMirror)). window_of (mirrors_in xs m)) none ∙ sym (ap (λ (s : Sequences). window_in (s.interval m)) start)
 
 -- what is kept before the first entry, part by part
@@ -105,8 +106,8 @@ pub record PartsStart (c : Program) (y : FlawState) : Type 0 where
   pub tables : y.tables.value ≡ []
   pub locks : y.locks.value ≡ []
   pub maps : (a : ℕ) → lock_in y.maps.value.locks a ≡ None
-  pub seqs : between_seqs y.seqs.value.kept ≡ sequences_start
-  pub guards : (a : ℕ) → guards_in y.guards.value.guards a ≡ None
+  pub seqs : exact_in y.seqs.value.kept ≡ sequences_start
+  pub guards : (a : ℕ) → guards_in y.guards.value.guards.items a ≡ None
   pub contents : y.contents.value ≡ []
   pub goings : (a : ℕ) → goings_in (map rc_value y.tasks.items) a ≡ going_from c a 0
 

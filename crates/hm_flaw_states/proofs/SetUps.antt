@@ -1,20 +1,29 @@
 -- A set-up that is made again, with one entry more.
-use Rattle.std.proofs.Common.{◌≡◌, ℕ, ◌+◌, ◌<◌, List, [], ◌∷◌, ◌++◌, get_or, length, map, take, sym, ap, ◌∙◌, subst}
-use Rattle.std.proofs.lemmas.List.{take_more}
+use Rattle.std.proofs.Common.{◌≡◌, ℕ, ◌+◌, ◌<◌, ◌≤◌, true, List, [], ◌∷◌, ◌++◌, get_or, length, map, take, sym, ap, ◌∙◌, subst, arith}
+use Rattle.std.proofs.lemmas.List.{length-take-le, take_more}
 use Rattle.std.specs.Rc.{rc_value}
-use Rattle.hm_base.specs.Program.{Program}
+use Rattle.hm_base.specs.Program.{Program, IsScript}
 use Rattle.hm_history.proofs.RunLemmas.{due_at}
 use Rattle.hm_history.specs.Kernel.Due.{due, due_in}
-use Rattle.hm_history.specs.Kernel.Going.{State, state_next, state_of, state_of-snoc}
+use Rattle.hm_history.specs.Kernel.Going.{State, state_next, state_of, state_of-snoc, state_start}
 use Rattle.hm_history.specs.Laws.{DueFrom}
-use Rattle.hm_history.specs.Memory.After.{after}
+use Rattle.hm_history.specs.Memory.After.{After, after}
+use Rattle.hm_history.specs.Memory.Plain.{plain_accepts}
+use Rattle.hm_history.specs.Kernel.Run.{is_entry}
 use Rattle.hm_history.specs.declared.Entry.{Entry}
 use Rattle.hm_history.specs.declared.Progress.{Progress}
 use Rattle.hm_laws.proofs.Histories.Sound.{after_is}
+use Rattle.hm_history.proofs.Going.{lengths, own_actor}
+use Rattle.hm_flaws.specs.Drivers.{Driver}
+use Rattle.hm_flaws.specs.Laws.{RightBreaksNone, RightIsDue}
+use Rattle.hm_flaws.specs.declared.flaws.Flaw.{Flaw}
+use Rattle.hm_flaw_parts.specs.declared.judged.Judging.{Judging}
+use Rattle.hm_flaw_parts.proofs.Leading.{answers_lead, due_taken, right_on}
 use Rattle.hm_flaw_parts.specs.Marks.{marked_next, marks_in}
 use Rattle.hm_flaw_states.specs.States.{state_in}
 use Rattle.hm_flaw_states.proofs.Following.{marks_more}
-use Rattle.hm_flaw_states.specs.SetUps.{IsAfter}
+use Rattle.hm_flaw_states.specs.Follows.{Follows, Standing}
+use Rattle.hm_flaw_states.specs.SetUps.{IsAfter, IsNext}
 use Rattle.hm_flaw_states.specs.declared.set_ups.SoFar.{SoFar}
 
 -- the memory is that after the entries
@@ -22,11 +31,12 @@ pub memory_after : (c : Program) (h : List Entry) (u : State) → u ≡ state_of
 memory_after c h u is = ap (λ (v : State). v.after) is ∙ after_is c h
 
 pub more_after : (c : Program) (h : List Entry) (x y : SoFar) (e : Entry) → IsAfter c h x → state_in y.state ≡ state_next c (state_in x.state) e
-    → marks_in y.marks ≡ marked_next c (state_in x.state).after (marks_in x.marks) e → map rc_value y.trail.items ≡ h ++ e ∷ [] → IsAfter c (h ++ e ∷ []) y
-more_after c h x y e r s m t = record {
+    → marks_in y.marks ≡ marked_next c (state_in x.state).after (marks_in x.marks) e → map rc_value y.trail.items ≡ h ++ e ∷ [] → Standing (state_in y.state) → IsAfter c (h ++ e ∷ []) y
+more_after c h x y e r s m t st = record {
   state = s ∙ (ap (λ (u : State). state_next c u e) r.state ∙ sym (state_of-snoc c h e));
   marked = m ∙ marks_more c (state_in x.state).after (marks_in x.marks) h e (memory_after c h (state_in x.state) r.state) r.marked;
   trail = t;
+  standing = st;
 }
 
 -- the entry that is due in the state is that which is due after the history
@@ -45,3 +55,33 @@ set_up_on c h i d y dues below is on = subst (λ (es : List Entry). IsAfter c es
 
     more : take i h ++ d ∷ [] ≡ take (i + 1) h
     more = ap (λ (x : Entry). take i h ++ x ∷ []) is ∙ sym (take_more h i d below)
+
+-- ---- the next entry
+
+-- the entry that is due is one that the state may go on by
+pub follows_next : RightBreaksNone → RightIsDue → (c : Program) → IsScript c → (x : SoFar) (a : ℕ) → IsNext c x a → (d : Driver) (e : Entry) → due_in c (state_in x.state) a ≡ Progress.Did e → Follows Flaw.NoFlaw c x.state d e
+follows_next right same c sc x a n d e now = record {
+  is_due = same c (record { state = state_in x.state; driver = d }) e.actor ∙ own;
+  answers = ap (λ (s : After). plain_accepts s.plain e.kind) (memory_after c n.history (state_in x.state) n.after.state)
+      ∙ answers_lead c n.history e (right_on right same Judging.AnswersAlone c sc n.history n.were_due e (ap (λ (u : State). due_in c u e.actor) (sym n.after.state) ∙ own));
+  standing = n.after.standing;
+  room = omega (arith, n.few, ap (λ (u : State). u.after.length) n.after.state, lengths c (state_start c) n.history);
+}
+  where
+    own : due_in c (state_in x.state) e.actor ≡ Progress.Did e
+    own = subst (λ b. due_in c (state_in x.state) b ≡ Progress.Did e) (sym (own_actor c (state_in x.state) a e now)) now
+
+-- something is due there
+pub is_next : (c : Program) (x : SoFar) (a : ℕ) → IsNext c x a → is_entry (due_in c (state_in x.state) a) ≡ true
+is_next c x a n = ap (λ (u : State). is_entry (due_in c u a)) n.after.state ∙ ap is_entry n.is_due
+
+-- the next entry of a set-up is due after those before it
+pub next_of_set_up : (c : Program) (h : List Entry) (i : ℕ) (d : Entry) (x : SoFar) → DueFrom c [] h → length h ≤ 2000000 → i < length h → d ≡ get_or h i d → IsAfter c (take i h) x → IsNext c x d.actor
+next_of_set_up c h i d x dues few below is r = record {
+  history = take i h;
+  entry = d;
+  after = r;
+  were_due = due_taken c [] h i dues;
+  is_due = subst (λ (y : Entry). due c (take i h) y.actor ≡ Progress.Did y) (sym is) (due_at c [] h i d below dues);
+  few = omega (arith, few, below, length-take-le i h (omega (arith, below)));
+}

@@ -10,17 +10,14 @@ use Rattle.hm_history.specs.Memory.After.{After}
 use Rattle.hm_history.specs.Memory.Sequences.{interval_seq}
 use Rattle.hm_history.specs.Kernel.Operation.{op_mirror}
 use Rattle.hm_history.specs.Kernel.Due.{due_phase, due_noted}
-use Rattle.hm_history.specs.declared.Kind.{Kind}
 use Rattle.hm_history.specs.declared.phases.Body.{Body}
 use Rattle.hm_history.specs.declared.phases.Migrating.{Migrating}
 use Rattle.hm_history.specs.declared.phases.MoveStep.{MoveStep}
 use Rattle.hm_history.specs.declared.phases.Touch.{Touch}
-use Rattle.hm_history.specs.declared.phases.Touch.TheVariants.{Cpu, Walk, Sole}
 use Rattle.hm_history.specs.declared.phases.Phase.{Phase}
 use Rattle.hm_history.specs.declared.phases.Next.{Next}
-use Rattle.hm_history.specs.declared.phases.Next.TheVariants.{Do}
 use Rattle.hm_flaws.specs.declared.flaws.Flaw.{Flaw}
-use Rattle.hm_flaws.specs.Overrides.{due_flawed, retry_or_commit, commit, is_left, begun_late}
+use Rattle.hm_flaws.specs.Overrides.{due_flawed, retry_or_commit, is_left, begun_late}
 
 pub not_compared : (c : Program) (s : After) (a : ℕ) (o : Op) (xs : List Migrating) (top : Phase) → ((k since q : ℕ) (x : Place) → top ≡ Phase.Noted k since q x → ⊥) → due_phase c s a o xs top ≡ due_flawed Flaw.NotCompared c s a o xs top
 not_compared c s a o xs (Phase.Noted k since q x) h = absurd (h k since q x refl)

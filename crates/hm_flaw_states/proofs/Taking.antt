@@ -1,5 +1,5 @@
 -- What a migration takes if no device counts as withdrawn, and what a removal does if each does.
-use Rattle.std.proofs.Common.{◌≡◌, ℕ, zero, suc, ◌+◌, ◌-◌, ◌<◌, ◌≤◌, Bool, true, false, not, ◌==◌, Option, Some, None, List, refl, sym, ap, ◌∙◌, arith}
+use Rattle.std.proofs.Common.{◌≡◌, ℕ, suc, ◌+◌, ◌-◌, ◌<◌, Bool, true, false, not, Option, Some, None, refl, sym, ap, ◌∙◌, arith}
 use Rattle.std.proofs.lemmas.Bool.Decides.{nat_tests}
 use Rattle.hm_base.specs.Program.{Program}
 use Rattle.hm_base.specs.declared.Frame.{Frame}
@@ -10,19 +10,12 @@ use Rattle.hm_history.specs.Memory.Plain.{mirror_dev}
 use Rattle.hm_history.specs.Memory.Places.{frame_of, pool_size, lowest_free, held_from}
 use Rattle.hm_history.specs.Memory.After.{After}
 use Rattle.hm_history.specs.Kernel.Operation.{op_mirror, is_to_device}
-use Rattle.hm_history.specs.Kernel.Going.{concerns, come_to, coming, steps_from}
-use Rattle.hm_history.specs.Kernel.Due.{skips, pool_of, fetch_page, due_step, due_moves, frames_end, frame_at, due_frames_of}
-use Rattle.hm_history.specs.declared.KeptAt.{KeptAt}
-use Rattle.hm_history.specs.declared.KeptWhy.{KeptWhy}
-use Rattle.hm_history.specs.declared.Kind.{Kind}
-use Rattle.hm_history.specs.declared.phases.Migrating.{Migrating}
-use Rattle.hm_history.specs.declared.phases.MoveStep.{MoveStep}
-use Rattle.hm_history.specs.declared.phases.Phase.{Phase}
+use Rattle.hm_history.specs.Kernel.Due.{pool_of, frames_end, frame_at, due_frames_of}
 use Rattle.hm_history.specs.declared.phases.Next.{Next}
 use Rattle.hm_history.specs.declared.phases.Next.TheVariants.{Do}
 use Rattle.hm_history.proofs.Least.{at_least}
 use Rattle.hm_flaws.specs.Overrides.{all_withdrawn}
-use Rattle.hm_flaw_states.specs.Steps.Found.{is_first, is_wanting}
+use Rattle.hm_flaw_states.specs.Steps.Found.{is_first}
 
 -- ---- the least number
 

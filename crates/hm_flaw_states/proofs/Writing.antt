@@ -1,18 +1,18 @@
 -- The bytes of frames after bytes were written or cleared as those of pages.
-use Rattle.std.proofs.Common.{◌≡◌, ℕ, zero, suc, ◌+◌, ◌-◌, ◌*◌, ◌/◌, ◌%◌, ◌≤◌, ◌<◌, Bool, true, false, ◌==◌, ◌&&◌, ◌||◌, nat_le, nat_lt, if◌then◌else◌, Option, Some, None, List, [], ◌∷◌, length, refl, sym, ap, ◌∙◌, ◌⊎◌, inl, inr, arith}
+use Rattle.std.proofs.Common.{◌≡◌, ℕ, zero, suc, ◌+◌, ◌-◌, ◌*◌, ◌/◌, ◌%◌, ◌≤◌, ◌<◌, Bool, true, false, ◌==◌, ◌&&◌, nat_le, nat_lt, if◌then◌else◌, Some, List, length, refl, sym, ap, ◌∙◌, ◌⊎◌, inl, inr, arith}
 use Rattle.std.proofs.Math.Path.{fun_ext}
 use Rattle.std.proofs.lemmas.Bool.Decides.{nat_tests}
 use Rattle.std.specs.Prelude.{slice_index}
 use Rattle.hm_flaw_states.specs.FrameBytes.{framed}
-use Rattle.hm_base.specs.Pages.{Pages, covers, one_page}
+use Rattle.hm_base.specs.Pages.{covers}
 use Rattle.hm_base.proofs.Shared.{pool_numbered, number_of_pool}
-use Rattle.hm_base.specs.PlaceWords.{pool_index, same_pool, same_frame, with_frame}
+use Rattle.hm_base.specs.PlaceWords.{pool_index, same_pool, with_frame}
 use Rattle.hm_base.specs.declared.PoolId.{PoolId}
 use Rattle.hm_base.specs.declared.Frame.{Frame}
-use Rattle.hm_history.specs.Memory.Words.{with_at, page_of, bytes_from}
+use Rattle.hm_history.specs.Memory.Words.{with_at, bytes_from}
 use Rattle.hm_history.specs.Memory.Plain.{with_bytes, with_zeros}
 use Rattle.hm_history.proofs.Pages.{bytes_length}
-use Rattle.hm_history.specs.Memory.Contents.{zeros, stored_in, with_piece, with_part_copied}
+use Rattle.hm_history.specs.Memory.Contents.{zeros, stored_in, with_piece}
 
 -- pools by their numbers
 pool_same : (p q : PoolId) → same_pool p q ≡ (pool_index p == pool_index q)

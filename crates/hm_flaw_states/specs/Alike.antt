@@ -8,7 +8,7 @@ use Rattle.hm_race_keys.specs.FrameTables.{held_in, lockers_in}
 use Rattle.hm_race_keys.specs.PagePlaces.{places_in}
 use Rattle.hm_race_states.specs.Bytes.{bytes_in}
 use Rattle.hm_race_states.specs.Mirrors.{mirrors_in}
-use Rattle.hm_race_states.specs.Small.{between_seqs}
+use Rattle.hm_flaw_states.specs.Exact.{exact_in}
 use Rattle.hm_race_states.specs.Spaces.{spaces_in}
 use Rattle.hm_race_states.specs.States.{goings_in}
 use Rattle.hm_flaw_states.specs.FrameBytes.{contents_in}
@@ -41,8 +41,8 @@ pub record SamePlaces (x y : FlawState) : Type 0 where
 -- the same sequences, locks and bytes of frames, and all actors as far
 pub record SameActors (x y : FlawState) : Type 0 where
   pub entries : x.entries ≡ y.entries
-  pub seqs : between_seqs x.seqs.value.kept ≡ between_seqs y.seqs.value.kept
-  pub guards : (a : ℕ) → guards_in x.guards.value.guards a ≡ guards_in y.guards.value.guards a
+  pub seqs : exact_in x.seqs.value.kept ≡ exact_in y.seqs.value.kept
+  pub guards : (a : ℕ) → guards_in x.guards.value.guards.items a ≡ guards_in y.guards.value.guards.items a
   pub maps : (a : ℕ) → lock_in x.maps.value.locks a ≡ lock_in y.maps.value.locks a
   pub locks : (f : Frame) → lockers_in x.locks.value f ≡ lockers_in y.locks.value f
   pub contents : (f : Frame) (o : ℕ) → contents_in x.contents.value f o ≡ contents_in y.contents.value f o

@@ -25,4 +25,5 @@ joined m a = record {
   tasks = a.tasks;
   few = a.few;
   windows = m.windows;
+  paced = m.paced;
 }

@@ -7,11 +7,14 @@ pub mod Found
 pub mod Placed
 pub mod Placing
 pub mod Commits
+pub mod Exact
+pub mod Guards
 pub mod Seqs
 pub mod Rooms
 pub mod Windows
 pub mod States
 pub mod Joined
+pub mod Follows
 pub mod Alike
 pub mod Buckets
 pub mod Keyed

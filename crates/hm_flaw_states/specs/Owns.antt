@@ -1,6 +1,8 @@
 -- What a driver has of its own, as contracts see it.
-use Rattle.std.specs.Prelude.{ℕ, Bool, false, List, slice_index_or}
+use Rattle.std.specs.Prelude.{ℕ, ⊤, Bool, false, List, length, slice_index_or}
 use Rattle.hm_base.specs.declared.Frame.{Frame}
+use Rattle.hm_history.specs.declared.Kind.{Kind}
+use Rattle.hm_laws.specs.Allowed.{InPage}
 use Rattle.hm_flaws.specs.Drivers.{Driver, is_device}
 use Rattle.hm_flaws.specs.declared.flaws.Flaw.{Flaw}
 use Rattle.hm_flaw_states.specs.FrameBytes.{contents_in}
@@ -25,3 +27,8 @@ driver_in x = record {
 abbrev pub leaves_bytes : Flaw → Frame → Bool
 leaves_bytes Flaw.NotCleared f = is_device f
 leaves_bytes l f = false
+
+-- the bytes of a store lie in one page
+abbrev pub StaysInPage : Kind → Type 0
+StaysInPage (Kind.Stored x at bs) = InPage at (length bs)
+StaysInPage k = ⊤

@@ -1,25 +1,9 @@
 -- Sequences, intervals and guards that are kept exactly, as contracts see them.
-use Rattle.std.specs.Prelude.{ℕ, Bool, Option, Some, None, List, slice_index_or}
-use Rattle.hm_history.specs.Memory.Sequences.{Sequences, Guarded}
-use Rattle.hm_folds.specs.Kept.{mirrors_of}
-use Rattle.hm_race_states.specs.Small.{between_seqs}
+use Rattle.hm_history.specs.Memory.Sequences.{Sequences}
+pub use Rattle.hm_flaw_states.specs.Guards.{guard_in, guard_of, guarded_in, guards_in, mirrors_in}
 use Rattle.hm_flaw_states.specs.declared.exact_seqs.ExactSeqs.{ExactSeqs}
-use Rattle.hm_flaw_states.specs.declared.guards.ActorGuard.{ActorGuard}
 use Rattle.hm_flaw_states.specs.declared.guards.ActorGuards.{ActorGuards}
-
--- the numbers of a set of mirrors, in rising order
-unfoldable pub mirrors_in : List Bool → List ℕ
-mirrors_in xs = mirrors_of xs
-
--- the guard of the definitions that a kept one stands for
-abbrev pub guard_in : Option ActorGuard → Option Guarded
-guard_in None = None
-guard_in (Some g) = Some (record { proc = g.proc; span = g.span; met = mirrors_in g.met; told = mirrors_in g.told })
-
--- the guard of an actor
-abbrev pub guards_in : List (Option ActorGuard) → ℕ → Option Guarded
-guards_in xs a = guard_in (slice_index_or xs a None)
 
 -- the sequences with the guards
 abbrev pub seqs_in : ExactSeqs → ActorGuards → Sequences
-seqs_in x y = record (between_seqs x.kept) { guard = guards_in y.guards }
+seqs_in x y = guarded_in x y.guards.items

@@ -1,5 +1,6 @@
 // What a driver with a flaw asks of a state besides what steps ask.
-ghost use Rattle.std.specs.Prelude.{◌≡◌, option_map};
+ghost use Rattle.std.specs.Prelude.{◌≡◌, ◌^◌, ◌≤◌, ◌<◌, ℕ, option_map};
+ghost use Rattle.hm_base.specs.declared.Place as places;
 ghost use Rattle.hm_history.specs.Memory.Sequences.{Interval};
 ghost use Rattle.hm_history.specs.Kernel.Going.{steps_from};
 ghost use Rattle.hm_flaws.specs.Drivers.{first_within};
@@ -13,6 +14,14 @@ use hm_reads::Reads;
 
 /// A state of a script with more of its details: the state that the history gives, by which legality judges.
 pub trait Details: Reads {
+    /// Costs nothing: it hands the prover that nothing is mapped past the last page.
+    fn none_past(&self)
+        ensures { (p v : ℕ) → 2 ^ 36 ≤ v → (Self.state self.now).after.places.place p v ≡ places.Place.Empty };
+
+    /// Costs nothing: it hands the prover that the sequence of each process can be raised by one.
+    fn can_be_raised(&self)
+        ensures { (p : ℕ) → (Self.state self.now).after.sequences.seq p < 18446744073709551615 };
+
     /// Where the frame was committed to since it was last taken.
     fn committed_to(&self, frame: &Frame) -> Option<Frame>
         ensures { result ≡ (Self.state self.now).after.places.committed_to frame.now };

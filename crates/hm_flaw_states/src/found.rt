@@ -1,5 +1,5 @@
 // A state as the actors of a driver with a flaw find it: each call reads one part.
-ghost use Rattle.std.specs.Prelude.{◌≡◌, ◌%◌, IfOk};
+ghost use Rattle.std.specs.Prelude.{◌≡◌, ◌+◌, ◌%◌, IfOk};
 ghost use Rattle.hm_history.specs.Memory.Words.{bytes_from};
 ghost use Rattle.hm_history.specs.Memory.Sequences.{interval_seq};
 ghost use Rattle.hm_history.specs.Memory.Contents.{shown_by};
@@ -111,23 +111,40 @@ impl<'a, W: Details> Found<'a, W> {
             && self.seq_of(mirror) != self.world.process_seq(self.world.mirror_proc(mirror))
     }
 
-    // The byte that a process's page shows at an address. It fails if the address has more than 48 bits.
-    fn shown(&self, proc: Proc, addr: u64) -> Result<u8, NoMemory>
-        ensures { IfOk result (λ byte. byte
-            ≡ shown_bytes (W.state self.now.world.now).after.places (driver_in self.now.own.now).contents proc addr) }
+    // The byte that a process's page shows this far after an address. Past the last page it is 0.
+    fn shown(&self, proc: Proc, addr: u64, number: u64) -> u8
+        ensures { result
+            ≡ shown_bytes (W.state self.now.world.now).after.places (driver_in self.now.own.now).contents proc
+            (addr + number) }
     {
-        let frame = shown_at(self.world, proc, addr)?;
-        Ok(self.own.bytes.shown(&frame, addr % 4096))
+        match addr.checked_add(number) {
+            Some(at) => {
+                let frame = shown_at(self.world, proc, at);
+                self.own.bytes.shown(&frame, at % 4096)
+            }
+            None => {
+                self.world.none_past();
+                0
+            }
+        }
     }
 
-    // The byte that a device reads at an address.
-    fn read(&self, mirror: MirrorId, addr: u64) -> Result<u8, NoMemory>
-        ensures { IfOk result (λ byte. byte
-            ≡ shown_by (driver_in self.now.own.now).contents (target_at (driver_in self.now.own.now) mirror addr)
-            (addr % 4096)) }
+    // The byte that a device reads this far after an address. Past the last page it is 0.
+    fn read(&self, mirror: MirrorId, addr: u64, number: u64) -> u8
+        ensures { result
+            ≡ shown_by (driver_in self.now.own.now).contents
+            (target_at (driver_in self.now.own.now) mirror (addr + number)) ((addr + number) % 4096) }
     {
-        let frame = self.own.target(mirror, addr)?;
-        Ok(self.own.bytes.shown(&frame, addr % 4096))
+        match addr.checked_add(number) {
+            Some(at) => {
+                let frame = self.own.target(mirror, at);
+                self.own.bytes.shown(&frame, at % 4096)
+            }
+            None => {
+                self.own.table.facts();
+                0
+            }
+        }
     }
 
     // The bytes that a process's pages show from an address on.
@@ -138,13 +155,7 @@ impl<'a, W: Details> Found<'a, W> {
     {
         let mut all = Vec::with_capacity(alloc, len as usize)?;
         for number in 0..len {
-            match addr.checked_add(number) {
-                Some(at) => {
-                    let byte = self.shown(proc, at)?;
-                    all.push(byte)?;
-                }
-                None => return Err(NoMemory),
-            }
+            all.push(self.shown(proc, addr, number))?;
         }
         Bytes::from_slice(alloc, &all)
     }
@@ -161,13 +172,7 @@ impl<'a, W: Details> Found<'a, W> {
     {
         let mut all = Vec::with_capacity(alloc, len as usize)?;
         for number in 0..len {
-            match addr.checked_add(number) {
-                Some(at) => {
-                    let byte = self.read(mirror, at)?;
-                    all.push(byte)?;
-                }
-                None => return Err(NoMemory),
-            }
+            all.push(self.read(mirror, addr, number))?;
         }
         Bytes::from_slice(alloc, &all)
     }
@@ -385,6 +390,10 @@ impl<'a, W: Details> Reads for Found<'a, W> {
 
 impl<'a, W: Details> Finds for Found<'a, W> {
     ghost driver = { λ f. driver_in f.own.now };
+
+    fn can_be_raised(&self) {
+        self.world.can_be_raised();
+    }
 
     fn is_readable(&self, mirror: MirrorId, page: Page) -> bool {
         match self.own.table.get(mirror, page) {

@@ -1,10 +1,11 @@
 // The bytes of frames.
-ghost use Rattle.std.specs.Prelude.{◌≡◌, ℕ, ◌*◌, ◌+◌, ◌≤◌, ◌<◌, ◌&&◌, nat_le, nat_lt, [], true, Some, if◌then◌else◌};
+ghost use Rattle.std.specs.Prelude.{◌≡◌, ℕ, ◌*◌, ◌+◌, ◌≤◌, ◌<◌, ◌&&◌, nat_le, nat_lt, [], true, Some, if◌then◌else◌, length};
 ghost use Rattle.std.specs.Prelude.{IfOk, OnOk};
 ghost use Rattle.hm_base.specs.PlaceWords.{pool_index, with_frame};
 ghost use Rattle.hm_base.specs.declared.Frame.{Frame as AnyFrame};
 ghost use Rattle.hm_history.specs.Memory.Words.{bytes_from};
 ghost use Rattle.hm_history.specs.Memory.Contents.{zeros, shown_by, stored_in, with_part_copied};
+ghost use Rattle.hm_laws.specs.Allowed.{InPage};
 ghost use Rattle.hm_race_keys.specs.Sparse.{mixed_items};
 ghost use Rattle.hm_race_states.specs.Bytes.{mixed_byte};
 ghost use Rattle.hm_flaw_states.specs.FrameBytes.{contents_in};
@@ -86,30 +87,28 @@ impl FrameBytes {
         self.items.clear(row_of(frame), Span::new(page, 1));
     }
 
-    // Writes bytes into the frame, from an address on of a page that it stands for. It fails if memory runs out, or the
-    // bytes pass the page's end; then some may be written.
+    // Writes bytes into the frame, from an address on of a page that it stands for. If memory runs out, some may be
+    // written.
     fn write(&mut self, frame: &Frame, addr: u64, bytes: &[u8]) -> Result<(), NoMemory>
+        requires { InPage addr (length bytes.now) }
         ensures { OnOk result
             (contents_in self.new ≡ stored_in (contents_in self.old) (Some frame.now) addr bytes.now) }
     {
         let offset = addr % 4096;
-        if bytes.len() as u64 > 4096 - offset {
-            return Err(NoMemory);
-        }
         Ok(
             self.items
                 .write(row_of(frame), start_of(frame) + offset, bytes)?,
         )
     }
 
-    /// Writes bytes into a frame, if there is one. It fails if memory runs out, or the bytes pass the page's end; then
-    /// some may be written.
+    /// Writes bytes into a frame, if there is one. If memory runs out, some may be written.
     pub(crate) fn store(
         &mut self,
         frame: &Option<Frame>,
         addr: u64,
         bytes: &[u8],
     ) -> Result<(), NoMemory>
+        requires { InPage addr (length bytes.now) }
         ensures { OnOk result (contents_in self.new ≡ stored_in (contents_in self.old) frame.now addr bytes.now) }
     {
         match frame {

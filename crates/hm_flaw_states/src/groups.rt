@@ -1,6 +1,6 @@
 // The parts of a state in groups of three or four. What makes a whole state makes the groups one after the other: few
 // are alive at each of its ways out.
-ghost use Rattle.std.specs.Prelude.{◌≡◌, ◌≤◌, ℕ, false, None, [], length, IfOk};
+ghost use Rattle.std.specs.Prelude.{◌≡◌, ◌+◌, ◌≤◌, ℕ, false, None, [], length, IfOk};
 ghost use Rattle.hm_history.specs.Memory.Contents.{contents_next};
 ghost use Rattle.hm_history.specs.Memory.Locks.{frame_next, map_next};
 ghost use Rattle.hm_history.specs.Memory.Places.{places_next};
@@ -11,14 +11,17 @@ ghost use Rattle.hm_race_keys.specs.FrameTables.{held_in, lockers_in};
 ghost use Rattle.hm_race_keys.specs.PagePlaces.{places_in};
 ghost use Rattle.hm_race_states.specs.Bytes.{bytes_in};
 ghost use Rattle.hm_race_states.specs.Mirrors.{mirrors_in};
-ghost use Rattle.hm_race_states.specs.Small.{between_seqs, unguarded};
+ghost use Rattle.hm_race_states.specs.Small.{unguarded};
+ghost use Rattle.hm_flaw_states.specs.Exact.{exact_in, IsPaced};
 ghost use Rattle.hm_race_states.specs.Spaces.{bare, spaces_in};
+ghost use Rattle.hm_spaces.specs.Spaces.{SpacesFit};
 ghost use Rattle.hm_flaw_states.specs.Commits.{commits_in, commits_next};
 ghost use Rattle.hm_flaw_states.specs.FrameBytes.{contents_in};
 ghost use Rattle.hm_flaw_states.specs.OwnTables.{table_in};
 ghost use Rattle.hm_flaw_states.specs.Placed.{pages_in, placed_next};
+ghost use Rattle.hm_flaw_states.specs.Owns.{StaysInPage};
 ghost use Rattle.hm_flaw_states.specs.Seqs.{guards_in, seqs_in};
-ghost use Rattle.hm_flaw_states.specs.States.{state_in};
+ghost use Rattle.hm_flaw_states.specs.States.{plain_in, state_in};
 ghost use Rattle.hm_flaw_states.specs.Windows.{SameWindows};
 
 use crate::commits::{FrameCommits, commits_after};
@@ -87,6 +90,7 @@ pub(crate) struct MemoryParts {
     pub devices: DeviceParts,
     pub locking: LockParts,
     ghost windows: { SameWindows processes.mirrors.value locking.seqs.value.kept.intervals },
+    ghost paced: { IsPaced locking.seqs.value.kept entries },
 }
 
 /// Of a state its actors.
@@ -144,14 +148,14 @@ pub(crate) fn first_devices(alloc: Global) -> Result<DeviceParts, NoMemory>
 pub(crate) fn first_locks(alloc: Global) -> Result<LockParts, NoMemory>
     ensures locks { IfOk result (λ x. x.locks.value ≡ []) }
     ensures maps { IfOk result (λ x. (a : ℕ) → lock_in x.maps.value.locks a ≡ None) }
-    ensures seqs { IfOk result (λ x. between_seqs x.seqs.value.kept ≡ sequences_start) }
-    ensures guards { IfOk result (λ x. (a : ℕ) → guards_in x.guards.value.guards a ≡ None) }
+    ensures seqs { IfOk result (λ x. exact_in x.seqs.value.kept ≡ sequences_start) }
+    ensures guards { IfOk result (λ x. (a : ℕ) → guards_in x.guards.value.guards.items a ≡ None) }
 {
     Ok(LockParts {
         locks: Rc::new(alloc, FrameLocks::new(alloc))?,
         maps: Rc::new(alloc, MapLocks::new())?,
         seqs: Rc::new(alloc, ExactSeqs::start())?,
-        guards: Rc::new(alloc, ActorGuards::new())?,
+        guards: Rc::new(alloc, ActorGuards::new(alloc)?)?,
     })
 }
 
@@ -164,6 +168,8 @@ impl FlawState {
         alloc: Global,
         kind: &Kind,
     ) -> Result<ProcessParts, NoMemory>
+        requires areas { SpacesFit (plain_in self.now) kind.now }
+        requires page { StaysInPage kind.now }
         ensures spaces { IfOk result
             (λ x. spaces_in x.spaces.value ≡ bare (plain_next (state_in self.now).after.plain kind.now)) }
         ensures bytes { IfOk result
@@ -204,13 +210,16 @@ impl FlawState {
         actor: Actor,
         kind: &Kind,
     ) -> Result<LockParts, NoMemory>
+        requires { IsPaced self.now.seqs.value.kept 2000000 }
         ensures frames { IfOk result (λ x. lockers_in x.locks.value
             ≡ frame_next (state_in self.now).after.locks (state_in self.now).after.places actor kind.now) }
         ensures maps { IfOk result
             (λ x. lock_in x.maps.value.locks ≡ map_next (state_in self.now).after.locks actor kind.now) }
-        ensures seqs { IfOk result (λ x. (a : ℕ) → between_seqs x.seqs.value.kept
-            ≡ unguarded (sequences_next (between_seqs self.now.seqs.value.kept) a kind.now)) }
-        ensures guards { IfOk result (λ x. guards_in x.guards.value.guards
+        ensures seqs { IfOk result (λ x. (a : ℕ) → exact_in x.seqs.value.kept
+            ≡ unguarded (sequences_next (exact_in self.now.seqs.value.kept) a kind.now)) }
+        ensures paced { IfOk result (λ x. (n : ℕ) → IsPaced self.now.seqs.value.kept n
+            → IsPaced x.seqs.value.kept (n + 1)) }
+        ensures guards { IfOk result (λ x. guards_in x.guards.value.guards.items
             ≡ (sequences_next (seqs_in self.now.seqs.value self.now.guards.value) actor kind.now).guard) }
     {
         Ok(LockParts {
@@ -225,6 +234,7 @@ impl FlawState {
 impl<'a> FlawHere<'a> {
     /// The marks of devices, the mirrors' tables, and the bytes of frames after an entry.
     pub(crate) fn devices_after(&self, alloc: Global, kind: &Kind) -> Result<DeviceParts, NoMemory>
+        requires { StaysInPage kind.now }
         ensures withdrawn { IfOk result (λ x. flag_in x.marks.value.withdrawn
             ≡ (places_next (state_in self.now.state.now).after.places kind.now).withdrawn) }
         ensures removed { IfOk result (λ x. flag_in x.marks.value.removed

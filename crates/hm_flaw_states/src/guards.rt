@@ -1,11 +1,10 @@
 // The invalidations under way, one of each actor at most, kept exactly.
-ghost use Rattle.std.specs.Prelude.{◌≡◌, ◌++◌, ◌∷◌, ℕ, [], true, Some, None, nat_lt, IfOk, OnOk};
-ghost use Rattle.std.specs.List.{list_all};
+ghost use Rattle.std.specs.Prelude.{◌≡◌, ◌++◌, ◌∷◌, ℕ, [], true, Some, None, length, IfOk, OnOk};
 ghost use Rattle.hm_history.specs.Memory.Words.{with_at};
 ghost use Rattle.hm_history.specs.Memory.Sequences.{Guarded, overlapping, sequences_next, with_told};
 ghost use Rattle.hm_folds.specs.Kept.{has_mirror};
-ghost use Rattle.hm_race_states.specs.Small.{between_seqs};
-ghost use Rattle.hm_flaw_states.specs.Seqs.{guard_in, guards_in, mirrors_in, seqs_in};
+ghost use Rattle.hm_flaw_states.specs.Exact.{exact_in};
+ghost use Rattle.hm_flaw_states.specs.Guards.{guard_in, guard_of, guarded_in, guards_in, mirrors_in};
 
 use crate::exact_seqs::ExactSeqs;
 use hm_base::{Actor, MirrorId, NoMemory, Proc, Span};
@@ -14,74 +13,69 @@ use hm_history::Kind;
 use std::alloc::Global;
 use std::rc::Rc;
 
-/// The guard of an actor: its process and span, the mirrors whose interval overlapped at its start, and those told.
-#[derive(Clone, Copy)]
+/// The guard of an actor: its process and span, the mirrors whose interval overlapped at its start, and those told, in
+/// the order in which they were told.
+#[derive(Drop)]
 pub struct ActorGuard {
     pub proc: Proc,
     pub span: Span,
     pub met: [bool; 32],
-    pub told: [bool; 32],
+    pub told: Vec<MirrorId>,
 }
 
-/// The guard of each actor that has one.
-#[derive(Clone, Copy)]
+/// The guard of each actor that has one. States share those that they have alike.
+#[derive(Drop)]
 pub struct ActorGuards {
-    pub guards: [Option<ActorGuard>; 16],
+    pub guards: Vec<Option<Rc<ActorGuard>>>,
+    ghost sized: { length guards.items ≡ 16 },
 }
 
-// Whether each mirror of the set has a lower number.
-fn all_below(set: &[bool; 32], mirror: MirrorId) -> bool
-    ensures { result ≡ true → list_all (λ k. nat_lt k mirror) (mirrors_in set.now) ≡ true }
-{
-    for number in 0..32u32 {
-        if set[number as usize] && number >= mirror.number() {
-            return false;
-        }
-    }
-    true
-}
-
-fn with_mirror(set: &[bool; 32], mirror: MirrorId) -> [bool; 32]
-    requires { list_all (λ k. nat_lt k mirror) (mirrors_in set.now) ≡ true }
-    ensures { mirrors_in result ≡ mirrors_in set.now ++ mirror ∷ [] }
-{
-    let mut more = *set;
-    more[mirror.number() as usize] = true;
-    more
-}
-
-// The guard with one more mirror told. It fails if one that was told is not below it.
-fn with_told(guard: &Option<ActorGuard>, mirror: MirrorId) -> Result<Option<ActorGuard>, NoMemory>
+// The guard with one more mirror told.
+fn with_told(
+    alloc: Global,
+    guard: &Option<Rc<ActorGuard>>,
+    mirror: MirrorId,
+) -> Result<Option<Rc<ActorGuard>>, NoMemory>
     ensures { IfOk result (λ g. guard_in g ≡ with_told mirror (guard_in guard.now)) }
 {
     match guard {
         None => Ok(None),
         Some(guard) => {
-            if !all_below(&guard.told, mirror) {
-                return Err(NoMemory);
-            }
-            let told = with_mirror(&guard.told, mirror);
-            Ok(Some(ActorGuard { told, ..*guard }))
+            let mut told = Vec::from_slice(alloc, guard.told.as_slice())?;
+            told.push(mirror)?;
+            let more = ActorGuard {
+                proc: guard.proc,
+                span: guard.span,
+                met: guard.met,
+                told,
+            };
+            Ok(Some(Rc::new(alloc, more)?))
         }
     }
 }
 
 // The guard of an invalidation that begins.
-fn begun(seqs: &ExactSeqs, proc: Proc, span: Span) -> ActorGuard
-    ensures { guard_in (Some result)
+fn begun(
+    alloc: Global,
+    seqs: &ExactSeqs,
+    proc: Proc,
+    span: Span,
+) -> Result<Rc<ActorGuard>, NoMemory>
+    ensures { IfOk result (λ x. guard_in (Some x)
         ≡ Some (record {
           proc = proc;
           span = span;
-          met = overlapping (between_seqs seqs.now.kept) proc span;
+          met = overlapping (exact_in seqs.now.kept) proc span;
           told = [];
-        }) }
+        })) }
 {
-    ActorGuard {
+    let new = ActorGuard {
         proc,
         span,
         met: overlapping(&seqs.kept.intervals, proc, span),
-        told: [false; 32],
-    }
+        told: Vec::new(alloc),
+    };
+    Ok(Rc::new(alloc, new)?)
 }
 
 fn same_set(one: &[bool; 32], other: &[bool; 32]) -> bool
@@ -103,9 +97,24 @@ fn same_mirrors(one: &[bool; 32], other: &[bool; 32]) -> bool
     same_set(one, other)
 }
 
+fn same_told(one: &[MirrorId], other: &[MirrorId]) -> bool
+    ensures yes { result ≡ true → one.now ≡ other.now }
+    ensures no { one.now ≡ other.now → result ≡ true }
+{
+    if one.len() != other.len() {
+        return false;
+    }
+    for at in 0..one.len() {
+        if one[at] != other[at] {
+            return false;
+        }
+    }
+    true
+}
+
 fn same_some(one: &ActorGuard, other: &ActorGuard) -> bool
-    ensures yes { result ≡ true → guard_in (Some one.now) ≡ guard_in (Some other.now) }
-    ensures no { guard_in (Some one.now) ≡ guard_in (Some other.now) → result ≡ true }
+    ensures yes { result ≡ true → guard_of one.now ≡ guard_of other.now }
+    ensures no { guard_of one.now ≡ guard_of other.now → result ≡ true }
 {
     if one.proc != other.proc {
         return false;
@@ -116,10 +125,10 @@ fn same_some(one: &ActorGuard, other: &ActorGuard) -> bool
     if !same_mirrors(&one.met, &other.met) {
         return false;
     }
-    same_mirrors(&one.told, &other.told)
+    same_told(one.told.as_slice(), other.told.as_slice())
 }
 
-fn same_guard(one: &Option<ActorGuard>, other: &Option<ActorGuard>) -> bool
+fn same_guard(one: &Option<Rc<ActorGuard>>, other: &Option<Rc<ActorGuard>>) -> bool
     ensures yes { result ≡ true → guard_in one.now ≡ guard_in other.now }
     ensures no { guard_in one.now ≡ guard_in other.now → result ≡ true }
 {
@@ -132,7 +141,9 @@ fn same_guard(one: &Option<ActorGuard>, other: &Option<ActorGuard>) -> bool
     }
 }
 
-fn same_guards(one: &[Option<ActorGuard>; 16], other: &[Option<ActorGuard>; 16]) -> bool
+fn same_guards(one: &[Option<Rc<ActorGuard>>], other: &[Option<Rc<ActorGuard>>]) -> bool
+    requires one { length one.now ≡ 16 }
+    requires other { length other.now ≡ 16 }
     ensures yes { result ≡ true → (a : ℕ) → guards_in one.now a ≡ guards_in other.now a }
     ensures no { ((a : ℕ) → guards_in one.now a ≡ guards_in other.now a) → result ≡ true }
 {
@@ -144,45 +155,79 @@ fn same_guards(one: &[Option<ActorGuard>; 16], other: &[Option<ActorGuard>; 16])
     true
 }
 
+// The same guard, in the same memory.
+fn shared(guard: &Option<Rc<ActorGuard>>) -> Result<Option<Rc<ActorGuard>>, NoMemory>
+    ensures { IfOk result (λ g. guard_in g ≡ guard_in guard.now) }
+{
+    match guard {
+        None => Ok(None),
+        Some(some) => Ok(Some(some.clone()?)),
+    }
+}
+
 impl ActorGuards {
     /// None.
-    pub fn new() -> ActorGuards
-        ensures { (a : ℕ) → guards_in result.guards a ≡ None }
+    pub fn new(alloc: Global) -> Result<ActorGuards, NoMemory>
+        ensures { IfOk result (λ x. (a : ℕ) → guards_in x.guards.items a ≡ None) }
     {
-        ActorGuards { guards: [None; 16] }
+        let mut guards = Vec::with_capacity(alloc, 16)?;
+        for _ in 0..16u32 {
+            guards.push(None)?;
+        }
+        Ok(ActorGuards { guards })
     }
 
-    fn set(&mut self, actor: Actor, guard: Option<ActorGuard>)
-        ensures { guards_in self.new.guards ≡ with_at (guards_in self.old.guards) actor (guard_in guard) }
+    // The same guards, shared.
+    fn copy(&self, alloc: Global) -> Result<ActorGuards, NoMemory>
+        ensures { IfOk result (λ x. guards_in x.guards.items ≡ guards_in self.now.guards.items) }
+    {
+        let mut guards = Vec::with_capacity(alloc, 16)?;
+        for at in 0..self.guards.len() {
+            guards.push(shared(&self.guards[at])?)?;
+        }
+        Ok(ActorGuards { guards })
+    }
+
+    fn set(&mut self, actor: Actor, guard: Option<Rc<ActorGuard>>)
+        ensures { guards_in self.new.guards.items
+            ≡ with_at (guards_in self.old.guards.items) actor (guard_in guard) }
     {
         self.guards[actor.number() as usize] = guard;
     }
 
-    fn tell(&mut self, actor: Actor, mirror: MirrorId) -> Result<(), NoMemory>
+    fn tell(&mut self, alloc: Global, actor: Actor, mirror: MirrorId) -> Result<(), NoMemory>
         ensures { OnOk result
-            (guards_in self.new.guards
-            ≡ with_at (guards_in self.old.guards) actor (with_told mirror (guards_in self.old.guards actor))) }
+            (guards_in self.new.guards.items
+            ≡ with_at (guards_in self.old.guards.items) actor
+            (with_told mirror (guards_in self.old.guards.items actor))) }
     {
-        let told = with_told(&self.guards[actor.number() as usize], mirror)?;
+        let told = with_told(alloc, &self.guards[actor.number() as usize], mirror)?;
         self.set(actor, told);
         Ok(())
     }
 
     // The guards after an entry; `seqs` are the sequences before it.
-    fn step(&mut self, seqs: &ExactSeqs, actor: Actor, kind: &Kind) -> Result<(), NoMemory>
+    fn step(
+        &mut self,
+        alloc: Global,
+        seqs: &ExactSeqs,
+        actor: Actor,
+        kind: &Kind,
+    ) -> Result<(), NoMemory>
         ensures { OnOk result
-            (guards_in self.new.guards ≡ (sequences_next (seqs_in seqs.now self.old) actor kind.now).guard) }
+            (guards_in self.new.guards.items ≡ (sequences_next (guarded_in seqs.now self.old.guards.items) actor kind.now).guard) }
     {
         match kind {
             Kind::Start { proc, span, seq: _ } => {
-                self.set(actor, Some(begun(seqs, *proc, *span)));
+                let new = begun(alloc, seqs, *proc, *span)?;
+                self.set(actor, Some(new));
                 Ok(())
             }
             Kind::Told {
                 mirror,
                 span: _,
                 seq: _,
-            } => Ok(self.tell(actor, *mirror)?),
+            } => Ok(self.tell(alloc, actor, *mirror)?),
             Kind::End { .. } => {
                 self.set(actor, None);
                 Ok(())
@@ -193,15 +238,16 @@ impl ActorGuards {
 
     /// Whether each actor has the same guard in both.
     pub fn same(&self, other: &ActorGuards) -> bool
-        ensures yes { result ≡ true → (a : ℕ) → guards_in self.now.guards a ≡ guards_in other.now.guards a }
-        ensures no { ((a : ℕ) → guards_in self.now.guards a ≡ guards_in other.now.guards a) → result ≡ true }
+        ensures yes { result ≡ true
+            → (a : ℕ) → guards_in self.now.guards.items a ≡ guards_in other.now.guards.items a }
+        ensures no { ((a : ℕ) → guards_in self.now.guards.items a ≡ guards_in other.now.guards.items a)
+            → result ≡ true }
     {
-        same_guards(&self.guards, &other.guards)
+        same_guards(self.guards.as_slice(), other.guards.as_slice())
     }
 }
 
-/// The guards after an entry; `seqs` are the sequences before it. It fails if memory runs out, or mirrors are not told
-/// in rising number.
+/// The guards after an entry; `seqs` are the sequences before it.
 pub(crate) fn guards_after(
     alloc: Global,
     guards: &Rc<ActorGuards>,
@@ -209,13 +255,13 @@ pub(crate) fn guards_after(
     actor: Actor,
     kind: &Kind,
 ) -> Result<Rc<ActorGuards>, NoMemory>
-    ensures { IfOk result (λ x. guards_in x.value.guards
-        ≡ (sequences_next (seqs_in seqs.now guards.now.value) actor kind.now).guard) }
+    ensures { IfOk result (λ x. guards_in x.value.guards.items
+        ≡ (sequences_next (guarded_in seqs.now guards.now.value.guards.items) actor kind.now).guard) }
 {
     match kind {
         Kind::Start { .. } | Kind::Told { .. } | Kind::End { .. } => {
-            let mut new = **guards;
-            new.step(seqs, actor, kind)?;
+            let mut new = guards.copy(alloc)?;
+            new.step(alloc, seqs, actor, kind)?;
             Ok(Rc::new(alloc, new)?)
         }
         _ => Ok(guards.clone()?),

@@ -317,6 +317,14 @@ fn first_in(window: Option<Span>, span: Span) -> Page
 }
 
 impl<'a> Details for FlawHere<'a> {
+    fn none_past(&self) {
+        self.state.places.facts();
+    }
+
+    fn can_be_raised(&self) {
+        self.state.seqs.facts();
+    }
+
     fn committed_to(&self, frame: &Frame) -> Option<Frame> {
         self.state.commits.get(frame)
     }

@@ -1,20 +1,24 @@
 // A state after an entry.
-ghost use Rattle.std.specs.Prelude.{◌≡◌, ◌<◌, ◌≤◌, ◌+◌, ℕ, length, map, IfOk};
+ghost use Rattle.std.specs.Prelude.{◌≡◌, ◌<◌, ◌≤◌, true, length, map, IfOk};
 ghost use Rattle.std.specs.Rc.{rc_value};
 ghost use Rattle.hm_history.specs.Kernel.Going.{going_next, op_at};
 ghost use Rattle.hm_history.specs.Memory.After.{after_entry};
+ghost use Rattle.hm_history.specs.Memory.Plain.{plain_accepts};
+ghost use Rattle.hm_history.specs.declared.phases.Seen.{Seen as AnySeen};
 ghost use Rattle.hm_actors.specs.Actors.{IsSeen};
 ghost use Rattle.hm_flaws.specs.Flawed.{found, flawed_next, going_by, taken_for};
-ghost use Rattle.hm_flaw_states.specs.Owns.{driver_in};
+ghost use Rattle.hm_flaw_states.specs.Owns.{driver_in, StaysInPage};
+ghost use Rattle.hm_flaw_states.specs.Rooms.{IsQuietAt};
 ghost use Rattle.hm_race_states.specs.Goings.{goings_with};
 ghost use Rattle.hm_race_states.specs.States.{goings_in};
 ghost use Rattle.hm_race_states.specs.Tasks.{going_in};
+ghost use Rattle.hm_flaw_states.specs.Follows.{Follows, Standing};
 ghost use Rattle.hm_flaw_states.specs.Joined.{joined};
-ghost use Rattle.hm_flaw_states.specs.States.{state_in};
+ghost use Rattle.hm_flaw_states.specs.States.{plain_in, state_in};
 ghost use Rattle.hm_flaw_states.specs.declared.groups.ActorParts.{ActorParts as AnyActors};
 
 use crate::found::Found;
-use crate::goings::task_after;
+use crate::goings::{facts_of, task_after};
 use crate::groups::{ActorParts, MemoryParts};
 use crate::here::FlawHere;
 use crate::joined::joined;
@@ -30,15 +34,6 @@ use hm_history::{Entry, Kind};
 use hm_race_states::tasks::RaceTask;
 use std::alloc::Global;
 use std::rc::Rc;
-
-fn one_more(count: u64) -> Result<u64, NoMemory>
-    ensures { IfOk result (λ n. n ≡ count + 1) }
-{
-    match count.checked_add(1) {
-        Some(more) => Ok(more),
-        None => Err(NoMemory),
-    }
-}
 
 // The same actors, shared.
 fn shared(alloc: Global, tasks: &[Rc<RaceTask>]) -> Result<Vec<Rc<RaceTask>>, NoMemory>
@@ -106,7 +101,14 @@ impl FlawState {
         actor: Actor,
         kind: &Kind,
     ) -> Result<RaceTask, NoMemory>
-        requires { actor < length self.now.tasks.items }
+        requires there { actor < length self.now.tasks.items }
+        requires room { self.now.entries ≤ 2000000 }
+        requires standing { Standing (state_in self.now) }
+        requires quiet { (seen : AnySeen)
+            → IsSeen script.now
+            (found flaw script.now (record { state = state_in self.now; driver = driver_in own.now })) actor
+            ((state_in self.now).going actor) kind.now seen
+            → IsQuietAt ((state_in self.now).going actor).stack seen }
         ensures { IfOk result (λ t. let g = (state_in self.now).going actor in going_in t
             ≡ going_by flaw (op_at script.now actor g.index) (state_in self.now).after.length g.stack kind.now
             (going_next script.now
@@ -127,7 +129,7 @@ impl FlawState {
         own: &Own,
         entry: &Entry,
     ) -> Result<RaceTask, NoMemory>
-        requires { entry.now.actor < length self.now.tasks.items }
+        requires { Follows flaw script.now self.now (driver_in own.now) entry.now }
         ensures { IfOk result (λ t. let g = (state_in self.now).going entry.now.actor in
             let k = taken_for flaw g.stack entry.now.kind in going_in t
             ≡ going_by flaw (op_at script.now entry.now.actor g.index) (state_in self.now).after.length g.stack k
@@ -155,13 +157,11 @@ impl FlawState {
         own: &Own,
         entry: &Entry,
     ) -> Result<ActorParts, NoMemory>
+        requires { Follows flaw script.now self.now (driver_in own.now) entry.now }
         ensures { IfOk result (λ x. goings_in (map rc_value x.tasks.items)
             ≡ (flawed_next flaw script.now (record { state = state_in self.now; driver = driver_in own.now })
             entry.now).state.going) }
     {
-        if entry.actor.number() as usize >= self.tasks.len() {
-            return Err(NoMemory);
-        }
         let moved = self.moved(alloc, script, flaw, own, entry)?;
         Ok(tasks_with(alloc, &self.tasks, entry.actor, moved)?)
     }
@@ -173,6 +173,9 @@ impl FlawState {
         script: &Script,
         entry: &Entry,
     ) -> Result<MemoryParts, NoMemory>
+        requires page { StaysInPage entry.now.kind }
+        requires answers { plain_accepts (plain_in self.now) entry.now.kind ≡ true }
+        requires room { self.now.entries ≤ 2000000 }
         ensures { IfOk result (λ m. (x : AnyActors)
             → (state_in (joined m x)).after ≡ after_entry (state_in self.now).after entry.now) }
     {
@@ -181,7 +184,7 @@ impl FlawState {
             script,
             state: self,
         };
-        let entries = one_more(self.entries)?;
+        let entries = self.entries + 1;
         let processes = self.processes_after(alloc, kind)?;
         let pages = self.pages_after(alloc, kind)?;
         let devices = here.devices_after(alloc, kind)?;
@@ -196,9 +199,7 @@ impl FlawState {
         })
     }
 
-    /// The state after an entry, if the driver has this flaw. It fails if memory runs out, if a change of areas is
-    /// refused, and if the state does not have the entry's actor; if a number overflows, a stack would have more than
-    /// three phases, mirrors are not told in rising number, an address has more than 48 bits, or bytes pass their page.
+    /// The state after an entry that is due, if the driver has this flaw.
     pub fn after(
         &self,
         alloc: Global,
@@ -207,10 +208,14 @@ impl FlawState {
         own: &Own,
         entry: &Entry,
     ) -> Result<FlawState, NoMemory>
-        ensures { IfOk result (λ x. state_in x
+        requires { Follows flaw script.now self.now (driver_in own.now) entry.now }
+        ensures next { IfOk result (λ x. state_in x
             ≡ (flawed_next flaw script.now (record { state = state_in self.now; driver = driver_in own.now })
             entry.now).state) }
+        ensures standing { IfOk result (λ x. Standing (state_in x)) }
     {
+        script.facts();
+        facts_of(&entry.kind);
         let actors = self.actors_after(alloc, script, flaw, own, entry)?;
         let memory = self.memory_after(alloc, script, entry)?;
         Ok(joined(memory, actors))

@@ -1,5 +1,5 @@
 // All that a driver has of its own.
-ghost use Rattle.std.specs.Prelude.{◌≡◌, ℕ, [], IfOk, OnOk};
+ghost use Rattle.std.specs.Prelude.{◌≡◌, ℕ, [], length, IfOk, OnOk};
 ghost use Rattle.hm_history.specs.Memory.Words.{with_at, page_of};
 ghost use Rattle.hm_history.specs.Memory.Places.{with_entry};
 ghost use Rattle.hm_history.specs.Memory.Sequences.{interval_proc};
@@ -9,7 +9,8 @@ ghost use Rattle.hm_history.specs.declared.Kind as kinds;
 ghost use Rattle.hm_flaws.specs.Drivers.{driver_of, driver_next, leaves_seq, is_late, erased_all, target_at};
 ghost use Rattle.hm_flaws.specs.Drivers.{taken_contents, driver_contents};
 ghost use Rattle.hm_flaws.specs.declared.flaws.Flaw.{Flaw as AnyFlaw};
-ghost use Rattle.hm_flaw_states.specs.Owns.{driver_in, leaves_bytes};
+ghost use Rattle.hm_laws.specs.Allowed.{InPage};
+ghost use Rattle.hm_flaw_states.specs.Owns.{driver_in, leaves_bytes, StaysInPage};
 
 use crate::details::Details;
 use crate::frame_bytes::FrameBytes;
@@ -68,20 +69,17 @@ pub(crate) fn backing<W: Details>(world: &W, place: &Place) -> Option<Frame>
     }
 }
 
-/// The frame that a process's page stands for. It fails if the address has more than 48 bits.
-pub(crate) fn shown_at<W: Details>(
-    world: &W,
-    proc: Proc,
-    addr: u64,
-) -> Result<Option<Frame>, NoMemory>
-    ensures { IfOk result (λ f. f
+/// The frame that a process's page stands for; none past the last page.
+pub(crate) fn shown_at<W: Details>(world: &W, proc: Proc, addr: u64) -> Option<Frame>
+    ensures { result
         ≡ backing (W.state world.now).after.places
-        ((W.state world.now).after.places.place proc (page_of addr))) }
+        ((W.state world.now).after.places.place proc (page_of addr)) }
 {
     if addr >= 1 << 48 {
-        return Err(NoMemory);
+        world.none_past();
+        return None;
     }
-    Ok(backing(world, &world.place(proc, page_of(addr))))
+    backing(world, &world.place(proc, page_of(addr)))
 }
 
 // The sequence that a mirror's interval gets when it is told.
@@ -118,17 +116,18 @@ impl Own {
         })
     }
 
-    /// The frame of the table entry at an address of a mirror; none for the zero page, and if there is no entry. It
-    /// fails if the address has more than 48 bits.
-    pub(crate) fn target(&self, mirror: MirrorId, addr: u64) -> Result<Option<Frame>, NoMemory>
-        ensures { IfOk result (λ f. f ≡ target_at (driver_in self.now) mirror addr) }
+    /// The frame of the table entry at an address of a mirror; none for the zero page, and if there is no entry, as
+    /// past the last page.
+    pub(crate) fn target(&self, mirror: MirrorId, addr: u64) -> Option<Frame>
+        ensures { result ≡ target_at (driver_in self.now) mirror addr }
     {
         if addr >= 1 << 48 {
-            return Err(NoMemory);
+            self.table.facts();
+            return None;
         }
         match self.table.get(mirror, page_of(addr)) {
-            Some(entry) => Ok(entry.mapping.target),
-            None => Ok(None),
+            Some(entry) => entry.mapping.target,
+            None => None,
         }
     }
 
@@ -176,6 +175,7 @@ impl Own {
         addr: u64,
         bytes: &[u8],
     ) -> Result<(), NoMemory>
+        requires { InPage addr (length bytes.now) }
         ensures { OnOk result ((l : AnyFlaw)
             → driver_in self.new ≡ record (driver_in self.old) {
               contents = driver_contents l (W.state world.now).after (driver_in self.old) (kinds.Kind.Stored who addr
@@ -183,8 +183,8 @@ impl Own {
             }) }
     {
         let frame = match who {
-            Who::Cpu(proc) => shown_at(world, proc, addr)?,
-            Who::Mirror(mirror) => self.target(mirror, addr)?,
+            Who::Cpu(proc) => shown_at(world, proc, addr),
+            Who::Mirror(mirror) => self.target(mirror, addr),
         };
         Ok(self.bytes.store(&frame, addr, bytes)?)
     }
@@ -230,6 +230,7 @@ impl Own {
         flaw: Flaw,
         kind: &Kind,
     ) -> Result<(), NoMemory>
+        requires { StaysInPage kind.now }
         ensures { OnOk result (driver_in self.new ≡ record (driver_in self.old) {
           contents = driver_contents flaw (W.state world.now).after (driver_in self.old) kind.now;
         }) }
@@ -254,8 +255,7 @@ impl Own {
     }
 
     /// What the driver has after an entry of the actor; `world` is the state before it, and `own` says that the entry
-    /// tells a mirror of an invalidation for a migration of its own device. It fails if memory runs out, an address has
-    /// more than 48 bits, or bytes pass the end of their page; then it is of no more use.
+    /// tells a mirror of an invalidation for a migration of its own device. If memory runs out, it is of no more use.
     pub fn step<W: Details>(
         &mut self,
         alloc: Global,
@@ -265,6 +265,7 @@ impl Own {
         actor: Actor,
         kind: &Kind,
     ) -> Result<(), NoMemory>
+        requires { StaysInPage kind.now }
         ensures { OnOk result
             (driver_in self.new
             ≡ driver_next flaw (W.state world.now).after own (driver_in self.old) actor kind.now) }

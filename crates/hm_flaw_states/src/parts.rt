@@ -1,11 +1,12 @@
 // The parts of a state after an entry. What the entry does not change is shared.
-ghost use Rattle.std.specs.Prelude.{◌≡◌, IfOk, OnOk};
+ghost use Rattle.std.specs.Prelude.{◌≡◌, length, IfOk, OnOk};
 ghost use Rattle.hm_history.specs.Memory.Contents.{contents_next, backing, place_for, stored_in};
 ghost use Rattle.hm_history.specs.Memory.Locks.{frame_next, map_next, orphan};
 ghost use Rattle.hm_history.specs.Memory.Places.{places_next};
 ghost use Rattle.hm_history.specs.Memory.Plain.{owner, plain_next, written_for};
 ghost use Rattle.hm_history.specs.Memory.Words.{page_of};
 ghost use Rattle.hm_folds.specs.Been.{been_of, been_next};
+ghost use Rattle.hm_laws.specs.Allowed.{InPage};
 ghost use Rattle.hm_race_keys.specs.Arrays.{flag_in, lock_in};
 ghost use Rattle.hm_race_keys.specs.FrameTables.{held_in, lockers_in};
 ghost use Rattle.hm_race_keys.specs.PagePlaces.{places_in};
@@ -13,9 +14,11 @@ ghost use Rattle.hm_race_keys.specs.Trail.{entry_old};
 ghost use Rattle.hm_race_states.specs.Bytes.{bytes_in};
 ghost use Rattle.hm_race_states.specs.Mirrors.{mirrors_in};
 ghost use Rattle.hm_race_states.specs.Spaces.{bare, spaces_in};
+ghost use Rattle.hm_spaces.specs.Spaces.{SpacesFit};
 ghost use Rattle.hm_flaw_states.specs.FrameBytes.{contents_in};
 ghost use Rattle.hm_flaw_states.specs.OwnTables.{table_in};
-ghost use Rattle.hm_flaw_states.specs.States.{state_in};
+ghost use Rattle.hm_flaw_states.specs.Owns.{StaysInPage};
+ghost use Rattle.hm_flaw_states.specs.States.{plain_in, state_in};
 
 use crate::details::Details;
 use crate::frame_bytes::FrameBytes;
@@ -56,6 +59,7 @@ impl FlawState {
         alloc: Global,
         kind: &Kind,
     ) -> Result<Rc<RaceSpaces>, NoMemory>
+        requires { SpacesFit (plain_in self.now) kind.now }
         ensures { IfOk result
             (λ x. spaces_in x.value ≡ bare (plain_next (state_in self.now).after.plain kind.now)) }
     {
@@ -88,6 +92,7 @@ impl FlawState {
         addr: u64,
         written: &[u8],
     ) -> Result<Rc<RaceBytes>, NoMemory>
+        requires { InPage addr (length written.now) }
         ensures { IfOk result (λ x. bytes_in x.value
             ≡ written_for (state_in self.now).after.plain.bytes (owner (state_in self.now).after.plain who) addr
             written.now) }
@@ -103,6 +108,7 @@ impl FlawState {
     }
 
     pub(crate) fn bytes_after(&self, alloc: Global, kind: &Kind) -> Result<Rc<RaceBytes>, NoMemory>
+        requires { StaysInPage kind.now }
         ensures { IfOk result (λ x. bytes_in x.value ≡ (plain_next (state_in self.now).after.plain kind.now).bytes) }
     {
         match kind {
@@ -256,18 +262,14 @@ impl FlawState {
     }
 }
 
-// The frame that a process's page stands for; none without a process. It fails if the address has more than 48 bits.
-fn frame_for<W: Details>(
-    world: &W,
-    proc: Option<Proc>,
-    addr: u64,
-) -> Result<Option<Frame>, NoMemory>
-    ensures { IfOk result (λ f. f
-        ≡ backing (W.state world.now).after.places (place_for (W.state world.now).after.places proc (page_of addr))) }
+// The frame that a process's page stands for; none without a process, and past the last page.
+fn frame_for<W: Details>(world: &W, proc: Option<Proc>, addr: u64) -> Option<Frame>
+    ensures { result
+        ≡ backing (W.state world.now).after.places (place_for (W.state world.now).after.places proc (page_of addr)) }
 {
     match proc {
-        None => Ok(None),
-        Some(proc) => Ok(shown_at(world, proc, addr)?),
+        None => None,
+        Some(proc) => shown_at(world, proc, addr),
     }
 }
 
@@ -279,12 +281,13 @@ fn store_for<W: Details>(
     addr: u64,
     written: &[u8],
 ) -> Result<(), NoMemory>
+    requires { InPage addr (length written.now) }
     ensures { OnOk result (contents_in contents.new
         ≡ stored_in (contents_in contents.old)
         (backing (W.state world.now).after.places (place_for (W.state world.now).after.places proc (page_of addr)))
         addr written.now) }
 {
-    let frame = frame_for(world, proc, addr)?;
+    let frame = frame_for(world, proc, addr);
     Ok(contents.store(&frame, addr, written)?)
 }
 
@@ -352,6 +355,7 @@ impl<'a> FlawHere<'a> {
         addr: u64,
         written: &[u8],
     ) -> Result<Rc<FrameBytes>, NoMemory>
+        requires { InPage addr (length written.now) }
         ensures { IfOk result (λ x. contents_in x.value
             ≡ stored_in (state_in self.now.state.now).after.contents
             (backing (state_in self.now.state.now).after.places
@@ -369,6 +373,7 @@ impl<'a> FlawHere<'a> {
         alloc: Global,
         kind: &Kind,
     ) -> Result<Rc<FrameBytes>, NoMemory>
+        requires { StaysInPage kind.now }
         ensures { IfOk result (λ x. contents_in x.value
             ≡ contents_next (state_in self.now.state.now).after.plain (state_in self.now.state.now).after.places
             (state_in self.now.state.now).after.contents kind.now) }

@@ -1,18 +1,23 @@
 // The key after a set-up, which the right driver made.
-ghost use Rattle.std.specs.Prelude.{◌≡◌, ◌≤◌, ℕ, None, [], ◌∷◌, ◌++◌, List, IfOk, OnOk};
+ghost use Rattle.std.specs.Prelude.{◌≡◌, ◌≤◌, ℕ, true, None, [], ◌∷◌, ◌++◌, List, length, IfOk, OnOk};
 ghost use Rattle.hm_history.specs.Memory.Sequences.{interval_seq};
 ghost use Rattle.hm_history.specs.Kernel.Due as spec;
+ghost use Rattle.hm_history.specs.Kernel.Run.{is_entry};
 ghost use Rattle.hm_history.specs.Laws.{DueFrom};
 ghost use Rattle.hm_history.specs.declared.Entry.{Entry as AnyEntry};
 ghost use Rattle.hm_history.specs.declared.Progress.{Progress as AnyProgress};
 ghost use Rattle.hm_flaws.specs.Drivers.{driver_of};
 ghost use Rattle.hm_folds.specs.Kept.{interval_at};
 ghost use Rattle.hm_flaw_states.specs.Owns.{driver_in, seq_in};
-ghost use Rattle.hm_race_states.specs.Small.{between_seqs};
+ghost use Rattle.hm_flaw_states.specs.Exact.{exact_in};
 ghost use Rattle.hm_flaw_parts.specs.Races.Races.{point_from};
 ghost use Rattle.hm_flaw_states.specs.States.{state_in};
 ghost use Rattle.hm_flaw_states.specs.Keyed.{entries_in, form_in};
-ghost use Rattle.hm_flaw_states.specs.SetUps.{IsAfter};
+ghost use Rattle.hm_flaws.specs.declared.flaws.Flaw.{Flaw as AnyFlaw};
+ghost use Rattle.hm_flaw_parts.specs.declared.judged.Judging.{Judging as AnyJudging};
+ghost use Rattle.hm_flaw_states.specs.Follows.{Follows};
+ghost use Rattle.hm_flaw_states.specs.SetUps.{IsAfter, IsNext};
+ghost use Rattle.hm_flaw_states.specs.Turns.{IsKept};
 
 use crate::exact_seqs::ExactSeqs;
 use crate::here::FlawHere;
@@ -50,7 +55,7 @@ fn nothing(alloc: Global, script: &Script) -> Result<SoFar, NoMemory>
     })
 }
 
-// The entry that is due to the actor.
+// The entry that is due to the actor, to whom one is.
 fn due_entry<R: SkipRule>(
     alloc: Global,
     script: &Script,
@@ -58,13 +63,14 @@ fn due_entry<R: SkipRule>(
     state: &FlawState,
     actor: Actor,
 ) -> Result<Entry, NoMemory>
+    requires { is_entry (spec.due_in script.now (state_in state.now) actor) ≡ true }
     ensures { IfOk result (λ e. spec.due_in script.now (state_in state.now) actor ≡ AnyProgress.Did e) }
 {
     let here = FlawHere { script, state };
     match hm_steps::due(&here, rule, alloc, actor)? {
         Progress::Did(entry) => Ok(entry),
-        Progress::Waiting(_) => Err(NoMemory),
-        Progress::Idle => Err(NoMemory),
+        Progress::Waiting(_) => unreachable!(),
+        Progress::Idle => unreachable!(),
     }
 }
 
@@ -76,6 +82,7 @@ fn add_entry(
     so_far: &mut SoFar,
     entry: Entry,
 ) -> Result<(), NoMemory>
+    requires { Follows AnyFlaw.NoFlaw script.now so_far.old.state (driver_in own.now) entry }
     ensures { OnOk result ((h : List AnyEntry) → IsAfter script.now h so_far.old
         → IsAfter script.now (h ++ entry ∷ []) so_far.new) }
 {
@@ -102,9 +109,13 @@ fn add_next<R: SkipRule>(
     so_far: &mut SoFar,
     actor: Actor,
 ) -> Result<(), NoMemory>
+    requires { IsNext script.now so_far.old actor }
     ensures { OnOk result ((h : List AnyEntry) (e : AnyEntry) → IsAfter script.now h so_far.old
         → spec.due script.now h actor ≡ AnyProgress.Did e → IsAfter script.now (h ++ e ∷ []) so_far.new) }
 {
+    script.facts();
+    hm_flaws::right_breaks_none();
+    hm_flaws::right_is_due();
     let entry = due_entry(alloc, script, rule, &so_far.state, actor)?;
     Ok(add_entry(alloc, script, own, so_far, entry)?)
 }
@@ -116,7 +127,8 @@ fn after_set_up<R: SkipRule>(
     rule: &R,
     set_up: &[Entry],
 ) -> Result<SoFar, NoMemory>
-    requires { DueFrom script.now [] set_up.now }
+    requires due { DueFrom script.now [] set_up.now }
+    requires few { length set_up.now ≤ 2000000 }
     ensures { IfOk result (IsAfter script.now set_up.now) }
 {
     let own = Own::new(alloc)?;
@@ -136,7 +148,7 @@ fn none_past(intervals: &[Option<KeptInterval>; 32])
 
 // The sequences of all intervals.
 fn seqs_of(seqs: &ExactSeqs) -> [u64; 32]
-    ensures { (m : ℕ) → seq_in result m ≡ interval_seq (between_seqs seqs.now.kept) m }
+    ensures { (m : ℕ) → seq_in result m ≡ interval_seq (exact_in seqs.now.kept) m }
 {
     none_past(&seqs.kept.intervals);
     let mut all = [0; 32];
@@ -158,7 +170,7 @@ fn own_of(alloc: Global, state: &FlawState) -> Result<Own, NoMemory>
     })
 }
 
-/// The key after a set-up, which the right driver made. It fails if memory runs out, and as the state after an entry.
+/// The key after a set-up, which the right driver made.
 pub fn first_key<R: SkipRule>(
     alloc: Global,
     script: &Script,
@@ -166,9 +178,14 @@ pub fn first_key<R: SkipRule>(
     set_up: &[Entry],
 ) -> Result<FlawKey, NoMemory>
     requires due { DueFrom script.now [] set_up.now }
+    requires few { length set_up.now ≤ 2000000 }
     ensures form { IfOk result (λ k. form_in k ≡ point_from script.now set_up.now) }
     ensures trail { IfOk result (λ k. entries_in k ≡ set_up.now) }
+    ensures kept { IfOk result (λ k. (j : AnyJudging) → IsKept j script.now k) }
 {
+    script.facts();
+    hm_flaws::right_breaks_none();
+    hm_flaws::right_is_due();
     let so_far = after_set_up(alloc, script, rule, set_up)?;
     let own = own_of(alloc, &so_far.state)?;
     Ok(FlawKey {

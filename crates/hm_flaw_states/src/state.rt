@@ -1,5 +1,6 @@
 // A state of a script, kept exactly.
 ghost use Rattle.std.specs.Prelude.{◌≤◌, length};
+ghost use Rattle.hm_flaw_states.specs.Exact.{IsPaced};
 ghost use Rattle.hm_flaw_states.specs.Windows.{SameWindows};
 
 use crate::commits::FrameCommits;
@@ -41,4 +42,5 @@ pub struct FlawState {
     pub tasks: Vec<Rc<RaceTask>>,
     ghost few: { length tasks.items ≤ 16 },
     ghost windows: { SameWindows mirrors.value seqs.value.kept.intervals },
+    ghost paced: { IsPaced seqs.value.kept entries },
 }

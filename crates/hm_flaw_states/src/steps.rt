@@ -1,7 +1,7 @@
 // What is due to an actor of a driver with a flaw, in a state as it finds it: what is due to the right driver, and what
 // the flaw does otherwise.
 
-ghost use Rattle.std.specs.Prelude.{◌≡◌, IsTrue, IfOk};
+ghost use Rattle.std.specs.Prelude.{◌≡◌, ◌<◌, ℕ, IsTrue, IfOk};
 ghost use Rattle.hm_base.specs.Program.{op_in_range};
 ghost use Rattle.hm_history.specs.Memory.Plain.{plain_bytes};
 ghost use Rattle.hm_history.specs.Kernel.Due as spec;
@@ -45,6 +45,10 @@ pub use telling::tells_own;
 pub trait Finds: Reads {
     /// What the driver has of its own.
     ghost driver: { Self → Driver };
+
+    /// Costs nothing: it hands the prover that the sequence of each process can be raised by one.
+    fn can_be_raised(&self)
+        ensures { (p : ℕ) → (Self.state self.now).after.sequences.seq p < 18446744073709551615 };
 
     /// Whether the mirror's table has an entry for the page that reads, and is not the zero page's.
     fn is_readable(&self, mirror: MirrorId, page: Page) -> bool

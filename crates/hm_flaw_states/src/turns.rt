@@ -1,19 +1,20 @@
 // The key after a turn.
-ghost use Rattle.std.specs.Prelude.{◌≡◌, ℕ, Bool, false, Some, None, [], ◌∷◌, ◌++◌, map, IfOk};
+ghost use Rattle.std.specs.Prelude.{◌≡◌, ◌+◌, ◌≤◌, ℕ, Bool, false, Some, None, [], ◌∷◌, ◌++◌, map, IfOk, IfSome};
 ghost use Rattle.std.specs.Rc.{rc_value};
 ghost use Rattle.hm_history.specs.Memory.After.{After};
 ghost use Rattle.hm_history.specs.declared.Progress.{Progress as AnyProgress};
 ghost use Rattle.hm_flaws.specs.Drivers.{Driver, driver_next};
 ghost use Rattle.hm_flaws.specs.Flawed as spec;
 ghost use Rattle.hm_flaws.specs.declared.flaws.Flaw.{Flaw as AnyFlaw};
-ghost use Rattle.hm_flaw_states.specs.Owns.{driver_in};
+ghost use Rattle.hm_flaw_states.specs.Follows.{Follows, Standing};
+ghost use Rattle.hm_flaw_states.specs.Owns.{driver_in, StaysInPage};
 ghost use Rattle.hm_race_states.specs.States.{goings_in};
 ghost use Rattle.hm_flaw_parts.specs.Judged.{judged_parts};
 ghost use Rattle.hm_flaw_parts.specs.Marks.{marked_next, marks_in};
 ghost use Rattle.hm_flaw_parts.specs.Races.Races.{broken_at, point_entry};
 ghost use Rattle.hm_flaw_states.specs.Keyed.{broken_in, entries_in, form_in};
 ghost use Rattle.hm_flaw_states.specs.States.{state_in};
-ghost use Rattle.hm_flaw_states.specs.Turns.{IsNextKey, IsTurned, own_next};
+ghost use Rattle.hm_flaw_states.specs.Turns.{IsKept, IsNextKey, IsTurned, own_next};
 
 use crate::details::Details;
 use crate::due::due_by;
@@ -54,7 +55,7 @@ fn broken_at(
     key: &FlawKey,
     entry: &Entry,
 ) -> Result<Option<Part>, NoMemory>
-    requires { key.now.frames ≡ script.now.frames }
+    requires { IsKept judging script.now key.now }
     ensures { IfOk result (λ o. o ≡ broken_at (judged_parts judging) script.now (form_in key.now) entry.now) }
 {
     let here = FlawHere {
@@ -93,6 +94,7 @@ fn own_after<W: Details>(
     own: &Rc<Own>,
     entry: &Entry,
 ) -> Result<Rc<Own>, NoMemory>
+    requires { StaysInPage entry.now.kind }
     ensures { IfOk result (λ x. driver_in x.value
         ≡ own_next flaw (W.program world.now) (W.state world.now) (driver_in own.now.value) entry.now) }
 {
@@ -121,13 +123,16 @@ fn parts_after(
     key: &FlawKey,
     entry: &Entry,
 ) -> Result<KeyParts, NoMemory>
+    requires { Follows flaw script.now key.now.state.value (driver_in key.now.own.value) entry.now }
     ensures state { IfOk result (λ x. state_in x.state.value
         ≡ (spec.flawed_next flaw script.now (form_in key.now).flawed entry.now).state) }
     ensures own { IfOk result (λ x. driver_in x.own.value
         ≡ (spec.flawed_next flaw script.now (form_in key.now).flawed entry.now).driver) }
     ensures marks { IfOk result (λ x. marks_in x.marks.value
         ≡ marked_next script.now (state_in key.now.state.value).after (marks_in key.now.marks.value) entry.now) }
+    ensures standing { IfOk result (λ x. Standing (state_in x.state.value)) }
 {
+    script.facts();
     let here = FlawHere {
         script,
         state: &key.state,
@@ -150,10 +155,13 @@ fn gone_on(
     key: &FlawKey,
     entry: Entry,
 ) -> Result<FlawKey, NoMemory>
-    requires { key.now.frames ≡ script.now.frames }
+    requires frames { key.now.frames ≡ script.now.frames }
+    requires follows { Follows flaw script.now key.now.state.value (driver_in key.now.own.value) entry }
     ensures form { IfOk result (λ k. form_in k ≡ point_entry flaw script.now (form_in key.now) entry None) }
     ensures trail { IfOk result (λ k. entries_in k ≡ entries_in key.now ++ entry ∷ []) }
     ensures broken { IfOk result (λ k. broken_in k ≡ None) }
+    ensures frames { IfOk result (λ k. k.frames ≡ key.now.frames) }
+    ensures standing { IfOk result (λ k. Standing (state_in k.state.value)) }
 {
     let parts = parts_after(alloc, script, flaw, key, &entry)?;
     let trail = longer(alloc, &key.trail, entry)?;
@@ -172,6 +180,7 @@ fn ended(alloc: Global, key: &FlawKey, entry: Entry, part: Part) -> Result<FlawK
     ensures form { IfOk result (λ k. form_in k ≡ record (form_in key.now) { broken = Some part }) }
     ensures trail { IfOk result (λ k. entries_in k ≡ entries_in key.now) }
     ensures broken { IfOk result (λ k. broken_in k ≡ Some (entry, part)) }
+    ensures frames { IfOk result (λ k. k.frames ≡ key.now.frames) }
 {
     let entry = Rc::new(alloc, entry)?;
     Ok(FlawKey {
@@ -184,20 +193,23 @@ fn ended(alloc: Global, key: &FlawKey, entry: Entry, part: Part) -> Result<FlawK
     })
 }
 
-// The key after an entry that is due.
+// The key after an entry that is due to the actor.
 fn turned(
     alloc: Global,
     script: &Script,
     flaw: Flaw,
     judging: Judging,
     key: &FlawKey,
+    actor: Actor,
     entry: Entry,
 ) -> Result<FlawKey, NoMemory>
-    requires frames { key.now.frames ≡ script.now.frames }
+    requires kept { IsKept judging script.now key.now }
+    requires room { key.now.state.value.entries ≤ 2000000 }
     requires none { (form_in key.now).broken ≡ None }
-    ensures { IfOk result (λ k. (a : ℕ)
-        → spec.due_by flaw script.now (form_in key.now).flawed a ≡ AnyProgress.Did entry
-        → IsTurned (judged_parts judging) flaw script.now key.now a k) }
+    requires due { spec.due_by flaw script.now (form_in key.now).flawed actor ≡ AnyProgress.Did entry }
+    ensures turned { IfOk result (λ k. IsTurned (judged_parts judging) flaw script.now key.now actor k) }
+    ensures kept { IfOk result (IsKept judging script.now) }
+    ensures count { IfOk result (λ k. k.state.value.entries ≤ key.now.state.value.entries + 1) }
 {
     match broken_at(alloc, script, judging, key, &entry)? {
         Some(part) => Ok(ended(alloc, key, entry, part)?),
@@ -205,8 +217,7 @@ fn turned(
     }
 }
 
-/// The key after a turn of the actor, or `None` if nothing is due to it. It fails if memory runs out, and if the key is
-/// one of a script with another number of frames; and as the state after an entry, and the parts that it is judged by.
+/// The key after a turn of the actor, or `None` if nothing is due to it.
 pub fn next_key<R: SkipRule>(
     alloc: Global,
     script: &Script,
@@ -216,11 +227,13 @@ pub fn next_key<R: SkipRule>(
     key: &FlawKey,
     actor: Actor,
 ) -> Result<Option<FlawKey>, NoMemory>
+    requires kept { IsKept judging script.now key.now }
+    requires room { key.now.state.value.entries ≤ 2000000 }
     ensures next { IfOk result (IsNextKey (judged_parts judging) flaw script.now key.now actor) }
+    ensures kept { IfOk result (λ o. IfSome o (IsKept judging script.now)) }
+    ensures count { IfOk result
+        (λ o. IfSome o (λ k. k.state.value.entries ≤ key.now.state.value.entries + 1)) }
 {
-    if key.frames != script.frames {
-        return Err(NoMemory);
-    }
     if key.part().is_some() {
         return Ok(None);
     }
@@ -229,7 +242,7 @@ pub fn next_key<R: SkipRule>(
         state: &key.state,
     };
     match due_by(&here, &key.own, flaw, rule, alloc, actor)? {
-        Progress::Did(entry) => Ok(Some(turned(alloc, script, flaw, judging, key, entry)?)),
+        Progress::Did(entry) => Ok(Some(turned(alloc, script, flaw, judging, key, actor, entry)?)),
         Progress::Waiting(_) => Ok(None),
         Progress::Idle => Ok(None),
     }

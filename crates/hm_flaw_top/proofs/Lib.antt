@@ -1,4 +1,5 @@
 mod Rows
+mod Rooms
 mod Full
 mod Named
 mod Asked

@@ -1,7 +1,7 @@
 -- A key after turns, one after the other, and the entries that led to it.
 use Rattle.std.proofs.Common.{◌≡◌, ℕ, ◌+◌, ◌<◌, ◌≤◌, false, ◌&&◌, Option, Some, None, List, [], ◌∷◌, ◌++◌, length, map, drop, take, refl, sym, ap, ◌∙◌, subst, append_assoc, append-nil, get_or, arith}
 use Rattle.std.specs.Option.{option_map}
-use Rattle.std.specs.Prelude.{is_none}
+use Rattle.std.specs.Prelude.{Err, IfOk, IfSome, Ok, Result, is_none}
 use Rattle.std.specs.Rc.{rc_value}
 use Rattle.std.proofs.lemmas.Bool.{false≢true}
 use Rattle.std.proofs.lemmas.List.{length-append, length-map, take_more}
@@ -10,6 +10,10 @@ use Rattle.std.proofs.lemmas.Option.{none-some}
 use Rattle.std.proofs.Math.Seq.{drop-append_seam}
 use Rattle.std.specs.List.{drop-map}
 use Rattle.hm_base.specs.Program.{Program}
+use Rattle.hm_history.specs.Kernel.Going.{state_start}
+use Rattle.hm_history.proofs.Going.{lengths}
+use Rattle.hm_flaw_parts.specs.declared.judged.Judging.{Judging}
+use Rattle.hm_flaw_states.specs.Turns.{IsKept}
 use Rattle.hm_history.specs.Kernel.Run.{is_entry}
 use Rattle.hm_history.specs.declared.Entry.{Entry}
 use Rattle.hm_history.specs.declared.Progress.{Progress}
@@ -30,6 +34,7 @@ use Rattle.hm_flaw_parts.proofs.MarkedTurns.{broken_same}
 use Rattle.hm_flaw_parts.proofs.Systems.{turn_stays}
 use Rattle.hm_flaw_parts.proofs.Turns.{in_step, turns_are_judged, turns_go}
 use Rattle.hm_flaw_top.specs.declared.text.answer.Found.{Found}
+use Rattle.hm_flaw_top.specs.Search.Races.{FlawRaceValue, IsKeyOf}
 use Rattle.hm_flaw_top.specs.Search.Played.{IsPlayed, found_by, found_with}
 use Rattle.hm_flaw_top.proofs.Turning.{turned_point}
 
@@ -121,6 +126,27 @@ module _ (parts : List Part) (l : Flaw) (c : Program) (h : List Entry) (turns : 
 
   pub goes_not : o ≡ None → m ≡ k → IsPlayed parts l c h (take (i + 1) turns) m
   goes_not none same = subst (IsPlayed parts l c h (take (i + 1) turns)) (sym same) (subst (λ (ts : List ℕ). IsPlayed parts l c h ts k) more (played_stays parts l c h (take i turns) a k p (subst (IsNextKey parts l c k a) none next)))
+
+-- ---- what is kept
+
+pub key_first : {E : Type 0} (r : FlawRaceValue) (x : Result FlawKey E) → IfOk x (λ k. form_in k ≡ point_from r.script r.set_up) → IfOk x (λ k. (j : Judging) → IsKept j r.script k) → IfOk x (λ k. IsKeyOf r k (length r.set_up))
+key_first r (Ok k) form kept = record {
+  kept = kept r.judging;
+  few = omega (arith, ap (λ (y : FlawPoint). y.flawed.state.after.length) form, lengths r.script (state_start r.script) r.set_up);
+}
+key_first r (Err e) form kept = tt
+
+pub key_after : {E : Type 0} (r : FlawRaceValue) (x : Result (Option FlawKey) E) (k : FlawKey) (i : ℕ) → IsKeyOf r k i → IfOk x (λ o. IfSome o (IsKept r.judging r.script)) → IfOk x (λ o. IfSome o (λ m. m.state.value.entries ≤ k.state.value.entries + 1))
+    → IfOk x (λ o. IfSome o (λ m. IsKeyOf r m (i + 1)))
+key_after r (Ok (Some m)) k i h kept count = record { kept = kept; few = omega (arith, h.few, count) }
+key_after r (Ok None) k i h kept count = tt
+key_after r (Err e) k i h kept count = tt
+
+pub key_next : (r : FlawRaceValue) (o : Option FlawKey) (n m : FlawKey) (i : ℕ) → o ≡ Some n → m ≡ n → IfSome o (λ k. IsKeyOf r k (i + 1)) → IsKeyOf r m (i + 1)
+key_next r o n m i some same h = subst (λ k. IsKeyOf r k (i + 1)) (sym same) (subst (λ x. IfSome x (λ k. IsKeyOf r k (i + 1))) some h)
+
+pub key_stays : (r : FlawRaceValue) (k m : FlawKey) (i : ℕ) → m ≡ k → IsKeyOf r k i → IsKeyOf r m (i + 1)
+key_stays r k m i same h = subst (λ x. IsKeyOf r x (i + 1)) (sym same) (record { kept = h.kept; few = omega (arith, h.few) })
 
 -- ---- the entries after the set-up
 

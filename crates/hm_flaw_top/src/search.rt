@@ -30,7 +30,7 @@ use std::alloc::Global;
 /// that breaks a part of legality, and stops after the step in which one is due. If there is none, it looks at the
 /// states that it knows for one at which nothing is due to anybody and some operation has not ended. It stops if it
 /// knows more than `most` states. It fails if memory runs out, and if a history has all its entries and one more is
-/// due; and, as if memory had run out, if a state cannot be kept.
+/// due.
 pub(crate) fn find_race<R: SkipRule>(
     alloc: Global,
     script: &Script,

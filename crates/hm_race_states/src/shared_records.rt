@@ -68,6 +68,13 @@ impl SharedRecords {
         })
     }
 
+    /// Records in this order.
+    pub fn listed(alloc: Global, records: &[Migrating]) -> Result<SharedRecords, NoMemory>
+        ensures { IfOk result (λ x. x ≡ records.now) }
+    {
+        SharedRecords::of(alloc, Records::of(alloc, records)?)
+    }
+
     /// The records.
     pub fn as_slice(&self) -> &[Migrating]
         ensures { result.now ≡ self.now }

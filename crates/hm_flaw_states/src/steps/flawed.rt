@@ -61,7 +61,7 @@ pub(crate) fn flawed<W: Finds>(
         Flaw::SoleAnyway => Ok(sole_anyway(found, actor, op, top, right)),
         Flaw::AddedAnyway => Ok(added_anyway(found, actor, op, top, right)),
         Flaw::ToldLast => Ok(told_last(found, actor, op, top, right)),
-        Flaw::EndedAtOnce => ended_at_once(found, actor, op, top, right),
+        Flaw::EndedAtOnce => Ok(ended_at_once(found, actor, op, top, right)),
         Flaw::ForkedWhole => Ok(forked_whole(found, actor, op, top, right)),
         Flaw::ReplacedAnyway => Ok(replaced_anyway(found, actor, op, top, right)),
         Flaw::DeviceAccessed => device_accessed(found, alloc, actor, op, top, right),

@@ -1,12 +1,13 @@
 // Invalidations of a memory manager that tells mirrors too late, or ends them too early.
-ghost use Rattle.std.specs.Prelude.{◌≡◌, IsTrue, IfOk};
+ghost use Rattle.std.specs.Prelude.{◌≡◌, IsTrue};
 ghost use Rattle.hm_history.specs.declared.phases.Next.TheVariants.{Do};
 ghost use Rattle.hm_reads.specs.Ranges.{phase_in_range};
 ghost use Rattle.hm_flaws.specs.Overrides.{told_last, seq_ended_alone, ended_now};
 ghost use Rattle.hm_flaws.specs.declared.flaws.Flaw as flaws;
 ghost use Rattle.hm_flaw_states.specs.Steps.Found.{right_at, flawed_at};
 
-use hm_base::{Actor, NoMemory, Op, Proc};
+use crate::steps::Finds;
+use hm_base::{Actor, Op, Proc};
 use hm_history::Kind;
 use hm_history::phases::{Next, Phase};
 use hm_reads::Reads;
@@ -22,41 +23,36 @@ fn told_after(untold: Kind, then: Next) -> Next
     }
 }
 
-// The sequence after an end that counts no other invalidation. It fails if that has more than 64 bits.
-fn seq_ended_alone<W: Reads>(found: &W, proc: Proc) -> Result<u64, NoMemory>
-    ensures { IfOk result (λ seq. seq ≡ seq_ended_alone (W.state found.now).after.sequences proc) }
+// The sequence after an end that counts no other invalidation.
+fn seq_ended_alone<W: Finds>(found: &W, proc: Proc) -> u64
+    ensures { result ≡ seq_ended_alone (W.state found.now).after.sequences proc }
 {
+    found.can_be_raised();
     let seq = found.process_seq(proc);
-    if seq % 2 == 0 {
-        return Ok(seq);
-    }
-    match seq.checked_add(1) {
-        Some(even) => Ok(even),
-        None => Err(NoMemory),
-    }
+    if seq % 2 == 1 { seq + 1 } else { seq }
 }
 
 // An end that counts no other invalidation; another entry stays.
-fn ended<W: Reads>(found: &W, kind: Kind) -> Result<Kind, NoMemory>
-    ensures { IfOk result (λ k. ended_now (W.state found.now).after (Do kind) ≡ Do k) }
+fn ended<W: Finds>(found: &W, kind: Kind) -> Kind
+    ensures { ended_now (W.state found.now).after (Do kind) ≡ Do result }
 {
     match kind {
-        Kind::End { proc, span, seq: _ } => Ok(Kind::End {
+        Kind::End { proc, span, seq: _ } => Kind::End {
             proc,
             span,
-            seq: seq_ended_alone(found, proc)?,
-        }),
-        other => Ok(other),
+            seq: seq_ended_alone(found, proc),
+        },
+        other => other,
     }
 }
 
 // What is due, but that an end counts no other invalidation.
-fn ended_now<W: Reads>(found: &W, next: Next) -> Result<Next, NoMemory>
-    ensures { IfOk result (λ n. n ≡ ended_now (W.state found.now).after next) }
+fn ended_now<W: Finds>(found: &W, next: Next) -> Next
+    ensures { result ≡ ended_now (W.state found.now).after next }
 {
     match next {
-        Next::Do(kind) => Ok(Next::Do(ended(found, kind)?)),
-        Next::Wait(why) => Ok(Next::Wait(why)),
+        Next::Do(kind) => Next::Do(ended(found, kind)),
+        Next::Wait(why) => Next::Wait(why),
     }
 }
 
@@ -89,21 +85,21 @@ pub(crate) fn told_last<W: Reads>(
 }
 
 /// An invalidation whose end makes the sequence even, though another is under way.
-pub(crate) fn ended_at_once<W: Reads>(
+pub(crate) fn ended_at_once<W: Finds>(
     found: &W,
     actor: Actor,
     op: &Op,
     top: &Phase,
     right: Next,
-) -> Result<Next, NoMemory>
+) -> Next
     requires { right ≡ right_at (W.program found.now) (W.state found.now) actor op.now top.now }
-    ensures { IfOk result
-        (λ n. n ≡ flawed_at flaws.Flaw.EndedAtOnce (W.program found.now) (W.state found.now) actor op.now top.now) }
+    ensures { result
+        ≡ flawed_at flaws.Flaw.EndedAtOnce (W.program found.now) (W.state found.now) actor op.now top.now }
 {
     let _ = actor;
     let _ = op;
     match top {
         Phase::Guard { .. } => ended_now(found, right),
-        _ => Ok(right),
+        _ => right,
     }
 }

@@ -1,5 +1,5 @@
 -- What is found among the states that a search knows.
-use Rattle.std.specs.Prelude.{◌≡◌, ℕ, ◌<◌, Bool, true, false, Option, Some, None, List, get_or}
+use Rattle.std.specs.Prelude.{◌≡◌, ℕ, ◌+◌, ◌<◌, ◌≤◌, Bool, true, false, Option, Some, None, List, length, get_or}
 use Rattle.hm_base.specs.Program.{Program}
 use Rattle.hm_history.specs.declared.Entry.{Entry}
 use Rattle.hm_flaws.specs.declared.flaws.Flaw.{Flaw}
@@ -16,6 +16,10 @@ use Rattle.hm_flaw_top.specs.Search.Played.{found_by}
 abbrev pub IsFirstTrue : List Bool → Option ℕ → Type 0
 IsFirstTrue bs None = (i : ℕ) → get_or bs i false ≡ false
 IsFirstTrue bs (Some at) = (get_or bs at false ≡ true) × ((i : ℕ) → i < at → get_or bs i false ≡ false)
+
+-- the entries of each known state, and those of the set-up before them, are not too many
+abbrev pub HaveRoom : List Entry → List (KnownValue FlawPoint) → Type 0
+HaveRoom h known = (at : ℕ) → length h + length (turns_at known at) ≤ 2000000
 
 -- what is looked for among the known states, by how the search ended: that a part was broken, or nobody can go on
 abbrev pub goal_of : Flaw → Program → End → FlawPoint → Bool

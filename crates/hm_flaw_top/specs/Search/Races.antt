@@ -1,10 +1,12 @@
 -- The race of a driver with a flaw, as contracts see it.
-use Rattle.std.specs.Prelude.{◌≤◌, List, [], length}
+use Rattle.std.specs.Prelude.{ℕ, ◌≤◌, List, [], length}
 use Rattle.hm_base.specs.Program.{Program}
 use Rattle.hm_history.specs.Laws.{DueFrom}
 use Rattle.hm_history.specs.declared.Entry.{Entry}
 use Rattle.hm_flaws.specs.declared.flaws.Flaw.{Flaw}
 use Rattle.hm_flaw_parts.specs.declared.judged.Judging.{Judging}
+use Rattle.hm_flaw_states.specs.Turns.{IsKept}
+use Rattle.hm_flaw_states.specs.declared.key.FlawKey.{FlawKey}
 
 -- a script, the entries of its set-up, the flaw of the driver, and which parts it is judged by
 pub record FlawRaceValue : Type 0 where
@@ -17,3 +19,8 @@ pub record FlawRaceValue : Type 0 where
 pub record IsFlawRace (r : FlawRaceValue) : Type 0 where
   pub due : DueFrom r.script [] r.set_up
   pub few : length r.set_up ≤ 2000000
+
+-- a key of the race whose state has at most n entries
+pub record IsKeyOf (r : FlawRaceValue) (k : FlawKey) (n : ℕ) : Type 0 where
+  pub kept : IsKept r.judging r.script k
+  pub few : k.state.value.entries ≤ n

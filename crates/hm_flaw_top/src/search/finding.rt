@@ -3,7 +3,7 @@ ghost use Rattle.std.specs.Prelude.{map, IfOk};
 ghost use Rattle.hm_search.specs.Values.{all_known, at_goal};
 ghost use Rattle.hm_flaw_parts.specs.Judged.{judged_parts};
 ghost use Rattle.hm_flaw_states.specs.Keyed.{form_in};
-ghost use Rattle.hm_flaw_top.specs.Search.Finding.{goal_of, IsFoundFirst};
+ghost use Rattle.hm_flaw_top.specs.Search.Finding.{goal_of, HaveRoom, IsFoundFirst};
 
 use crate::search::goals::{Broken, Stuck, first_reached};
 use crate::search::race::FlawRace;
@@ -19,6 +19,7 @@ fn found_first<R: SkipRule, G: Goal<FlawKey>>(
     goal: &G,
     known: &[Known<FlawKey>],
 ) -> Result<Found, NoMemory>
+    requires { HaveRoom race.now.set_up (all_known form_in known.now) }
     ensures { IfOk result (IsFoundFirst (judged_parts race.now.judging) race.now.flaw race.now.script
         race.now.set_up (all_known form_in known.now) (map (at_goal G.read (G.reached goal.now)) known.now)) }
 {
@@ -38,6 +39,7 @@ pub(crate) fn found_of<R: SkipRule>(
     known: &[Known<FlawKey>],
     end: End,
 ) -> Result<Found, NoMemory>
+    requires { HaveRoom race.now.set_up (all_known form_in known.now) }
     ensures { IfOk result (IsFoundFirst (judged_parts race.now.judging) race.now.flaw race.now.script
         race.now.set_up (all_known form_in known.now)
         (map (at_goal form_in (goal_of race.now.flaw race.now.script end)) known.now)) }

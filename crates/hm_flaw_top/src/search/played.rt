@@ -1,5 +1,5 @@
 // The race to which turns lead.
-ghost use Rattle.std.specs.Prelude.{◌≡◌, map, IfOk};
+ghost use Rattle.std.specs.Prelude.{◌≡◌, ◌+◌, ◌≤◌, length, map, IfOk};
 ghost use Rattle.std.specs.Rc.{rc_value};
 ghost use Rattle.hm_flaws.specs.Judged.{judged};
 ghost use Rattle.hm_flaw_parts.specs.Judged.{judged_parts};
@@ -29,22 +29,26 @@ fn listed(alloc: Global, entries: &[Rc<Entry>]) -> Result<ListOf<Entry>, NoMemor
 impl<'a, R: SkipRule> FlawRace<'a, R> {
     // The key after turns of these actors. One to whom nothing is due changes nothing.
     fn played(&self, turns: &[Actor]) -> Result<FlawKey, NoMemory>
+        requires { length self.now.set_up + length turns.now ≤ 2000000 }
         ensures { IfOk result (IsPlayed (judged_parts self.now.judging) self.now.flaw self.now.script
             self.now.set_up turns.now) }
     {
         let mut key = self.first_key()?;
+        let mut entries = self.set_up.len() as u64;
         for actor in turns {
-            match self.next_key(&key, *actor)? {
+            match self.next_key(&key, *actor, entries)? {
                 Some(next) => key = next,
                 None => (),
             }
+            entries += 1;
         }
         Ok(key)
     }
 
     /// What turns of these actors come to: a part is broken, or else the entries are told as those of a race that is
-    /// stuck. It fails as `next_key` of hm_flaw_states.
+    /// stuck.
     pub(crate) fn race_of(&self, turns: &[Actor]) -> Result<Found, NoMemory>
+        requires { length self.now.set_up + length turns.now ≤ 2000000 }
         ensures { IfOk result (λ f. f ≡ found_by (judged (judged_parts self.now.judging) self.now.flaw
             self.now.script self.now.set_up turns.now)) }
     {

@@ -1,5 +1,5 @@
 // The race of a driver with a flaw, for the search.
-ghost use Rattle.std.specs.Prelude.{◌≡◌, ◌≤◌, length, IfOk};
+ghost use Rattle.std.specs.Prelude.{◌≡◌, ◌+◌, ◌≤◌, length, IfOk, IfSome};
 ghost use Rattle.hm_flaw_parts.specs.Judged.{judged_parts};
 ghost use Rattle.hm_flaw_states.specs.Keyed.{entries_in, form_in};
 ghost use Rattle.hm_flaw_states.specs.Turns.{IsNextKey};
@@ -39,7 +39,7 @@ impl<'a, R> Model for FlawRace<'a, R> {
 }
 
 impl<'a, R: SkipRule> FlawRace<'a, R> {
-    ghost use Rattle.hm_flaw_top.specs.Search.Races.{IsFlawRace};
+    ghost use Rattle.hm_flaw_top.specs.Search.Races.{IsFlawRace, IsKeyOf};
 
     /// Costs nothing: it hands the prover what holds of every race.
     pub fn stands(&self)
@@ -58,20 +58,31 @@ impl<'a, R: SkipRule> FlawRace<'a, R> {
         script.actors.len() as u32
     }
 
-    /// The key after the set-up. It fails as `first_key` of hm_flaw_states.
+    /// The key after the set-up.
     pub fn first_key(&self) -> Result<FlawKey, NoMemory>
         ensures form { IfOk result (λ k. form_in k ≡ point_from self.now.script self.now.set_up) }
         ensures trail { IfOk result (λ k. entries_in k ≡ self.now.set_up) }
+        ensures kept { IfOk result (λ k. IsKeyOf self.now k (length self.now.set_up)) }
     {
         self.stands();
         first_key(self.alloc, self.script, self.rule, self.set_up)
     }
 
-    /// The key after a turn of the actor, or `None` if nothing is due to it. It fails as `next_key` of hm_flaw_states.
-    pub fn next_key(&self, key: &FlawKey, actor: Actor) -> Result<Option<FlawKey>, NoMemory>
-        ensures { IfOk result
+    /// The key after a turn of the actor, or `None` if nothing is due to it. The key's state has at most this many
+    /// entries.
+    pub fn next_key(
+        &self,
+        key: &FlawKey,
+        actor: Actor,
+        entries: u64,
+    ) -> Result<Option<FlawKey>, NoMemory>
+        requires kept { IsKeyOf self.now key.now entries }
+        requires room { entries ≤ 2000000 }
+        ensures kept { IfOk result (λ o. IfSome o (λ k. IsKeyOf self.now k (entries + 1))) }
+        ensures next { IfOk result
             (IsNextKey (judged_parts self.now.judging) self.now.flaw self.now.script key.now actor) }
     {
+        let _ = entries;
         let (flaw, judging) = (self.flaw, self.judging);
         next_key(
             self.alloc,
@@ -86,6 +97,8 @@ impl<'a, R: SkipRule> FlawRace<'a, R> {
 }
 
 impl<'a, R: SkipRule> System for FlawRace<'a, R> {
+    ghost use Rattle.hm_flaw_top.specs.Search.Races.{IsKeyOf};
+
     type Key = FlawKey;
 
     ghost Points = { FlawPoint };
@@ -95,6 +108,8 @@ impl<'a, R: SkipRule> System for FlawRace<'a, R> {
     ghost form = { form_in };
 
     ghost value = { λ r. flaw_system (judged_parts r.judging) r.flaw r.script r.set_up };
+
+    ghost Kept = { IsKeyOf };
 
     fn facts(&self) {
         hm_flaw_parts::races::flaw_races_are_systems();
@@ -118,8 +133,13 @@ impl<'a, R: SkipRule> System for FlawRace<'a, R> {
         }
     }
 
-    fn next(&self, key: &FlawKey, actor: Actor) -> Result<Option<FlawKey>, StepError> {
-        match self.next_key(key, actor) {
+    fn next(
+        &self,
+        key: &FlawKey,
+        actor: Actor,
+        entries: u64,
+    ) -> Result<Option<FlawKey>, StepError> {
+        match self.next_key(key, actor, entries) {
             Ok(next) => Ok(next),
             Err(NoMemory) => Err(StepError::NoMemory),
         }

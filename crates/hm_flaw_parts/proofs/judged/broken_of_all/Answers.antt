@@ -1,10 +1,15 @@
-use Rattle.std.proofs.Common.{◌∙◌, map, subst}
+use Rattle.std.proofs.Common.{◌∙◌, map, subst, sym}
 use Rattle.std.specs.Rc.{rc_value}
 use Rattle.hm_base.specs.Program.{Program}
 use Rattle.hm_flaws.specs.Recalled.{recalled_of}
 use Rattle.hm_parts.specs.Follower.{IsFollowed}
+use Rattle.hm_flaw_parts.specs.Judged.{EachLeads}
+use Rattle.hm_flaw_parts.specs.declared.judged.Judging.{Judging}
 use Rattle.hm_flaw_parts.proofs.Breaking.{first_is}
 use Rattle.hm_flaw_parts.proofs.judged.broken_of_all.Goals as goal
+
+pub follower_after-requires : goal.follower_after-requires
+follower_after-requires g c = subst (λ (q : Program). EachLeads Judging.AllParts q (map rc_value c.args.entries.now)) (sym c.script.ensures) c.requires.leads
 
 pub returns : goal.returns
 returns g c =

@@ -5,6 +5,9 @@ use Rattle.hm_history.specs.declared.Entry.{Entry}
 use Rattle.hm_history.specs.Memory.After.{After, after}
 use Rattle.hm_history.specs.Memory.Plain.{Plain, plain_next}
 use Rattle.hm_parts.proofs.Following.{after_more}
+use Rattle.hm_parts.proofs.Legally.{not_legal, plain_takes}
+use Rattle.hm_folds.specs.Plain.{plain_of}
+use Rattle.hm_flaw_parts.proofs.Leading.{answers_lead}
 use Rattle.hm_flaw_parts.proofs.Shared.{entry_there}
 use Rattle.hm_flaw_parts.proofs.judged.plain_after.Goals as goal
 
@@ -18,6 +21,17 @@ loop-at-preserved c =
     let is : e ≡ get_or h i e = entry_there xs i c.index-entries-at.result e c.loop-at-test.true c.index-entries-at.is c.deref.ensures in
     c.in-Ok.ensures.ok ∙ ap (λ (s : Plain). plain_next s e.kind) c.loop-at.invariant
     ∙ ap (λ (s : After). s.plain) (sym (after_more h i e below is))
+
+pub unreachable-requires : goal.unreachable-requires
+unreachable-requires c =
+    let xs = c.args.entries.now in
+    let h = map rc_value xs in
+    let i = c.loop-at.at in
+    let e = c.deref.result.now in
+    let below : i < length h = omega (arith, c.loop-at-test.true, length-map xs rc_value) in
+    let is : e ≡ get_or h i e = entry_there xs i c.index-entries-at.result e c.loop-at-test.true c.index-entries-at.is c.deref.ensures in
+    plain_takes (plain_of c.loop-at.so_far) (after (take i h)).plain e c.loop-at.invariant
+    (answers_lead c.args.script.now (take i h) e (c.requires i e below is)) (not_legal _ c.in-Err-NotLegal.field-0-is ∙ c.in-Err-NotLegal.ensures.legal)
 
 pub returns : goal.returns
 returns c =

@@ -1,5 +1,5 @@
 use Rattle.std.proofs.Common.{◌≡◌, ℕ, ◌<◌}
-use Rattle.hm_flaw_states.specs.Seqs.{guards_in}
+use Rattle.hm_flaw_states.specs.Guards.{guards_in}
 use Rattle.hm_flaw_states.proofs.guards.same_guards.Given as goal
 
 abbrev pub invariant-loop-at : goal.invariant-loop-at

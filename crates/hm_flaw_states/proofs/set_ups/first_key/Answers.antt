@@ -1,4 +1,4 @@
-use Rattle.std.proofs.Common.{refl, sym, ap, ◌∙◌}
+use Rattle.std.proofs.Common.{refl, sym, ap, subst, ◌∙◌}
 use Rattle.hm_base.specs.Program.{Program}
 use Rattle.hm_flaw_states.specs.Owns.{driver_in}
 use Rattle.hm_flaw_parts.specs.Marks.{marks_in}
@@ -7,6 +7,10 @@ use Rattle.hm_flaw_states.specs.States.{state_in}
 use Rattle.hm_flaws.specs.Drivers.{driver_of}
 use Rattle.hm_history.specs.Kernel.Going.{State}
 use Rattle.hm_history.specs.Memory.After.{after}
+use Rattle.hm_flaw_parts.specs.Judged.{EachLeads}
+use Rattle.hm_flaw_parts.proofs.Leading.{right_leads}
+use Rattle.hm_flaw_states.specs.Follows.{Standing}
+use Rattle.hm_flaw_states.specs.declared.state.FlawState.{FlawState}
 use Rattle.hm_flaw_states.proofs.Forms.{one_flawed, one_point}
 use Rattle.hm_flaw_states.proofs.Frames.{marked_same}
 use Rattle.hm_flaw_states.proofs.SetUps.{memory_after}
@@ -33,3 +37,13 @@ returns-clause-form g c =
 
 pub returns-clause-trail : goal.returns-clause-trail
 returns-clause-trail g c = c.in_ok-so_far.ensures.trail
+
+pub returns-clause-kept : goal.returns-clause-kept
+returns-clause-kept g c = λ j.
+    let r = c.in_ok-so_far.ensures in
+    let p = c.args.script.now in
+    record {
+      frames = ap (λ (v : Program). v.frames) c.script.view_is;
+      leads = subst (EachLeads j p) (sym r.trail) (right_leads c.right_breaks_none.ensures c.right_is_due.ensures j p c.facts.ensures c.args.set_up.now c.requires.due);
+      standing = subst (λ (x : FlawState). Standing (state_in x)) (sym c.in_ok-new.ensures.ok) r.standing;
+    }

@@ -1,11 +1,13 @@
 use Rattle.std.proofs.Common.{refl}
 use Rattle.hm_flaw_states.specs.Joined.{joined}
+use Rattle.hm_flaw_states.proofs.Exacts.{paced_first}
 use Rattle.hm_flaw_states.proofs.Nexts.{starts_on, windows_first}
 use Rattle.hm_flaw_states.proofs.start.first_memory.Goals as goal
 
 pub invariant_of-result : goal.invariant_of-result
 invariant_of-result c = record {
   windows = windows_first _ c.in_ok-locking.locking.seqs.value.kept c.in_ok-processes.ensures.mirrors c.in_ok-locking.ensures.seqs;
+  paced = paced_first c.in_ok-locking.locking.seqs.value.kept c.in_ok-locking.ensures.seqs;
 }
 
 pub returns : goal.returns
@@ -18,6 +20,7 @@ returns c = λ p t goings.
       devices = c.in_ok-devices.devices;
       locking = c.in_ok-locking.locking;
       windows = windows_first _ c.in_ok-locking.locking.seqs.value.kept c.in_ok-processes.ensures.mirrors c.in_ok-locking.ensures.seqs;
+      paced = paced_first c.in_ok-locking.locking.seqs.value.kept c.in_ok-locking.ensures.seqs;
     }) t) (record {
       entries = refl;
       been = c.first_been.ensures;

@@ -19,4 +19,4 @@ returns c =
     c.in_ok-first_broken.ensures
     ∙ (ap (λ (xs : List (Rc Entry Global)). broken_part parts p (map rc_value xs) (state_in c.deref.result.now).going e) c.deref-4.ensures.value
     ∙ (ap (λ (x : FlawState). broken_part parts p (entries_in k) (state_in x).going e) c.deref.ensures
-    ∙ broken_here parts p (entries_in k) (form_in k) e k.led (k.noted p (sym c.requires))))
+    ∙ broken_here parts p (entries_in k) (form_in k) e k.led (k.noted p (sym c.requires.frames))))

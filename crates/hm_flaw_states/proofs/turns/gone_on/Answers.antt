@@ -30,13 +30,16 @@ invariant_of-result-clause-noted c = λ p same.
     let trail : map rc_value c.in_ok-trail.trail.items ≡ entries_in k ++ e ∷ [] =
     c.in_ok-trail.ensures ∙ ap (λ (xs : List (Rc Entry Global)). map rc_value xs ++ e ∷ []) c.deref.ensures.value in
     c.in_ok-parts.ensures.marks
-    ∙ (sym (next_same p c.args.script.now (same ∙ c.requires) s m e)
+    ∙ (sym (next_same p c.args.script.now (same ∙ c.requires.frames) s m e)
     ∙ (marks_more p s m (entries_in k) e k.led (k.noted p same) ∙ ap (marked_of p) (sym trail)))
 
 pub returns-clause-form : goal.returns-clause-form
 returns-clause-form c =
     let e = c.in_ok-parts.ensures in
     point_gone c.args.flaw c.args.script.now (form_in c.args.key.now) c.args.entry _ _ _ e.state e.own e.marks
+
+pub returns-clause-standing : goal.returns-clause-standing
+returns-clause-standing c = c.in_ok-parts.ensures.standing
 
 pub returns-clause-trail : goal.returns-clause-trail
 returns-clause-trail c = c.in_ok-trail.ensures ∙ ap (λ (xs : List (Rc Entry Global)). map rc_value xs ++ c.args.entry ∷ []) c.deref.ensures.value

@@ -6,10 +6,17 @@ use Rattle.hm_search.specs.declared.known.Known.{Known}
 use Rattle.hm_search.proofs.Exploring.{known_length}
 use Rattle.hm_flaw_states.specs.Keyed.{form_in}
 use Rattle.hm_flaw_states.specs.declared.key.FlawKey.{FlawKey}
-use Rattle.hm_flaw_top.specs.Search.Finding.{IsFoundFirst, goal_of}
+use Rattle.hm_flaw_top.specs.Search.Finding.{HaveRoom, IsFoundFirst, goal_of}
 use Rattle.hm_flaw_top.proofs.Answering.{Laws, Searched, answered}
 use Rattle.hm_flaw_top.proofs.Firsts.{same_answers}
+use Rattle.hm_flaw_top.proofs.Rooms.{room_at}
 use Rattle.hm_flaw_top.proofs.search.find_race.Goals as goal
+
+pub found_of-requires : goal.found_of-requires
+found_of-requires g c =
+    let h = c.args.set_up.now in
+    subst (λ (xs : List (Known FlawKey)). HaveRoom h (all_known form_in xs)) (sym c.deref.ensures.value)
+    (room_at (judged_parts c.args.judging) c.args.flaw c.args.script.now h c.requires.few (all_known form_in c.in_ok-explored.explored.known.items) c.in_ok-explored.ensures.known)
 
 pub returns-in-Ok-clause-answer : goal.returns-in-Ok-clause-answer
 returns-in-Ok-clause-answer g c =

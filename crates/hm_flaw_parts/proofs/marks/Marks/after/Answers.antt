@@ -1,4 +1,4 @@
-use Rattle.std.proofs.Common.{◌≡◌, ℕ, Bool, true, false, Option, Some, ◌&&◌, ◌==◌, if◌then◌else◌, refl, sym, ap, ◌∙◌, rules}
+use Rattle.std.proofs.Common.{◌≡◌, ℕ, Bool, true, false, Option, Some, ◌&&◌, ◌==◌, if◌then◌else◌, refl, ap, ◌∙◌, rules}
 use Rattle.hm_history.specs.Memory.Lookups.{is_begin_of, is_set_of, set_from}
 use Rattle.hm_flaws.specs.Recalled.{goes_back}
 use Rattle.hm_flaw_parts.proofs.Marking.{marks_from}

@@ -1,12 +1,11 @@
 use Rattle.std.proofs.Common.{ap, ◌∙◌, arith}
 use Rattle.hm_history.specs.Memory.Sequences.{with_stage}
 use Rattle.hm_folds.specs.Kept.{stage_of}
-use Rattle.hm_race_states.specs.Small.{between_seqs}
-use Rattle.hm_race_states.proofs.Betweens.{interval_kept}
+use Rattle.hm_flaw_states.specs.Exact.{exact_in}
+use Rattle.hm_flaw_states.proofs.Exacts.{interval_kept}
 use Rattle.hm_flaw_states.proofs.exact_seqs.ExactSeqs.stand.Goals as goal
 
 pub returns : goal.returns
 returns c =
-    ap between_seqs c.in_ok-made.ensures
-    ∙ interval_kept c.copied-next.result (between_seqs c.args.self.now.kept) c.number-at.result c.args.mirror c.with_stage.result _ (ap between_seqs c.copied-next.ensures) c.number-at.ensures.same (omega arith)
+    interval_kept c.copied-next.result (exact_in c.args.self.now.kept) c.number-at.result c.args.mirror c.with_stage.result _ (ap exact_in c.copied-next.ensures) c.number-at.ensures.same (omega arith)
     (c.with_stage.ensures ∙ ap (with_stage (stage_of c.args.stage)) c.interval.ensures)

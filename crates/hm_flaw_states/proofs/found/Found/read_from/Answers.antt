@@ -10,6 +10,6 @@ pub loop-number-preserved : goal.loop-number-preserved
 loop-number-preserved g c =
     let f : ℕ → ℕ = λ i. shown_by (driver_in c.args.self.now.own.now).contents (target_at (driver_in c.args.self.now.own.now) c.args.mirror i) (i % 4096) in
     let n = c.loop-number.number in
-    c.in_ok-push-in-Some.ensures.items ∙ ap (λ (xs : List ℕ). xs ++ c.in_ok-byte-in-Some.byte ∷ []) c.loop-number.invariant
-    ∙ ap (λ b. bytes_from f c.args.addr n ++ b ∷ []) (c.in_ok-byte-in-Some.ensures ∙ ap f c.in-Some.ensures.1)
+    c.in_ok-push.ensures.items ∙ ap (λ (xs : List ℕ). xs ++ c.read.result ∷ []) c.loop-number.invariant
+    ∙ ap (λ b. bytes_from f c.args.addr n ++ b ∷ []) c.read.ensures
     ∙ bytes_next f c.args.addr n

@@ -1,6 +1,5 @@
 use Rattle.std.proofs.Common.{◌≡◌}
-use Rattle.hm_history.specs.Memory.Words.{bytes_from}
-use Rattle.hm_flaws.specs.Flawed.{shown_bytes, device_bytes}
+use Rattle.hm_flaws.specs.Flawed.{device_bytes}
 use Rattle.hm_flaw_states.specs.Owns.{driver_in}
 use Rattle.hm_flaw_states.proofs.found.Found.read_from.Given as goal
 

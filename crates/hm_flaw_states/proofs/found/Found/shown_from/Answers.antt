@@ -1,4 +1,4 @@
-use Rattle.std.proofs.Common.{ℕ, ◌%◌, List, [], ◌∷◌, ◌++◌, ap, ◌∙◌}
+use Rattle.std.proofs.Common.{ℕ, List, [], ◌∷◌, ◌++◌, ap, ◌∙◌}
 use Rattle.hm_history.specs.Memory.Words.{bytes_from}
 use Rattle.hm_flaws.specs.Flawed.{shown_bytes}
 use Rattle.hm_flaw_states.specs.Owns.{driver_in}
@@ -9,6 +9,6 @@ pub loop-number-preserved : goal.loop-number-preserved
 loop-number-preserved g c =
     let f : ℕ → ℕ = shown_bytes (g.W.Reads.state c.args.self.now.world.now).after.places (driver_in c.args.self.now.own.now).contents c.args.proc in
     let n = c.loop-number.number in
-    c.in_ok-push-in-Some.ensures.items ∙ ap (λ (xs : List ℕ). xs ++ c.in_ok-byte-in-Some.byte ∷ []) c.loop-number.invariant
-    ∙ ap (λ b. bytes_from f c.args.addr n ++ b ∷ []) (c.in_ok-byte-in-Some.ensures ∙ ap f c.in-Some.ensures.1)
+    c.in_ok-push.ensures.items ∙ ap (λ (xs : List ℕ). xs ++ c.shown.result ∷ []) c.loop-number.invariant
+    ∙ ap (λ b. bytes_from f c.args.addr n ++ b ∷ []) c.shown.ensures
     ∙ bytes_next f c.args.addr n

@@ -1,6 +1,4 @@
-use Rattle.std.proofs.Common.{◌∙◌, ap, sym}
 use Rattle.hm_race_states.specs.Bytes.{bytes_in}
-use Rattle.hm_flaw_states.specs.FrameBytes.{framed}
 use Rattle.hm_flaw_states.proofs.Writing.{cleared}
 use Rattle.hm_flaw_states.proofs.frame_bytes.FrameBytes.clear.Goals as goal
 

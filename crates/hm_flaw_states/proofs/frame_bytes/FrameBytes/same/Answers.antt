@@ -1,4 +1,4 @@
-use Rattle.std.proofs.Common.{ℕ, ap, sym, ◌∙◌}
+use Rattle.std.proofs.Common.{ap, sym, ◌∙◌}
 use Rattle.hm_race_states.specs.Bytes.{bytes_in}
 use Rattle.hm_flaw_states.proofs.Writing.{all_read}
 use Rattle.hm_flaw_states.proofs.frame_bytes.FrameBytes.same.Goals as goal

@@ -1,7 +1,7 @@
 use Rattle.std.proofs.Common.{arith, ◌∙◌, sym, ap}
 use Rattle.std.specs.Prelude.{map}
 use Rattle.hm_flaw_states.specs.LateSpans.{pair_of}
-use Rattle.hm_flaw_states.proofs.Late.{late_at, pairs_same, none_past, same_on, same_all}
+use Rattle.hm_flaw_states.proofs.Late.{late_at, pairs_same, same_on, same_all}
 use Rattle.hm_flaw_states.proofs.late_spans.LateSpans.same.Goals as goal
 
 pub returns-then-not-same_spans-clause-no : goal.returns-then-not-same_spans-clause-no
