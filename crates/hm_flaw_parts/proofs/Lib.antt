@@ -11,3 +11,4 @@ mod Unbroken
 pub mod BrokenTurns
 mod Searched
 mod Rightly
+pub mod Taken

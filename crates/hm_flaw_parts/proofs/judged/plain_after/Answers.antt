@@ -4,8 +4,7 @@ use Rattle.std.specs.Rc.{rc_value}
 use Rattle.hm_history.specs.declared.Entry.{Entry}
 use Rattle.hm_history.specs.Memory.After.{After, after}
 use Rattle.hm_history.specs.Memory.Plain.{Plain, plain_next}
-use Rattle.hm_parts.proofs.Following.{after_more}
-use Rattle.hm_parts.proofs.Legally.{not_legal, plain_takes}
+use Rattle.hm_flaw_parts.proofs.Taken.{after_more, not_legal, plain_takes}
 use Rattle.hm_folds.specs.Plain.{plain_of}
 use Rattle.hm_flaw_parts.proofs.Leading.{answers_lead}
 use Rattle.hm_flaw_parts.proofs.Shared.{entry_there}
