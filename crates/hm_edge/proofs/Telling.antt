@@ -1,11 +1,11 @@
 -- From how a program ends to what its user is told.
-use Rattle.std.proofs.Common.{◌≡◌, ◌⊎◌, inl, inr, ℕ, ◌<◌, List, [], ◌∷◌, ◌++◌, drop, false, Option, Some, None, length, refl, sym, ap, ◌∙◌, subst}
+use Rattle.std.proofs.Common.{◌≡◌, ◌⊎◌, inl, inr, ℕ, ◌<◌, List, [], ◌∷◌, ◌++◌, drop, false, Option, Some, None, Ok, length, refl, sym, ap, ◌∙◌, subst}
 use Rattle.std.specs.Prelude.{IfSome}
 use Rattle.hm_base.specs.Program.{Program, IsScript}
 use Rattle.hm_io.specs.Streams.{Adds, Rose, SinkState}
 use Rattle.hm_script.specs.Spelling.{text}
 use Rattle.hm_script.specs.declared.reason.Refused.{Refused}
-use Rattle.hm_edge.specs.Exits.{Begins, Exits}
+use Rattle.hm_edge.specs.Exits.{Arguments, Begins, Exits}
 use Rattle.hm_edge.specs.Input.{LeftOver}
 use Rattle.hm_edge.specs.Reading.{HasNotRead, IsGiven, IsRefusalOf, IsTextOf, ReadAs, ReadFaulted}
 use Rattle.hm_edge.specs.Traffic.{IsUntouched, NoFault, Traffic}
@@ -31,17 +31,17 @@ added (Some l) after held t e w = let same : l ≡ held = cc in subst (λ (x : L
 -- ---- a program
 
 -- a program that was started has made its call, or memory ran out before that and nothing was read or written
-pub ends_so : (Does : List (List ℕ) → Traffic → Status → Type 0) (At : Status → Type 0) (name usage : List ℕ) (words : List (List ℕ)) (bytes held : List ℕ) (args : Option (List (List ℕ))) (io : Traffic)
+pub ends_so : (Does : List (List ℕ) → Traffic → Status → Type 0) (At : Status → Type 0) (name usage : List ℕ) (words : List (List ℕ)) (bytes held : List ℕ) (args : Arguments) (io : Traffic)
     (errors errors_after : SinkState) (code : ℕ) → IsStarted words bytes held args io → Exits Does name usage args io errors errors_after code
     → ((status : Status) → Does words io status → At status) → (IsUntouched io → At Status.NoMemory) → EndsSo At name usage errors errors_after code
 ends_so Does At name usage words bytes held args io errors errors_after code start e made short = record {
   status = e.status;
   code_is = e.code_is;
   says = e.says;
-  told = by e.status (subst (λ (z : Option (List (List ℕ))). Begins Does z io e.status) start.named e.does);
+  told = by e.status (subst (λ (z : Arguments). Begins Does z io e.status) start.named e.does);
 }
   where
-    by : (status : Status) → Begins Does (Some (start.name ∷ words)) io status → At status
+    by : (status : Status) → Begins Does (Ok (start.name ∷ words)) io status → At status
     by status (inl does) = made status does
     by Status.NoMemory (inr none) = short none.untouched
     by Status.Done (inr none) = absurd none.why

@@ -1,5 +1,5 @@
 -- A program as its user sees it: what it is given, what comes out of it, and how it ends.
-use Rattle.std.specs.Prelude.{◌≡◌, ◌⊎◌, ℕ, ◌<◌, ◌≤◌, false, List, ◌∷◌, [], ◌++◌, length, Option, Some, Err}
+use Rattle.std.specs.Prelude.{◌≡◌, ◌⊎◌, ℕ, ◌<◌, ◌≤◌, false, List, ◌∷◌, [], ◌++◌, length, Some, Ok, Err}
 use Rattle.hm_base.specs.Program.{Program, IsScript}
 use Rattle.hm_io.specs.Streams.{SinkState}
 use Rattle.hm_script.specs.Automaton.{reading}
@@ -7,6 +7,7 @@ use Rattle.hm_script.specs.BadLine.{IsFirstBad}
 use Rattle.hm_script.specs.Built.{every_word}
 use Rattle.hm_script.specs.Spelling.{text}
 use Rattle.hm_script.specs.declared.reason.Refused.{Refused}
+use Rattle.hm_edge.specs.Exits.{Arguments}
 use Rattle.hm_edge.specs.Messages.{Says, code_of}
 use Rattle.hm_edge.specs.Traffic.{IsUntouched, NoFault, Traffic}
 use Rattle.hm_edge.specs.declared.status.Status.{Status}
@@ -15,10 +16,10 @@ use Rattle.hm_edge.specs.declared.status.Status.{Status}
 
 -- A program is started with these words after its name. Its input has these bytes, its output holds these, and neither
 -- fails.
-pub record IsStarted (words : List (List ℕ)) (bytes held : List ℕ) (args : Option (List (List ℕ))) (io : Traffic)
+pub record IsStarted (words : List (List ℕ)) (bytes held : List ℕ) (args : Arguments) (io : Traffic)
     : Type 0 where
   pub name : List ℕ
-  pub named : args ≡ Some (name ∷ words)
+  pub named : args ≡ Ok (name ∷ words)
   pub left : io.source.left ≡ Some bytes
   pub holds : io.sink.held ≡ Some held
   pub faultless : NoFault io

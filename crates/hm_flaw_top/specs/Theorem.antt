@@ -1,8 +1,8 @@
 -- The theorem of the program hmmwithout: what its user is told.
-use Rattle.std.specs.Prelude.{◌≡◌, ◌⊎◌, ◌↔◌, ℕ, ◌+◌, ◌≤◌, true, false, List, [], length, Option, Some, None}
+use Rattle.std.specs.Prelude.{◌≡◌, ◌⊎◌, ◌↔◌, ℕ, ◌+◌, ◌≤◌, true, false, List, [], length, Some, None}
 use Rattle.std.specs.Prelude.{Result, Ok, Err}
 use Rattle.hm_base.specs.Program.{Program}
-use Rattle.hm_edge.specs.Exits.{Exits}
+use Rattle.hm_edge.specs.Exits.{Arguments, Exits}
 use Rattle.hm_edge.specs.Traffic.{IsUntouched, Traffic}
 use Rattle.hm_edge.specs.Users.{CutShort, EndsSo, GoesOut, IsStarted, Spells, ToldNoScript, ToldUsage}
 use Rattle.hm_edge.specs.declared.status.RaceEnd.{RaceEnd}
@@ -145,7 +145,7 @@ ToldBy (Err bad) bytes held io status = ToldUsage io status
 
 -- Whoever starts the program with words after its name, an input and an output that do not fail, is told this.
 abbrev pub Theorem : Type 0
-Theorem = (words : List (List ℕ)) (bytes held : List ℕ) (args : Option (List (List ℕ))) (io : Traffic)
+Theorem = (words : List (List ℕ)) (bytes held : List ℕ) (args : Arguments) (io : Traffic)
     (errors errors_after : SinkState) (code : ℕ) → IsStarted words bytes held args io
     → Exits Runs name usage args io errors errors_after code
     → EndsSo (ToldBy (task_in words) bytes held io) name usage errors errors_after code

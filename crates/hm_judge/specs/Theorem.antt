@@ -5,7 +5,7 @@ use Rattle.hm_base.specs.Program.{Program, IsScript}
 use Rattle.hm_check.specs.Judged.{IsYes, Judged}
 use Rattle.hm_check.specs.Judging.{IsLegalReportOf, IsSound}
 use Rattle.hm_check.specs.Parts.{tail_of}
-use Rattle.hm_edge.specs.Exits.{Exits}
+use Rattle.hm_edge.specs.Exits.{Arguments, Exits}
 use Rattle.hm_edge.specs.Traffic.{Traffic}
 use Rattle.hm_edge.specs.Users.{CutShort, EndsSo, GoesOut, IsDoneOrShort, IsStarted, NothingOut, ToldUsage}
 use Rattle.hm_edge.specs.declared.status.Status.{Status}
@@ -150,7 +150,7 @@ ToldBy (Some asked) bytes held io status = ToldJudging asked bytes held io statu
 
 -- Whoever starts the program with words after its name, an input and an output that do not fail, is told this.
 abbrev pub Theorem : Type 0
-Theorem = (words : List (List ℕ)) (bytes held : List ℕ) (args : Option (List (List ℕ))) (io : Traffic)
+Theorem = (words : List (List ℕ)) (bytes held : List ℕ) (args : Arguments) (io : Traffic)
     (errors errors_after : SinkState) (code : ℕ) → IsStarted words bytes held args io
     → Exits Runs name usage args io errors errors_after code
     → EndsSo (ToldBy (asked_of words) bytes held io) name usage errors errors_after code

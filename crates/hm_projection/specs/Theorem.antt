@@ -1,9 +1,9 @@
 -- The theorem of the program hmmevents: what its user is told.
-use Rattle.std.specs.Prelude.{◌≡◌, ℕ, ◌<◌, ◌≤◌, List, [], ◌∷◌, length, Option}
+use Rattle.std.specs.Prelude.{◌≡◌, ℕ, ◌<◌, ◌≤◌, List, [], ◌∷◌, length}
 use Rattle.hm_base.specs.Program.{Program}
 use Rattle.hm_check.specs.FirstBad.{IsFirstBad, IsLegalReport}
 use Rattle.hm_check.specs.Judging.{IsLegalReportOf}
-use Rattle.hm_edge.specs.Exits.{Exits}
+use Rattle.hm_edge.specs.Exits.{Arguments, Exits}
 use Rattle.hm_edge.specs.Traffic.{Traffic}
 use Rattle.hm_edge.specs.Users.{CutShort, EndsSo, GoesOut, IsStarted, NothingOut, ToldUsage}
 use Rattle.hm_edge.specs.declared.status.Status.{Status}
@@ -49,7 +49,7 @@ ToldBy (w ∷ ws) bytes held io status = ToldUsage io status
 
 -- Whoever starts the program with words after its name, an input and an output that do not fail, is told this.
 abbrev pub Theorem : Type 0
-Theorem = (words : List (List ℕ)) (bytes held : List ℕ) (args : Option (List (List ℕ))) (io : Traffic)
+Theorem = (words : List (List ℕ)) (bytes held : List ℕ) (args : Arguments) (io : Traffic)
     (errors errors_after : SinkState) (code : ℕ) → IsStarted words bytes held args io
     → Exits Runs name usage args io errors errors_after code
     → EndsSo (ToldBy words bytes held io) name usage errors errors_after code

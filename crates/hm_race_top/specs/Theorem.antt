@@ -1,7 +1,7 @@
 -- The theorem of the program hmmraces: what its user is told.
 use Rattle.std.specs.Prelude.{◌≡◌, ◌⊎◌, ℕ, ◌≤◌, true, false, List, [], ◌++◌, length, Option, Some, None}
 use Rattle.hm_base.specs.Program.{Program}
-use Rattle.hm_edge.specs.Exits.{Exits}
+use Rattle.hm_edge.specs.Exits.{Arguments, Exits}
 use Rattle.hm_edge.specs.Traffic.{IsUntouched, Traffic}
 use Rattle.hm_edge.specs.Users.{CutShort, EndsSo, GoesOut, IsStarted, NothingOut, Spells, ToldNoScript, ToldUsage}
 use Rattle.hm_edge.specs.declared.status.RaceEnd.{RaceEnd}
@@ -132,7 +132,7 @@ ToldBy (Some p) bytes held io status =
 
 -- Whoever starts the program with words after its name, an input and an output that do not fail, is told this.
 abbrev pub Theorem : Type 0
-Theorem = (words : List (List ℕ)) (bytes held : List ℕ) (args : Option (List (List ℕ))) (io : Traffic)
+Theorem = (words : List (List ℕ)) (bytes held : List ℕ) (args : Arguments) (io : Traffic)
     (errors errors_after : SinkState) (code : ℕ) → IsStarted words bytes held args io
     → Exits Runs name usage args io errors errors_after code
     → EndsSo (ToldBy (front words) bytes held io) name usage errors errors_after code

@@ -3,7 +3,7 @@ use Rattle.std.specs.Prelude.{◌≡◌, ◌⊎◌, ℕ, ◌<◌, ◌≤◌, Boo
 use Rattle.hm_base.specs.Program.{Program, IsScript}
 use Rattle.hm_check.specs.FirstBad.{IsFirstBad}
 use Rattle.hm_check.specs.Judging.{IsLegalReportOf}
-use Rattle.hm_edge.specs.Exits.{Exits}
+use Rattle.hm_edge.specs.Exits.{Arguments, Exits}
 use Rattle.hm_edge.specs.Traffic.{Traffic}
 use Rattle.hm_edge.specs.Users.{CutShort, EndsSo, GoesOut, IsDoneOrShort, IsStarted, NothingOut, Spells}
 use Rattle.hm_edge.specs.Users.{ToldNoScript, ToldUsage}
@@ -218,7 +218,7 @@ ToldBy (Some (Command.Peek asked)) bytes held io status =
 
 -- Whoever starts the program with words after its name, an input and an output that do not fail, is told this.
 abbrev pub Theorem : Type 0
-Theorem = (words : List (List ℕ)) (bytes held : List ℕ) (args : Option (List (List ℕ))) (io : Traffic)
+Theorem = (words : List (List ℕ)) (bytes held : List ℕ) (args : Arguments) (io : Traffic)
     (errors errors_after : SinkState) (code : ℕ) → IsStarted words bytes held args io
     → Exits Runs name usage args io errors errors_after code
     → EndsSo (ToldBy (command_of words) bytes held io) name usage errors errors_after code

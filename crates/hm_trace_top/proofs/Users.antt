@@ -1,8 +1,9 @@
 -- What the user of the program is told.
-use Rattle.std.proofs.Common.{◌≡◌, ◌⊎◌, inl, inr, ℕ, ◌<◌, false, List, [], ◌∷◌, Option, Some, Result, Ok, Err, length, refl, sym, ap, subst}
+use Rattle.std.proofs.Common.{◌≡◌, ◌⊎◌, inl, inr, ℕ, ◌<◌, false, List, [], ◌∷◌, Some, Result, Ok, Err, length, refl, sym, ap, subst}
 use Rattle.std.specs.Prelude.{IfSome}
 use Rattle.hm_edge.specs.Input.{LeftOver}
 use Rattle.hm_edge.specs.Reading.{ReadFaulted}
+use Rattle.hm_edge.specs.Exits.{Arguments}
 use Rattle.hm_edge.specs.Traffic.{IsUntouched, NoFault, Traffic}
 use Rattle.hm_edge.specs.Users.{CutShort, NothingOut}
 use Rattle.hm_edge.specs.Writing.{IsFlushed, WriteFaulted}
@@ -106,7 +107,7 @@ module _ (bytes held : List ℕ) (io : Traffic) (left : io.source.left ≡ Some 
   by_words words ended (inr r) = refused_by (task_in words) ended r.why r.untouched
 
   -- a program that was started has made its call, or memory ran out before that
-  begun : (name : List ℕ) (words : List (List ℕ)) (ended : Ended) → Begins (Some (name ∷ words)) io ended → ToldBy words bytes held io ended
+  begun : (name : List ℕ) (words : List (List ℕ)) (ended : Ended) → Begins (Ok (name ∷ words)) io ended → ToldBy words bytes held io ended
   begun name words ended (inl does) = by_words words ended does
   begun name words Ended.NoMemory (inr n) = short_by (task_in words) n.untouched
   begun name words (Ended.Told o) (inr n) = absurd n.why
@@ -123,5 +124,5 @@ theorem words bytes held args io errors errors_after code start e = record {
   ended = e.ended;
   code_is = e.code_is;
   says = e.says;
-  told = begun bytes held io start.left start.holds start.faultless start.name words e.ended (subst (λ (z : Option (List (List ℕ))). Begins z io e.ended) start.named e.does);
+  told = begun bytes held io start.left start.holds start.faultless start.name words e.ended (subst (λ (z : Arguments). Begins z io e.ended) start.named e.does);
 }

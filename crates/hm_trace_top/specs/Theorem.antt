@@ -1,5 +1,6 @@
 -- The theorem of the program hmmtrace: what its user is told.
-use Rattle.std.specs.Prelude.{◌≡◌, ◌⊎◌, ℕ, ◌<◌, List, [], length, Option, Result, Ok, Err}
+use Rattle.std.specs.Prelude.{◌≡◌, ◌⊎◌, ℕ, ◌<◌, List, [], length, Result, Ok, Err}
+use Rattle.hm_edge.specs.Exits.{Arguments}
 use Rattle.hm_edge.specs.Traffic.{IsUntouched, Traffic}
 use Rattle.hm_edge.specs.Users.{CutShort, GoesOut, IsStarted, NothingOut}
 use Rattle.hm_io.specs.Streams.{SinkState}
@@ -69,6 +70,6 @@ pub record EndsSo (At : Ended → Type 0) (errors errors_after : SinkState) (cod
 
 -- Whoever starts the program with words after its name, an input and an output that do not fail, is told this.
 abbrev pub Theorem : Type 0
-Theorem = (words : List (List ℕ)) (bytes held : List ℕ) (args : Option (List (List ℕ))) (io : Traffic)
+Theorem = (words : List (List ℕ)) (bytes held : List ℕ) (args : Arguments) (io : Traffic)
     (errors errors_after : SinkState) (code : ℕ) → IsStarted words bytes held args io
     → Exits args io errors errors_after code → EndsSo (ToldBy words bytes held io) errors errors_after code
