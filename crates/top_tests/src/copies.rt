@@ -1,6 +1,7 @@
 // A store comes between a copy and its check.
 ghost use Rattle.std.specs.Prelude.{◌≡◌, ◌<◌, [], length, None};
 
+use crate::gates::Open;
 use crate::meeting::Sign;
 use crate::watched::{Counted, Held};
 use hm_base::{Actor, NoMemory, Proc};
@@ -13,7 +14,7 @@ use skip_rules::Multiples;
 use std::alloc::Global;
 use std::process::Abort;
 use std::sync::Wait;
-use std::sync::atomic::AtomicU64;
+use std::sync::atomic::{AtomicU64, Ordering};
 use std::thread::{Threads, join_mut};
 
 /// Two stores of a byte. The first is the seventh entry, the second the eighth.
@@ -193,4 +194,40 @@ fn a_watcher_looks_after_each_store(rt: HostRuntime) {
         1,
     ).expect(&rt, "memory");
     assert!(rt; gate.missed() == 0 && counted.length() == 26 && end_at(&peeks, 26));
+}
+
+/// How often a watcher looks at most, and its last peek once more.
+const MOST_LOOKS: u64 = 100_001;
+
+/// Whether a watcher that finds nothing to copy, and so looks at each try, ends before it has made all of its tries.
+fn ends_with_the_actors<R: Abort + Threads + Wait + Sync>(rt: &R, alloc: Global) -> bool {
+    let looks = AtomicU64::new(0);
+    let inner = machine(rt, alloc, STORES);
+    let counted = Counted {
+        inner,
+        looks: &looks,
+    };
+    let proc = Proc::new(0);
+    let (counted, _receipt, peeks) = peek_all(
+        rt,
+        alloc,
+        counted,
+        1,
+        &Open,
+        proc,
+        0x50000,
+        1,
+    ).expect(rt, "memory");
+    counted.length() == 8 && peeks.len() == 0 && looks.load(Ordering::SeqCst) < MOST_LOOKS
+}
+
+#[test]
+fn a_watcher_ends_with_the_actors(rt: HostRuntime) {
+    // Its tries last for a second or more. So it makes them all only if the actor's thread does not run in that time.
+    let alloc = rt.alloc();
+    assert!(rt;
+        ends_with_the_actors(&rt, alloc)
+            || ends_with_the_actors(&rt, alloc)
+            || ends_with_the_actors(&rt, alloc)
+    );
 }
