@@ -4,8 +4,8 @@
 # Ends with status 1 if something is wrong: a number of tools/house.py grew, a copy of an example differs, an edit does
 # not apply, a field of a record is in no law, a case of tools/hmm.py has another answer, a tool cannot be executed, a
 # stored output is not read by tools/as_json.py, a page names a page or a file that is not there, a race of
-# tools/trace/suite.py has holds that its reader refuses, or a rule's word is missing in one of the places that have all
-# of them.
+# tools/trace/suite.py has holds that its reader refuses, two pages say different things of a driver, or a rule's word is
+# missing in one of the places that have all of them.
 set -u
 cd "$(dirname "$(realpath "$0")")/.." || exit 2
 wrong=0
@@ -23,6 +23,7 @@ case $cases in
     *) say "tools/hmm.py --test: $cases" ;;
 esac
 
+rows=$(tools/driver_rows.py --check) || say "tools/driver_rows.py --check: $rows"
 steered=$(tools/trace/steer_check.py --twin) || say "tools/trace/steer_check.py --twin: $steered"
 
 # each tool with a first line that names an interpreter can be executed
