@@ -11,4 +11,3 @@ mod Unbroken
 pub mod BrokenTurns
 mod Searched
 mod Rightly
-pub mod Taken

@@ -1,19 +1,16 @@
 // The first part of legality that an entry breaks, in a race of a driver with a flaw.
-ghost use Rattle.std.specs.Prelude.{◌≡◌, ℕ, map, IfOk};
+ghost use Rattle.std.specs.Prelude.{◌≡◌, map, IfOk};
 ghost use Rattle.std.specs.Rc.{rc_value};
-ghost use Rattle.hm_history.specs.Kernel.Going.{Going};
 ghost use Rattle.hm_history.specs.Memory.After.{after};
 ghost use Rattle.hm_flaws.specs.Parts.{broken_part};
-ghost use Rattle.hm_folds.specs.Plain.{plain_of};
 ghost use Rattle.hm_flaw_parts.specs.Judged.{first_of, judged_parts, EachLeads, IsFollowing};
 ghost use Rattle.hm_flaw_parts.specs.declared.judged.Judging.{Judging as AnyJudging};
 
 use hm_base::{NoMemory, Script};
 use hm_flaws::Part;
-use hm_folds::PlainState;
+use hm_history::Entry;
 use hm_history::phases::Migrating;
-use hm_history::{Entry, FoldError};
-use hm_parts::{Follower, Rules, has_taken, meets_kept};
+use hm_parts::{Follower, Rules, meets_kept};
 use hm_reads::Reads;
 use std::alloc::Global;
 use std::rc::Rc;
@@ -39,26 +36,6 @@ fn follower_after(
     let mut so_far = Follower::start(alloc, script)?;
     for at in 0..entries.len() {
         let _rules = so_far.take(&entries[at], at as u64)?;
-    }
-    Ok(so_far)
-}
-
-// The plain state after the entries, each of which answers rightly after those before it.
-fn plain_after(
-    alloc: Global,
-    script: &Script,
-    entries: &[Rc<Entry>],
-) -> Result<PlainState, NoMemory>
-    requires { EachLeads AnyJudging.AnswersAlone script.now (map rc_value entries.now) }
-    ensures { IfOk result (λ x. plain_of x ≡ (after (map rc_value entries.now)).plain) }
-{
-    let mut so_far = PlainState::start(alloc, script)?;
-    for at in 0..entries.len() {
-        match so_far.apply(&entries[at]) {
-            Ok(()) => (),
-            Err(FoldError::NoMemory) => return Err(NoMemory),
-            Err(FoldError::NotLegal) => unreachable!(),
-        }
     }
     Ok(so_far)
 }
@@ -91,8 +68,9 @@ fn first_of(rules: &Rules, kept: bool) -> Option<Part>
     None
 }
 
-// The first part of all that the entry breaks.
-fn broken_of_all<W: Reads>(
+/// The first part of all that the entry breaks after these. The world is that after them, and the records are those of
+/// the entry's actor. Each of the entries before keeps all parts. It goes over all of them.
+pub fn first_broken<W: Reads>(
     alloc: Global,
     world: &W,
     records: &[Migrating],
@@ -109,46 +87,4 @@ fn broken_of_all<W: Reads>(
     let mut so_far = follower_after(alloc, world.script(), entries)?;
     let rules = so_far.take(entry, entries.len() as u64)?;
     Ok(first_of(&rules, meets_kept(world, records, entry)))
-}
-
-// Whether the entry breaks the first part, answers.
-fn broken_of_answers(
-    alloc: Global,
-    script: &Script,
-    entries: &[Rc<Entry>],
-    entry: &Entry,
-) -> Result<Option<Part>, NoMemory>
-    requires { EachLeads AnyJudging.AnswersAlone script.now (map rc_value entries.now) }
-    ensures { IfOk result (λ o. (g : ℕ → Going) → o
-        ≡ broken_part (judged_parts AnyJudging.AnswersAlone) script.now (map rc_value entries.now) g entry.now) }
-{
-    let mut so_far = plain_after(alloc, script, entries)?;
-    if has_taken(so_far.apply(entry))? {
-        Ok(None)
-    } else {
-        Ok(Some(Part::Answers))
-    }
-}
-
-/// The first part that the entry breaks after these. The world is that after them, and the records are those of the
-/// entry's actor. Each of the entries before keeps the parts that are judged. It goes over all of them.
-pub fn first_broken<W: Reads>(
-    alloc: Global,
-    judging: Judging,
-    world: &W,
-    records: &[Migrating],
-    entries: &[Rc<Entry>],
-    entry: &Entry,
-) -> Result<Option<Part>, NoMemory>
-    requires state { (W.state world.now).after ≡ after (map rc_value entries.now) }
-    requires records { records.now ≡ ((W.state world.now).going entry.now.actor).pages }
-    requires leads { EachLeads judging (W.program world.now) (map rc_value entries.now) }
-    ensures { IfOk result (λ o. o
-        ≡ broken_part (judged_parts judging) (W.program world.now) (map rc_value entries.now)
-        (W.state world.now).going entry.now) }
-{
-    match judging {
-        Judging::AllParts => broken_of_all(alloc, world, records, entries, entry),
-        Judging::AnswersAlone => broken_of_answers(alloc, world.script(), entries, entry),
-    }
 }

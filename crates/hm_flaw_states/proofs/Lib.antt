@@ -30,3 +30,4 @@ mod Going
 mod Setting
 mod Stays
 mod Taking
+mod Answering

@@ -5,7 +5,7 @@
 // - the state that the history gives, before the first entry and after each: state and its parts, joined, start,
 //   next;
 // - the key that a search keeps of these, with marks and entries by which the parts of legality are judged: key,
-//   set_ups, turns, same_keys, trail.
+//   judging, set_ups, turns, same_keys, trail.
 #![tactic(auto)]
 
 pub mod buckets;
@@ -22,6 +22,7 @@ pub mod guards;
 mod held_locks;
 pub mod here;
 mod joined;
+mod judging;
 pub mod kept_owns;
 pub mod key;
 pub mod late_spans;

@@ -19,6 +19,7 @@ ghost use Rattle.hm_flaw_states.specs.Turns.{IsKept, IsNextKey, IsTurned, own_ne
 use crate::details::Details;
 use crate::due::due_by;
 use crate::here::FlawHere;
+use crate::judging::broken_answers;
 use crate::kept_owns::copy_own;
 use crate::key::{BrokenBy, FlawKey};
 use crate::owns::Own;
@@ -62,8 +63,13 @@ fn broken_at(
         script,
         state: &key.state,
     };
-    let records = records_of(&key.state.tasks, entry.actor);
-    Ok(first_broken(alloc, judging, &here, records, &key.trail, entry)?)
+    match judging {
+        Judging::AllParts => {
+            let records = records_of(&key.state.tasks, entry.actor);
+            Ok(first_broken(alloc, &here, records, &key.trail, entry)?)
+        }
+        Judging::AnswersAlone => Ok(broken_answers(alloc, &here, &entry.kind)?),
+    }
 }
 
 // Whether such an entry may change what a driver has of its own. It may say so of one that does not.

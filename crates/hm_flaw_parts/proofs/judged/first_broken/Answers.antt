@@ -6,7 +6,7 @@ use Rattle.hm_parts.specs.Follower.{IsFollowed}
 use Rattle.hm_flaw_parts.specs.Judged.{EachLeads}
 use Rattle.hm_flaw_parts.specs.declared.judged.Judging.{Judging}
 use Rattle.hm_flaw_parts.proofs.Breaking.{first_is}
-use Rattle.hm_flaw_parts.proofs.judged.broken_of_all.Goals as goal
+use Rattle.hm_flaw_parts.proofs.judged.first_broken.Goals as goal
 
 pub follower_after-requires : goal.follower_after-requires
 follower_after-requires g c = subst (λ (q : Program). EachLeads Judging.AllParts q (map rc_value c.args.entries.now)) (sym c.script.ensures) c.requires.leads
