@@ -10,26 +10,12 @@ ghost use Rattle.hm_view.specs.Rows.{row, rows};
 
 use crate::changes::{place_before, put_changes};
 use crate::standing::add_standing_line;
-use hm_base::{Actor, NoMemory, Text};
-use hm_history::{Entry, Progress};
+use hm_base::{NoMemory, Text};
+use hm_history::Entry;
+use hm_machine::copy_entry;
 use hm_report::{Buffer, add_entry};
 use hm_world::World;
-use skip_rules::Multiples;
 use std::alloc::Global;
-
-/// Goes on by the entry, which is due.
-fn go_on(alloc: Global, world: &mut World, entry: &Entry) -> Result<(), NoMemory>
-    requires limit { length world.old.history < MOST_ENTRIES }
-    requires running { world.old.halted ≡ None }
-    requires due { due world.old.script world.old.history entry.now.actor ≡ Progress.Did entry.now }
-    ensures { OnOk result (world.new ≡ grown world.old entry.now.actor entry.now.kind) }
-{
-    world.facts();
-    match hm_steps::due(&*world, &Multiples, alloc, entry.actor)? {
-        Progress::Did(again) => world.add(again),
-        _ => unreachable!(),
-    }
-}
 
 /// Goes on by the entry, which is due, and adds the line of its changes.
 #[tactic(auto, using(std::proofs::Common::append_assoc))]
@@ -49,7 +35,7 @@ fn add_changes(
 {
     world.facts();
     let before = place_before(&*world, &entry.kind);
-    go_on(alloc, world, entry)?;
+    world.add(copy_entry(alloc, entry)?)?;
     world.facts();
     put_changes(out, &*world, &before, entry);
     text.extend(b"=")?;
