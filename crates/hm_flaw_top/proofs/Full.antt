@@ -1,6 +1,7 @@
 -- Why a call ends with a history that is full.
 use Rattle.std.proofs.Common.{ℕ, List, subst}
 use Rattle.hm_base.specs.Program.{Program}
+use Rattle.hm_flaws.specs.declared.flaws.Flaw.{Flaw}
 use Rattle.hm_flaws.specs.declared.parts.Part.{Part}
 use Rattle.hm_flaw_top.specs.declared.text.task.Which.{Which}
 use Rattle.hm_history.specs.declared.Entry.{Entry}
@@ -13,3 +14,8 @@ use Rattle.hm_flaw_top.specs.Told.{FlawsMayFail}
 pub full_flaws : (x : Which) (parts : List Part) (c : Program) (h : List Entry) (n : ℕ) → FlawsMayFail x parts c h (StepError.Full n) → FlawsMayFail x parts c h (StepError.Full 2000000)
 full_flaws (Which.One l) parts c h n f = subst (λ (m : ℕ). MayFail (flaw_system parts l c h) (StepError.Full m)) f.0 f
 full_flaws Which.All parts c h n f = record { flaw = f.flaw; fails = subst (λ (m : ℕ). MayFail (flaw_system parts f.flaw c h) (StepError.Full m)) f.fails.0 f.fails }
+
+-- a call may fail for want of memory
+pub no_memory_fails : (x : Which) (parts : List Part) (c : Program) (h : List Entry) → FlawsMayFail x parts c h StepError.NoMemory
+no_memory_fails (Which.One l) parts c h = tt
+no_memory_fails Which.All parts c h = record { flaw = Flaw.NoFlaw; fails = tt }

@@ -1,19 +1,21 @@
 -- A key after turns, one after the other, and the entries that led to it.
-use Rattle.std.proofs.Common.{◌≡◌, ℕ, ◌+◌, ◌<◌, ◌≤◌, false, ◌&&◌, Option, Some, None, List, [], ◌∷◌, ◌++◌, length, map, drop, take, refl, sym, ap, ◌∙◌, subst, append_assoc, append-nil, get_or, arith}
+use Rattle.std.proofs.Common.{◌≡◌, ℕ, ◌+◌, ◌<◌, ◌≤◌, false, ◌&&◌, Option, Some, None, List, [], ◌∷◌, ◌++◌, length, map, drop, take, refl, sym, ap, ◌∙◌, subst, append_assoc, get_or, arith}
 use Rattle.std.specs.Option.{option_map}
 use Rattle.std.specs.Prelude.{Err, IfOk, IfSome, Ok, Result, is_none}
 use Rattle.std.specs.Rc.{rc_value}
 use Rattle.std.proofs.lemmas.Bool.{false≢true}
-use Rattle.std.proofs.lemmas.List.{length-append, length-map, take_more}
+use Rattle.std.proofs.lemmas.List.{take_more}
 use Rattle.std.proofs.lemmas.List.Sums.{fold-append}
-use Rattle.std.proofs.lemmas.Option.{none-some}
 use Rattle.std.proofs.Math.Seq.{drop-append_seam}
 use Rattle.std.specs.List.{drop-map}
 use Rattle.hm_base.specs.Program.{Program}
 use Rattle.hm_history.specs.Kernel.Going.{state_start}
 use Rattle.hm_history.proofs.Going.{lengths}
-use Rattle.hm_flaw_parts.specs.declared.judged.Judging.{Judging}
+use Rattle.hm_flaw_parts.specs.Judged.{EachLeads}
+use Rattle.hm_flaw_states.specs.Follows.{Standing}
+use Rattle.hm_flaw_states.specs.States.{state_in}
 use Rattle.hm_flaw_states.specs.Turns.{IsKept}
+use Rattle.hm_flaw_states.specs.declared.state.FlawState.{FlawState}
 use Rattle.hm_history.specs.Kernel.Run.{is_entry}
 use Rattle.hm_history.specs.declared.Entry.{Entry}
 use Rattle.hm_history.specs.declared.Progress.{Progress}
@@ -23,7 +25,7 @@ use Rattle.hm_flaws.specs.Flawed.{due_by}
 use Rattle.hm_flaws.specs.Judged.{Judged, judged, judged_after, judged_entry, judged_from, judged_on, judged_turn}
 use Rattle.hm_flaws.specs.Parts.{broken_part}
 use Rattle.hm_flaws.specs.Races.{part_in}
-use Rattle.hm_flaw_states.specs.Keyed.{break_of, entries_in, form_in, part_of}
+use Rattle.hm_flaw_states.specs.Keyed.{break_of, form_in}
 use Rattle.hm_flaw_states.specs.Turns.{IsNextKey, IsTurned}
 use Rattle.hm_flaw_states.specs.declared.key.BrokenBy.{BrokenBy}
 use Rattle.hm_flaw_states.specs.declared.key.FlawKey.{FlawKey}
@@ -34,7 +36,7 @@ use Rattle.hm_flaw_parts.proofs.MarkedTurns.{broken_same}
 use Rattle.hm_flaw_parts.proofs.Systems.{turn_stays}
 use Rattle.hm_flaw_parts.proofs.Turns.{in_step, turns_are_judged, turns_go}
 use Rattle.hm_flaw_top.specs.declared.text.answer.Found.{Found}
-use Rattle.hm_flaw_top.specs.Search.Races.{FlawRaceValue, IsKeyOf}
+use Rattle.hm_flaw_top.specs.Search.Races.{FlawRaceValue, IsCopy, IsFlawRace, IsKeyOf}
 use Rattle.hm_flaw_top.specs.Search.Played.{IsPlayed, found_by, found_with}
 use Rattle.hm_flaw_top.proofs.Turning.{turned_point}
 
@@ -129,12 +131,18 @@ module _ (parts : List Part) (l : Flaw) (c : Program) (h : List Entry) (turns : 
 
 -- ---- what is kept
 
-pub key_first : {E : Type 0} (r : FlawRaceValue) (x : Result FlawKey E) → IfOk x (λ k. form_in k ≡ point_from r.script r.set_up) → IfOk x (λ k. (j : Judging) → IsKept j r.script k) → IfOk x (λ k. IsKeyOf r k (length r.set_up))
-key_first r (Ok k) form kept = record {
-  kept = kept r.judging;
-  few = omega (arith, ap (λ (y : FlawPoint). y.flawed.state.after.length) form, lengths r.script (state_start r.script) r.set_up);
-}
-key_first r (Err e) form kept = tt
+pub key_first : (r : FlawRaceValue) → IsFlawRace r → (k : FlawKey) → IsCopy r.first k → IsKeyOf r k (length r.set_up)
+key_first r stands k copy =
+    let first = stands.first in
+    let kept : IsKept r.judging r.script r.first = first.kept r.judging in
+    record {
+      kept = record {
+        frames = copy.frames ∙ kept.frames;
+        leads = subst (EachLeads r.judging r.script) (sym copy.trail) kept.leads;
+        standing = subst (λ (x : FlawState). Standing (state_in x)) (sym copy.state) kept.standing;
+      };
+      few = omega (arith, ap (λ (y : FlawPoint). y.flawed.state.after.length) (copy.form ∙ first.form), lengths r.script (state_start r.script) r.set_up);
+    }
 
 pub key_after : {E : Type 0} (r : FlawRaceValue) (x : Result (Option FlawKey) E) (k : FlawKey) (i : ℕ) → IsKeyOf r k i → IfOk x (λ o. IfSome o (IsKept r.judging r.script)) → IfOk x (λ o. IfSome o (λ m. m.state.value.entries ≤ k.state.value.entries + 1))
     → IfOk x (λ o. IfSome o (λ m. IsKeyOf r m (i + 1)))

@@ -16,15 +16,13 @@ use hm_io::{Sink, Source};
 use hm_race_top::has_drain;
 use hm_race_top::run::set_up_of;
 use hm_race_top::telling::write_telling;
-use skip_rules::SkipRule;
 use std::alloc::Global;
 
 /// Searches the races after the run of a script whose schedule does not end in `drain`, and writes what is asked for.
-fn search_after<R: SkipRule, K: Sink>(
+fn search_after<K: Sink>(
     alloc: Global,
     script: &Script,
     set_up: &[Entry],
-    rule: &R,
     task: Task,
     sink: &mut K,
 ) -> Status
@@ -36,7 +34,7 @@ fn search_after<R: SkipRule, K: Sink>(
     ensures flushed { IsSentOn (K.state sink.new).pending result }
 {
     hm_history::laws::runs_are_due();
-    match tell(alloc, script, set_up, rule, task) {
+    match tell(alloc, script, set_up, task) {
         Ok(telling) => write_telling(alloc, &telling, sink),
         Err(StepError::Full(_)) => Status::HistoryFull,
         Err(StepError::NoMemory) => Status::NoMemory,
@@ -45,56 +43,43 @@ fn search_after<R: SkipRule, K: Sink>(
 
 /// Makes the set-up of a script whose schedule does not end in `drain`, searches the races after it, and writes what is
 /// asked for.
-fn search_races<R: SkipRule, K: Sink>(
-    alloc: Global,
-    script: &Script,
-    rule: &R,
-    task: Task,
-    sink: &mut K,
-) -> Status
-    requires { has_drain script.now.schedule ≡ false }
-    ensures found { HasFound task script.now (K.state sink.old) (K.state sink.new) result }
+fn search_races<K: Sink>(alloc: Global, script: Script, task: Task, sink: &mut K) -> Status
+    requires { has_drain script.schedule ≡ false }
+    ensures found { HasFound task script (K.state sink.old) (K.state sink.new) result }
     ensures faults { WriteFaulted (K.state sink.old).faults (K.state sink.new).faults result }
     ensures flushed { IsSentOn (K.state sink.new).pending result }
 {
-    match set_up_of(alloc, script, rule) {
-        Ok(set_up) => search_after(alloc, script, set_up.as_slice(), rule, task, sink),
+    match set_up_of(alloc, script) {
+        Ok((script, set_up)) => search_after(alloc, &script, set_up.as_slice(), task, sink),
         Err(StepError::Full(_)) => Status::HistoryFull,
         Err(StepError::NoMemory) => Status::NoMemory,
     }
 }
 
 /// Searches the races of a script, and writes what is asked for.
-fn find<R: SkipRule, K: Sink>(
-    alloc: Global,
-    script: &Script,
-    rule: &R,
-    task: Task,
-    sink: &mut K,
-) -> Status
-    ensures found { HasFound task script.now (K.state sink.old) (K.state sink.new) result }
+fn find<K: Sink>(alloc: Global, script: Script, task: Task, sink: &mut K) -> Status
+    ensures found { HasFound task script (K.state sink.old) (K.state sink.new) result }
     ensures faults { WriteFaulted (K.state sink.old).faults (K.state sink.new).faults result }
     ensures flushed { IsSentOn (K.state sink.new).pending result }
 {
     if has_drain(script.schedule.as_slice()) {
         Status::Race(RaceEnd::Drained)
     } else {
-        search_races(alloc, script, rule, task, sink)
+        search_races(alloc, script, task, sink)
     }
 }
 
 /// Reads a script, searches its races, and writes what is asked for.
-fn read_and_find<R: SkipRule, S: Source, K: Sink>(
+fn read_and_find<S: Source, K: Sink>(
     alloc: Global,
     task: Task,
     source: &mut S,
     sink: &mut K,
-    rule: &R,
 ) -> Status
     ensures { Searches task (traffic S.state K.state source.old source.new sink.old sink.new) result }
 {
     match read_script(alloc, source) {
-        Ok(script) => find(alloc, &script, rule, task, sink),
+        Ok(script) => find(alloc, script, task, sink),
         Err(status) => status,
     }
 }
@@ -102,20 +87,18 @@ fn read_and_find<R: SkipRule, S: Source, K: Sink>(
 /// Reads a script from the source, and writes to the sink what the words after the program's name ask for: a shortest
 /// race in which a driver that leaves a rule out does what it must not do, or a line for each driver. The script's
 /// schedule is the set-up, which the right driver makes; from there every actor may take its turn at any time. A search
-/// knows of no more states than the words say. It waits for nobody. The rule is the caller's: which pages a migration
-/// skips.
-pub fn without<R: SkipRule, S: Source, K: Sink>(
+/// knows of no more states than the words say. It waits for nobody.
+pub fn without<S: Source, K: Sink>(
     alloc: Global,
     words: &[String],
     source: &mut S,
     sink: &mut K,
-    rule: R,
 ) -> Status
     ensures { Withouts (map string_bytes words.now)
         (traffic S.state K.state source.old source.new sink.old sink.new) result }
 {
     match task_of(words) {
-        Ok(task) => read_and_find(alloc, task, source, sink, &rule),
+        Ok(task) => read_and_find(alloc, task, source, sink),
         Err(_) => Status::Usage,
     }
 }

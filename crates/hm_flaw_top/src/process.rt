@@ -8,7 +8,6 @@ ghost use Rattle.hm_flaw_top.specs.Runs.{Runs, name, usage};
 use crate::call::without;
 use hm_edge::{Call, Status};
 use hm_io::{Sink, Source};
-use skip_rules::Multiples;
 use std::alloc::Global;
 use std::env::Args;
 use std::io;
@@ -39,7 +38,7 @@ impl Call for Leaving {
         source: &mut S,
         sink: &mut K,
     ) -> Status {
-        without(alloc, words, source, sink, Multiples)
+        without(alloc, words, source, sink)
     }
 }
 

@@ -7,8 +7,10 @@ ghost use Rattle.hm_search.specs.Known.{MayFail};
 ghost use Rattle.hm_flaw_parts.specs.Judged.{judged_parts};
 ghost use Rattle.hm_flaw_parts.specs.Races.Races.{flaw_system};
 ghost use Rattle.hm_flaw_top.specs.Search.Answers.{IsAnswer};
+ghost use Rattle.hm_flaw_top.specs.Search.Races.{IsFirst};
 
 mod finding;
+mod firsts;
 mod goals;
 mod played;
 mod race;
@@ -19,29 +21,30 @@ use finding::found_of;
 use goals::Broken;
 use hm_base::{NoMemory, Script};
 use hm_flaw_parts::Judging;
+use hm_flaw_states::key::FlawKey;
 use hm_flaws::Flaw;
 use hm_history::{Entry, StepError};
 use hm_search::explore;
 use race::FlawRace;
-use skip_rules::SkipRule;
 use std::alloc::Global;
 
-/// Searches the race of a driver with this flaw after a set-up, each state once and the nearest first, for an entry
+/// Searches the race of a driver with this flaw after a set-up, from the key after it, each state once and the nearest first, for an entry
 /// that breaks a part of legality, and stops after the step in which one is due. If there is none, it looks at the
 /// states that it knows for one at which nothing is due to anybody and some operation has not ended. It stops if it
 /// knows more than `most` states. It fails if memory runs out, and if a history has all its entries and one more is
 /// due.
-pub(crate) fn find_race<R: SkipRule>(
+pub(crate) fn find_race(
     alloc: Global,
     script: &Script,
     set_up: &[Entry],
-    rule: &R,
+    first: &FlawKey,
     flaw: Flaw,
     judging: Judging,
     most: u64,
 ) -> Result<Answer, StepError>
     requires due { DueFrom script.now [] set_up.now }
     requires few { length set_up.now ≤ 2000000 }
+    requires first { IsFirst script.now set_up.now first.now }
     ensures answer { IfOk result (IsAnswer (judged_parts judging) flaw script.now set_up.now most) }
     ensures fails { IfErr result (λ e. MayFail (flaw_system (judged_parts judging) flaw script.now set_up.now) e) }
 {
@@ -55,7 +58,7 @@ pub(crate) fn find_race<R: SkipRule>(
         alloc,
         script,
         set_up,
-        rule,
+        first,
         flaw,
         judging,
     };

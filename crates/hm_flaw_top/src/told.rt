@@ -1,6 +1,7 @@
 // What is to be written of drivers that leave a rule out, and how the call ends then.
 ghost use Rattle.std.specs.Prelude.{◌≡◌, ◌≤◌, [], length, IfErr, IfOk};
 ghost use Rattle.hm_flaw_parts.specs.Judged.{judged_parts};
+ghost use Rattle.hm_flaw_top.specs.Search.Races.{IsFirst};
 ghost use Rattle.hm_flaw_top.specs.Text.Names.{all_flaws};
 ghost use Rattle.hm_flaw_parts.specs.Races.Races.{flaw_system};
 ghost use Rattle.hm_history.specs.Laws.{DueFrom};
@@ -12,29 +13,32 @@ use crate::ending::{ending_of, ending_of_all};
 use crate::search::find_race;
 use crate::text::{RuleAnswer, Task, Which, all_flaws, answer_text, rules_text};
 use hm_base::{ListOf, NoMemory, Script};
+use hm_flaw_states::first_key;
+use hm_flaw_states::key::FlawKey;
 use hm_flaws::Flaw;
 use hm_history::{Entry, StepError};
 use hm_race_top::telling::Telling;
-use skip_rules::SkipRule;
+use skip_rules::Multiples;
 use std::alloc::Global;
 
 /// What is to be written of the driver with this flaw. It fails as the search does, and if memory runs out.
-fn tell_one<R: SkipRule>(
+fn tell_one(
     alloc: Global,
     script: &Script,
     set_up: &[Entry],
-    rule: &R,
+    first: &FlawKey,
     flaw: Flaw,
     task: Task,
 ) -> Result<Telling, StepError>
     requires due { DueFrom script.now [] set_up.now }
     requires few { length set_up.now ≤ 2000000 }
+    requires first { IsFirst script.now set_up.now first.now }
     ensures tells { IfOk result (TellsOne (judged_parts task.judging) task.most flaw script.now set_up.now) }
     ensures ends { IfOk result (λ t. IsEnding t.ends) }
     ensures fails { IfErr result
         (λ e. MayFail (flaw_system (judged_parts task.judging) flaw script.now set_up.now) e) }
 {
-    match find_race(alloc, script, set_up, rule, flaw, task.judging, task.most) {
+    match find_race(alloc, script, set_up, first, flaw, task.judging, task.most) {
         Ok(answer) => match answer_text(alloc, set_up.len() as u64, &answer) {
             Ok(text) => Ok(Telling {
                 text,
@@ -47,15 +51,16 @@ fn tell_one<R: SkipRule>(
 }
 
 /// What was found of each driver, in the order in which their lines are written.
-fn answers_of<R: SkipRule>(
+fn answers_of(
     alloc: Global,
     script: &Script,
     set_up: &[Entry],
-    rule: &R,
+    first: &FlawKey,
     task: Task,
 ) -> Result<ListOf<RuleAnswer>, StepError>
     requires due { DueFrom script.now [] set_up.now }
     requires few { length set_up.now ≤ 2000000 }
+    requires first { IsFirst script.now set_up.now first.now }
     ensures rules { IfOk result (λ rows. rules_in rows ≡ all_flaws) }
     ensures are { IfOk result (AreAnswers (judged_parts task.judging) task.most script.now set_up.now) }
     ensures fails { IfErr result (FailsAtSome (judged_parts task.judging) script.now set_up.now) }
@@ -63,7 +68,7 @@ fn answers_of<R: SkipRule>(
     let flaws = all_flaws();
     let mut rows = ListOf::new(alloc);
     for flaw in &flaws {
-        let answer = match find_race(alloc, script, set_up, rule, *flaw, task.judging, task.most) {
+        let answer = match find_race(alloc, script, set_up, first, *flaw, task.judging, task.most) {
             Ok(answer) => answer,
             Err(error) => return Err(error),
         };
@@ -79,20 +84,21 @@ fn answers_of<R: SkipRule>(
 }
 
 /// What is to be written of all drivers. It fails as a search does, and if memory runs out.
-fn tell_all<R: SkipRule>(
+fn tell_all(
     alloc: Global,
     script: &Script,
     set_up: &[Entry],
-    rule: &R,
+    first: &FlawKey,
     task: Task,
 ) -> Result<Telling, StepError>
     requires due { DueFrom script.now [] set_up.now }
     requires few { length set_up.now ≤ 2000000 }
+    requires first { IsFirst script.now set_up.now first.now }
     ensures tells { IfOk result (TellsAll (judged_parts task.judging) task.most script.now set_up.now) }
     ensures ends { IfOk result (λ t. IsEnding t.ends) }
     ensures fails { IfErr result (FailsAtSome (judged_parts task.judging) script.now set_up.now) }
 {
-    match answers_of(alloc, script, set_up, rule, task) {
+    match answers_of(alloc, script, set_up, first, task) {
         Ok(rows) => match rules_text(alloc, rows.as_slice()) {
             Ok(text) => Ok(Telling {
                 text,
@@ -104,13 +110,12 @@ fn tell_all<R: SkipRule>(
     }
 }
 
-/// What is to be written for a task, after a set-up whose entries were due one after the other. It fails as a search
-/// does, and if memory runs out.
-pub(crate) fn tell<R: SkipRule>(
+/// What is to be written for a task, after a set-up whose entries were due one after the other. The key after the set-up
+/// is made once, for all searches. It fails as a search does, and if memory runs out.
+pub(crate) fn tell(
     alloc: Global,
     script: &Script,
     set_up: &[Entry],
-    rule: &R,
     task: Task,
 ) -> Result<Telling, StepError>
     requires due { DueFrom script.now [] set_up.now }
@@ -120,8 +125,11 @@ pub(crate) fn tell<R: SkipRule>(
     ensures fails { IfErr result
         (FlawsMayFail task.which (judged_parts task.judging) script.now set_up.now) }
 {
+    let Ok(first) = first_key(alloc, script, &Multiples, set_up) else {
+        return Err(StepError::NoMemory);
+    };
     match task.which {
-        Which::One(flaw) => tell_one(alloc, script, set_up, rule, flaw, task),
-        Which::All => tell_all(alloc, script, set_up, rule, task),
+        Which::One(flaw) => tell_one(alloc, script, set_up, &first, flaw, task),
+        Which::All => tell_all(alloc, script, set_up, &first, task),
     }
 }

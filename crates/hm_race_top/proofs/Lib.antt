@@ -26,6 +26,7 @@ pub mod Ending
 pub mod SetUps
 pub mod Taking
 pub mod Turning
+mod Entering
 mod Systems
 mod Outcomes
 mod Turns

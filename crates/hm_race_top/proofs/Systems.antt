@@ -13,24 +13,8 @@ use Rattle.hm_race_laws.proofs.Searching.{is_actor}
 use Rattle.hm_race_laws.proofs.Turned.{at_reached}
 use Rattle.hm_search.specs.Systems.{GoAlike}
 use Rattle.hm_race_top.specs.Run.Laws.{RacesAreSystems}
-use Rattle.hm_race_top.proofs.Turns.{entries_from}
+use Rattle.hm_race_top.proofs.Turns.{did, entries_from, never}
 use Rattle.hm_race_top.specs.Run.Systems.{race_of}
-
-never : {A : Type 0} → true ≡ false → A
-never e = absurd (no e)
-  where
-    no : true ≡ false → ⊥
-    no e = cc
-
--- an entry that is due
-record Did (p : Progress) : Type 0 where
-  entry : Entry
-  same : p ≡ Progress.Did entry
-
-did : (p : Progress) → is_entry p ≡ true → Did p
-did (Progress.Did e) is = record { entry = e; same = refl }
-did (Progress.Waiting why) is = never (sym is)
-did Progress.Idle is = never (sym is)
 
 -- a turn without an entry changes nothing
 stays : (c : Program) (x : Point) (p : Progress) → is_entry p ≡ false → point_turned c x p ≡ x

@@ -1,11 +1,10 @@
 -- A turn at a state that a race has come to.
-use Rattle.std.proofs.Common.{◌≡◌, ℕ, ◌+◌, ◌<◌, ◌≤◌, ◌⊎◌, inl, inr, false, Some, None, List, [], ◌∷◌, ◌++◌, length, map, get_or, take, refl, sym, ap, ◌∙◌, subst, zero-add, arith}
+use Rattle.std.proofs.Common.{◌≡◌, ℕ, ◌+◌, ◌<◌, ◌≤◌, ◌⊎◌, inl, inr, false, Some, None, List, [], ◌∷◌, ◌++◌, length, map, refl, sym, ap, ◌∙◌, subst, zero-add, arith}
 use Rattle.std.proofs.lemmas.Bool.{cases_lt}
 use Rattle.std.specs.Rc.{rc_value}
-use Rattle.std.proofs.lemmas.List.{take_more, length-append, length-map}
+use Rattle.std.proofs.lemmas.List.{length-append, length-map}
 use Rattle.hm_base.specs.Program.{Program, IsScript}
-use Rattle.hm_history.proofs.RunLemmas.{DueFrom-append, DueFrom-join, due_at}
-use Rattle.hm_history.proofs.Tests.{true_false}
+use Rattle.hm_history.proofs.RunLemmas.{DueFrom-append, DueFrom-join}
 use Rattle.hm_history.specs.Kernel.Due.{due, due_in}
 use Rattle.hm_history.specs.Memory.After.{After, after}
 use Rattle.hm_history.specs.Kernel.Going.{Going, State, state_next, state_of, state_of-snoc, state_start}
@@ -150,33 +149,6 @@ shown_upto c x n most l s = record { history = s.history; shows = s.shows; few =
 -- the state after a turn is that after one entry more
 pub shown_next : (c : Program) (x : RaceState) (n a : ℕ) (t : Turned) → (s : IsShown c x n) → IsTurned c s.history a (Some t) → IsShown c t.state (n + 1)
 shown_next c x n a t s turned = record { history = s.history ++ turned.0 ∷ []; shows = turned.3; few = omega (arith, s.few, length-append s.history (turned.0 ∷ [])) }
-
--- what is due is one entry
-did_of : Entry → Progress → Entry
-did_of e (Progress.Did d) = d
-did_of e p = e
-
-same_did : (e d : Entry) → Progress.Did e ≡ Progress.Did d → e ≡ d
-unfolding did_of
-same_did e d k = ap (did_of e) k
-
--- each entry of a set-up is due after those before it
-set_up_due : (c : Program) (h : List Entry) (i : ℕ) (d : Entry) → DueFrom c [] h → i < length h → d ≡ get_or h i d → due c (take i h) d.actor ≡ Progress.Did d
-set_up_due c h i d dues below is = subst (λ (y : Entry). due c (take i h) y.actor ≡ Progress.Did y) (sym is) (due_at c [] h i d below dues)
-
--- so its actor has a turn there
-pub set_up_goes : (c : Program) (h : List Entry) (i : ℕ) (d : Entry) → DueFrom c [] h → i < length h → d ≡ get_or h i d → IsTurned c (take i h) d.actor None → ⊥
-set_up_goes c h i d dues below is idle = true_false (is_entry (due c (take i h) d.actor)) (ap is_entry (set_up_due c h i d dues below is)) idle
-
--- a set-up made again, entry by entry
-pub set_up_on : (c : Program) (h : List Entry) (i : ℕ) (d : Entry) (t : Turned) → DueFrom c [] h → i < length h → d ≡ get_or h i d → IsTurned c (take i h) d.actor (Some t) → Shows c (take (i + 1) h) t.state
-set_up_on c h i d t dues below is turned = subst (λ es. Shows c es t.state) more turned.3
-  where
-    this : turned.0 ≡ get_or h i d
-    this = same_did turned.0 d (sym turned.1 ∙ set_up_due c h i d dues below is) ∙ is
-
-    more : take i h ++ turned.0 ∷ [] ≡ take (i + 1) h
-    more = ap (λ e. take i h ++ e ∷ []) this ∙ sym (take_more h i d below)
 
 -- answers have neither positions nor sequences
 answer_blurred : (k : Kind) → answer_of (forget_kind (small_kind k)) ≡ answer_of k

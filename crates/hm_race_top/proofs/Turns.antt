@@ -1,9 +1,10 @@
 -- The turns of a race, as those of a system.
-use Rattle.std.proofs.Common.{◌≡◌, ℕ, Option, Some, None, List, length, sym, ap, ◌∙◌, zero-add}
+use Rattle.std.proofs.Common.{◌≡◌, ℕ, true, false, Option, Some, None, List, length, refl, sym, ap, ◌∙◌, zero-add}
 use Rattle.hm_base.specs.Program.{Program}
 use Rattle.hm_history.specs.Kernel.Going.{state_start}
 use Rattle.hm_history.specs.Kernel.Run.{is_entry}
 use Rattle.hm_history.specs.declared.Entry.{Entry}
+use Rattle.hm_history.specs.declared.Progress.{Progress}
 use Rattle.hm_race_laws.specs.Blur.{form_of}
 use Rattle.hm_race_laws.specs.Outcomes.{Point, Reached, point_from, point_turned, point_at}
 use Rattle.hm_history.proofs.Going.{lengths}
@@ -11,6 +12,22 @@ use Rattle.hm_race_laws.proofs.Turned.{at_reached}
 use Rattle.hm_search.specs.Systems.{IsNext, form_after}
 use Rattle.hm_race_top.specs.Run.Known as known
 use Rattle.hm_race_top.specs.Run.Systems.{race_of}
+
+pub never : {A : Type 0} → true ≡ false → A
+never e = absurd (no e)
+  where
+    no : true ≡ false → ⊥
+    no e = cc
+
+-- an entry that is due
+pub record Did (p : Progress) : Type 0 where
+  pub entry : Entry
+  pub same : p ≡ Progress.Did entry
+
+pub did : (p : Progress) → is_entry p ≡ true → Did p
+did (Progress.Did e) is = record { entry = e; same = refl }
+did (Progress.Waiting why) is = never (sym is)
+did Progress.Idle is = never (sym is)
 
 -- the entries that led to the start
 pub entries_from : (c : Program) (h : List Entry) → (point_from c h).state.after.length ≡ length h

@@ -1,5 +1,4 @@
 -- All outcomes of a script's race, as a search knows them.
-pub mod Copies
 pub mod Races
 pub mod Turns
 pub mod Systems

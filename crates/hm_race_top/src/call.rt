@@ -10,7 +10,7 @@ ghost use Rattle.hm_edge.specs.Writing.{WriteFaulted};
 
 use crate::asked::{Task, front, task_of};
 use crate::laws::{all_is_listed, complete_is_all, known_is_true, true_is_real};
-use crate::run::{copy_script, search};
+use crate::run::{ScriptRace, search};
 use crate::settling::Settling;
 use crate::telling::{tell, write_telling};
 use crate::ways::{blocks_of, has_drain};
@@ -20,7 +20,6 @@ use hm_history::StepError;
 use hm_io::{Sink, Source};
 use hm_race_states::key::StateKey;
 use hm_search::Explored;
-use skip_rules::SkipRule;
 use std::alloc::Global;
 
 /// Writes what is asked for, of a search that has ended.
@@ -49,19 +48,19 @@ fn write_found<K: Sink>(
 }
 
 /// Searches the race of a script whose schedule does not end in `drain`, and writes what is asked for.
-fn search_race<R: SkipRule, K: Sink>(
+fn search_from<K: Sink>(
     alloc: Global,
-    script: &Script,
-    rule: R,
+    race: &ScriptRace,
     most: u64,
     task: &Task,
     sink: &mut K,
 ) -> Status
-    requires { has_drain script.now.schedule ≡ false }
-    ensures found { HasFound most script.now task.now (K.state sink.old) (K.state sink.new) result }
+    requires { has_drain race.now.script.schedule ≡ false }
+    ensures found { HasFound most race.now.script task.now (K.state sink.old) (K.state sink.new) result }
     ensures faults { WriteFaulted (K.state sink.old).faults (K.state sink.new).faults result }
     ensures flushed { IsSentOn (K.state sink.new).pending result }
 {
+    let script = race.script();
     script.facts();
     known_is_true();
     complete_is_all();
@@ -69,51 +68,61 @@ fn search_race<R: SkipRule, K: Sink>(
     all_is_listed();
     crate::text::none_twice();
     crate::text::rulings_are_right();
-    let Ok(copy) = copy_script(alloc, script) else {
-        return Status::NoMemory;
-    };
     let goal = Settling::new(alloc, task.questions(), script.actors.len());
-    match search(alloc, copy, rule, &goal, most) {
+    match search(alloc, race, &goal, most) {
         Ok(found) => write_found(alloc, script, task, &found, sink),
         Err(StepError::Full(_)) => Status::HistoryFull,
         Err(StepError::NoMemory) => Status::NoMemory,
     }
 }
 
-/// Searches the race of a script, and writes what is asked for.
-fn find<R: SkipRule, K: Sink>(
+/// Makes the set-up of a script whose schedule does not end in `drain`, searches the race after it, and writes what is
+/// asked for.
+fn search_race<K: Sink>(
     alloc: Global,
-    script: &Script,
-    rule: R,
+    script: Script,
     most: u64,
     task: &Task,
     sink: &mut K,
 ) -> Status
-    ensures found { HasFound most script.now task.now (K.state sink.old) (K.state sink.new) result }
+    requires { has_drain script.schedule ≡ false }
+    ensures found { HasFound most script task.now (K.state sink.old) (K.state sink.new) result }
+    ensures faults { WriteFaulted (K.state sink.old).faults (K.state sink.new).faults result }
+    ensures flushed { IsSentOn (K.state sink.new).pending result }
+{
+    match ScriptRace::new(alloc, script) {
+        Ok(race) => search_from(alloc, &race, most, task, sink),
+        Err(StepError::Full(_)) => Status::HistoryFull,
+        Err(StepError::NoMemory) => Status::NoMemory,
+    }
+}
+
+/// Searches the race of a script, and writes what is asked for.
+fn find<K: Sink>(alloc: Global, script: Script, most: u64, task: &Task, sink: &mut K) -> Status
+    ensures found { HasFound most script task.now (K.state sink.old) (K.state sink.new) result }
     ensures faults { WriteFaulted (K.state sink.old).faults (K.state sink.new).faults result }
     ensures flushed { IsSentOn (K.state sink.new).pending result }
 {
     if has_drain(script.schedule.as_slice()) {
         Status::Race(RaceEnd::Drained)
     } else {
-        search_race(alloc, script, rule, most, task, sink)
+        search_race(alloc, script, most, task, sink)
     }
 }
 
 /// Reads a script, searches its race, and writes what is asked for.
-fn read_and_find<R: SkipRule, S: Source, K: Sink>(
+fn read_and_find<S: Source, K: Sink>(
     alloc: Global,
     most: u64,
     task: &Task,
     source: &mut S,
     sink: &mut K,
-    rule: R,
 ) -> Status
     ensures { Searches most task.now
         (traffic S.state K.state source.old source.new sink.old sink.new) result }
 {
     match read_script(alloc, source) {
-        Ok(script) => find(alloc, &script, rule, most, task, sink),
+        Ok(script) => find(alloc, script, most, task, sink),
         Err(status) => status,
     }
 }
@@ -121,13 +130,12 @@ fn read_and_find<R: SkipRule, S: Source, K: Sink>(
 /// Reads a script from the source, and writes to the sink what the words after the program's name ask for: all outcomes
 /// of its race, one after the other or as a table; the script with the schedule of one outcome; or whether conditions
 /// hold. It knows of no more states than they say. The script's schedule is the set-up; from there every actor may take
-/// its turn at any time. It waits for nobody. The rule is the caller's: which pages a migration skips.
-pub fn races<R: SkipRule, S: Source, K: Sink>(
+/// its turn at any time. It waits for nobody.
+pub fn races<S: Source, K: Sink>(
     alloc: Global,
     words: &[String],
     source: &mut S,
     sink: &mut K,
-    rule: R,
 ) -> Status
     ensures { Races (map string_bytes words.now)
         (traffic S.state K.state source.old source.new sink.old sink.new) result }
@@ -136,7 +144,7 @@ pub fn races<R: SkipRule, S: Source, K: Sink>(
         return Status::Usage;
     };
     match task_of(alloc, rest) {
-        Ok(task) => read_and_find(alloc, most, &task, source, sink, rule),
+        Ok(task) => read_and_find(alloc, most, &task, source, sink),
         Err(status) => status,
     }
 }

@@ -8,7 +8,6 @@ ghost use Rattle.hm_race_top.specs.Runs.{Runs, name, usage};
 use crate::call::races;
 use hm_edge::{Call, Status};
 use hm_io::{Sink, Source};
-use skip_rules::Multiples;
 use std::alloc::Global;
 use std::env::Args;
 use std::io;
@@ -33,7 +32,7 @@ impl Call for Racing {
         source: &mut S,
         sink: &mut K,
     ) -> Status {
-        races(alloc, words, source, sink, Multiples)
+        races(alloc, words, source, sink)
     }
 }
 

@@ -9,7 +9,6 @@ use hm_flaw_top::without;
 use hm_io::{MemorySink, MemorySource};
 use hm_race_top::races;
 use hm_view::view;
-use skip_rules::Multiples;
 use std::alloc::Global;
 use std::io;
 
@@ -78,9 +77,9 @@ impl Made {
         sink: &mut MemorySink,
     ) -> Status {
         match self {
-            Made::Outcomes | Made::Rulings => races(alloc, words, source, sink, Multiples),
+            Made::Outcomes | Made::Rulings => races(alloc, words, source, sink),
             Made::Page => view(alloc, words, source, sink),
-            _ => without(alloc, words, source, sink, Multiples),
+            _ => without(alloc, words, source, sink),
         }
     }
 

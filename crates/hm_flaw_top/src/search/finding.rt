@@ -11,11 +11,10 @@ use crate::text::Found;
 use hm_base::NoMemory;
 use hm_flaw_states::key::FlawKey;
 use hm_search::{End, Goal, Known, turns_to};
-use skip_rules::SkipRule;
 
 // What turns come to that lead to the first known state which reaches the goal; nothing if none does.
-fn found_first<R: SkipRule, G: Goal<FlawKey>>(
-    race: &FlawRace<R>,
+fn found_first<G: Goal<FlawKey>>(
+    race: &FlawRace,
     goal: &G,
     known: &[Known<FlawKey>],
 ) -> Result<Found, NoMemory>
@@ -34,8 +33,8 @@ fn found_first<R: SkipRule, G: Goal<FlawKey>>(
 
 /// What was found by a search that knows these states, and ended so: if it came to an entry that breaks a part, the
 /// first such, and else the first state at which nobody can go on.
-pub(crate) fn found_of<R: SkipRule>(
-    race: &FlawRace<R>,
+pub(crate) fn found_of(
+    race: &FlawRace,
     known: &[Known<FlawKey>],
     end: End,
 ) -> Result<Found, NoMemory>

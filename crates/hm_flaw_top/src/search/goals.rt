@@ -10,7 +10,6 @@ use crate::search::race::FlawRace;
 use hm_base::NoMemory;
 use hm_flaw_states::key::FlawKey;
 use hm_search::{Goal, Known};
-use skip_rules::SkipRule;
 
 /// A part of legality was broken.
 #[derive(Clone, Copy)]
@@ -30,11 +29,11 @@ impl Goal<FlawKey> for Broken {
 
 /// No part was broken, and nothing is due to anybody, though some operation has not ended.
 #[derive(Drop)]
-pub struct Stuck<'a, R> {
-    pub race: &'a FlawRace<'a, R>,
+pub struct Stuck<'a> {
+    pub race: &'a FlawRace<'a>,
 }
 
-impl<'a, R: SkipRule> Goal<FlawKey> for Stuck<'a, R> {
+impl<'a> Goal<FlawKey> for Stuck<'a> {
     ghost Read = { FlawPoint };
 
     ghost read = { form_in };

@@ -11,7 +11,6 @@ use hm_base::{Actor, ListOf, NoMemory};
 use hm_flaw_states::key::FlawKey;
 use hm_history::Entry;
 use hm_machine::copy_entry;
-use skip_rules::SkipRule;
 use std::alloc::Global;
 use std::rc::Rc;
 
@@ -26,7 +25,7 @@ fn listed(alloc: Global, entries: &[Rc<Entry>]) -> Result<ListOf<Entry>, NoMemor
     Ok(list)
 }
 
-impl<'a, R: SkipRule> FlawRace<'a, R> {
+impl<'a> FlawRace<'a> {
     // The key after turns of these actors. One to whom nothing is due changes nothing.
     fn played(&self, turns: &[Actor]) -> Result<FlawKey, NoMemory>
         requires { length self.now.set_up + length turns.now ≤ 2000000 }

@@ -5,40 +5,53 @@ ghost use Rattle.hm_flaw_states.specs.Keyed.{entries_in, form_in};
 ghost use Rattle.hm_flaw_states.specs.Turns.{IsNextKey};
 ghost use Rattle.hm_flaw_parts.specs.Races.Races.{FlawPoint, flaw_system, point_from};
 
+use crate::search::firsts::copy_first;
 use hm_base::{Actor, NoMemory, Script};
 use hm_flaw_parts::Judging;
 use hm_flaw_states::key::FlawKey;
-use hm_flaw_states::{first_key, next_key};
+use hm_flaw_states::next_key;
 use hm_flaws::Flaw;
 use hm_history::{Entry, StepError};
 use hm_search::System;
-use skip_rules::SkipRule;
+use skip_rules::Multiples;
 use std::alloc::Global;
 use std::marker::Model;
 
-/// The race of a script after a set-up by a right driver, if the driver has this flaw, and is judged by these parts.
+/// The race of a script after a set-up by a right driver, if the driver has this flaw, and is judged by these parts. The
+/// key after the set-up is the same for all of them.
 #[derive(Drop)]
-pub struct FlawRace<'a, R> {
+pub struct FlawRace<'a> {
     pub alloc: Global,
     pub script: &'a Script,
     pub set_up: &'a [Entry],
-    pub rule: &'a R,
+    pub first: &'a FlawKey,
     pub flaw: Flaw,
     pub judging: Judging,
 }
 
-impl<'a, R> Model for FlawRace<'a, R> {
+impl<'a> Model for FlawRace<'a> {
     ghost use Rattle.hm_flaw_top.specs.Search.Races.{FlawRaceValue, IsFlawRace};
 
     ghost Value = { FlawRaceValue };
 
-    ghost view = { λ r. record { script = r.script.now; set_up = r.set_up.now; flaw = r.flaw; judging = r.judging } };
+    ghost view = { λ r. record {
+      script = r.script.now;
+      set_up = r.set_up.now;
+      first = r.first.now;
+      flaw = r.flaw;
+      judging = r.judging;
+    } };
 
-    ghost invariant = { λ r. IsFlawRace
-        (record { script = r.script.now; set_up = r.set_up.now; flaw = r.flaw; judging = r.judging }) };
+    ghost invariant = { λ r. IsFlawRace (record {
+      script = r.script.now;
+      set_up = r.set_up.now;
+      first = r.first.now;
+      flaw = r.flaw;
+      judging = r.judging;
+    }) };
 }
 
-impl<'a, R: SkipRule> FlawRace<'a, R> {
+impl<'a> FlawRace<'a> {
     ghost use Rattle.hm_flaw_top.specs.Search.Races.{IsFlawRace, IsKeyOf};
 
     /// Costs nothing: it hands the prover what holds of every race.
@@ -65,7 +78,7 @@ impl<'a, R: SkipRule> FlawRace<'a, R> {
         ensures kept { IfOk result (λ k. IsKeyOf self.now k (length self.now.set_up)) }
     {
         self.stands();
-        first_key(self.alloc, self.script, self.rule, self.set_up)
+        Ok(copy_first(self.alloc, self.first)?)
     }
 
     /// The key after a turn of the actor, or `None` if nothing is due to it. The key's state has at most this many
@@ -87,7 +100,7 @@ impl<'a, R: SkipRule> FlawRace<'a, R> {
         next_key(
             self.alloc,
             self.script,
-            self.rule,
+            &Multiples,
             flaw,
             judging,
             key,
@@ -96,7 +109,7 @@ impl<'a, R: SkipRule> FlawRace<'a, R> {
     }
 }
 
-impl<'a, R: SkipRule> System for FlawRace<'a, R> {
+impl<'a> System for FlawRace<'a> {
     ghost use Rattle.hm_flaw_top.specs.Search.Races.{IsKeyOf};
 
     type Key = FlawKey;

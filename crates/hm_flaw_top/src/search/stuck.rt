@@ -14,9 +14,9 @@ use hm_flaw_states::here::FlawHere;
 use hm_flaw_states::key::FlawKey;
 use hm_history::Progress;
 use hm_reads::Reads;
-use skip_rules::SkipRule;
+use skip_rules::Multiples;
 
-impl<'a, R: SkipRule> FlawRace<'a, R> {
+impl<'a> FlawRace<'a> {
     // Whether an entry is due to the actor.
     fn can_go(&self, key: &FlawKey, actor: Actor) -> Result<bool, NoMemory>
         ensures { IfOk result
@@ -26,7 +26,7 @@ impl<'a, R: SkipRule> FlawRace<'a, R> {
             script: self.script,
             state: &key.state,
         };
-        match due_by(&here, &key.own, self.flaw, self.rule, self.alloc, actor)? {
+        match due_by(&here, &key.own, self.flaw, &Multiples, self.alloc, actor)? {
             Progress::Did(_) => Ok(true),
             Progress::Waiting(_) | Progress::Idle => Ok(false),
         }

@@ -23,6 +23,13 @@ pub record IsShown (c : Program) (x : RaceState) (most : ℕ) : Type 0 where
   pub shows : Shows c history x
   pub few : length history ≤ most
 
+-- the entry is due after such a history, which has room for it
+pub record IsDue (c : Program) (x : RaceState) (e : Entry) : Type 0 where
+  pub history : List Entry
+  pub shows : Shows c history x
+  pub due : due c history e.actor ≡ Progress.Did e
+  pub few : length history ≤ 2000000
+
 -- what a turn after a history comes to: nothing, or the entry that is due and the state after it
 abbrev pub IsTurned : Program → List Entry → ℕ → Option Turned → Type 0
 IsTurned c h a None = is_entry (due c h a) ≡ false

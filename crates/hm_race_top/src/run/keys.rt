@@ -9,7 +9,7 @@ ghost use Rattle.hm_race_states.specs.Keyed.{form_in};
 ghost use Rattle.hm_race_states.specs.States.{state_in};
 ghost use Rattle.hm_race_top.specs.Run.Turns.{IsShown, Shows};
 
-use crate::run::turn::{Turned, turn};
+use crate::run::turn::{after_entry, turn};
 use hm_base::{Actor, NoMemory, Script};
 use hm_history::Entry;
 use hm_race_keys::shared_answers::SharedAnswers;
@@ -19,53 +19,38 @@ use hm_race_states::key::StateKey;
 use hm_race_states::start::count_of;
 use hm_race_states::state::RaceState;
 use hm_reads::Reads;
-use skip_rules::SkipRule;
 use std::alloc::Global;
 use std::rc::Rc;
 
 // The state after the entries of a set-up.
-fn after_set_up<R: SkipRule>(
-    alloc: Global,
-    script: &Script,
-    rule: &R,
-    set_up: &[Entry],
-) -> Result<RaceState, NoMemory>
+fn after_set_up(alloc: Global, script: &Script, set_up: &[Entry]) -> Result<RaceState, NoMemory>
     requires due { DueFrom script.now [] set_up.now }
     requires few { length set_up.now ≤ 2000000 }
     ensures { IfOk result (λ x. Shows script.now set_up.now x) }
 {
     let mut state = RaceState::start(alloc, script)?;
     for entry in set_up {
-        match turn(alloc, script, rule, &state, entry.actor)? {
-            Some(turned) => state = turned.state,
-            None => unreachable!(),
-        }
+        state = after_entry(alloc, script, &state, entry)?;
     }
     Ok(state)
 }
 
 /// The key after the set-up.
-pub fn first_key<R: SkipRule>(
-    alloc: Global,
-    script: &Script,
-    rule: &R,
-    set_up: &[Entry],
-) -> Result<StateKey, NoMemory>
+pub fn first_key(alloc: Global, script: &Script, set_up: &[Entry]) -> Result<StateKey, NoMemory>
     requires due { DueFrom script.now [] set_up.now }
     requires few { length set_up.now ≤ 2000000 }
     ensures form { IfOk result (λ k. form_in k ≡ form_of script.now (point_from script.now set_up.now)) }
     ensures kept { IfOk result (λ k. IsShown script.now k.state (length set_up.now)) }
 {
-    let state = after_set_up(alloc, script, rule, set_up)?;
+    let state = after_set_up(alloc, script, set_up)?;
     let answers = Rc::new(alloc, SharedAnswers::new(alloc)?)?;
     Ok(StateKey { state, answers })
 }
 
 /// The key after a turn of the actor, or `None` if nothing is due to it.
-pub fn next_key<R: SkipRule>(
+pub fn next_key(
     alloc: Global,
     script: &Script,
-    rule: &R,
     key: &StateKey,
     actor: Actor,
 ) -> Result<Option<StateKey>, NoMemory>
@@ -75,7 +60,7 @@ pub fn next_key<R: SkipRule>(
     ensures kept { IfOk result (λ o. (n : ℕ) → IsShown script.now key.now.state n
         → IfSome o (λ k. IsShown script.now k.state (n + 1))) }
 {
-    match turn(alloc, script, rule, &key.state, actor)? {
+    match turn(alloc, script, &key.state, actor)? {
         None => Ok(None),
         Some(turned) => {
             let answers = answers_after(alloc, &key.answers, &turned.entry)?;

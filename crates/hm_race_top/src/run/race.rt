@@ -8,9 +8,7 @@ ghost use Rattle.hm_race_top.specs.Run.Known.{IsNext, MayFail};
 ghost use Rattle.hm_race_top.specs.Run.Systems.{race_of};
 ghost use Rattle.hm_race_top.specs.Run.Turns.{IsShown};
 ghost use Rattle.hm_race_states.specs.Keyed.{form_in};
-ghost use Rattle.hm_world.specs.WorldValue.{opening};
 
-use crate::run::copies::copy_script;
 use crate::run::keys::{first_key, has_ended, next_key};
 use crate::run::laws::races_are_systems;
 use hm_base::{Actor, NoMemory, Script};
@@ -18,32 +16,19 @@ use hm_history::{History, StepError};
 use hm_machine::Machine;
 use hm_race_states::key::StateKey;
 use hm_search::System;
-use skip_rules::SkipRule;
+use skip_rules::Multiples;
 use std::alloc::Global;
 use std::marker::Model;
 
-// A rule that another value keeps.
-#[derive(Drop)]
-struct Lent<'a, R> {
-    rule: &'a R,
-}
-
-impl<'a, R: SkipRule> SkipRule for Lent<'a, R> {
-    fn skips(&self, every: u64, page: u64) -> bool {
-        self.rule.skips(every, page)
-    }
-}
-
 /// The race of a script: the entries of its schedule are the set-up.
 #[derive(Drop)]
-pub struct ScriptRace<R> {
+pub struct ScriptRace {
     alloc: Global,
-    rule: R,
     script: Script,
     set_up: History,
 }
 
-impl<R> Model for ScriptRace<R> {
+impl Model for ScriptRace {
     ghost use Rattle.hm_race_top.specs.Run.Races.{RaceValue, IsRace};
 
     ghost Value = { RaceValue };
@@ -53,59 +38,52 @@ impl<R> Model for ScriptRace<R> {
     ghost invariant = { λ r. IsRace (record { script = r.script; set_up = r.set_up.entries }) };
 }
 
-fn machine_of<'a, R: SkipRule>(
-    alloc: Global,
-    script: &Script,
-    rule: &'a R,
-) -> Result<Machine<Lent<'a, R>>, NoMemory>
-    ensures { IfOk result (λ m. m ≡ opening script.now) }
+/// A script, with the entries of its schedule. It fails if memory runs out, and if the history has all its entries and
+/// one more is due.
+pub fn set_up_of(alloc: Global, script: Script) -> Result<(Script, History), StepError>
+    ensures script { IfOk result (λ x. x.0 ≡ script) }
+    ensures run { IfOk result (λ x. x.1.entries ≡ run script) }
+    ensures few { IfOk result (λ x. length x.1.entries ≤ MOST_ENTRIES) }
+    ensures fails { IfErr result (λ e. MayFail script (run script) e) }
 {
-    Machine::new(alloc, copy_script(alloc, script)?, Lent { rule })
-}
-
-/// The entries of the script's schedule. It fails if memory runs out, and if the history has all its entries and one
-/// more is due.
-pub fn set_up_of<R: SkipRule>(
-    alloc: Global,
-    script: &Script,
-    rule: &R,
-) -> Result<History, StepError>
-    ensures run { IfOk result (λ h. h.entries ≡ run script.now) }
-    ensures few { IfOk result (λ h. length h.entries ≤ MOST_ENTRIES) }
-    ensures fails { IfErr result (λ e. MayFail script.now (run script.now) e) }
-{
-    match machine_of(alloc, script, rule) {
+    match Machine::new(alloc, script, Multiples) {
         Err(_) => Err(StepError::NoMemory),
         Ok(mut machine) => {
             let ran = machine.run();
             machine.world().facts();
-            let (_, history) = machine.into_parts();
+            let parts = machine.into_parts();
             match ran {
-                Ok(()) => Ok(history),
+                Ok(()) => Ok(parts),
                 Err(error) => Err(error),
             }
         }
     }
 }
 
-impl<R: SkipRule> ScriptRace<R> {
+impl ScriptRace {
     ghost use Rattle.hm_race_top.specs.Run.Races.{IsRace};
 
     /// The race of a script.
-    pub fn new(alloc: Global, script: Script, rule: R) -> Result<ScriptRace<R>, StepError>
+    pub fn new(alloc: Global, script: Script) -> Result<ScriptRace, StepError>
         ensures script { IfOk result (λ r. r.script ≡ script) }
         ensures set_up { IfOk result (λ r. r.set_up ≡ run script) }
         ensures fails { IfErr result (λ e. MayFail script (run script) e) }
     {
         hm_history::laws::runs_are_due();
         script.facts();
-        let set_up = set_up_of(alloc, &script, &rule)?;
+        let (script, set_up) = set_up_of(alloc, script)?;
         Ok(ScriptRace {
             alloc,
-            rule,
             script,
             set_up,
         })
+    }
+
+    /// The script.
+    pub fn script(&self) -> &Script
+        ensures { result.now ≡ self.now.script }
+    {
+        &self.script
     }
 
     fn count(&self) -> u32
@@ -116,8 +94,8 @@ impl<R: SkipRule> ScriptRace<R> {
         self.script.actors.len() as u32
     }
 
-    // Costs nothing: it hands the prover what holds of every race.
-    fn stands(&self)
+    /// Costs nothing: it hands the prover what holds of every race.
+    pub fn stands(&self)
         ensures { IsRace self.now }
     {
         let _ = &self.script;
@@ -130,7 +108,7 @@ impl<R: SkipRule> ScriptRace<R> {
         ensures kept { IfOk result (λ k. IsShown self.now.script k.state (length self.now.set_up)) }
     {
         self.stands();
-        first_key(self.alloc, &self.script, &self.rule, self.set_up.as_slice())
+        first_key(self.alloc, &self.script, self.set_up.as_slice())
     }
 
     // The key after a turn of the actor.
@@ -142,11 +120,11 @@ impl<R: SkipRule> ScriptRace<R> {
             → IfSome o (λ k. IsShown self.now.script k.state (n + 1))) }
     {
         self.stands();
-        Ok(next_key(self.alloc, &self.script, &self.rule, key, actor)?)
+        Ok(next_key(self.alloc, &self.script, key, actor)?)
     }
 }
 
-impl<R: SkipRule> System for ScriptRace<R> {
+impl System for ScriptRace {
     type Key = StateKey;
 
     ghost Points = { Point };

@@ -1,16 +1,19 @@
 // A turn of an actor at a state of a race.
-ghost use Rattle.std.specs.Prelude.{◌≡◌, List, IfOk};
+ghost use Rattle.std.specs.Prelude.{◌≡◌, [], ◌∷◌, ◌++◌, List, IfOk};
+ghost use Rattle.hm_history.specs.Kernel.Due.{due};
 ghost use Rattle.hm_history.specs.declared.Entry.{Entry as AnyEntry};
+ghost use Rattle.hm_history.specs.declared.Progress.{Progress as AnyProgress};
 ghost use Rattle.hm_race_laws.specs.Blur.{blurred_entry};
 ghost use Rattle.hm_race_laws.specs.Positions.{forget_kind};
 ghost use Rattle.hm_race_laws.specs.Numbers.{small_kind};
-ghost use Rattle.hm_race_top.specs.Run.Turns.{IsShown, IsTurned, Shows};
+ghost use Rattle.hm_race_top.specs.Run.Turns.{IsDue, IsShown, IsTurned, Shows};
 
 use hm_base::{Actor, NoMemory, Script};
 use hm_history::{Entry, Kind, Progress};
+use hm_machine::copy_entry;
 use hm_race_states::here::Here;
 use hm_race_states::state::RaceState;
-use skip_rules::SkipRule;
+use skip_rules::Multiples;
 use std::alloc::Global;
 
 /// An entry, without positions and sequences, and the state after it.
@@ -45,11 +48,28 @@ fn blurred_entry(entry: Entry) -> Entry
     }
 }
 
-/// A turn of the actor: the entry that is due and the state after it, or `None` if none is due.
-pub(crate) fn turn<R: SkipRule>(
+/// The state after an entry that is due there, with its positions and sequences.
+pub(crate) fn after_entry(
     alloc: Global,
     script: &Script,
-    rule: &R,
+    state: &RaceState,
+    entry: &Entry,
+) -> Result<RaceState, NoMemory>
+    requires { IsDue script.now state.now entry.now }
+    ensures { IfOk result (λ x. (h : List AnyEntry) → Shows script.now h state.now
+        → due script.now h entry.now.actor ≡ AnyProgress.Did entry.now → Shows script.now (h ++ entry.now ∷ []) x) }
+{
+    script.facts();
+    state.facts();
+    hm_race_laws::forms_go_on();
+    let entry = blurred_entry(copy_entry(alloc, entry)?);
+    Ok(state.after(alloc, script, &entry)?)
+}
+
+/// A turn of the actor: the entry that is due and the state after it, or `None` if none is due.
+pub(crate) fn turn(
+    alloc: Global,
+    script: &Script,
     state: &RaceState,
     actor: Actor,
 ) -> Result<Option<Turned>, NoMemory>
@@ -59,7 +79,7 @@ pub(crate) fn turn<R: SkipRule>(
     script.facts();
     state.facts();
     hm_race_laws::forms_go_on();
-    match hm_steps::due(&Here { script, state }, rule, alloc, actor)? {
+    match hm_steps::due(&Here { script, state }, &Multiples, alloc, actor)? {
         Progress::Did(entry) => {
             let entry = blurred_entry(entry);
             let state = state.after(alloc, script, &entry)?;

@@ -4,7 +4,6 @@ use crate::streams::{empty_sink, source_of, text_of};
 use hm_edge::Status;
 use hm_io::MemorySink;
 use hm_race_top::races;
-use skip_rules::Multiples;
 use std::alloc::Global;
 use std::io;
 
@@ -25,6 +24,6 @@ pub fn report(alloc: Global, script: &[u8]) -> io::Result<String> {
 pub fn outcomes(alloc: Global, script: &[u8]) -> io::Result<String> {
     let mut source = source_of(alloc, script)?;
     let mut sink = empty_sink(alloc)?;
-    let status = races(alloc, &[], &mut source, &mut sink, Multiples);
+    let status = races(alloc, &[], &mut source, &mut sink);
     written(alloc, &status, &sink)
 }

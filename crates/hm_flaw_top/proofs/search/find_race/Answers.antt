@@ -13,13 +13,13 @@ use Rattle.hm_flaw_top.proofs.Rooms.{room_at}
 use Rattle.hm_flaw_top.proofs.search.find_race.Goals as goal
 
 pub found_of-requires : goal.found_of-requires
-found_of-requires g c =
+found_of-requires c =
     let h = c.args.set_up.now in
     subst (λ (xs : List (Known FlawKey)). HaveRoom h (all_known form_in xs)) (sym c.deref.ensures.value)
     (room_at (judged_parts c.args.judging) c.args.flaw c.args.script.now h c.requires.few (all_known form_in c.in_ok-explored.explored.known.items) c.in_ok-explored.ensures.known)
 
 pub returns-in-Ok-clause-answer : goal.returns-in-Ok-clause-answer
-returns-in-Ok-clause-answer g c =
+returns-in-Ok-clause-answer c =
     let parts = judged_parts c.args.judging in
     let l = c.args.flaw in
     let s = c.args.script.now in

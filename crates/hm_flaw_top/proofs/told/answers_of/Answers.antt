@@ -7,7 +7,7 @@ use Rattle.hm_flaw_top.proofs.told.answers_of.Invariants.{SoFar}
 use Rattle.hm_flaw_top.proofs.told.answers_of.Goals as goal
 
 pub loop-flaw-preserved : goal.loop-flaw-preserved
-loop-flaw-preserved g c =
+loop-flaw-preserved c =
     let parts = judged_parts c.args.task.judging in
     let most = c.args.task.most in
     let s = c.args.script.now in

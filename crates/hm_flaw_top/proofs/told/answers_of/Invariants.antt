@@ -14,4 +14,4 @@ pub record SoFar (parts : List Part) (most : ℕ) (c : Program) (h : List Entry)
   pub are : AreAnswers parts most c h rows
 
 abbrev pub invariant-loop-flaw : goal.invariant-loop-flaw
-invariant-loop-flaw g l = SoFar (judged_parts l.fn.task.judging) l.fn.task.most l.fn.script l.fn.set_up l.flaw-items l.rows l.flaw-index
+invariant-loop-flaw l = SoFar (judged_parts l.fn.task.judging) l.fn.task.most l.fn.script l.fn.set_up l.flaw-items l.rows l.flaw-index

@@ -1,10 +1,24 @@
-use Rattle.std.proofs.Common.{length, subst}
-use Rattle.std.specs.Prelude.{IfOk}
-use Rattle.hm_flaw_top.specs.Search.Races.{FlawRaceValue, IsKeyOf}
+use Rattle.std.proofs.Common.{ap, ◌∙◌, subst}
+use Rattle.hm_flaw_states.specs.Keyed.{form_in}
+use Rattle.hm_flaw_parts.specs.Races.Races.{FlawPoint}
+use Rattle.hm_flaw_top.specs.Search.Races.{FlawRaceValue, IsCopy}
 use Rattle.hm_flaw_top.proofs.Playing.{key_first}
 use Rattle.hm_flaw_top.proofs.search.race.FlawRace.first_key.Goals as goal
 
+pub copy_first-requires : goal.copy_first-requires
+copy_first-requires c = ap (λ (v : FlawRaceValue). (form_in v.first).broken) c.self.view_is ∙ ap (λ (x : FlawPoint). x.broken) c.stands.ensures.first.form
+
+pub returns-clause-form : goal.returns-clause-form
+returns-clause-form c =
+    let copy = subst (λ (v : FlawRaceValue). IsCopy v.first c.in_ok-copy_first.field-0) c.self.view_is c.in_ok-copy_first.ensures in
+    copy.form ∙ c.stands.ensures.first.form
+
+pub returns-clause-trail : goal.returns-clause-trail
+returns-clause-trail c =
+    let copy = subst (λ (v : FlawRaceValue). IsCopy v.first c.in_ok-copy_first.field-0) c.self.view_is c.in_ok-copy_first.ensures in
+    copy.trail ∙ c.stands.ensures.first.trail
+
 pub returns-clause-kept : goal.returns-clause-kept
-returns-clause-kept g c =
-    subst (λ (r : FlawRaceValue). IfOk c.first_key.result (λ k. IsKeyOf r k (length r.set_up))) c.self.view_is
-    (key_first _ c.first_key.result c.first_key.ensures.form c.first_key.ensures.kept)
+returns-clause-kept c =
+    key_first c.args.self.now c.stands.ensures c.in_ok-copy_first.field-0
+    (subst (λ (v : FlawRaceValue). IsCopy v.first c.in_ok-copy_first.field-0) c.self.view_is c.in_ok-copy_first.ensures)

@@ -5,4 +5,4 @@ use Rattle.hm_flaw_top.proofs.search.race.FlawRace.have_ended.Given as goal
 
 -- none of the actors so far has an operation left
 abbrev pub invariant-loop-number : goal.invariant-loop-number
-invariant-loop-number g l = (a : ℕ) → a < l.number → op_at l.self.script a ((form_in l.key).flawed.state.going a).index ≡ None
+invariant-loop-number l = (a : ℕ) → a < l.number → op_at l.self.script a ((form_in l.key).flawed.state.going a).index ≡ None

@@ -6,4 +6,4 @@ use Rattle.hm_flaw_top.proofs.search.race.FlawRace.none_can_go.Given as goal
 
 -- none of the actors so far can go on
 abbrev pub invariant-loop-number : goal.invariant-loop-number
-invariant-loop-number g l = (a : ℕ) → a < l.number → is_entry (due_by l.self.flaw l.self.script (form_in l.key).flawed a) ≡ false
+invariant-loop-number l = (a : ℕ) → a < l.number → is_entry (due_by l.self.flaw l.self.script (form_in l.key).flawed a) ≡ false

@@ -5,7 +5,7 @@ use Rattle.hm_flaw_top.proofs.search.race.FlawRace.played.Goals as goal
 use Rattle.hm_flaw_top.proofs.search.race.FlawRace.played.Goals.{in-Some, in-None}
 
 pub loop-actor-preserved : goal.loop-actor-preserved
-loop-actor-preserved g c =
+loop-actor-preserved c =
     let r = c.args.self.now in
     let parts = judged_parts r.judging in
     let turns = c.args.turns.now in
@@ -22,7 +22,7 @@ loop-actor-preserved g c =
     }
 
 pub next_key-requires : goal.next_key-requires
-next_key-requires g c = record {
+next_key-requires c = record {
   kept = c.loop-actor.invariant.kept;
   room = omega (arith, c.requires, c.loop-actor.invariant.count, c.loop-actor-test.true);
 }

@@ -6,7 +6,7 @@ use Rattle.hm_flaw_top.proofs.search.race.FlawRace.played.Given as goal
 
 -- the key is that after the turns so far
 abbrev pub invariant-loop-actor : goal.invariant-loop-actor
-invariant-loop-actor g l = record {
+invariant-loop-actor l = record {
   played : IsPlayed (judged_parts l.self.judging) l.self.flaw l.self.script l.self.set_up (take l.actor-index l.turns) l.key;
   kept : IsKeyOf l.self l.key l.entries;
   count : l.entries ≡ length l.self.set_up + l.actor-index;

@@ -4,4 +4,4 @@ use Rattle.hm_flaw_top.proofs.Turning.{entries_from}
 use Rattle.hm_flaw_top.proofs.search.race.FlawRaceSystem.entries.Goals as goal
 
 pub returns : goal.returns
-returns g c = ap (λ (v : FlawRaceValue). length v.set_up) c.self.view_is ∙ entries_from c.args.self.now.script c.args.self.now.set_up
+returns c = ap (λ (v : FlawRaceValue). length v.set_up) c.self.view_is ∙ entries_from c.args.self.now.script c.args.self.now.set_up

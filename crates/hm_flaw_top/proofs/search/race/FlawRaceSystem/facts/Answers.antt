@@ -5,6 +5,6 @@ use Rattle.hm_flaw_top.specs.Search.Races.{FlawRaceValue}
 use Rattle.hm_flaw_top.proofs.search.race.FlawRaceSystem.facts.Goals as goal
 
 pub returns-clause-system : goal.returns-clause-system
-returns-clause-system g c = let r = c.args.self.now in
+returns-clause-system c = let r = c.args.self.now in
     c.flaw_races_are_systems.ensures (judged_parts r.judging) r.flaw r.script
     (subst (λ (v : FlawRaceValue). IsScript v.script) c.self.view_is c.facts.ensures) r.set_up c.stands.ensures.few

@@ -4,5 +4,5 @@ use Rattle.hm_flaw_top.proofs.Turning.{entries_from}
 use Rattle.hm_flaw_top.proofs.search.race.FlawRaceSystem.first.Goals as goal
 
 pub returns-in-Ok-clause-kept : goal.returns-in-Ok-clause-kept
-returns-in-Ok-clause-kept g c =
+returns-in-Ok-clause-kept c =
     subst (λ (n : ℕ). IsKeyOf c.args.self.now c.in-Ok.key n) (entries_from c.args.self.now.script c.args.self.now.set_up) c.in-Ok.ensures.kept

@@ -12,10 +12,10 @@ use Rattle.hm_race_top.specs.Run.Turns.{IsShown}
 use Rattle.hm_race_top.proofs.run.race.ScriptRace.next_key.Goals as goal
 
 pub next_key-requires : goal.next_key-requires
-next_key-requires g c = subst (λ (v : RaceValue). IsShown v.script c.args.key.now.state 2000000) (sym c.self.view_is) c.requires
+next_key-requires c = subst (λ (v : RaceValue). IsShown v.script c.args.key.now.state 2000000) (sym c.self.view_is) c.requires
 
 pub returns-clause-next : goal.returns-clause-next
-returns-clause-next g c = λ x r e. subst (λ (v : RaceValue). (h : List Entry) (x : Point) → DueFrom v.script [] h → Reached v.script h x → form_of v.script x ≡ form_in c.args.key.now → IsNext form_in v.script x c.args.actor c.in_ok-next_key.field-0) c.self.view_is c.in_ok-next_key.ensures.next c.args.self.now.set_up x c.stands.ensures.due r e
+returns-clause-next c = λ x r e. subst (λ (v : RaceValue). (h : List Entry) (x : Point) → DueFrom v.script [] h → Reached v.script h x → form_of v.script x ≡ form_in c.args.key.now → IsNext form_in v.script x c.args.actor c.in_ok-next_key.field-0) c.self.view_is c.in_ok-next_key.ensures.next c.args.self.now.set_up x c.stands.ensures.due r e
 
 pub returns-clause-kept : goal.returns-clause-kept
-returns-clause-kept g c = subst (λ (v : RaceValue). (n : ℕ) → IsShown v.script c.args.key.now.state n → IfSome c.in_ok-next_key.field-0 (λ (k : StateKey). IsShown v.script k.state (n + 1))) c.self.view_is c.in_ok-next_key.ensures.kept
+returns-clause-kept c = subst (λ (v : RaceValue). (n : ℕ) → IsShown v.script c.args.key.now.state n → IfSome c.in_ok-next_key.field-0 (λ (k : StateKey). IsShown v.script k.state (n + 1))) c.self.view_is c.in_ok-next_key.ensures.kept

@@ -4,6 +4,6 @@ use Rattle.hm_race_top.proofs.Turns.{entries_from}
 use Rattle.hm_race_top.proofs.run.race.ScriptRaceSystem.first.Goals as goal
 
 pub returns-in-Ok-clause-kept : goal.returns-in-Ok-clause-kept
-returns-in-Ok-clause-kept g c =
+returns-in-Ok-clause-kept c =
     let race = c.args.self.now in
     subst (IsShown race.script c.in-Ok.key.state) (sym (entries_from race.script race.set_up)) c.in-Ok.ensures.kept
