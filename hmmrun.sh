@@ -71,8 +71,8 @@ words_hmmraces() {
   (no word)            reads a script: every outcome of its race
   --table              the same as a table: a column for each answer that differs, a row for each outcome
   --script N           the whole script with the schedule of outcome N
-  --expect CONDITION ..    whether each condition holds, such as 'none a1 loaded p0 0x10000 41'; status 1 if one fails
-  --expect-file LINES  the same of each line of the file LINES
+  --expect CONDITION ..    whether each condition holds, such as 'none a0 loaded m0 0x10000 41'; status 1 if one fails
+  --expect-file LINES  the same of each line of the file LINES that is neither blank nor a comment, as `# ..` is
   MOST, --most MOST    before these: gives up beyond MOST states, and not beyond 1,000,000
 END
 }
@@ -251,9 +251,10 @@ read_race_words() {
             done
             [ "${words[-1]}" != --expect ] || refuse 'a condition begins with `some`, `none` or `every`' ;;
         --expect-file)
-            [ $# -ge 2 ] || refuse '`--expect-file` takes a file, a condition in each line'
+            [ $# -ge 2 ] || refuse '`--expect-file` takes a file, a condition in each line; `#` begins a comment'
             [ -r "$2" ] && [ -s "$2" ] || no_file "the file $2 has no line that may be read"
-            mapfile -t -O ${#words[@]} words < <(echo --expect; cat "$2")
+            mapfile -t -O ${#words[@]} words < <(echo --expect; grep -v '^[[:space:]]*\(#\|$\)' "$2")
+            [ "${words[-1]}" != --expect ] || no_file "the file $2 has no condition"
             shift 2 ;;
     esac
     [[ ! ${1-} =~ ^[0-9]+$ ]] || refuse 'one number at most: MOST'
@@ -519,6 +520,14 @@ explain() {
     fi
 }
 
+# Why a condition of hmmraces is refused.
+explain_conditions() {
+    local at
+    for at in "${!words[@]}"; do
+        [ "${words[at]}" != --expect ] || { "$top/tools/conditions.py" "$1" "${words[@]:at + 1}" >&2; return; }
+    done
+}
+
 # If this is a script for people, and not one that begins as an exact one does, it is written exactly, and the program
 # is run on that.
 run_readable() {
@@ -529,6 +538,7 @@ run_readable() {
         say 'this is a script for people (docs/SCRIPT.md); tools/hmm.py wrote the exact one, which is run now'
         "$1" "${words[@]}" <"$exact"
         status=$?
+        [ "$name" != hmmraces ] || [ $status -ne 2 ] || explain_conditions "$exact"
         rm -f "$exact"
         exit "$status"
     fi
@@ -562,7 +572,7 @@ run() {
     elif [ $status -eq 3 ]; then
         explain "$text"
     elif [ "$name" = hmmraces ] || [ "$name" = hmmwithout ]; then
-        :
+        [ $status -ne 2 ] || explain_conditions "$text"
     elif [ $status -eq 1 ] && [ "$(head -c 4 "$text")" = 'hmm ' ] && ! grep -q '^history$' "$text"; then
         say 'this is a script; what is read here is the report that `./hmmrun.sh replay` writes of it'
     elif [ $status -eq 1 ] && [ "$name" != hmmjudge ] && [ "$(wc -c <"$text")" -lt 4000000 ]; then

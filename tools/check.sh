@@ -22,6 +22,7 @@ case $cases in
     *' 0 wrong') ;;
     *) say "tools/hmm.py --test: $cases" ;;
 esac
+asked=$(tools/conditions.py --test) || say "tools/conditions.py --test: $asked"
 
 rows=$(tools/driver_rows.py --check) || say "tools/driver_rows.py --check: $rows"
 steered=$(tools/trace/steer_check.py --twin) || say "tools/trace/steer_check.py --twin: $steered"

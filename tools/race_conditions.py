@@ -135,7 +135,7 @@ def main():
             script = file.read()
         outcomes = [lines for lines, _ in blocks(ask(races, [], script)[1])]
         with open(stem + '.conditions') as file:
-            conditions = file.read().splitlines()
+            conditions = [it for it in file.read().splitlines() if it.strip() and not it.lstrip().startswith('#')]
         for condition in [it for one in conditions for it in (one, opposite(one)) if it]:
             try:
                 held, witnesses = compare(races, run, script, condition, outcomes)

@@ -1,0 +1,186 @@
+#!/usr/bin/env python3
+"""Why hmmraces refuses a condition, in words.
+
+  tools/conditions.py SCRIPT CONDITION ..
+  tools/conditions.py --test      tries the cases of tools/condition_cases.tsv
+
+SCRIPT is an exact script. Says of the first condition that is none, or has a line that no operation of the script may
+end with, what is wrong, and the nearest that could be meant. Writes nothing if each condition can be asked.
+"""
+
+import difflib
+import os
+import re
+import sys
+
+TOP = os.path.dirname(os.path.dirname(os.path.realpath(__file__)))
+
+ENDINGS = ('loaded stored failed mapped unmapped protected forked exited attached detached refused migrated seen '
+           'evicted removed excluded added').split()
+ACTOR = re.compile(r'a(0|[1-9]|1[0-5])$')
+
+
+def nearest(word, known):
+    found = difflib.get_close_matches(word, known, 1, 0.6)
+    return f'; did you mean `{found[0]}`?' if found else ''
+
+
+def bad_word(words):
+    """What is wrong with the words of a condition, if they are none: the place where they stop, and what may come."""
+    if words[0] not in ('some', 'none', 'every'):
+        return f'`{words[0]}` is no first word{nearest(words[0], ["some", "none", "every"]) or ": it is `some`, `none` or `every`"}'
+    at = 'fresh'
+    for before, word in zip(words, words[1:]):
+        if word == '':
+            return 'two spaces where one is due, or one at an end'
+        if at in ('fresh', 'negated') and not (ACTOR.match(word) or at == 'fresh' and word == 'not'):
+            return f'after `{before}` a whole line is wanted, which begins with an actor, as `a0`; here is `{word}`'
+        if at == 'opened' and word in ('and', 'or', 'not'):
+            return f'`{before}` is an actor alone; a whole line is wanted'
+        if at == 'inside' and word == 'not':
+            return '`not` stands before a line: `and not a0 ..`'
+        at = {'fresh': 'negated' if word == 'not' else 'opened', 'negated': 'opened', 'opened': 'inside'}.get(at, at)
+        if at == 'inside' and word in ('and', 'or'):
+            at = 'fresh'
+    return None if at == 'inside' else f'it ends after `{words[-1]}`, where a whole line is wanted, as `a0 loaded p0 0x10000 41`'
+
+
+def lines_of(words):
+    """The lines of a condition, each as its words."""
+    lines = [[]]
+    for word in words[1:]:
+        if word in ('and', 'or'):
+            lines.append([])
+        elif word != 'not' or lines[-1]:
+            lines[-1].append(word)
+    return lines
+
+
+def operations(script):
+    """The operations of each actor, each as its words."""
+    actors = []
+    for line in script.splitlines():
+        words = line.split(' ')
+        if words[0] == 'actor':
+            actors.append([])
+        elif actors and words[0] in OPERATIONS:
+            actors[-1].append(words)
+    return actors
+
+
+def pieces(address, count):
+    first = min(count, 4096 - address % 4096)
+    return [(address, first)] + [(address + first, count - first)] * (first < count)
+
+
+def access(who, done, words):
+    count = int(words[3]) if words[0] in ('load', 'dload') else len(words[3]) // 2
+    found = []
+    for at, size in pieces(int(words[2], 16), count):
+        found.append(([done, who, hex(at)], re.compile(f'[0-9a-f]{{{2 * size}}}$'), 'YY' * min(size, 4)))
+        found.append((['failed', who, hex(at), str(size)], re.compile('[1-4]$'), 'CAUSE'))
+    return found
+
+
+NUMBER, BYTES, NONE = re.compile(r'(0|[1-9][0-9]*)$'), re.compile('[0-9a-f]{2}$'), None
+REFUSED = (['refused'], NUMBER, 'CAUSE')
+
+# What each operation may end with: words, and what one more word is like, if there is one.
+OPERATIONS = {
+    'map': lambda w: [(['mapped', 'p' + w[1], *w[2:]], NONE, ''), REFUSED],
+    'unmap': lambda w: [(['unmapped', 'p' + w[1], *w[2:]], NONE, ''), REFUSED],
+    'protect': lambda w: [(['protected', 'p' + w[1], *w[2:]], NONE, ''), REFUSED],
+    'load': lambda w: access('p' + w[1], 'loaded', w),
+    'store': lambda w: access('p' + w[1], 'stored', w),
+    'fork': lambda w: [(['forked', 'p' + w[1], 'p' + w[2]], NONE, ''), REFUSED],
+    'exit': lambda w: [(['exited', 'p' + w[1]], NONE, ''), REFUSED],
+    'attach': lambda w: [(['attached', 'm' + w[1], 'd' + w[2], 'p' + w[3], *w[4:]], NONE, ''), REFUSED],
+    'detach': lambda w: [(['detached', 'm' + w[1]], NONE, ''), REFUSED],
+    'dload': lambda w: access('m' + w[1], 'loaded', w),
+    'dstore': lambda w: access('m' + w[1], 'stored', w),
+    'todev': lambda w: [(['migrated'], NUMBER, 'N'), REFUSED],
+    'tosys': lambda w: [(['migrated'], NUMBER, 'N'), REFUSED],
+    'snap': lambda w: [(['seen', 'm' + w[1]], NONE, 'PAGE YY'), REFUSED],
+    'evict': lambda w: [(['evicted'], NUMBER, 'N')],
+    'remove': lambda w: [(['removed', 'd' + w[1]], NONE, ''), REFUSED],
+    'exclusive': lambda w: [(['excluded', 'm' + w[1], w[2]], NONE, ''), REFUSED],
+    'dadd': lambda w: [(['added', 'm' + w[1], w[2]], NONE, 'YY YY'), (['failed', 'm' + w[1], w[2], '1'], re.compile('[1-4]$'), 'CAUSE')],
+}
+
+
+def fits(words, form):
+    head, more, _ = form
+    if head[0] in ('seen', 'added'):
+        return words[:2] == head[:2]
+    if more is NONE:
+        return words == head
+    return words[:-1] == head and bool(more.match(words[-1]))
+
+
+def spelled(form):
+    return ' '.join([*form[0], form[2]]).rstrip()
+
+
+def bad_line(words, actors):
+    """Why no operation may end with the line, if none may."""
+    actor, kind = int(words[0][1:]), words[1]
+    if any('\r' in word for word in words):
+        return 'a carriage return stands at its end: this is a file with the line ends of Windows'
+    if actor >= len(actors):
+        return f'there is no actor `{words[0]}` in this script, whose last is `a{len(actors) - 1}`'
+    forms = [(op, form) for op in actors[actor] for form in OPERATIONS[op[0]](op)]
+    if any(fits(words[1:], form) for _, form in forms):
+        return None
+    if kind not in ENDINGS:
+        of_op = {op: form[0][0] for op in OPERATIONS for form in OPERATIONS[op]([op, '0', '0x0', '1', '1', '1'])[:1]}
+        meant = f'; did you mean `{of_op[kind]}`?' if kind in of_op else nearest(kind, ENDINGS)
+        return f'`{kind}` ends no operation{meant}'
+    same = [(op, form) for op, form in forms if form[0][0] == kind]
+    if not same:
+        others = [f'a{a}' for a, ops in enumerate(actors) for op in ops if kind in [form[0][0] for form in OPERATIONS[op[0]](op)]]
+        other = f'; {" and ".join(sorted(set(others)))} may' if others else ''
+        return f'no operation of `{words[0]}` ends with `{kind}`{other}'
+    best = max(same, key=lambda it: difflib.SequenceMatcher(None, words[1:], it[1][0]).ratio())
+    return f'`{" ".join(best[0])}` does not end so; it ends with `{words[0]} {spelled(best[1])}`'
+
+
+def trouble(condition, actors):
+    words = condition.split(' ')
+    said = bad_word(words)
+    if said:
+        return said
+    return next((said for line in lines_of(words) if (said := bad_line(line, actors))), None)
+
+
+def actors_of(script):
+    with open(script, encoding='utf-8', errors='replace', newline='\n') as file:
+        return operations(file.read())
+
+
+def test():
+    """Whether of each case, a condition on examples/retry_race.hmm, is said what stands beside it."""
+    actors = actors_of(f'{TOP}/examples/retry_race.hmm')
+    with open(f'{TOP}/tools/condition_cases.tsv', encoding='utf-8') as file:
+        cases = [line.rstrip('\n').split('\t') for line in file]
+    wrong = [(case, said) for case, wanted in cases if (said := trouble(case.replace('<CR>', '\r'), actors) or '') != wanted]
+    for case, said in wrong:
+        print(f'{case}: {said}')
+    print(f'{len(cases)} cases, {len(wrong)} wrong')
+    return 1 if wrong else 0
+
+
+def main():
+    if sys.argv[1:] == ['--test']:
+        sys.exit(test())
+    if len(sys.argv) < 3:
+        sys.exit(__doc__)
+    actors = actors_of(sys.argv[1])
+    for number, condition in enumerate(sys.argv[2:], 1):
+        said = trouble(condition, actors)
+        if said:
+            print(f'condition {number}: {said}')
+            return
+
+
+if __name__ == '__main__':
+    main()
