@@ -52,6 +52,7 @@ RUNS = [
     ('hmmraces', '', EMPTY, 0, ANY, ''),
     ('hmmraces', 'many', EMPTY, 2, b'', RACE_USAGE),
     ('hmmraces', '--expect some', EMPTY, 2, b'', 'condition 1: bad word 2'),
+    ('hmmraces', ['--expect', 'none a0 load p0 0x10000 41'], EMPTY, 2, b'', 'condition 1: bad word 2'),
     ('hmmraces', '--script 2', EMPTY, 9, b'', 'no such outcome'),
     ('hmmraces', '', EMPTY + b'drain\n', 9, b'', NOTHING),
     ('hmmraces', '', b'', 3, b'', REFUSED),
@@ -117,7 +118,8 @@ def feed(pipe, given):
 def run(path, words, given, wanted):
     """The exit code of a run, what it writes and what it says."""
     output = open('/dev/full', 'wb') if wanted is FULL else subprocess.PIPE
-    process = subprocess.Popen([path] + words.split(), stdin=subprocess.PIPE, stdout=output, stderr=subprocess.PIPE)
+    given_words = words if isinstance(words, list) else words.split()
+    process = subprocess.Popen([path, *given_words], stdin=subprocess.PIPE, stdout=output, stderr=subprocess.PIPE)
     feeder = threading.Thread(target=feed, args=(process.stdin, given))
     feeder.start()
     process.stdin, keep = None, process.stdin

@@ -7,7 +7,7 @@ use Rattle.std.proofs.lemmas.List.{map-append}
 use Rattle.std.proofs.lemmas.Slice.Eq.{bytes_eq-Decides}
 use Rattle.hm_race_laws.specs.Closed.{IsListed, AreDistinct}
 use Rattle.hm_race_laws.proofs.Searching.{listed_left, listed_right, listed_cases, distinct_more}
-use Rattle.hm_race_top.specs.Text.Answers.{answer_lines}
+use Rattle.hm_race_lines.specs.Answers.{answer_lines}
 use Rattle.hm_race_top.specs.Text.Text.{Way, block_of, has_lines, with_block}
 use Rattle.hm_race_top.specs.Text.Laws.{IsFound, BlocksAreFound, lines_of, WaysAreShown, NoneTwice}
 use Rattle.hm_race_top.specs.declared.text.block.OutcomeBlock.{OutcomeBlock}

@@ -31,3 +31,4 @@ mod Systems
 mod Outcomes
 mod Turns
 mod Users
+pub mod Unasked

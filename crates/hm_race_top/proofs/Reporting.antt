@@ -15,6 +15,7 @@ use Rattle.hm_race_top.specs.Text.Text.{blocks_of}
 use Rattle.hm_race_top.specs.declared.text.block.OutcomeBlock.{OutcomeBlock}
 use Rattle.hm_script.specs.Built.{has_drain}
 use Rattle.hm_race_top.specs.Asked.{questions_in}
+use Rattle.hm_race_top.specs.Text.Conditions.Asking.{unasked}
 use Rattle.hm_race_top.specs.Races.{Found, HasFound, Holds}
 use Rattle.hm_race_top.specs.Telling.{HasTold, IsEnding, IsSentOn, ending_of, numbered, script_told, telling, told}
 use Rattle.hm_race_top.specs.Ways.{ways_by}
@@ -46,9 +47,9 @@ telling_ends c Task.Table bs states end = tt
 telling_ends c (Task.Script n) bs states end = script_ends c (numbered bs n) (is_whole end)
 telling_ends c (Task.Expect qs) bs states end = ruling_ends (summary qs (lines_of bs) (is_whole end))
 
-module _ (most : ℕ) (c : Program) (task : Task) (known : List KnownValue) (end : End) (holds : Holds most c (questions_in task) known end) (none : has_drain c.schedule ≡ false) (before after : SinkState) where
+module _ (most : ℕ) (c : Program) (task : Task) (known : List KnownValue) (end : End) (holds : Holds most c (questions_in task) known end) (none : has_drain c.schedule ≡ false) (asks : unasked c (questions_in task) ≡ None) (before after : SinkState) where
   found : (status : Status) → HasTold (told c task known end) before after status → Found most c task before after status
-  found status w = record { known = known; end = end; holds = holds; written = w; races = none }
+  found status w = record { known = known; end = end; holds = holds; written = w; races = none; asks = asks }
 
   not_so : (status : Status) → (IsOfOutcomes status → ⊥) → status ≡ (told c task known end).ends → ⊥
   not_so status none same = none (subst IsOfOutcomes (sym same) (telling_ends c task _ _ end))

@@ -4,7 +4,7 @@ use Rattle.std.proofs.lemmas.List.{take_more, length-take-le, map-append, length
 use Rattle.hm_history.specs.Memory.Words.{numbers}
 use Rattle.hm_history.specs.declared.Kind.{Kind}
 use Rattle.hm_history.proofs.Numbers.{numbers_append, number_count}
-use Rattle.hm_race_top.specs.Text.Answers.{actor_lines, lines_from, answer_lines}
+use Rattle.hm_race_lines.specs.Answers.{actor_lines, lines_from, answer_lines}
 use Rattle.hm_race_top.specs.Text.Text.{block_text, blocks_text}
 use Rattle.hm_race_top.specs.declared.text.block.OutcomeBlock.{OutcomeBlock}
 

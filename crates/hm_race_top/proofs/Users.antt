@@ -18,8 +18,9 @@ use Rattle.hm_race_top.specs.Asked.{HasNoTask, front, questions_in}
 use Rattle.hm_race_top.specs.Races.{Does, DoesNothing, Found, HasFound, HasStopped, Holds, IsSure, Races, RacesBy, Searched, Searches}
 use Rattle.hm_race_top.specs.Run.Known.{KnownValue, MayFail}
 use Rattle.hm_race_top.specs.Runs.{Runs, name, usage}
+use Rattle.hm_race_top.proofs.Unasked.{none_has}
 use Rattle.hm_race_top.specs.Telling.{HasTold, IsSentOn, told}
-use Rattle.hm_race_top.specs.Theorem.{AreRight, IsOfRace, NoRace, TellsRace, Theorem, ToldBy, ToldRace, ToldRacing, ToldTask}
+use Rattle.hm_race_top.specs.Theorem.{AreRight, IsOfRace, IsUnasked, NoRace, TellsRace, Theorem, ToldBy, ToldRace, ToldRacing, ToldTask}
 use Rattle.hm_race_top.specs.declared.asked.Task.{Task}
 use Rattle.hm_race_top.specs.declared.telling.Telling.{Telling}
 use Rattle.hm_race_top.specs.declared.text.conditions.question.Question.{Question}
@@ -55,6 +56,7 @@ module _ (most : ℕ) (task : Task) (bytes held : List ℕ) (io : Traffic) (left
     spells = spells bytes held io left holds c read;
     read = none_left bytes held io left holds (IsTextOf c) 4194304 read;
     races = f.races;
+    asks = f.asks;
     known = f.known;
     end = f.end;
     are = are_right most c (questions_in task) f.known f.end f.holds;
@@ -96,7 +98,7 @@ module _ (most : ℕ) (task : Task) (bytes held : List ℕ) (io : Traffic) (left
   searched c (Status.Race RaceEnd.NoOutcome) read f fault sent = tells_race c (Status.Race RaceEnd.NoOutcome) read f f.written.0 f.written.1 sent
   searched c (Status.Race RaceEnd.NotFound) read f fault sent = tells_race c (Status.Race RaceEnd.NotFound) read f f.written.0 f.written.1 sent
   searched c (Status.Race RaceEnd.Drained) read f fault sent = no_race (λ s. has_drain s.schedule ≡ true) c read f.0 f.1
-  searched c (Status.Race (RaceEnd.NoCondition n word)) read f fault sent = absurd f
+  searched c (Status.Race (RaceEnd.NoCondition n word)) read f fault sent = no_race (λ s. IsUnasked s (questions_in task) n word) c read (record { is = f.0; none = none_has c (spells bytes held io left holds c read).in_range }) f.1
   searched c (Status.Race RaceEnd.Broken) read f fault sent = absurd f
   searched c (Status.Race RaceEnd.Open) read f fault sent = absurd f
   searched c Status.HistoryFull read f fault sent = no_race (λ s. MayFail s (run s) (StepError.Full 2000000)) c read f.0 f.1

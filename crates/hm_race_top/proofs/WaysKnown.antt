@@ -7,7 +7,7 @@ use Rattle.hm_history.specs.declared.Kind.{Kind}
 use Rattle.hm_race_laws.specs.Closed.{IsListed}
 use Rattle.hm_race_laws.specs.Outcomes.{outcome, answers_of}
 use Rattle.hm_race_top.specs.Run.Known.{KnownValue, outcomes_of}
-use Rattle.hm_race_top.specs.Text.Answers.{answer_lines}
+use Rattle.hm_race_lines.specs.Answers.{answer_lines}
 use Rattle.hm_race_top.specs.Text.Laws.{lines_of, WaysAreShown}
 use Rattle.hm_race_top.specs.Text.Text.{Way, block_of, with_block, blocks_of}
 use Rattle.hm_race_top.specs.declared.text.block.OutcomeBlock.{OutcomeBlock}

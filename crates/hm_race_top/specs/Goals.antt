@@ -4,7 +4,7 @@ use Rattle.hm_race_top.specs.Text.Conditions.Rulings.{settles}
 use Rattle.hm_race_top.specs.declared.text.conditions.question.Question.{Question}
 use Rattle.hm_history.specs.Memory.Words.{numbers}
 use Rattle.hm_race_laws.specs.Outcomes.{Point}
-use Rattle.hm_race_top.specs.Text.Answers.{answer_lines}
+use Rattle.hm_race_lines.specs.Answers.{answer_lines}
 
 -- the outcome of a state of a race with this many actors settles the conditions
 abbrev pub settled : List Question → ℕ → Point → Bool

@@ -4,6 +4,7 @@ use Rattle.hm_base.specs.Program.{Program, IsScript}
 use Rattle.hm_history.specs.Kernel.Run.{run}
 use Rattle.hm_race_laws.specs.Outcomes.{raced}
 use Rattle.hm_race_top.specs.Run.Known.{KnownValue, IsComplete, AreKnown, outcomes_of}
+use Rattle.hm_race_top.specs.Text.Conditions.Asking.{NoneHas}
 use Rattle.hm_race_top.specs.Text.Conditions.Laws.{AllListed, AllReal}
 use Rattle.hm_race_top.specs.Text.Laws.{lines_of}
 use Rattle.hm_race_top.specs.Text.Text.{Way}
@@ -37,3 +38,8 @@ TrueIsReal = (c : Program) (bs : List OutcomeBlock) → AreTrue c bs → AllReal
 -- and if they are all, every outcome is listed
 abbrev pub AllIsListed : Type 0
 AllIsListed = (c : Program) (bs : List OutcomeBlock) → HaveAll c bs → AllListed c (lines_of bs)
+
+-- no outcome of a script's race has a line that no operation of the script may end with, so nothing is lost if a
+-- condition with such a line is not asked for
+abbrev pub NoneHasUnasked : Type 0
+NoneHasUnasked = (c : Program) → IsScript c → NoneHas c

@@ -22,6 +22,7 @@ use Rattle.hm_edge.specs.declared.status.Status.{Status}
 use Rattle.hm_script.specs.Built.{has_drain}
 use Rattle.hm_race_top.specs.Asked.{front, questions_in, HasNoTask, IsTask}
 use Rattle.hm_race_top.specs.Goals.{settled}
+use Rattle.hm_race_top.specs.Text.Conditions.Asking.{unasked}
 use Rattle.hm_race_top.specs.Telling.{told, HasTold, IsSentOn}
 use Rattle.hm_race_top.specs.Ways.{blocks_known, AreTrue, HaveAll}
 use Rattle.hm_race_top.specs.declared.asked.Task.{Task}
@@ -67,6 +68,8 @@ pub record Found (most : ℕ) (c : Program) (task : Task) (before after : SinkSt
   pub written : HasTold (told c task known end) before after status
   -- The schedule of the script does not end in `drain`.
   pub races : has_drain c.schedule ≡ false
+  -- Its operations may end with each line of the conditions.
+  pub asks : unasked c (questions_in task) ≡ None
 
 -- how a call ends that has read a script, and what it has written; it ends in no other way
 abbrev pub HasFound : ℕ → Program → Task → SinkState → SinkState → Status → Type 0
@@ -76,7 +79,8 @@ HasFound most c task before after Status.NoMemory = (after ≡ before) ⊎ Found
 HasFound most c task before after Status.HistoryFull =
     MayFail c (run c) (StepError.Full 2000000) × (after ≡ before)
 HasFound most c task before after (Status.Race RaceEnd.Drained) = (has_drain c.schedule ≡ true) × (after ≡ before)
-HasFound most c task before after (Status.Race (RaceEnd.NoCondition n word)) = ⊥
+HasFound most c task before after (Status.Race (RaceEnd.NoCondition n word)) =
+    (unasked c (questions_in task) ≡ Some (n, word)) × (after ≡ before)
 HasFound most c task before after (Status.Race RaceEnd.Broken) = ⊥
 HasFound most c task before after (Status.Race RaceEnd.Open) = ⊥
 HasFound most c task before after (Status.Race end) = Found most c task before after (Status.Race end)

@@ -1,5 +1,4 @@
 -- The outcomes of a race as text, and conditions on them.
-pub mod Answers
 pub mod Schedule
 pub mod Text
 pub mod Laws

@@ -24,8 +24,9 @@ use Rattle.hm_race_top.specs.Races.{IsSure}
 use Rattle.hm_race_top.specs.Run.Known.{AreFewest, IsCut, IsKnown, IsNear, IsSoon, KnownValue, MayFail}
 use Rattle.hm_race_top.specs.Runs.{Runs, name, usage}
 use Rattle.hm_race_top.specs.Telling.{told}
-use Rattle.hm_race_top.specs.Text.Answers.{answer_lines}
+use Rattle.hm_race_lines.specs.Answers.{answer_lines}
 use Rattle.hm_race_top.specs.Text.Conditions.Rulings.{IsRuled, ruling_of}
+use Rattle.hm_race_top.specs.Text.Conditions.Asking.{NoneHas, unasked}
 use Rattle.hm_race_top.specs.Text.Conditions.Texts.{is_whole}
 use Rattle.hm_race_top.specs.Text.Laws.{lines_of}
 use Rattle.hm_race_top.specs.Ways.{IsTrueOf, blocks_known}
@@ -69,6 +70,7 @@ pub record TellsRace (most : ℕ) (task : Task) (bytes held : List ℕ) (io : Tr
   pub spells : Spells script bytes
   pub read : io.source_after.left ≡ Some []
   pub races : has_drain script.schedule ≡ false
+  pub asks : unasked script (questions_in task) ≡ None
   pub known : List KnownValue
   pub end : End
   pub are : AreRight most script (questions_in task) known end
@@ -83,6 +85,12 @@ pub record IsOfRace (most : ℕ) (task : Task) (bytes t : List ℕ) : Type 0 whe
   pub end : End
   pub are : AreRight most script (questions_in task) known end
   pub text_is : t ≡ (told script task known end).text
+
+-- The condition of this number has a line, whose first word has this number, that no operation of the script may end
+-- with; and no outcome of its race has such a line.
+pub record IsUnasked (c : Program) (qs : List Question) (n word : ℕ) : Type 0 where
+  pub is : unasked c qs ≡ Some (n, word)
+  pub none : NoneHas c
 
 -- a script was read, of which this holds, and nothing is written
 pub record NoRace (Is : Program → Type 0) (bytes held : List ℕ) (io : Traffic) : Type 0 where
@@ -105,6 +113,8 @@ ToldRace most task bytes held io (Status.Race RaceEnd.NotFound) =
     TellsRace most task bytes held io (Status.Race RaceEnd.NotFound)
 ToldRace most task bytes held io (Status.Race RaceEnd.Drained) =
     NoRace (λ c. has_drain c.schedule ≡ true) bytes held io
+ToldRace most task bytes held io (Status.Race (RaceEnd.NoCondition n word)) =
+    NoRace (λ c. IsUnasked c (questions_in task) n word) bytes held io
 ToldRace most task bytes held io (Status.Race end) = ⊥
 ToldRace most task bytes held io Status.HistoryFull =
     NoRace (λ c. MayFail c (run c) (StepError.Full 2000000)) bytes held io

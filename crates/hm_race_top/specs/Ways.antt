@@ -10,7 +10,7 @@ use Rattle.hm_race_laws.specs.Closed.{IsListed}
 use Rattle.hm_race_laws.specs.Outcomes.{Point, outcome, answers_of, ended}
 use Rattle.hm_race_top.specs.Run.Known.{KnownValue}
 use Rattle.hm_search.specs.Known.{turns_at}
-use Rattle.hm_race_top.specs.Text.Answers.{answer_lines}
+use Rattle.hm_race_lines.specs.Answers.{answer_lines}
 use Rattle.hm_race_top.specs.Text.Laws.{lines_of}
 use Rattle.hm_race_top.specs.Text.Schedule.{with_turns}
 use Rattle.hm_race_top.specs.Text.Text.{Way, block_of, blocks_of}

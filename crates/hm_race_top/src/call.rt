@@ -1,7 +1,9 @@
 // The top call: reads a script, searches its race, and writes what is asked for.
-ghost use Rattle.std.specs.Prelude.{◌≡◌, false, map, string_bytes};
+ghost use Rattle.std.specs.Prelude.{◌≡◌, false, None, map, string_bytes};
 ghost use Rattle.hm_search.specs.Values.{all_known};
 ghost use Rattle.hm_race_states.specs.Keyed.{form_in};
+ghost use Rattle.hm_race_top.specs.Asked.{questions_in};
+ghost use Rattle.hm_race_top.specs.Text.Conditions.Asking.{unasked};
 ghost use Rattle.hm_race_top.specs.Races.{HasFound, Races, Searches};
 ghost use Rattle.hm_race_top.specs.Telling.{HasTold, IsSentOn, told};
 ghost use Rattle.hm_script.specs.Built.{has_drain};
@@ -13,6 +15,7 @@ use crate::laws::{all_is_listed, complete_is_all, known_is_true, true_is_real};
 use crate::run::{ScriptRace, search};
 use crate::settling::Settling;
 use crate::telling::{tell, write_telling};
+use crate::text::unasked;
 use crate::ways::{blocks_of, has_drain};
 use hm_base::{NoMemory, Script};
 use hm_edge::{RaceEnd, Status, read_script};
@@ -47,7 +50,8 @@ fn write_found<K: Sink>(
     }
 }
 
-/// Searches the race of a script whose schedule does not end in `drain`, and writes what is asked for.
+/// Searches the race of a script whose schedule does not end in `drain`, and writes what is asked for. Its operations
+/// may end with each line of the conditions.
 fn search_from<K: Sink>(
     alloc: Global,
     race: &ScriptRace,
@@ -55,7 +59,8 @@ fn search_from<K: Sink>(
     task: &Task,
     sink: &mut K,
 ) -> Status
-    requires { has_drain race.now.script.schedule ≡ false }
+    requires races { has_drain race.now.script.schedule ≡ false }
+    requires asks { unasked race.now.script (questions_in task.now) ≡ None }
     ensures found { HasFound most race.now.script task.now (K.state sink.old) (K.state sink.new) result }
     ensures faults { WriteFaulted (K.state sink.old).faults (K.state sink.new).faults result }
     ensures flushed { IsSentOn (K.state sink.new).pending result }
@@ -85,7 +90,8 @@ fn search_race<K: Sink>(
     task: &Task,
     sink: &mut K,
 ) -> Status
-    requires { has_drain script.schedule ≡ false }
+    requires races { has_drain script.schedule ≡ false }
+    requires asks { unasked script (questions_in task.now) ≡ None }
     ensures found { HasFound most script task.now (K.state sink.old) (K.state sink.new) result }
     ensures faults { WriteFaulted (K.state sink.old).faults (K.state sink.new).faults result }
     ensures flushed { IsSentOn (K.state sink.new).pending result }
@@ -104,9 +110,12 @@ fn find<K: Sink>(alloc: Global, script: Script, most: u64, task: &Task, sink: &m
     ensures flushed { IsSentOn (K.state sink.new).pending result }
 {
     if has_drain(script.schedule.as_slice()) {
-        Status::Race(RaceEnd::Drained)
-    } else {
-        search_race(alloc, script, most, task, sink)
+        return Status::Race(RaceEnd::Drained);
+    }
+    match unasked(alloc, &script, task.questions()) {
+        Ok(None) => search_race(alloc, script, most, task, sink),
+        Ok(Some((condition, word))) => Status::Race(RaceEnd::NoCondition(condition, word)),
+        Err(NoMemory) => Status::NoMemory,
     }
 }
 

@@ -1,6 +1,6 @@
 // Laws of what is written of a search: each is the contract of a function that does nothing.
 ghost use Rattle.hm_race_top.specs.Laws.{AllIsListed, CompleteIsAll, DrainIsLast, KnownIsTrue, TrueIsReal};
-ghost use Rattle.hm_race_top.specs.Laws.{WaysAreOutcomes};
+ghost use Rattle.hm_race_top.specs.Laws.{NoneHasUnasked, WaysAreOutcomes};
 ghost use Rattle.hm_race_top.specs.Theorem.{Theorem};
 
 /// The answers of the ways that are written are the outcomes that a search knows.
@@ -45,6 +45,11 @@ pub fn true_is_real()
 /// If they are all, every outcome is listed.
 pub fn all_is_listed()
     ensures { AllIsListed }
+{}
+
+/// No outcome has a line that no operation of the script may end with: what is refused for such a line asks for nothing.
+pub fn none_has_unasked()
+    ensures { NoneHasUnasked }
 {}
 
 /// What the user of the program is told follows from how it ends. Every field of the records of its call is used here,

@@ -14,8 +14,8 @@ mod ways;
 pub use asked::MOST_STATES;
 pub use call::races;
 pub use laws::{
-    all_is_listed, complete_is_all, drain_is_last, known_is_true, true_is_real, users_are_told,
-    ways_are_outcomes,
+    all_is_listed, complete_is_all, drain_is_last, known_is_true, none_has_unasked, true_is_real,
+    users_are_told, ways_are_outcomes,
 };
 pub use process::{NAME, USAGE, program};
 pub use ways::has_drain;

@@ -17,7 +17,8 @@ pub use block::{OutcomeBlock, add_block};
 pub use conditions::{
     BadCondition, BadQuestion, Condition, Literal, Quantifier, Question, Ruling, Verdict, has_line,
     holds_by_witness, is_whole, judge, listed_is_right, meets, parse, questions_of, real_is_right,
-    ruling_of, rulings_are_right, rulings_text, same_end, settles, summary, whole_is_right,
+    ruling_of, rulings_are_right, rulings_text, same_end, settles, summary, unasked,
+    whole_is_right,
 };
 pub use decimal::add_decimal;
 pub use laws::{

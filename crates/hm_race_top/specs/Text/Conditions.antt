@@ -7,4 +7,5 @@ pub mod Tails
 pub mod Reading
 pub mod Questions
 pub mod Rulings
+pub mod Asking
 pub mod Texts

@@ -12,7 +12,7 @@ use Rattle.hm_race_laws.specs.Outcomes.{Point, point_at, answers_of, raced}
 use Rattle.hm_race_laws.specs.Closed.{IsListed, AreDistinct}
 use Rattle.hm_script.specs.Built.{has_drain}
 use Rattle.hm_script.specs.Spelling.{text}
-use Rattle.hm_race_top.specs.Text.Answers.{answer_lines}
+use Rattle.hm_race_lines.specs.Answers.{answer_lines}
 use Rattle.hm_race_top.specs.Text.Schedule.{with_turns}
 use Rattle.hm_race_top.specs.Text.Text.{Way, block_of, blocks_of, turns_text}
 use Rattle.hm_race_top.specs.declared.text.block.OutcomeBlock.{OutcomeBlock}

@@ -6,7 +6,7 @@ use Rattle.std.specs.Fmt.{decimal}
 use Rattle.hm_base.specs.declared.ops.ScheduleLine.{ScheduleLine}
 use Rattle.hm_history.specs.declared.Kind.{Kind}
 use Rattle.hm_script.specs.Spelling.{line, schedule_words}
-use Rattle.hm_race_top.specs.Text.Answers.{answer_lines}
+use Rattle.hm_race_lines.specs.Answers.{answer_lines}
 use Rattle.hm_race_top.specs.Text.Schedule.{packed}
 use Rattle.hm_race_top.specs.declared.text.block.OutcomeBlock.{OutcomeBlock}
 use Rattle.hm_search.specs.declared.search.End.{End}

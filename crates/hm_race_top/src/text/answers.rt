@@ -1,48 +1,15 @@
 // The lines of an outcome's answers.
 ghost use Rattle.std.specs.Prelude.{◌≡◌, ◌+◌, ◌≤◌, ◌∷◌, ◌++◌, length, map, IfOk, OnOk};
 ghost use Rattle.hm_history.specs.Memory.Words.{numbers};
-ghost use Rattle.hm_report.specs.Line.{spaced};
 ghost use Rattle.hm_race_keys.specs.Trail.{answers_in};
-ghost use Rattle.hm_race_top.specs.Text.Answers.{answer_words, answer_line, actor_lines, answer_lines};
+ghost use Rattle.hm_race_lines.specs.Answers.{answer_line, actor_lines, answer_lines};
 
 use hm_base::{NoMemory, Text};
 use hm_history::Kind;
 use hm_race_keys::shared_answers::{Answer, SharedAnswers};
-use hm_report::{Buffer, add_tail, put_decimal, put_head, put_interval};
+use hm_race_lines::put_answer;
+use hm_report::{Buffer, add_tail, put_decimal};
 use std::alloc::Global;
-
-/// Adds the words of an answer, but for bytes that were read or written.
-fn put_answer(out: &mut Buffer, kind: &Kind)
-    requires { length out.old + 1000 ≤ 8192 }
-    ensures { out.new ≡ out.old ++ spaced (answer_words kind.now) }
-{
-    match kind {
-        Kind::Attached {
-            mirror,
-            dev,
-            proc,
-            span,
-            ..
-        } => put_interval(out, *mirror, *dev, *proc, *span),
-        Kind::Loaded { .. }
-        | Kind::Stored { .. }
-        | Kind::Failed { .. }
-        | Kind::Mapped { .. }
-        | Kind::Unmapped { .. }
-        | Kind::Protected { .. }
-        | Kind::Forked { .. }
-        | Kind::Exited(_)
-        | Kind::Detached(_)
-        | Kind::Refused(_)
-        | Kind::Migrated(_)
-        | Kind::Seen { .. }
-        | Kind::Evicted(_)
-        | Kind::Removed(_)
-        | Kind::Excluded { .. }
-        | Kind::Added { .. } => put_head(out, kind),
-        _ => (),
-    }
-}
 
 /// Adds the line of an actor's answer. The buffer is written over.
 #[tactic(auto, using(std::proofs::Common::append_assoc))]

@@ -1,5 +1,6 @@
 // Conditions on the outcomes of a race: whether some, none or every outcome has these answers.
 
+mod asking;
 mod condition;
 mod grammar;
 mod judging;
@@ -11,6 +12,7 @@ mod rulings;
 mod wording;
 mod words;
 
+pub use asking::unasked;
 pub use condition::{Condition, Literal, Quantifier};
 pub use grammar::{BadCondition, parse};
 pub use judging::{Verdict, judge, meets};

@@ -44,10 +44,10 @@ returns-in-Ok-clause-found g c =
       are_listed = c.all_is_listed.ensures;
       twice = c.none_twice.ensures;
       right = c.rulings_are_right.ensures;
-    }) most s (subst (λ (p : Program). IsScript p) c.script-script.ensures c.facts.ensures) c.requires (questions_in task) known end
+    }) most s (subst (λ (p : Program). IsScript p) c.script-script.ensures c.facts.ensures) c.requires.races (questions_in task) known end
     (subst (λ (n : ℕ). HasSearched most s (settled (questions_in task) (length s.actors)) n known end) all
     (subst (λ (n : ℕ). HasSearched most s (settled (questions_in task) n) (length states) known end) actors
     (subst (λ (qs : List Question). HasSearched most s (settled qs c.new-goal.result.actors) (length states) known end) asked
     searched))))
-    c.requires (tells c.args.sink.now) (tells c.write_found.new.sink) c.write_found.result
+    c.requires.races c.requires.asks (tells c.args.sink.now) (tells c.write_found.new.sink) c.write_found.result
     (subst (λ (p : Program). HasTold (told p task known end) (tells c.args.sink.now) (tells c.write_found.new.sink) c.write_found.result) c.script-script.ensures c.write_found.ensures.written)

@@ -6,7 +6,7 @@ use Rattle.hm_history.specs.Kernel.Run.{run}
 use Rattle.hm_history.specs.declared.Entry.{Entry}
 use Rattle.hm_race_laws.specs.Closed.{IsListed}
 use Rattle.hm_race_laws.specs.Outcomes.{outcome, answers_of, ended}
-use Rattle.hm_race_top.specs.Text.Answers.{answer_lines}
+use Rattle.hm_race_lines.specs.Answers.{answer_lines}
 use Rattle.hm_race_top.specs.Text.Schedule.{with_turns}
 use Rattle.hm_race_top.specs.declared.text.conditions.condition.Condition.{Condition}
 use Rattle.hm_race_top.specs.declared.text.conditions.condition.Quantifier.{Quantifier}

@@ -1,5 +1,5 @@
 use Rattle.std.proofs.Common.{◌≡◌, ◌++◌, take}
-use Rattle.hm_race_top.specs.Text.Answers.{actor_lines}
+use Rattle.hm_race_lines.specs.Answers.{actor_lines}
 use Rattle.hm_race_top.proofs.text.answers.add_lines.Given as goal
 
 -- the lines so far were added

@@ -1,7 +1,7 @@
 use Rattle.std.proofs.Common.{◌≡◌, map}
 use Rattle.hm_history.specs.Memory.Words.{numbers}
 use Rattle.hm_race_keys.specs.Trail.{answers_in}
-use Rattle.hm_race_top.specs.Text.Answers.{answer_lines}
+use Rattle.hm_race_lines.specs.Answers.{answer_lines}
 use Rattle.hm_race_top.proofs.text.answers.answer_lines.Given as goal
 
 -- the lines of the actors so far

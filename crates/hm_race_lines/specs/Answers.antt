@@ -27,6 +27,10 @@ answer_words (Kind.Excluded m v) = head_words (Kind.Excluded m v)
 answer_words (Kind.Added m at was now) = head_words (Kind.Added m at was now)
 answer_words _ = []
 
+-- the text of an answer after its actor
+abbrev pub answer_text : Kind → List ℕ
+answer_text k = spaced (answer_words k) ++ tail_text k
+
 -- the line of an actor's answer
 abbrev pub answer_line : ℕ → Kind → List ℕ
 answer_line a k = actor_text a ++ (spaced (answer_words k) ++ (tail_text k ++ 10 ∷ []))
