@@ -1,5 +1,5 @@
 // A line of a text, by its place.
-ghost use Rattle.std.specs.Prelude.{◌≡◌, MatchOption, IfOk, Some, None, slice_get, take};
+ghost use Rattle.std.specs.Prelude.{◌≡◌, MatchOption, IfOk, Some, None, slice_get};
 ghost use Rattle.hm_script.specs.Automaton.{lines};
 ghost use Rattle.hm_judge.specs.Judgements.{line_or_none};
 
@@ -26,23 +26,6 @@ pub(crate) fn line_at(bytes: &[u8], place: u64) -> Option<&[u8]>
     }
     let (line, _) = cut_line(rest);
     Some(line)
-}
-
-/// The first lines, as many as this, or all.
-pub(crate) fn first_lines(bytes: &[u8], count: u64) -> &[u8]
-    ensures { lines result.now ≡ take count (lines bytes.now) }
-{
-    let mut rest = bytes;
-    for at in 0..count {
-        let _at = at;
-        if rest.is_empty() {
-            return bytes;
-        }
-        let (_, after) = cut_line(rest);
-        rest = after;
-    }
-    let (first, _) = bytes.split_at(bytes.len() - rest.len());
-    first
 }
 
 /// The line at a place; empty if there is none.

@@ -10,7 +10,7 @@ use hm_report_front::read_head;
 use std::alloc::Global;
 
 /// Judges bytes. The verdict is that of `hm_check::check`, and is found as there, in one pass. If a line is that of an
-/// entry that is not due, the entries before it are gone over twice more; if the script is bad, it is read again.
+/// entry that is not due, the entries before it are gone over once more; if the script is bad, it is read once more.
 pub fn judge_bytes(alloc: Global, bytes: &[u8]) -> Result<Judgement, NoMemory>
     ensures { IfOk result (IsJudgementOn bytes.now) }
 {
