@@ -15,9 +15,6 @@ use Rattle.hm_flaw_top.specs.declared.text.task.Which.{Which}
 use Rattle.hm_flaw_top.specs.declared.text.task.WordFault.{WordFault}
 use Rattle.hm_flaw_top.proofs.Named.{named-again, named_own}
 
-is_word : (w v : List ℕ) → bytes_eq w v ≡ true → w ≡ v
-is_word w v e = (bytes_eq-Decides w v).0 e
-
 -- the task of these drivers that judges answers alone
 abbrev harm_task : Which → Task
 harm_task x = record (plain_task x) { judging = Judging.AnswersAlone }
@@ -47,7 +44,7 @@ answers_say x a [] u p e = let same : harm_task x ≡ u = cc in subst (Says x (a
 answers_say x a (m ∷ ws) u p e = by (bytes_eq m (codes "--most")) refl e
   where
     by : (r : Bool) → bytes_eq m (codes "--most") ≡ r → (if r then last_number (harm_task x) ws else bad 3 WordFault.NoOption) ≡ Ok u → Says x (a ∷ m ∷ ws) u
-    by true is e = last_says x a m ws u p (is_word m (codes "--most") is) e
+    by true is e = last_says x a m ws u p ((bytes_eq-Decides m (codes "--most")).0 is) e
     by false is e = absurd cc
 
 number_says : (x : Which) (m v : List ℕ) (n : ℕ) (ws : List (List ℕ)) (u : Task) → m ≡ codes "--most" → number v ≡ Ok n → after_number (record (plain_task x) { most = n }) ws ≡ Ok u → Says x (m ∷ v ∷ ws) u
@@ -59,7 +56,7 @@ number_says x m v n (a ∷ ws) u p q e = by (bytes_eq a (codes "--answers")) ref
     by : (r : Bool) → bytes_eq a (codes "--answers") ≡ r → (if r then ended 5 (record (harm_task x) { most = n }) ws else bad 4 WordFault.NoOption) ≡ Ok u → Says x (m ∷ v ∷ a ∷ ws) u
     by true is e =
         let h = ended_is 5 (record (harm_task x) { most = n }) u ws e in
-        subst (λ (z : List (List ℕ)). Says x (m ∷ v ∷ a ∷ z) u) (sym h.0) (subst (Says x (m ∷ v ∷ a ∷ [])) h.1 (refl, inr (p, q, is_word a (codes "--answers") is)))
+        subst (λ (z : List (List ℕ)). Says x (m ∷ v ∷ a ∷ z) u) (sym h.0) (subst (Says x (m ∷ v ∷ a ∷ [])) h.1 (refl, inr (p, q, (bytes_eq-Decides a (codes "--answers")).0 is)))
     by false is e = absurd cc
 
 most_says : (x : Which) (m : List ℕ) (ws : List (List ℕ)) (u : Task) → m ≡ codes "--most" → first_number (plain_task x) ws ≡ Ok u → Says x (m ∷ ws) u
@@ -75,18 +72,18 @@ options_say x [] u e = let same : plain_task x ≡ u = cc in subst (Says x []) s
 options_say x (w ∷ ws) u e = by (bytes_eq w (codes "--answers")) refl e
   where
     most : (r : Bool) → bytes_eq w (codes "--most") ≡ r → (if r then first_number (plain_task x) ws else bad 2 WordFault.NoOption) ≡ Ok u → Says x (w ∷ ws) u
-    most true is e = most_says x w ws u (is_word w (codes "--most") is) e
+    most true is e = most_says x w ws u ((bytes_eq-Decides w (codes "--most")).0 is) e
     most false is e = absurd cc
 
     by : (r : Bool) → bytes_eq w (codes "--answers") ≡ r → (if r then after_answers (harm_task x) ws else (if bytes_eq w (codes "--most") then first_number (plain_task x) ws else bad 2 WordFault.NoOption)) ≡ Ok u → Says x (w ∷ ws) u
-    by true is e = answers_say x w ws u (is_word w (codes "--answers") is) e
+    by true is e = answers_say x w ws u ((bytes_eq-Decides w (codes "--answers")).0 is) e
     by false is e = most (bytes_eq w (codes "--most")) refl e
 
 which_says : (w : List ℕ) (x : Which) → which_of w ≡ Some x → w ≡ which_word x
 which_says w x e = by (flaw_named w) refl e
   where
     all : (r : Bool) → bytes_eq w (codes "--all") ≡ r → (if r then Some Which.All else None) ≡ Some x → w ≡ which_word x
-    all true is e = let same : Which.All ≡ x = cc in subst (λ (y : Which). w ≡ which_word y) same (is_word w (codes "--all") is)
+    all true is e = let same : Which.All ≡ x = cc in subst (λ (y : Which). w ≡ which_word y) same ((bytes_eq-Decides w (codes "--all")).0 is)
     all false is e = absurd cc
 
     by : (o : Option Flaw) → flaw_named w ≡ o → which_by w o ≡ Some x → w ≡ which_word x

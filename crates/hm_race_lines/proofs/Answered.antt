@@ -4,7 +4,7 @@ use Rattle.std.specs.Prelude.{⊤}
 use Rattle.std.specs.Fmt.{decimal, digits}
 use Rattle.std.specs.Str.{bytes_eq}
 use Rattle.std.proofs.lemmas.Slice.Eq.{bytes_eq-Decides}
-use Rattle.std.proofs.lemmas.Bool.{and_from}
+use Rattle.std.proofs.lemmas.Bool.{and_from, or_left, or_right}
 use Rattle.std.proofs.lemmas.Bool.Decides.{nat_tests}
 use Rattle.hm_base.specs.declared.cause.Cause.{Cause}
 use Rattle.hm_base.specs.declared.ops.Op.{Op}
@@ -16,7 +16,7 @@ use Rattle.hm_report.specs.Words.{byte_text, cause_number, mirror_text, tail_tex
 use Rattle.hm_race_laws.specs.Outcomes.{answer_of}
 use Rattle.hm_race_lines.specs.Answers.{answer_text, answer_words}
 use Rattle.hm_race_lines.specs.Endings.{access_at, are_numbers, begins_with, fails_by, is_added, is_bytes, is_done, is_evicted, is_failed, is_migrated, is_number, is_refused, is_seen, may_end, says, says_or_refused}
-use Rattle.hm_race_lines.proofs.Texts.{begins, byte_digits, bytes, figures, more_numbers, numeral, or_left, or_right, two_figures}
+use Rattle.hm_race_lines.proofs.Texts.{begins, byte_digits, bytes, figures, more_numbers, numeral, two_figures}
 
 -- what an entry answers is what the operation may end with
 abbrev pub EndsBy : Op → Option Kind → Type 0

@@ -1,7 +1,7 @@
 -- What is due to an actor in an operation is no answer, or one that the operation may end with.
 use Rattle.std.proofs.Common.{◌≡◌, ℕ, ◌+◌, ◌%◌, ◌≤◌, ◌⊎◌, inl, inr, IsTrue, Bool, true, false, not, ◌==◌, ◌||◌, ◌&&◌, if◌then◌else◌, is_none, is_some, nat_lt, Option, Some, None, List, [], ◌∷◌, length, refl, sym, ap, ◌∙◌, subst, arith}
 use Rattle.std.specs.Prelude.{⊤}
-use Rattle.std.proofs.lemmas.Bool.{and_from, and_parts}
+use Rattle.std.proofs.lemmas.Bool.{and_from, and_parts, or_left, or_right}
 use Rattle.std.proofs.lemmas.Bool.Decides.{nat_tests}
 use Rattle.hm_base.specs.Pages.{Pages, one_page}
 use Rattle.hm_base.specs.declared.PoolId.{PoolId}
@@ -42,7 +42,6 @@ use Rattle.hm_race_lines.specs.Endings.{ends_access, ends_piece, is_added, is_do
 use Rattle.hm_race_lines.proofs.Answered as by
 use Rattle.hm_race_lines.proofs.Answered.{EndsBy, of_access}
 use Rattle.hm_race_lines.proofs.Pieces.{IsPiece, bytes_of_length, is_piece}
-use Rattle.hm_race_lines.proofs.Texts.{or_left, or_right}
 
 -- so of what is due
 abbrev pub Ends : Op → Next → Type 0

@@ -7,7 +7,7 @@ use Rattle.hm_base.proofs.Shared.{each_passes}
 use Rattle.hm_base.specs.Program.{op_fits, op_in_range}
 use Rattle.hm_base.specs.declared.ops.Op.{Op}
 use Rattle.hm_history.specs.Memory.Words.{numbers}
-use Rattle.hm_race_lines.proofs.Texts.{any_at, or_left}
+use Rattle.hm_race_lines.proofs.Texts.{any_at}
 
 each_in_range : (n : ℕ) (os : List Op) → list_all (op_fits n) os ≡ true → list_all (λ o. op_in_range o) os ≡ true
 each_in_range n [] h = refl
