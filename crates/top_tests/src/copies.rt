@@ -209,14 +209,7 @@ fn ends_with_the_actors<R: Abort + Threads + Wait + Sync>(rt: &R, alloc: Global)
     };
     let proc = Proc::new(0);
     let (counted, _receipt, peeks) = peek_all(
-        rt,
-        alloc,
-        counted,
-        1,
-        &Open,
-        proc,
-        0x50000,
-        1,
+        rt, alloc, counted, 1, &Open, proc, 0x50000, 1,
     ).expect(rt, "memory");
     counted.length() == 8 && peeks.len() == 0 && looks.load(Ordering::SeqCst) < MOST_LOOKS
 }
