@@ -3,19 +3,21 @@
 ghost use Rattle.std.specs.Prelude.{◌≡◌, ◌==◌, ◌&&◌, ◌||◌, ℕ, [], ◌∷◌, not, true, false, Some, None, option_map};
 ghost use Rattle.std.specs.Prelude.{if◌then◌else◌, slice_index_or, IfOk};
 ghost use Rattle.hm_history.specs.Memory.Lookups.{is_begin_of, is_set_of, set_from};
-ghost use Rattle.hm_history.specs.Memory.Rules.{is_finishing, is_no_frame};
+ghost use Rattle.hm_history.specs.Memory.After.{After};
+ghost use Rattle.hm_history.specs.Memory.Rules.{is_finishing, is_no_frame, needs_full};
 ghost use Rattle.hm_laws.specs.Past.{is_position};
-ghost use Rattle.hm_flaws.specs.Recalled.{is_full};
+ghost use Rattle.hm_flaws.specs.Recalled.{fails_rightly_in, is_full, is_untold_by, told_by, uses_untold_in};
 ghost use Rattle.hm_flaw_parts.specs.Buckets.{mixed_short, marks_number};
 ghost use Rattle.hm_flaw_parts.specs.Alike.{SameMarks};
-ghost use Rattle.hm_flaw_parts.specs.Marks.{at_of, marked_next, marked_start, marks_in, set_of, told_next};
+ghost use Rattle.hm_flaw_parts.specs.Marks.{at_of, marked_next, marked_start, marks_in, recalled_by, set_of, told_next};
+ghost use Rattle.hm_flaw_parts.specs.Told.{told_in};
 ghost use Rattle.hm_race_keys.specs.Arrays.{flag_in};
 ghost use Rattle.hm_race_keys.specs.Sparse.{found};
 
 use crate::told_spans::{ToldSpan, ToldSpans};
 use crate::values::{Position, SetMark};
-use hm_base::{Actor, MirrorId, NoMemory, PoolId};
-use hm_history::{Entry, KeptWhy, Kind};
+use hm_base::{Actor, Cause, MirrorId, NoMemory, PoolId};
+use hm_history::{Entry, KeptWhy, Kind, Who};
 use hm_race_keys::sparse::{Sparse, mixed};
 use hm_reads::Reads;
 use std::alloc::Global;
@@ -60,6 +62,32 @@ fn is_no_frame(entry: &Entry) -> bool
             why: KeptWhy::NoFrame
         }
     )
+}
+
+// Whether the entry fails or is refused for want of a frame.
+fn needs_full(kind: &Kind) -> bool
+    ensures { result ≡ needs_full kind.now }
+{
+    match kind {
+        Kind::Failed {
+            who: _,
+            addr: _,
+            len: _,
+            cause,
+        } => matches!(cause, Cause::NoFrame),
+        Kind::Refused(cause) => matches!(cause, Cause::NoFrame),
+        _ => false,
+    }
+}
+
+// Whether a page that was told last there, if anywhere, was not told after a position.
+fn is_told_by(told: Option<u64>, since: u64) -> bool
+    ensures { result ≡ told_by told since }
+{
+    match told {
+        None => true,
+        Some(at) => at <= since,
+    }
 }
 
 // Of each actor, whether it was short of a frame after one entry more.
@@ -240,6 +268,53 @@ impl Marks {
         match &entry.kind {
             Kind::Set { mirror, since, .. } => self.goes_back(entry.actor, *mirror, *since, at),
             _ => false,
+        }
+    }
+
+    /// Whether the entry fails for want of a frame only if none was free; `world` is the state before it.
+    pub fn meets_frames<W: Reads>(&self, world: &W, entry: &Entry) -> bool
+        ensures { result
+            ≡ fails_rightly_in (W.program world.now) (recalled_by (W.state world.now).after (marks_in self.now))
+            entry.now }
+    {
+        !needs_full(&entry.kind)
+            || world.lowest_free(PoolId::System).is_none()
+            || self.short[entry.actor.number() as usize]
+    }
+
+    // Whether the mirror's entry on the page was set after a look-up since which nobody was told.
+    fn is_untold(&self, mirror: MirrorId, page: u64) -> bool
+        ensures { result ≡ is_untold_by ((marks_in self.now).set mirror page) (told_in self.now.told.value mirror page) }
+    {
+        let told = self.told.last(mirror, page);
+        match self.sets.get(mirror.number(), page) {
+            None => false,
+            Some(set) => set.goes_back && is_told_by(told, set.since),
+        }
+    }
+
+    /// Whether an access through a mirror uses only a table entry that nobody was told of since its look-up began.
+    pub fn meets_untold(&self, kind: &Kind) -> bool
+        ensures { (s : After) → result ≡ uses_untold_in (recalled_by s (marks_in self.now)) kind.now }
+    {
+        match kind {
+            Kind::Loaded {
+                who: Who::Mirror(mirror),
+                addr,
+                bytes: _,
+            } => self.is_untold(*mirror, *addr / 4096),
+            Kind::Stored {
+                who: Who::Mirror(mirror),
+                addr,
+                bytes: _,
+            } => self.is_untold(*mirror, *addr / 4096),
+            Kind::Fetched {
+                mirror,
+                addr,
+                bytes: _,
+            } => self.is_untold(*mirror, *addr / 4096),
+            Kind::Added { mirror, addr, .. } => self.is_untold(*mirror, *addr / 4096),
+            _ => true,
         }
     }
 

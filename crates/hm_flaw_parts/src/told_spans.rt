@@ -1,6 +1,7 @@
 // The spans that mirrors were told of.
 ghost use Rattle.std.specs.Prelude.{◌≡◌, [], true, length, IfOk};
-ghost use Rattle.hm_flaw_parts.specs.Told.{is_covered, is_within, with_told};
+ghost use Rattle.hm_base.specs.Pages.{covers};
+ghost use Rattle.hm_flaw_parts.specs.Told.{is_covered, is_within, told_in, with_told};
 ghost use Rattle.hm_race_keys.specs.Sparse.{mixed};
 
 use hm_base::{MirrorId, NoMemory, Span};
@@ -49,6 +50,25 @@ impl ToldSpan {
     }
 }
 
+fn has_page(span: &Span, page: u64) -> bool
+    ensures { result ≡ covers span.now page }
+{
+    let first = span.first().number();
+    first <= page && page < first + span.count()
+}
+
+// The position of the first of these that told the page of the mirror.
+fn last_of(spans: &[ToldSpan], mirror: MirrorId, page: u64) -> Option<u64>
+    ensures { result ≡ told_in spans.now mirror page }
+{
+    for told in spans {
+        if told.mirror == mirror && has_page(&told.span, page) {
+            return Some(told.at);
+        }
+    }
+    None
+}
+
 fn same_spans(one: &[ToldSpan], other: &[ToldSpan]) -> bool
     ensures yes { result ≡ true → one.now ≡ other.now }
     ensures no { one.now ≡ other.now → result ≡ true }
@@ -84,6 +104,13 @@ impl ToldSpans {
             Ok(()) => Ok(ToldSpans { spans }),
             Err(_) => Err(NoMemory),
         }
+    }
+
+    /// The position of the entry that told a page of a mirror last.
+    pub(crate) fn last(&self, mirror: MirrorId, page: u64) -> Option<u64>
+        ensures { result ≡ told_in self.now mirror page }
+    {
+        last_of(self.spans.as_slice(), mirror, page)
     }
 
     /// Whether both are the same.

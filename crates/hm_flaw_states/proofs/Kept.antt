@@ -1,17 +1,17 @@
 -- What holds of a key after a turn.
 use Rattle.std.proofs.Common.{◌≡◌, ℕ, ◌+◌, ◌≤◌, Bool, true, false, Option, Some, None, List, [], ◌∷◌, ◌++◌, refl, sym, ap, ◌∙◌, subst, arith}
 use Rattle.hm_base.specs.Program.{Program}
-use Rattle.hm_history.specs.Memory.Plain.{plain_accepts}
+use Rattle.hm_history.specs.Memory.Places.{places_next}
+use Rattle.hm_history.specs.Memory.Plain.{mirror_owner, plain_accepts}
 use Rattle.hm_history.specs.declared.Entry.{Entry}
 use Rattle.hm_history.specs.declared.Progress.{Progress}
 use Rattle.hm_flaws.specs.Flawed.{Flawed, due_by}
 use Rattle.hm_flaws.specs.declared.flaws.Flaw.{Flaw}
 use Rattle.hm_flaws.specs.declared.parts.Part.{Part}
 use Rattle.hm_flaw_parts.proofs.Turns.{due_to_own}
-use Rattle.hm_flaw_parts.specs.Judged.{EachLeads, LeadsOn, judged_parts}
+use Rattle.hm_flaw_parts.specs.Judged.{judged_parts}
 use Rattle.hm_flaw_parts.specs.declared.judged.Judging.{Judging}
 use Rattle.hm_flaw_parts.specs.Races.Races.{FlawPoint, broken_at, point_entry}
-use Rattle.hm_flaw_parts.proofs.Leading.{leads_more}
 use Rattle.hm_flaw_states.specs.Follows.{Follows, Standing}
 use Rattle.hm_flaw_states.specs.Keyed.{broken_in, entries_in, form_in}
 use Rattle.hm_flaw_states.specs.Owns.{driver_in}
@@ -20,7 +20,8 @@ use Rattle.hm_flaw_states.specs.Turns.{IsKept, IsTurned}
 use Rattle.hm_flaw_states.specs.declared.key.FlawKey.{FlawKey}
 use Rattle.hm_flaw_states.specs.declared.owns.Own.{Own}
 use Rattle.hm_flaw_states.specs.declared.state.FlawState.{FlawState}
-use Rattle.hm_flaw_states.proofs.Following.{broken_here}
+use Rattle.hm_flaw_states.specs.Tidy.{TidyFor}
+use Rattle.hm_flaw_states.proofs.Tidying.{tidy_next}
 
 -- what the state that is kept goes on by
 pub follows_kept : (l : Flaw) (c : Program) (x y : FlawState) (d o : Own) (e : Entry) → x ≡ y → d ≡ o → Follows l c y (driver_in o) e → Follows l c x (driver_in d) e
@@ -35,36 +36,40 @@ met : (b : Bool) (part : Part) (rest : Option Part) → ◌≡◌ {A = Option Pa
 met true part rest e = refl
 met false part rest e = cc
 
+-- if the first part of two is met and none is broken, so is the second
+second : (a b : Bool) (rest : Option Part) → ◌≡◌ {A = Option Part} (elim a [ true ↦ elim b [ true ↦ rest | false ↦ Some Part.Places ] | false ↦ Some Part.Answers ]) None → b ≡ true
+second true true rest e = refl
+second true false rest e = cc
+second false b rest e = cc
+
 pub answers_unbroken : (j : Judging) (c : Program) (x : FlawPoint) (e : Entry) → broken_at (judged_parts j) c x e ≡ None → plain_accepts x.flawed.state.after.plain e.kind ≡ true
 answers_unbroken Judging.AllParts c x e n = met _ Part.Answers _ n
 answers_unbroken Judging.AnswersAlone c x e n = met _ Part.Answers _ n
 
--- the entry leads on after those of the key
-pub unbroken_leads : (j : Judging) (c : Program) (k : FlawKey) (e : Entry) → k.frames ≡ c.frames → broken_at (judged_parts j) c (form_in k) e ≡ None → LeadsOn j c (entries_in k) e
-unbroken_leads j c k e f n = record {
-  going = (form_in k).flawed.state.going;
-  none = broken_here (judged_parts j) c (entries_in k) (form_in k) e k.led (k.noted c (sym f)) ∙ n;
-}
+-- the state stays tidy if its places are judged
+tidy_on : (j : Judging) (c : Program) (x : FlawPoint) (e : Entry) → TidyFor j x.flawed.state.after.places → broken_at (judged_parts j) c x e ≡ None → TidyFor j (places_next x.flawed.state.after.places e.kind)
+tidy_on Judging.AllParts c x e t n =
+    let s = x.flawed.state.after in
+    tidy_next c (mirror_owner s.plain) s.places e.actor e.kind t (second (plain_accepts s.plain e.kind) _ _ n)
+tidy_on Judging.AnswersAlone c x e t n = tt
 
 -- the key with the entry among its entries
-pub kept_on : (j : Judging) (c : Program) (k n : FlawKey) (e : Entry) → IsKept j c k → broken_at (judged_parts j) c (form_in k) e ≡ None → entries_in n ≡ entries_in k ++ e ∷ [] → n.frames ≡ k.frames
-    → Standing (state_in n.state.value) → IsKept j c n
-kept_on j c k n e h b t f s = record {
-  frames = f ∙ h.frames;
-  leads = subst (EachLeads j c) (sym t) (leads_more j c (entries_in k) e h.leads (unbroken_leads j c k e h.frames b));
+pub kept_on : (j : Judging) (l : Flaw) (c : Program) (k n : FlawKey) (e : Entry) → IsKept j k → broken_at (judged_parts j) c (form_in k) e ≡ None → form_in n ≡ point_entry l c (form_in k) e None
+    → Standing (state_in n.state.value) → IsKept j n
+kept_on j l c k n e h b f s = record {
+  tidy = subst (λ (x : FlawPoint). TidyFor j x.flawed.state.after.places) (sym f) (tidy_on j c (form_in k) e h.tidy b);
   standing = s;
 }
 
 -- the key with an entry that broke a part beside them
-pub kept_beside : (j : Judging) (c : Program) (k n : FlawKey) → IsKept j c k → (form_in n).flawed ≡ (form_in k).flawed → entries_in n ≡ entries_in k → n.frames ≡ k.frames → IsKept j c n
-kept_beside j c k n h same t f = record {
-  frames = f ∙ h.frames;
-  leads = subst (EachLeads j c) (sym t) h.leads;
+pub kept_beside : (j : Judging) (k n : FlawKey) → IsKept j k → (form_in n).flawed ≡ (form_in k).flawed → IsKept j n
+kept_beside j k n h same = record {
+  tidy = subst (λ (x : Flawed). TidyFor j x.state.after.places) (sym same) h.tidy;
   standing = subst (λ (x : Flawed). Standing x.state) (sym same) h.standing;
 }
 
 -- what a turn goes on by
-pub turn_follows : (j : Judging) (l : Flaw) (c : Program) (k : FlawKey) (a : ℕ) (e : Entry) → IsKept j c k → k.state.value.entries ≤ 2000000 → due_by l c (form_in k).flawed a ≡ Progress.Did e → broken_at (judged_parts j) c (form_in k) e ≡ None
+pub turn_follows : (j : Judging) (l : Flaw) (c : Program) (k : FlawKey) (a : ℕ) (e : Entry) → IsKept j k → k.state.value.entries ≤ 2000000 → due_by l c (form_in k).flawed a ≡ Progress.Did e → broken_at (judged_parts j) c (form_in k) e ≡ None
     → Follows l c k.state.value (driver_in k.own.value) e
 turn_follows j l c k a e h few d b = record {
   is_due = due_to_own l c (form_in k).flawed a e d;

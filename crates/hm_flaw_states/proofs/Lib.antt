@@ -19,9 +19,7 @@ mod Mixing
 mod Nexts
 mod Compared
 mod Mirrors
-mod Frames
 mod Trails
-mod Following
 mod Forms
 mod SetUps
 mod Waits
@@ -31,3 +29,5 @@ mod Setting
 mod Stays
 mod Taking
 mod Answering
+mod Tidying
+mod JudgedBy

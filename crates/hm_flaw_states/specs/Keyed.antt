@@ -29,7 +29,7 @@ form_in k = record {
   broken = option_map part_of k.broken;
 }
 
--- all entries so far, with those of the set-up, but for one that broke a part
+-- the entries after the set-up, but for one that broke a part
 abbrev pub entries_in : FlawKey → List Entry
 entries_in k = map rc_value k.trail.items
 

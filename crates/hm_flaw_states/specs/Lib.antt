@@ -21,3 +21,5 @@ pub mod Keyed
 pub mod Turns
 pub mod Numbered
 pub mod SetUps
+pub mod Sharing
+pub mod Tidy

@@ -1,6 +1,5 @@
 -- A set-up that is made again, entry by entry.
-use Rattle.std.specs.Prelude.{◌≡◌, ℕ, ◌<◌, List, [], map, length}
-use Rattle.std.specs.Rc.{rc_value}
+use Rattle.std.specs.Prelude.{◌≡◌, ℕ, ◌<◌, List, [], length}
 use Rattle.hm_base.specs.Program.{Program}
 use Rattle.hm_history.specs.Kernel.Due.{due}
 use Rattle.hm_history.specs.Kernel.Going.{state_of}
@@ -13,11 +12,10 @@ use Rattle.hm_flaw_states.specs.Follows.{Standing}
 use Rattle.hm_flaw_states.specs.States.{state_in}
 use Rattle.hm_flaw_states.specs.declared.set_ups.SoFar.{SoFar}
 
--- the state and the marks are those after these entries, which are kept
+-- the state and the marks are those after these entries
 pub record IsAfter (c : Program) (h : List Entry) (x : SoFar) : Type 0 where
   pub state : state_in x.state ≡ state_of c h
   pub marked : marks_in x.marks ≡ marked_of c h
-  pub trail : map rc_value x.trail.items ≡ h
   pub standing : Standing (state_in x.state)
 
 -- after entries that were due one more is due to the actor

@@ -8,18 +8,17 @@ use Rattle.hm_flaws.specs.Drivers.{Driver}
 use Rattle.hm_flaws.specs.Flawed.{due_by, flawed_next}
 use Rattle.hm_flaws.specs.declared.flaws.Flaw.{Flaw}
 use Rattle.hm_flaws.specs.declared.parts.Part.{Part}
-use Rattle.hm_flaw_parts.specs.Judged.{EachLeads}
 use Rattle.hm_flaw_parts.specs.declared.judged.Judging.{Judging}
 use Rattle.hm_flaw_parts.specs.Races.Races.{broken_at, is_due_at, point_entry}
 use Rattle.hm_flaw_states.specs.Keyed.{form_in, entries_in, broken_in}
 use Rattle.hm_flaw_states.specs.Follows.{Standing}
 use Rattle.hm_flaw_states.specs.States.{state_in}
+use Rattle.hm_flaw_states.specs.Tidy.{TidyFor}
 use Rattle.hm_flaw_states.specs.declared.key.FlawKey.{FlawKey}
 
--- a key of this script, each of whose entries was judged so, and broke none of the parts
-pub record IsKept (j : Judging) (c : Program) (k : FlawKey) : Type 0 where
-  pub frames : k.frames ≡ c.frames
-  pub leads : EachLeads j c (entries_in k)
+-- a key, each of whose entries was judged so, and broke none of the parts
+pub record IsKept (j : Judging) (k : FlawKey) : Type 0 where
+  pub tidy : TidyFor j (state_in k.state.value).after.places
   pub standing : Standing (state_in k.state.value)
 
 -- what a driver has of its own after an entry

@@ -4,16 +4,17 @@ ghost use Rattle.hm_base.specs.Pages.{Pages};
 ghost use Rattle.hm_history.specs.Memory.Sequences.{Interval, sequences_start, sequences_next, interval_seq, in_tree};
 ghost use Rattle.hm_history.specs.Memory.Sequences.{interval_proc, insert_deferred, next_told, seq_started, seq_ended};
 ghost use Rattle.hm_history.specs.Memory.Sequences.{interval_inserted, seq_inserted, is_last_end, some_overlap, is_odd};
-ghost use Rattle.hm_history.specs.Memory.Sequences.{intervals_ended};
+ghost use Rattle.hm_history.specs.Memory.Sequences.{interval_passes, intervals_ended, overlapping, overlaps};
+ghost use Rattle.hm_history.specs.Memory.Sequences.{removed_state};
 ghost use Rattle.hm_history.specs.declared.Kind.{Kind as AnyKind};
-ghost use Rattle.hm_folds.specs.Kept.{interval_of, interval_at, standing, stage_of};
+ghost use Rattle.hm_folds.specs.Kept.{interval_of, interval_at, mirrors_of, standing, stage_of};
 ghost use Rattle.hm_race_states.specs.Small.{unguarded};
 ghost use Rattle.hm_flaw_states.specs.Exact.{exact_in, IsPaced};
 
 use hm_base::{MirrorId, NoMemory, Proc, Span};
 use hm_folds::intervals::{
-    KeptInterval, KeptStage, apply_all, first_stage, is_deferred, is_in_tree, next_told, proc_of,
-    seq_of, with_seq, with_stage,
+    KeptInterval, KeptStage, apply_all, first_stage, is_deferred, is_in_tree, is_removed,
+    next_told, overlapping, overlaps, proc_of, seq_of, with_seq, with_stage,
 };
 use hm_history::Kind;
 use std::alloc::Global;
@@ -138,6 +139,28 @@ impl ExactSeqs {
         ensures { result ≡ insert_deferred (exact_in self.now.kept) mirror }
     {
         is_deferred(&self.interval(mirror))
+    }
+
+    /// Whether the deferred removal of the mirror's interval was made.
+    pub(crate) fn is_removed(&self, mirror: MirrorId) -> bool
+        ensures { result
+            ≡ interval_passes (λ (x : Interval). removed_state x.stage) ((exact_in self.now.kept).interval mirror) }
+    {
+        is_removed(&self.interval(mirror))
+    }
+
+    /// Whether the mirror's interval is in the tree of the process, and overlaps the span.
+    pub(crate) fn overlaps(&self, mirror: MirrorId, proc: Proc, span: Span) -> bool
+        ensures { result ≡ overlaps (exact_in self.now.kept) proc span mirror }
+    {
+        overlaps(&self.interval(mirror), proc, span)
+    }
+
+    /// The mirrors whose interval overlaps the span.
+    pub(crate) fn overlapping(&self, proc: Proc, span: Span) -> [bool; 32]
+        ensures { mirrors_of result ≡ overlapping (exact_in self.now.kept) proc span }
+    {
+        overlapping(&self.kept.intervals, proc, span)
     }
 
     /// The least mirror above `after` that an invalidation of the span is to tell.

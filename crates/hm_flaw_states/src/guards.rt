@@ -1,5 +1,6 @@
 // The invalidations under way, one of each actor at most, kept exactly.
-ghost use Rattle.std.specs.Prelude.{◌≡◌, ◌++◌, ◌∷◌, ℕ, [], true, Some, None, length, IfOk, OnOk};
+ghost use Rattle.std.specs.Prelude.{◌≡◌, ◌++◌, ◌∷◌, ℕ, [], true, Some, None, length, option_copied, option_map, IfOk};
+ghost use Rattle.std.specs.Prelude.{OnOk};
 ghost use Rattle.hm_history.specs.Memory.Words.{with_at};
 ghost use Rattle.hm_history.specs.Memory.Sequences.{Guarded, overlapping, sequences_next, with_told};
 ghost use Rattle.hm_folds.specs.Kept.{has_mirror};
@@ -175,6 +176,16 @@ impl ActorGuards {
             guards.push(None)?;
         }
         Ok(ActorGuards { guards })
+    }
+
+    /// The guard of an actor that has one.
+    pub(crate) fn get(&self, actor: Actor) -> Option<&ActorGuard>
+        ensures { option_map guard_of (option_copied result) ≡ guards_in self.now.guards.items actor }
+    {
+        match &self.guards[actor.number() as usize] {
+            None => None,
+            Some(guard) => Some(&**guard),
+        }
     }
 
     // The same guards, shared.

@@ -82,8 +82,8 @@ pub(crate) fn shown_at<W: Details>(world: &W, proc: Proc, addr: u64) -> Option<F
     backing(world, &world.place(proc, page_of(addr)))
 }
 
-// The sequence that a mirror's interval gets when it is told.
-fn told_seq<W: Details>(world: &W, mirror: MirrorId) -> u64
+/// The sequence that a mirror's interval gets when it is told.
+pub(crate) fn told_seq<W: Details>(world: &W, mirror: MirrorId) -> u64
     ensures { result
         ≡ (W.state world.now).after.sequences.seq (interval_proc (W.state world.now).after.sequences mirror) }
 {

@@ -44,7 +44,7 @@ impl SearchKey for FlawKey {
     ghost number = { key_number };
 
     fn facts(&self) {
-        let _ = &self.frames;
+        let _ = &self.marks;
     }
 
     fn same(&self, other: &FlawKey) -> bool {

@@ -25,7 +25,6 @@ use crate::key::FlawKey;
 use crate::late_spans::LateSpans;
 use crate::owns::Own;
 use crate::state::FlawState;
-use crate::trail::push_entry;
 use hm_base::{Actor, MirrorId, NoMemory, Script};
 use hm_flaw_parts::Marks;
 use hm_flaws::Flaw;
@@ -36,12 +35,11 @@ use skip_rules::SkipRule;
 use std::alloc::Global;
 use std::rc::Rc;
 
-/// The state and the marks after entries, and these.
+/// The state and the marks after entries.
 #[derive(Drop)]
 pub(crate) struct SoFar {
     pub state: FlawState,
     pub marks: Marks,
-    pub trail: Vec<Rc<Entry>>,
 }
 
 // Before the first entry.
@@ -51,7 +49,6 @@ fn nothing(alloc: Global, script: &Script) -> Result<SoFar, NoMemory>
     Ok(SoFar {
         state: FlawState::start(alloc, script)?,
         marks: Marks::start(alloc)?,
-        trail: Vec::new(alloc),
     })
 }
 
@@ -94,7 +91,6 @@ fn add_entry(
     let state = so_far
         .state
         .after(alloc, script, Flaw::NoFlaw, own, &entry)?;
-    push_entry(alloc, &mut so_far.trail, entry)?;
     so_far.marks = marks;
     so_far.state = state;
     Ok(())
@@ -114,7 +110,7 @@ fn add_next<R: SkipRule>(
         → spec.due script.now h actor ≡ AnyProgress.Did e → IsAfter script.now (h ++ e ∷ []) so_far.new) }
 {
     script.facts();
-    hm_flaws::right_breaks_none();
+    hm_laws::history_stands();
     hm_flaws::right_is_due();
     let entry = due_entry(alloc, script, rule, &so_far.state, actor)?;
     Ok(add_entry(alloc, script, own, so_far, entry)?)
@@ -180,20 +176,18 @@ pub fn first_key<R: SkipRule>(
     requires due { DueFrom script.now [] set_up.now }
     requires few { length set_up.now ≤ 2000000 }
     ensures form { IfOk result (λ k. form_in k ≡ point_from script.now set_up.now) }
-    ensures trail { IfOk result (λ k. entries_in k ≡ set_up.now) }
-    ensures kept { IfOk result (λ k. (j : AnyJudging) → IsKept j script.now k) }
+    ensures trail { IfOk result (λ k. entries_in k ≡ []) }
+    ensures kept { IfOk result (λ k. (j : AnyJudging) → IsKept j k) }
 {
     script.facts();
-    hm_flaws::right_breaks_none();
-    hm_flaws::right_is_due();
+    hm_laws::history_stands();
     let so_far = after_set_up(alloc, script, rule, set_up)?;
     let own = own_of(alloc, &so_far.state)?;
     Ok(FlawKey {
         state: Rc::new(alloc, so_far.state)?,
         own: Rc::new(alloc, own)?,
         marks: Rc::new(alloc, so_far.marks)?,
-        trail: so_far.trail,
+        trail: Vec::new(alloc),
         broken: None,
-        frames: script.frames,
     })
 }

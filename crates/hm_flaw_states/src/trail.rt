@@ -18,12 +18,8 @@ pub(crate) fn shared(alloc: Global, trail: &[Rc<Entry>]) -> Result<Vec<Rc<Entry>
     Ok(all)
 }
 
-/// Adds an entry.
-pub(crate) fn push_entry(
-    alloc: Global,
-    trail: &mut Vec<Rc<Entry>>,
-    entry: Entry,
-) -> Result<(), NoMemory>
+// Adds an entry.
+fn push_entry(alloc: Global, trail: &mut Vec<Rc<Entry>>, entry: Entry) -> Result<(), NoMemory>
     ensures { OnOk result (map rc_value trail.new.items ≡ map rc_value trail.old.items ++ entry ∷ []) }
 {
     let entry = Rc::new(alloc, entry)?;

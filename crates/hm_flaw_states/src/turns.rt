@@ -19,7 +19,7 @@ ghost use Rattle.hm_flaw_states.specs.Turns.{IsKept, IsNextKey, IsTurned, own_ne
 use crate::details::Details;
 use crate::due::due_by;
 use crate::here::FlawHere;
-use crate::judging::broken_answers;
+use crate::judging::first_broken;
 use crate::kept_owns::copy_own;
 use crate::key::{BrokenBy, FlawKey};
 use crate::owns::Own;
@@ -27,7 +27,7 @@ use crate::state::FlawState;
 use crate::steps::tells_own;
 use crate::trail::{longer, shared};
 use hm_base::{Actor, NoMemory, Script};
-use hm_flaw_parts::{Judging, Marks, first_broken};
+use hm_flaw_parts::{Judging, Marks};
 use hm_flaws::{Flaw, Part};
 use hm_history::phases::Migrating;
 use hm_history::{Entry, Kind, Progress};
@@ -56,20 +56,14 @@ fn broken_at(
     key: &FlawKey,
     entry: &Entry,
 ) -> Result<Option<Part>, NoMemory>
-    requires { IsKept judging script.now key.now }
+    requires { IsKept judging key.now }
     ensures { IfOk result (λ o. o ≡ broken_at (judged_parts judging) script.now (form_in key.now) entry.now) }
 {
-    let here = FlawHere {
-        script,
-        state: &key.state,
-    };
-    match judging {
-        Judging::AllParts => {
-            let records = records_of(&key.state.tasks, entry.actor);
-            Ok(first_broken(alloc, &here, records, &key.trail, entry)?)
-        }
-        Judging::AnswersAlone => Ok(broken_answers(alloc, &here, &entry.kind)?),
-    }
+    let state: &FlawState = &key.state;
+    let marks: &Marks = &key.marks;
+    let here = FlawHere { script, state };
+    let records = records_of(&state.tasks, entry.actor);
+    first_broken(alloc, judging, &here, marks, records, entry)
 }
 
 // Whether such an entry may change what a driver has of its own. It may say so of one that does not.
@@ -161,12 +155,10 @@ fn gone_on(
     key: &FlawKey,
     entry: Entry,
 ) -> Result<FlawKey, NoMemory>
-    requires frames { key.now.frames ≡ script.now.frames }
-    requires follows { Follows flaw script.now key.now.state.value (driver_in key.now.own.value) entry }
+    requires { Follows flaw script.now key.now.state.value (driver_in key.now.own.value) entry }
     ensures form { IfOk result (λ k. form_in k ≡ point_entry flaw script.now (form_in key.now) entry None) }
     ensures trail { IfOk result (λ k. entries_in k ≡ entries_in key.now ++ entry ∷ []) }
     ensures broken { IfOk result (λ k. broken_in k ≡ None) }
-    ensures frames { IfOk result (λ k. k.frames ≡ key.now.frames) }
     ensures standing { IfOk result (λ k. Standing (state_in k.state.value)) }
 {
     let parts = parts_after(alloc, script, flaw, key, &entry)?;
@@ -177,7 +169,6 @@ fn gone_on(
         marks: parts.marks,
         trail,
         broken: None,
-        frames: key.frames,
     })
 }
 
@@ -186,7 +177,6 @@ fn ended(alloc: Global, key: &FlawKey, entry: Entry, part: Part) -> Result<FlawK
     ensures form { IfOk result (λ k. form_in k ≡ record (form_in key.now) { broken = Some part }) }
     ensures trail { IfOk result (λ k. entries_in k ≡ entries_in key.now) }
     ensures broken { IfOk result (λ k. broken_in k ≡ Some (entry, part)) }
-    ensures frames { IfOk result (λ k. k.frames ≡ key.now.frames) }
 {
     let entry = Rc::new(alloc, entry)?;
     Ok(FlawKey {
@@ -195,7 +185,6 @@ fn ended(alloc: Global, key: &FlawKey, entry: Entry, part: Part) -> Result<FlawK
         marks: key.marks.clone()?,
         trail: shared(alloc, &key.trail)?,
         broken: Some(BrokenBy { entry, part }),
-        frames: key.frames,
     })
 }
 
@@ -209,12 +198,12 @@ fn turned(
     actor: Actor,
     entry: Entry,
 ) -> Result<FlawKey, NoMemory>
-    requires kept { IsKept judging script.now key.now }
+    requires kept { IsKept judging key.now }
     requires room { key.now.state.value.entries ≤ 2000000 }
     requires none { (form_in key.now).broken ≡ None }
     requires due { spec.due_by flaw script.now (form_in key.now).flawed actor ≡ AnyProgress.Did entry }
     ensures turned { IfOk result (λ k. IsTurned (judged_parts judging) flaw script.now key.now actor k) }
-    ensures kept { IfOk result (IsKept judging script.now) }
+    ensures kept { IfOk result (IsKept judging) }
     ensures count { IfOk result (λ k. k.state.value.entries ≤ key.now.state.value.entries + 1) }
 {
     match broken_at(alloc, script, judging, key, &entry)? {
@@ -233,10 +222,10 @@ pub fn next_key<R: SkipRule>(
     key: &FlawKey,
     actor: Actor,
 ) -> Result<Option<FlawKey>, NoMemory>
-    requires kept { IsKept judging script.now key.now }
+    requires kept { IsKept judging key.now }
     requires room { key.now.state.value.entries ≤ 2000000 }
     ensures next { IfOk result (IsNextKey (judged_parts judging) flaw script.now key.now actor) }
-    ensures kept { IfOk result (λ o. IfSome o (IsKept judging script.now)) }
+    ensures kept { IfOk result (λ o. IfSome o (IsKept judging)) }
     ensures count { IfOk result
         (λ o. IfSome o (λ k. k.state.value.entries ≤ key.now.state.value.entries + 1)) }
 {

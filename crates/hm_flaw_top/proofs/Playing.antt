@@ -1,19 +1,16 @@
 -- A key after turns, one after the other, and the entries that led to it.
-use Rattle.std.proofs.Common.{◌≡◌, ℕ, ◌+◌, ◌<◌, ◌≤◌, false, ◌&&◌, Option, Some, None, List, [], ◌∷◌, ◌++◌, length, map, drop, take, refl, sym, ap, ◌∙◌, subst, append_assoc, get_or, arith}
+use Rattle.std.proofs.Common.{◌≡◌, ℕ, ◌+◌, ◌<◌, ◌≤◌, false, ◌&&◌, Option, Some, None, List, [], ◌∷◌, ◌++◌, length, take, refl, sym, ap, ◌∙◌, subst, get_or, arith}
 use Rattle.std.specs.Option.{option_map}
 use Rattle.std.specs.Prelude.{Err, IfOk, IfSome, Ok, Result, is_none}
-use Rattle.std.specs.Rc.{rc_value}
 use Rattle.std.proofs.lemmas.Bool.{false≢true}
 use Rattle.std.proofs.lemmas.List.{take_more}
 use Rattle.std.proofs.lemmas.List.Sums.{fold-append}
-use Rattle.std.proofs.Math.Seq.{drop-append_seam}
-use Rattle.std.specs.List.{drop-map}
 use Rattle.hm_base.specs.Program.{Program}
 use Rattle.hm_history.specs.Kernel.Going.{state_start}
 use Rattle.hm_history.proofs.Going.{lengths}
-use Rattle.hm_flaw_parts.specs.Judged.{EachLeads}
 use Rattle.hm_flaw_states.specs.Follows.{Standing}
 use Rattle.hm_flaw_states.specs.States.{state_in}
+use Rattle.hm_flaw_states.specs.Tidy.{TidyFor}
 use Rattle.hm_flaw_states.specs.Turns.{IsKept}
 use Rattle.hm_flaw_states.specs.declared.state.FlawState.{FlawState}
 use Rattle.hm_history.specs.Kernel.Run.{is_entry}
@@ -73,7 +70,7 @@ module _ (parts : List Part) (l : Flaw) (c : Program) (h : List Entry) (turns : 
   pub played_stays : is_due_at l c (form_in k) a ≡ false → IsPlayed parts l c h (turns ++ a ∷ []) k
   played_stays is = record {
     form = sym (turn_stays parts l c (form_in k) a (form_in k).broken (due_by l c (form_in k).flawed a) refl is) ∙ (ap (λ (x : FlawPoint). point_turn parts l c x a) p.form ∙ sym (point_more parts l c h turns a));
-    entries = p.entries ∙ ap (λ (x : Judged). h ++ x.entries) (sym (all_stays is));
+    entries = p.entries ∙ ap (λ (x : Judged). x.entries) (sym (all_stays is));
     broken = p.broken ∙ ap (λ (x : Judged). x.broken) (sym (all_stays is));
   }
 
@@ -105,14 +102,14 @@ module _ (parts : List Part) (l : Flaw) (c : Program) (h : List Entry) (turns : 
         let now : judged parts l c h (turns ++ a ∷ []) ≡ judged_entry parts l c h so_far z.entry None = judged_on_so ∙ ap (judged_entry parts l c h so_far z.entry) b in
         record {
           form = form_so;
-          entries = (z.on b).0 ∙ (ap (λ (es : List Entry). es ++ z.entry ∷ []) p.entries ∙ (append_assoc h so_far.entries (z.entry ∷ []) ∙ ap (λ (x : Judged). h ++ x.entries) (sym now)));
+          entries = (z.on b).0 ∙ (ap (λ (es : List Entry). es ++ z.entry ∷ []) p.entries ∙ ap (λ (x : Judged). x.entries) (sym now));
           broken = (z.on b).1 ∙ ap (λ (x : Judged). x.broken) (sym now);
         }
     by_part (Some part) b =
         let now : judged parts l c h (turns ++ a ∷ []) ≡ judged_entry parts l c h so_far z.entry (Some part) = judged_on_so ∙ ap (judged_entry parts l c h so_far z.entry) b in
         record {
           form = form_so;
-          entries = (z.ended part b).0 ∙ (p.entries ∙ ap (λ (x : Judged). h ++ x.entries) (sym now));
+          entries = (z.ended part b).0 ∙ (p.entries ∙ ap (λ (x : Judged). x.entries) (sym now));
           broken = (z.ended part b).1 ∙ ap (λ (x : Judged). x.broken) (sym now);
         }
 
@@ -134,17 +131,16 @@ module _ (parts : List Part) (l : Flaw) (c : Program) (h : List Entry) (turns : 
 pub key_first : (r : FlawRaceValue) → IsFlawRace r → (k : FlawKey) → IsCopy r.first k → IsKeyOf r k (length r.set_up)
 key_first r stands k copy =
     let first = stands.first in
-    let kept : IsKept r.judging r.script r.first = first.kept r.judging in
+    let kept : IsKept r.judging r.first = first.kept r.judging in
     record {
       kept = record {
-        frames = copy.frames ∙ kept.frames;
-        leads = subst (EachLeads r.judging r.script) (sym copy.trail) kept.leads;
+        tidy = subst (λ (x : FlawState). TidyFor r.judging (state_in x).after.places) (sym copy.state) kept.tidy;
         standing = subst (λ (x : FlawState). Standing (state_in x)) (sym copy.state) kept.standing;
       };
       few = omega (arith, ap (λ (y : FlawPoint). y.flawed.state.after.length) (copy.form ∙ first.form), lengths r.script (state_start r.script) r.set_up);
     }
 
-pub key_after : {E : Type 0} (r : FlawRaceValue) (x : Result (Option FlawKey) E) (k : FlawKey) (i : ℕ) → IsKeyOf r k i → IfOk x (λ o. IfSome o (IsKept r.judging r.script)) → IfOk x (λ o. IfSome o (λ m. m.state.value.entries ≤ k.state.value.entries + 1))
+pub key_after : {E : Type 0} (r : FlawRaceValue) (x : Result (Option FlawKey) E) (k : FlawKey) (i : ℕ) → IsKeyOf r k i → IfOk x (λ o. IfSome o (IsKept r.judging)) → IfOk x (λ o. IfSome o (λ m. m.state.value.entries ≤ k.state.value.entries + 1))
     → IfOk x (λ o. IfSome o (λ m. IsKeyOf r m (i + 1)))
 key_after r (Ok (Some m)) k i h kept count = record { kept = kept; few = omega (arith, h.few, count) }
 key_after r (Ok None) k i h kept count = tt
@@ -156,15 +152,7 @@ key_next r o n m i some same h = subst (λ k. IsKeyOf r k (i + 1)) (sym same) (s
 pub key_stays : (r : FlawRaceValue) (k m : FlawKey) (i : ℕ) → m ≡ k → IsKeyOf r k i → IsKeyOf r m (i + 1)
 key_stays r k m i same h = subst (λ x. IsKeyOf r x (i + 1)) (sym same) (record { kept = h.kept; few = omega (arith, h.few) })
 
--- ---- the entries after the set-up
-
--- the entries of a key, without as many as the set-up has
-pub trail_after : (parts : List Part) (l : Flaw) (c : Program) (h : List Entry) (turns : List ℕ) (k : FlawKey) (n : ℕ) → IsPlayed parts l c h turns k → n ≡ length h → map rc_value (drop n k.trail.items) ≡ (judged parts l c h turns).entries
-trail_after parts l c h turns k n p long =
-    sym (drop-map rc_value n k.trail.items)
-    ∙ (ap (drop n) p.entries
-    ∙ (ap (λ (i : ℕ). drop i (h ++ (judged parts l c h turns).entries)) long
-    ∙ drop-append_seam h (judged parts l c h turns).entries))
+-- ---- what was found
 
 pub found_broken : (parts : List Part) (l : Flaw) (c : Program) (h : List Entry) (turns : List ℕ) (k : FlawKey) (by : BrokenBy) (es : List Entry) (e : Entry)
     → IsPlayed parts l c h turns k → k.broken ≡ Some by → es ≡ (judged parts l c h turns).entries → e ≡ by.entry.value → Found.Broken es e by.part ≡ found_by (judged parts l c h turns)

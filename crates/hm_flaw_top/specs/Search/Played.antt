@@ -1,5 +1,5 @@
 -- What turns lead to: a key with their entries, and what is found there.
-use Rattle.std.specs.Prelude.{◌≡◌, ℕ, Option, Some, None, List, ◌++◌}
+use Rattle.std.specs.Prelude.{◌≡◌, ℕ, Option, Some, None, List}
 use Rattle.hm_base.specs.Program.{Program}
 use Rattle.hm_history.specs.declared.Entry.{Entry}
 use Rattle.hm_flaws.specs.declared.flaws.Flaw.{Flaw}
@@ -15,7 +15,7 @@ use Rattle.hm_flaw_top.specs.declared.text.answer.Found.{Found}
 pub record IsPlayed (parts : List Part) (l : Flaw) (c : Program) (h : List Entry) (turns : List ℕ) (k : FlawKey)
     : Type 0 where
   pub form : form_in k ≡ point_after parts l c h turns
-  pub entries : entries_in k ≡ h ++ (judged parts l c h turns).entries
+  pub entries : entries_in k ≡ (judged parts l c h turns).entries
   pub broken : broken_in k ≡ (judged parts l c h turns).broken
 
 -- these entries, and the one that breaks a part, if one does

@@ -13,15 +13,14 @@ use Rattle.hm_flaw_states.specs.declared.key.FlawKey.{FlawKey}
 -- the key after a set-up, whichever parts are judged
 pub record IsFirst (c : Program) (h : List Entry) (k : FlawKey) : Type 0 where
   pub form : form_in k ≡ point_from c h
-  pub trail : entries_in k ≡ h
-  pub kept : (j : Judging) → IsKept j c k
+  pub trail : entries_in k ≡ []
+  pub kept : (j : Judging) → IsKept j k
 
 -- a copy of a key
 pub record IsCopy (k n : FlawKey) : Type 0 where
   pub form : form_in n ≡ form_in k
   pub trail : entries_in n ≡ entries_in k
   pub state : n.state.value ≡ k.state.value
-  pub frames : n.frames ≡ k.frames
 
 -- a script, the entries of its set-up and the key after them, the flaw of the driver, and which parts it is judged by
 pub record FlawRaceValue : Type 0 where
@@ -39,5 +38,5 @@ pub record IsFlawRace (r : FlawRaceValue) : Type 0 where
 
 -- a key of the race whose state has at most n entries
 pub record IsKeyOf (r : FlawRaceValue) (k : FlawKey) (n : ℕ) : Type 0 where
-  pub kept : IsKept r.judging r.script k
+  pub kept : IsKept r.judging k
   pub few : k.state.value.entries ≤ n

@@ -52,7 +52,7 @@ impl<'a> FlawRace<'a> {
             self.now.script self.now.set_up turns.now)) }
     {
         let key = self.played(turns)?;
-        let entries = listed(self.alloc, &key.trail[self.set_up.len()..])?;
+        let entries = listed(self.alloc, &key.trail)?;
         match &key.broken {
             Some(by) => Ok(Found::Broken {
                 entries,

@@ -1,5 +1,5 @@
 // The race of a driver with a flaw, for the search.
-ghost use Rattle.std.specs.Prelude.{◌≡◌, ◌+◌, ◌≤◌, length, IfOk, IfSome};
+ghost use Rattle.std.specs.Prelude.{◌≡◌, ◌+◌, ◌≤◌, [], length, IfOk, IfSome};
 ghost use Rattle.hm_flaw_parts.specs.Judged.{judged_parts};
 ghost use Rattle.hm_flaw_states.specs.Keyed.{entries_in, form_in};
 ghost use Rattle.hm_flaw_states.specs.Turns.{IsNextKey};
@@ -74,7 +74,7 @@ impl<'a> FlawRace<'a> {
     /// The key after the set-up.
     pub fn first_key(&self) -> Result<FlawKey, NoMemory>
         ensures form { IfOk result (λ k. form_in k ≡ point_from self.now.script self.now.set_up) }
-        ensures trail { IfOk result (λ k. entries_in k ≡ self.now.set_up) }
+        ensures trail { IfOk result (λ k. entries_in k ≡ []) }
         ensures kept { IfOk result (λ k. IsKeyOf self.now k (length self.now.set_up)) }
     {
         self.stands();

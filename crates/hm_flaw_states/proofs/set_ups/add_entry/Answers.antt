@@ -1,9 +1,5 @@
-use Rattle.std.proofs.Common.{[], ◌∷◌, ◌++◌, ap, ◌∙◌}
-use Rattle.std.specs.Prelude.{List}
-use Rattle.hm_history.specs.declared.Entry.{Entry}
 use Rattle.hm_flaw_states.proofs.SetUps.{more_after}
 use Rattle.hm_flaw_states.proofs.set_ups.add_entry.Goals as goal
 
 pub returns : goal.returns
-returns c = λ h r. more_after c.args.script.now h c.args.so_far.now _ c.args.entry r c.in_ok-state.ensures.next c.in_ok-marks.ensures
-    (c.in_ok-push_entry.ensures ∙ ap (λ (es : List Entry). es ++ c.args.entry ∷ []) r.trail) c.in_ok-state.ensures.standing
+returns c = λ h r. more_after c.args.script.now h c.args.so_far.now _ c.args.entry r c.in_ok-state.ensures.next c.in_ok-marks.ensures c.in_ok-state.ensures.standing

@@ -10,7 +10,7 @@ pub due_entry-requires : goal.due_entry-requires
 due_entry-requires g c = is_next c.args.script.now c.args.so_far.now c.args.actor c.requires
 
 pub add_entry-requires : goal.add_entry-requires
-add_entry-requires g c = follows_next c.right_breaks_none.ensures c.right_is_due.ensures c.args.script.now c.facts.ensures c.args.so_far.now c.args.actor c.requires (driver_in c.args.own.now) c.in_ok-entry.entry c.in_ok-entry.ensures
+add_entry-requires g c = follows_next c.history_stands.ensures c.right_is_due.ensures c.args.script.now c.facts.ensures c.args.so_far.now c.args.actor c.requires (driver_in c.args.own.now) c.in_ok-entry.entry c.in_ok-entry.ensures
 
 pub returns : goal.returns
 returns g c = λ h e r was.

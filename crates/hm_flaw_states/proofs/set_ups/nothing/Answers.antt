@@ -1,8 +1,7 @@
-use Rattle.std.proofs.Common.{map, sym, ap, subst}
-use Rattle.std.specs.Rc.{rc_value}
+use Rattle.std.proofs.Common.{sym, subst}
 use Rattle.hm_flaw_states.specs.Follows.{Standing}
 use Rattle.hm_flaw_states.proofs.Standing.{first_stands}
 use Rattle.hm_flaw_states.proofs.set_ups.nothing.Goals as goal
 
 pub returns : goal.returns
-returns c = record { state = c.in_ok-start.ensures; marked = c.in_ok-start-2.ensures; trail = ap (map rc_value) c.new.ensures.items; standing = subst Standing (sym c.in_ok-start.ensures) (λ a. first_stands 0 c.args.script.now a 0) }
+returns c = record { state = c.in_ok-start.ensures; marked = c.in_ok-start-2.ensures; standing = subst Standing (sym c.in_ok-start.ensures) (λ a. first_stands 0 c.args.script.now a 0) }

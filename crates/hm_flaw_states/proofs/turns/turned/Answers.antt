@@ -5,10 +5,7 @@ use Rattle.hm_flaw_states.proofs.Kept.{count_ended, count_on, kept_beside, kept_
 use Rattle.hm_flaw_states.proofs.turns.turned.Goals as goal
 
 pub gone_on-requires : goal.gone_on-requires
-gone_on-requires c = record {
-  frames = c.requires.kept.frames;
-  follows = turn_follows c.args.judging c.args.flaw c.args.script.now c.args.key.now c.args.actor c.args.entry c.requires.kept c.requires.room c.requires.due (sym c.in_ok-part.ensures ∙ c.in-None.is);
-}
+gone_on-requires c = turn_follows c.args.judging c.args.flaw c.args.script.now c.args.key.now c.args.actor c.args.entry c.requires.kept c.requires.room c.requires.due (sym c.in_ok-part.ensures ∙ c.in-None.is)
 
 pub returns-in_ok-gone_on-in-None : goal.returns-in_ok-gone_on-in-None
 returns-in_ok-gone_on-in-None c =
@@ -17,7 +14,7 @@ returns-in_ok-gone_on-in-None c =
     let r = c.in_ok-gone_on-in-None.ensures in
     record {
       turned = turned_on (judged_parts c.args.judging) c.args.flaw c.args.script.now k c.in_ok-gone_on-in-None.field-0 c.args.actor c.args.entry c.requires.none c.requires.due b r.form r.trail r.broken;
-      kept = kept_on c.args.judging c.args.script.now k c.in_ok-gone_on-in-None.field-0 c.args.entry c.requires.kept b r.trail r.frames r.standing;
+      kept = kept_on c.args.judging c.args.flaw c.args.script.now k c.in_ok-gone_on-in-None.field-0 c.args.entry c.requires.kept b r.form r.standing;
       count = count_on c.args.flaw c.args.script.now k c.in_ok-gone_on-in-None.field-0 c.args.entry r.form;
     }
 
@@ -29,6 +26,6 @@ returns-in_ok-ended-in-Some c =
     let r = c.in_ok-ended-in-Some.ensures in
     record {
       turned = turned_ended (judged_parts c.args.judging) c.args.flaw c.args.script.now k c.in_ok-ended-in-Some.field-0 c.args.actor c.args.entry part c.requires.none c.requires.due b r.form r.trail r.broken;
-      kept = kept_beside c.args.judging c.args.script.now k c.in_ok-ended-in-Some.field-0 c.requires.kept (ap (λ (x : FlawPoint). x.flawed) r.form) r.trail r.frames;
+      kept = kept_beside c.args.judging k c.in_ok-ended-in-Some.field-0 c.requires.kept (ap (λ (x : FlawPoint). x.flawed) r.form);
       count = count_ended c.args.flaw c.args.script.now k c.in_ok-ended-in-Some.field-0 c.args.entry part r.form;
     }

@@ -1,12 +1,15 @@
 use Rattle.std.proofs.Common.{ap, ◌∙◌, subst}
-use Rattle.hm_flaw_states.specs.Keyed.{form_in}
+use Rattle.hm_flaw_states.specs.Keyed.{entries_in, form_in}
 use Rattle.hm_flaw_parts.specs.Races.Races.{FlawPoint}
 use Rattle.hm_flaw_top.specs.Search.Races.{FlawRaceValue, IsCopy}
 use Rattle.hm_flaw_top.proofs.Playing.{key_first}
 use Rattle.hm_flaw_top.proofs.search.race.FlawRace.first_key.Goals as goal
 
-pub copy_first-requires : goal.copy_first-requires
-copy_first-requires c = ap (λ (v : FlawRaceValue). (form_in v.first).broken) c.self.view_is ∙ ap (λ (x : FlawPoint). x.broken) c.stands.ensures.first.form
+pub copy_first-requires-clause-unbroken : goal.copy_first-requires-clause-unbroken
+copy_first-requires-clause-unbroken c = ap (λ (v : FlawRaceValue). (form_in v.first).broken) c.self.view_is ∙ ap (λ (x : FlawPoint). x.broken) c.stands.ensures.first.form
+
+pub copy_first-requires-clause-first : goal.copy_first-requires-clause-first
+copy_first-requires-clause-first c = ap (λ (v : FlawRaceValue). entries_in v.first) c.self.view_is ∙ c.stands.ensures.first.trail
 
 pub returns-clause-form : goal.returns-clause-form
 returns-clause-form c =

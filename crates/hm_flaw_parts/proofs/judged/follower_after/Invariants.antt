@@ -1,9 +1,0 @@
-use Rattle.std.proofs.Common.{map, take}
-use Rattle.std.specs.Rc.{rc_value}
-use Rattle.hm_flaws.specs.Recalled.{recalled_of}
-use Rattle.hm_parts.specs.Follower.{IsFollowed}
-use Rattle.hm_flaw_parts.proofs.judged.follower_after.Given as goal
-
--- the entries so far were followed
-abbrev pub invariant-loop-at : goal.invariant-loop-at
-invariant-loop-at l = IsFollowed l.script (recalled_of l.script (take l.at (map rc_value l.entries))) l.so_far
