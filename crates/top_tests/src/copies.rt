@@ -196,10 +196,11 @@ fn a_watcher_looks_after_each_store(rt: HostRuntime) {
     assert!(rt; gate.missed() == 0 && counted.length() == 26 && end_at(&peeks, 26));
 }
 
-/// How often a watcher looks at most, and its last peek once more.
-const MOST_LOOKS: u64 = 100_001;
+/// Half of the tries that a watcher makes at most.
+const HALF_OF_THE_TRIES: u64 = 50_000;
 
-/// Whether a watcher that finds nothing to copy, and so looks at each try, ends before it has made all of its tries.
+/// Whether a watcher that finds nothing to copy, and so looks at each try at which the turn is free, ends before it has
+/// made half of its tries.
 fn ends_with_the_actors<R: Abort + Threads + Wait + Sync>(rt: &R, alloc: Global) -> bool {
     let looks = AtomicU64::new(0);
     let inner = machine(rt, alloc, STORES);
@@ -211,12 +212,12 @@ fn ends_with_the_actors<R: Abort + Threads + Wait + Sync>(rt: &R, alloc: Global)
     let (counted, _receipt, peeks) = peek_all(
         rt, alloc, counted, 1, &Open, proc, 0x50000, 1,
     ).expect(rt, "memory");
-    counted.length() == 8 && peeks.len() == 0 && looks.load(Ordering::SeqCst) < MOST_LOOKS
+    counted.length() == 8 && peeks.len() == 0 && looks.load(Ordering::SeqCst) < HALF_OF_THE_TRIES
 }
 
 #[test]
 fn a_watcher_ends_with_the_actors(rt: HostRuntime) {
-    // Its tries last for a second or more. So it makes them all only if the actor's thread does not run in that time.
+    // So many tries last for tenths of a second. It makes them only if the actor's thread does not run in that time.
     let alloc = rt.alloc();
     assert!(rt;
         ends_with_the_actors(&rt, alloc)
