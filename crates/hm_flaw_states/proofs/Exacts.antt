@@ -2,7 +2,7 @@
 use Rattle.std.proofs.Common.{◌≡◌, ℕ, ◌+◌, ◌-◌, ◌<◌, ◌≤◌, ◌==◌, Bool, true, false, if◌then◌else◌, Option, None, List, length, slice_set, refl, ap, ◌∙◌, arith}
 use Rattle.std.proofs.lemmas.Bool.Decides.{nat_tests}
 use Rattle.hm_history.specs.Memory.Words.{with_at}
-use Rattle.hm_history.specs.Memory.Sequences.{Sequences, Interval, sequences_next, seq_started, seq_ended, seq_inserted, sequences_start}
+use Rattle.hm_history.specs.Memory.Sequences.{Sequences, Interval, sequences_next, sequences_start}
 use Rattle.hm_history.specs.declared.Kind.{Kind}
 use Rattle.hm_folds.specs.declared.intervals.KeptInterval.{KeptInterval}
 use Rattle.hm_folds.specs.Kept.{interval_of, interval_at}
@@ -53,15 +53,16 @@ at_most_one f p n k l = by (k == p) refl
     by true e = let same : k ≡ p = grind (arith, nat_tests) in omega (arith, l, ap f same)
     by false e = omega arith
 
-one_if : (b : Bool) (n : ℕ) → (if b then n + 1 else n) ≤ n + 1
-one_if true n = omega arith
-one_if false n = omega arith
+-- and so is one that is raised only if a test passes
+at_most_if : (f : ℕ → ℕ) (p k : ℕ) (b : Bool) → with_at f p (if b then f p + 1 else f p) k ≤ f k + 1
+at_most_if f p k true = at_most_one f p (f p + 1) k (omega arith)
+at_most_if f p k false = at_most_one f p (f p) k (omega arith)
 
 -- no entry raises a sequence by more than one
 pub seq_rises : (s : Sequences) (a : ℕ) (k : Kind) (p : ℕ) → (sequences_next s a k).seq p ≤ s.seq p + 1
-seq_rises s a (Kind.Start q r n) p = at_most_one s.seq q (seq_started s q r) p (one_if _ (s.seq q))
-seq_rises s a (Kind.End q r n) p = at_most_one s.seq q (seq_ended s q) p (one_if _ (s.seq q))
-seq_rises s a (Kind.Attached m d q r n) p = at_most_one s.seq q (seq_inserted s q) p (one_if _ (s.seq q))
+seq_rises s a (Kind.Start q r n) p = at_most_if s.seq q p _
+seq_rises s a (Kind.End q r n) p = at_most_if s.seq q p _
+seq_rises s a (Kind.Attached m d q r n) p = at_most_if s.seq q p _
 seq_rises s a k p = omega arith
 
 -- nor begins more than one invalidation

@@ -29,6 +29,7 @@ use Rattle.hm_history.specs.declared.phases.Seen.{Seen}
 use Rattle.hm_history.proofs.Frames.{is_frame_from, is_frame_of}
 use Rattle.hm_laws.proofs.Due.Good.{either, either_option}
 use Rattle.hm_laws.proofs.Due.LeftFrames.{left_says}
+use Rattle.hm_laws.proofs.Kept.Frames.{direct_names}
 use Rattle.hm_laws.proofs.State.Search.{lowest_none}
 use Rattle.hm_flaws.specs.Drivers.{Driver}
 use Rattle.hm_flaws.specs.Flawed.{Flawed, as_read, due_by, due_flawed_top, found, read_through, taken_for}
@@ -52,21 +53,13 @@ KeepsSome s (Some k) = Keeps s k
 
 -- ---- the right driver
 
-direct_names : (x : Place) (f : Frame) → names_directly x ≡ Some f → names x ≡ Some f
-direct_names Place.Empty f e = cc
-direct_names Place.Zero f e = cc
-direct_names (Place.Sys n w) f e = e
-direct_names (Place.Own d n w) f e = e
-direct_names (Place.Moving g w) f e = cc
-direct_names (Place.Exclusive n a) f e = e
-
 end_keeps : (s : After) (p : ℕ) (r : Pages) (x : Option Kind) → KeepsSome s x → Keeps s (body_or_end s p r x)
 end_keeps s p r None h = tt
 end_keeps s p r (Some k) h = h
 
 -- a mapping of the frame is frozen
 freezes : (s : After) (p : ℕ) (r : Pages) (f : Frame) (b : Bool) → (b ≡ true → is_frame (names_directly (s.places.place p r.first)) f ≡ true) → KeepsSome s (if_so b (Kind.Place p r.first (Place.Moving f (writable (s.places.place p r.first)))))
-freezes s p r f b h = either (KeepsSome s) b _ _ (λ e. sym (direct_names (s.places.place p r.first) f (is_frame_from _ f (h e)))) (λ e. tt)
+freezes s p r f b h = either (KeepsSome s) b _ _ (λ e. sym (direct_names (s.places.place p r.first) f (is_frame_from _ f (h e))).0) (λ e. tt)
 
 guard_keeps : (s : After) (a : ℕ) (o : Op) (p : ℕ) (r : Pages) (met : Bool) (told : Option ℕ) (body : Body) → is_quiet (Phase.Guard p r met told body) ≡ true → Keeps s (due_guard s a o p r met told body)
 guard_keeps s a o p r met told Body.Nothing q = either_option (Keeps s) (to_tell s p r met told) _ _ (λ e. tt) (λ m e. tt)

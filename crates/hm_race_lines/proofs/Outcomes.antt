@@ -3,7 +3,8 @@ use Rattle.std.proofs.Common.{◌≡◌, ℕ, zero, suc, ◌+◌, ◌≤◌, ◌
 use Rattle.std.specs.Prelude.{⊤, slice_get}
 use Rattle.std.proofs.lemmas.Bool.{and_from, and_parts}
 use Rattle.std.proofs.lemmas.List.{append_cancel_right}
-use Rattle.std.proofs.lemmas.List.Folds.{list_all-append}
+use Rattle.std.proofs.lemmas.Option.{get_or_from_slice_get, slice_get_within}
+use Rattle.std.proofs.lemmas.List.Folds.{list_all-append, list_any_at}
 use Rattle.hm_base.specs.Program.{Program, IsScript}
 use Rattle.hm_history.proofs.RunLemmas.{DueFrom-append, runs_due}
 use Rattle.hm_history.specs.Kernel.Due.{due, due_phase}
@@ -30,7 +31,7 @@ use Rattle.hm_race_lines.specs.Laws.{LinesMayEnd}
 use Rattle.hm_race_lines.proofs.Answered.{EndsBy}
 use Rattle.hm_race_lines.proofs.Dues.{Ends, ends}
 use Rattle.hm_race_lines.proofs.Scripts.{one_of}
-use Rattle.hm_race_lines.proofs.Texts.{any_at, begins}
+use Rattle.hm_race_lines.proofs.Texts.{begins}
 
 -- ---- answers
 
@@ -56,7 +57,8 @@ entry_ends c sc h d e is = by (answer_of e.kind) says
 
     by : (x : Option Kind) → EndsBy t.op x → AmongBy c e.actor x
     by None k = tt
-    by (Some k) h = any_at (λ o. may_end o (answer_text k)) (ops_of c e.actor) was.index t.op t.is_op h
+    by (Some k) h = list_any_at (λ o. may_end o (answer_text k)) (ops_of c e.actor) was.index t.op (slice_get_within _ _ _ t.is_op)
+        (ap (λ o. may_end o (answer_text k)) (get_or_from_slice_get (ops_of c e.actor) was.index t.op t.op t.is_op) ∙ h)
 
 -- the answers of all actors are such
 abbrev AreAmong : Program → (ℕ → List Kind) → Type 0

@@ -1,9 +1,8 @@
 -- Texts that begin with some bytes, and digits.
 use Rattle.std.proofs.Common.{◌≡◌, ℕ, zero, suc, ◌+◌, ◌*◌, ◌/◌, ◌%◌, ◌≤◌, ◌<◌, Bool, true, false, not, cond, eqb, ◌==◌, ◌&&◌, ◌||◌, if◌then◌else◌, nat_lt, MatchOption, Option, Some, None, Bor, List, [], ◌∷◌, ◌++◌, length, refl, sym, ap, ◌∙◌, subst, arith, eq-eqb, eqb-true}
 use Rattle.std.specs.Fmt.{decimal, digits, digits_onto, digit_glyph}
-use Rattle.std.specs.List.{list_all, list_any}
-use Rattle.std.specs.Prelude.{slice_get}
-use Rattle.std.proofs.lemmas.Bool.{and_from, and_parts, or_left, or_right}
+use Rattle.std.specs.List.{list_all}
+use Rattle.std.proofs.lemmas.Bool.{and_from, and_parts, or_left}
 use Rattle.std.proofs.lemmas.List.Folds.{list_all-append}
 use Rattle.std.proofs.lemmas.Bool.Decides.{nat_tests}
 use Rattle.hm_report.specs.Words.{byte_text}
@@ -37,14 +36,6 @@ rest_is head text (Some rest) h = subst (λ t. rest_after head t ≡ Some rest.n
 
 pub begins : (head rest : List ℕ) (test : List ℕ → Bool) → test rest ≡ true → begins_with head test (head ++ rest) ≡ true
 begins head rest test h = ap (rest_passes test) (rest_of head rest) ∙ h
-
--- ---- tests
-
--- one that passes is there
-pub any_at : {X : Type 0} (test : X → Bool) (xs : List X) (i : ℕ) (x : X) → slice_get xs i ≡ Some x → test x ≡ true → list_any test xs ≡ true
-any_at test [] i x e h = cc
-any_at test (y ∷ xs) zero x e h = let same : y ≡ x = cc in or_left (test y) _ (ap test same ∙ h)
-any_at test (y ∷ xs) (suc i) x e h = or_right (test y) _ (any_at test xs i x e h)
 
 -- ---- digits
 
