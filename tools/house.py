@@ -253,7 +253,7 @@ def uncited():
         taken, times = names[path[:-len('.antt')].replace('/', '.')], collections.Counter(body)
         for line, name, statement in statements(lines):
             own = lines[line - 1:end_of(lines, line - 1, name)]
-            computed = own[1:] == [f'{name} = refl'] and ' → ' not in statement
+            computed = own[-1] == f'{name} = refl' and ' → ' not in statement
             if not computed and times[name] <= NAME.findall('\n'.join(own)).count(name) and not taken & {name, '*'}:
                 rows.append(f'{path}:{line} {name}')
     return rows

@@ -1,0 +1,17 @@
+mod Absent
+mod Others
+mod Plainly
+mod Differing
+mod Leading
+mod Standing
+mod Short
+mod Walked
+mod Wanting
+mod Reasons
+mod Goes
+mod Right
+mod Untold
+mod Searched
+mod Ended
+mod Way
+mod Ways

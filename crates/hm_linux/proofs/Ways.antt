@@ -1,0 +1,23 @@
+-- Ways through races, a file for each race.
+mod ChildExitAgainstTodev
+mod ChildUnmapAgainstTodev
+mod DaddAgainstTodev
+mod DaddOfTwoDevices
+mod DstoreInDeviceAfterFork
+mod ExclusiveAgainstStore
+mod ExclusiveAgainstTodev
+mod ExclusiveOfTwoDevices
+mod ExclusiveStays
+mod FirstAttach
+mod ForkAgainstDstoreInDevice
+mod MigrationOfSharedPage
+mod ProtectAgainstDstoreInDevice
+mod SharedDstoreAgainstTodev
+mod SharedStoreAgainstTodev
+mod SnapAgainstStore
+mod SnapAgainstTodev
+mod SnapTwoPagesAgainstTodev
+mod TwoPagesTodevFork
+mod UnmapAgainstDstore
+mod UnmapAgainstTodev
+mod UnmapKeepsOut

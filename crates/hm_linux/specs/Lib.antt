@@ -1,0 +1,13 @@
+pub mod Noted
+pub mod HeldPage
+pub mod ExclusivePins
+pub mod OwnReadOnly
+pub mod ExclusiveBusy
+pub mod UnmapLetsIn
+pub mod FirstAttach
+pub mod WholeSnapshot
+pub mod Instead
+pub mod Variants
+pub mod Outcomes
+pub mod Closed
+pub mod Laws
