@@ -1,0 +1,4 @@
+pub mod HoldSteps
+pub mod HeldSystems
+pub mod KeptTurns
+mod Sure

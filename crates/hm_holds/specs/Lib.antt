@@ -1,0 +1,5 @@
+pub mod Words
+pub mod Holds
+pub mod Orders
+pub mod Held
+pub mod Laws
