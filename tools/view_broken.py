@@ -90,8 +90,8 @@ class Shown:
             end = ' '.join([':', *('-' for _ in self.script.actors)])
         found = [reports.line(at, *x) for at, x in enumerate(last.history) if x[1][0] in view_page.FINDINGS]
         ends = reports.report(last).split('\nhistory\n', 1)[1].split('\n')[len(last.history):-1]
-        return [*scripts.text(self.script).split('\n')[:-1], 'findings', *found, 'rows 0', *self.set_up_rows(),
-                *self.rows(), end, *ends]
+        return [*scripts.text(self.script).split('\n')[:-1], 'findings', *found, 'rows 0', *view_page.FIRST_CHANGES,
+                *self.set_up_rows(), *self.rows(), end, *ends]
 
 
 def row(machine, actor):
@@ -101,11 +101,10 @@ def row(machine, actor):
         entry = machine.step(actor)
     except Broken:
         yield reports.line(len(machine.history) - 1, *machine.history[-1])
-        yield '='
         return
     yield reports.line(len(machine.history) - 1, actor, entry)
     before = places.get(entry[1], {}).get(entry[2]) if entry[0] == 'place' else None
-    yield view_page.changes(state, actor, entry, before.frame if before else None)
+    yield from view_page.changes(state, actor, entry, before.frame if before else None)
 
 
 def entries_of(script, rule, turns, answers_alone):
@@ -140,8 +139,10 @@ def page_text(shown, part, rule):
 def main():
     given.begin(__doc__)
     given.end_with_reader()
-    if len(sys.argv) != 4 or sys.argv[1] not in RULES:
+    if len(sys.argv) != 4:
         given.refuse('three words are wanted: a rule, a script, and the race that hmmwithout wrote')
+    if sys.argv[1] not in RULES:
+        given.refuse(f'there is no rule `{sys.argv[1]}`{given.nearest(sys.argv[1], RULES)}')
     rule, race, shortest = sys.argv[1:]
     try:
         script = scripts.parse(given.data_of([race]))

@@ -39,10 +39,30 @@ def report_with(script, turns):
     return reports.report(machine).encode()
 
 
+def unmet(report, answers):
+    """The first answer that the report does not have, after those before it of the same actor. In an outcome an
+    `attached` has no sequence."""
+    of_actor = {}
+    for line in report.decode().split('\nhistory\n')[1].split('\n'):
+        actor, *entry = line.split(' ')[1:] or ['']
+        entry = entry[:-1] if entry[:1] == ['attached'] else entry
+        of_actor.setdefault(actor, []).append(' '.join([actor, *entry]))
+    for answer in answers:
+        lines = of_actor.get(answer.split(' ')[0], [])
+        if answer not in lines:
+            return answer
+        del lines[:lines.index(answer) + 1]
+    return None
+
+
 def outcome_text(script, outcome):
     """An outcome's answers, and the lines of the page of its report."""
     number, answers, turns = outcome
-    lines = view_page.page_lines(report_with(script, turns), 0, None)
+    report = report_with(script, turns)
+    answer = unmet(report, answers)
+    if answer:
+        given.refuse(f'outcome {number} is of another race: its turns do not lead to `{answer}` in this script')
+    lines = view_page.page_lines(report, 0, None)
     text = html.escape('\n'.join([*answers, 'history', *lines]) + '\n')
     return f'<pre class="outcome" data-number="{number}" hidden>\n\n{text}</pre>\n'
 

@@ -72,49 +72,119 @@ def standings(script, actors):
     return ' '.join([':', *(standing(script, actors, a) for a in range(len(script.actors)))])
 
 
-def frames_about(entry, before):
-    if entry[0] in ('take', 'drop', 'done'):
-        return [entry[1]]
-    if entry[0] == 'place':
-        return [f for f in (before, entry[3].frame) if f]
-    return []
+def lock_changes(actor, entry):
+    if entry[0] in ('rlock', 'wlock'):
+        yield f'{"reads" if entry[0] == "rlock" else "writes"} a{actor} p{entry[1]}'
+    if entry[0] in RELEASING:
+        yield f'unlock a{actor}'
+
+
+def locker_change(state, frame):
+    locker = state.locker.get(frame)
+    return f'loose {frame}' if locker is None else f'locked {frame} a{locker}'
+
+
+def seq_change(state, process):
+    return f'sequence p{process} {state.seq[process]}'
+
+
+def interval_change(state, mirror):
+    return f'interval m{mirror} {state.mirrors[mirror].seq}'
+
+
+def span_text(span):
+    return f'{span.first} {span.count}'
+
+
+def process_changes(state, actor, entry):
+    match entry:
+        case ('stored', who, address, data):
+            yield f'bytes p{state.process_of(who)} {address} {data.hex()}'
+        case ('mapped', p, span, right):
+            yield f'area p{p} {span_text(span)} {right}'
+            yield f'zeros p{p} {span_text(span)}'
+        case ('unmapped', p, span):
+            yield f'cut p{p} {span_text(span)}'
+        case ('protected', p, span, right):
+            yield f'right p{p} {span_text(span)} {right}'
+        case ('forked', p, child):
+            yield from (f'there p{child}', f'copy p{p} p{child}')
+        case ('named', _, child):
+            yield seq_change(state, child)
+        case ('exited', p):
+            yield from (f'left p{p}', f'bare p{p}')
+        case ('start', p, span, _):
+            yield from (seq_change(state, p), f'guard a{actor} p{p} {span_text(span)}')
+        case ('end', p, _, _):
+            yield from (seq_change(state, p), f'unguard a{actor}')
+
+
+def mirror_changes(state, entry):
+    match entry:
+        case ('attached', m, d, p, span, _):
+            yield from (seq_change(state, p), f'attached m{m} d{d} p{p} {span_text(span)}', interval_change(state, m))
+        case ('detaching', m, _):
+            yield from (f'stage m{m} detaching', f'clear m{m}')
+        case ('detached', m):
+            yield from (f'stage m{m} gone', f'clear m{m}')
+        case ('told', m, span, _):
+            yield from (f'erase m{m} {span_text(span)}', interval_change(state, m))
+        case ('added', m, address, _, now):
+            yield f'bytes p{state.mirrors[m].process} {address} {now.hex()}'
+        case ('set', *_):
+            yield reports.entry_text(entry)
+
+
+def frame_changes(state, actor, entry, before):
+    match entry:
+        case ('take', frame):
+            yield from (f'held {frame}', f'locked {frame} a{actor}')
+        case ('drop', frame):
+            yield from (f'free {frame}', f'loose {frame}')
+        case ('done', frame):
+            yield f'loose {frame}'
+        case ('place', _, _, place):
+            yield from (locker_change(state, frame) for frame in (before, place.frame) if frame)
+            yield reports.entry_text(entry)
+        case ('withdrawn' | 'removed', _):
+            yield reports.entry_text(entry)
+
+
+FIRST_CHANGES = ['= there p0', '= sequence p0 2']
 
 
 def changes(state, actor, entry, before):
-    """What an entry changed beside what its words tell; the state is that after it."""
-    words = ['=']
-    if entry[0] in ('rlock', 'wlock'):
-        words.append(f'a{actor}={"reads" if entry[0] == "rlock" else "writes"}/p{entry[1]}')
-    if entry[0] in RELEASING:
-        words.append(f'a{actor}=-')
-    for frame in frames_about(entry, before):
-        locker = state.locker.get(frame)
-        words.append(f'f{frame}=' + ('-' if locker is None else f'a{locker}'))
-    process = {'start': 1, 'end': 1, 'attached': 3}.get(entry[0])
-    if process:
-        words.append(f'p{entry[process]}={state.seq[entry[process]]}')
-    if entry[0] in ('told', 'attached'):
-        words.append(f'm{entry[1]}={state.mirrors[entry[1]].seq}')
-    return ' '.join(words)
+    """The lines of what an entry changed; the state is that after it, `before` the frame that its page named."""
+    parts = (lock_changes(actor, entry), process_changes(state, actor, entry), mirror_changes(state, entry),
+             frame_changes(state, actor, entry, before))
+    return ['= ' + words for part in parts for words in part]
+
+
+def front_lines(script, actors):
+    """The script's lines, and the findings among the entries of these actors."""
+    found = [reports.line(at, *x) for at, x in enumerate(machine_after(script, actors).history) if x[1][0] in FINDINGS]
+    return scripts.text(script).split('\n')[:-1] + ['findings', *found]
+
+
+def row_lines(script, actors, first):
+    """The lines of the rows of these actors' entries; those before `first` are not shown."""
+    machine = Machine(script)
+    for at, actor in enumerate(actors):
+        if at >= first:
+            yield standings(script, actors[:at])
+        places = {p: dict(pages) for p, pages in machine.state.places.items()}
+        entry = machine.step(actor)
+        before = places.get(entry[1], {}).get(entry[2]) if entry[0] == 'place' else None
+        yield reports.line(at, actor, entry)
+        yield from changes(machine.state, actor, entry, before.frame if before else None)
 
 
 def page_lines(data, first, behind):
     script, actors = read(data)
     behind = len(actors) if behind is None else min(behind, len(actors))
-    whole = machine_after(script, actors)
-    lines = scripts.text(script).split('\n')[:-1] + ['findings']
-    lines += [reports.line(at, *x) for at, x in enumerate(whole.history) if x[1][0] in FINDINGS]
-    lines.append(f'rows {first}')
-    machine = Machine(script)
-    for at, (actor, entry) in enumerate(whole.history[:behind]):
-        if at >= first:
-            lines.append(standings(script, actors[:at]))
-        lines.append(reports.line(at, actor, entry))
-        before = machine.state.place(entry[1], entry[2]).frame if entry[0] == 'place' else None
-        machine.step(actor)
-        lines.append(changes(machine.state, actor, entry, before))
-    lines.append(standings(script, actors[:behind]))
-    return lines + reports.report(whole).split('\nhistory\n', 1)[1].split('\n')[len(actors):-1]
+    lines = front_lines(script, actors) + [f'rows {first}', *FIRST_CHANGES]
+    lines += [*row_lines(script, actors[:behind], first), standings(script, actors[:behind])]
+    return lines + reports.report(machine_after(script, actors)).split('\nhistory\n', 1)[1].split('\n')[len(actors):-1]
 
 
 def file_text(name):
@@ -160,7 +230,7 @@ def main():
         given.refuse('two numbers are wanted, FROM TO, or none')
     first, behind = numbers or (0, None)
     try:
-        text = ''.join(line + '\n' for line in page_lines(given.data_of(words), first, behind))
+        text = ''.join(line + '\n' for line in page_lines(given.data_of(words, ('--lines', '--constants')), first, behind))
     except (reports.NotLegal, scripts.Refused) as bad:
         print(f'view_page.py: not legal: line {bad.args[0]}', file=sys.stderr)
         sys.exit(1)

@@ -13,6 +13,7 @@ something is wrong. The states are compared by tools/view_states.py.
 import glob, os, sys, tempfile
 
 import explain
+import view_bad
 import view_broken
 import view_outcomes
 import view_page
@@ -152,6 +153,57 @@ def try_filter(browser):
     expect('marks', [browser.run(MARKS), browser.run('how.off.clear(); drawMarks(); ' + MARKS)], [5, 6])
 
 
+def entries_up_to(script):
+    """The history that a script comes to, as a report has its entries."""
+    machine = view_outcomes.Machine(view_outcomes.scripts.parse(script.encode()))
+    machine.replay()
+    return [view_page.reports.line(at, *x) for at, x in enumerate(machine.history)]
+
+
+def try_links(browser):
+    """Matches, the address, links to causes, the row that made a line of the state, and the script up to a row."""
+    name = page_of(DEVICES)
+    browser.open(name, '#12/m1')
+    expect('the address has the filter', browser.run('[chosen, byId("filter").value]'), [12, 'm1'])
+    count = browser.run('items.length')
+    browser.run('choose(items[1].hi); byId("filter").focus()')
+    expect('which match', browser.run('byId("matches").textContent'), f'2 of {count}')
+    browser.key('Enter')
+    expect('the next match', browser.run('byId("matches").textContent'), f'3 of {count}')
+    expect('the title', browser.run('document.title.split(":")[0]'), name)
+    lines = report_of(RETRY).decode().split('history\n')[1].split('\n')
+    told = [int(x.split(' ')[0]) for x in lines if x.split(' ')[2:4] == ['told', 'm0']]
+    begun = [int(x.split(' ')[0]) for x in lines if x.split(' ')[2:4] == ['begin', 'm0']]
+    cause = min(x for x in told if x > max(y for y in begun if y < 27))
+    browser.open(page_of(RETRY), '#27')
+    expect('a retry has what told it', browser.run('[...document.querySelectorAll("#now a")].map(x => x.textContent)'),
+           [f'row {cause}'])
+    loads = browser.run('report.rows.filter(x => x.words[0] === "loaded").map(x => [x.at, x.causes])')
+    stores = browser.run('report.rows.filter(x => x.words[0] === "stored").map(x => x.at)')
+    expect('a load has its store', loads, [[at, [max(x for x in stores if x < at)]] for at, _ in loads])
+    made = browser.run('[...walk.lines.keys()].map(key => [key, report.madeBy(key, chosen)])')
+    changed = browser.run('report.rows.map(row => row.changes.map(x => x[0]))')
+    wanted = [[key, max((at for at, keys in enumerate(changed[:28]) if key in keys), default=None)] for key, _ in made]
+    expect('who made a line of the state', made, wanted)
+    entries = [x for x in lines if x[:1].isdigit()]
+    for at in (9, 20, 27):
+        expect(f'the script up to {at}', entries_up_to(browser.run(f'report.scriptUpTo({at})')), entries[:at + 1])
+
+
+def try_bad(browser):
+    """A report that is not legal is drawn up to its bad line, which is marked, with what hmmjudge says above it."""
+    lines = report_of(RETRY).decode().split('\n')
+    at = lines.index('history') + 1 + 27
+    lines[at] = '27 a0 runlock p0'
+    said = f'bad {at + 1}\nentry {lines[at]}\nbreaks due\ndue a0 27 a0 retry m0\n'
+    with open('bad.html', 'w') as file:
+        file.write(view_bad.page_text('\n'.join(lines).encode(), said))
+    browser.open('bad.html')
+    expect('the bad line is the last row', browser.run('[chosen, report.rows.length]'), [27, 28])
+    expect('it is marked', browser.run('[...document.querySelectorAll(".breaks")].map(x => x.id)'), ['r27'])
+    expect('what is wrong with it', browser.run('byId("bad").textContent.trim()'), said.strip())
+
+
 def try_reading(browser):
     """What a screen reader, a printer and the clipboard get."""
     browser.open(page_of(RETRY), '#27')
@@ -257,6 +309,8 @@ def try_outcomes(browser):
                      for x in [y for y in answered if y.startswith(a + ' ')]
                      [-sum(y.startswith(a + ' ') for y in answers):]]
             expect(f'{name}, outcome {i + 1}', shown, answers)
+        browser.open('outcomes.html', f'?outcome={len(outcomes)}')
+        expect(f'{name}: the outcome in the address is shown', browser.run('seen'), len(outcomes) - 1)
         expect(f'{name}: two histories part where they differ', browser.run(
             '(() => { const one = report, two = new Report(RACE[0].text), at = parting(one, two);'
             'return at > 0 && entryText(one.rows[at - 1]) === entryText(two.rows[at - 1])'
@@ -281,7 +335,7 @@ def try_broken(browser):
         with open(name, encoding='ascii') as file:
             rule = file.readline().strip()
         with open(stem + '.shortest', encoding='ascii') as file:
-            if file.read().startswith('none'):
+            if file.read().startswith(('none', 'unused')):
                 continue
         last, breaks = write_broken(rule, stem, stem + '.shortest')
         browser.open('broken.html')
@@ -357,7 +411,8 @@ def main():
         os.chdir(room)
         browser.size(1400, 900)
         wrong.extend(['a state'] * view_states.compare(browser, examples()))
-        for tries in (try_keys, try_filter, try_reading, try_screens, try_changes, try_words, try_outcomes, try_broken):
+        for tries in (try_keys, try_filter, try_links, try_bad, try_reading, try_screens, try_changes, try_words,
+                      try_outcomes, try_broken):
             tries(browser)
         if long_page:
             try_long(browser, long_page)

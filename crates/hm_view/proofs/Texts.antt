@@ -1,5 +1,5 @@
 -- Texts that grow by one piece at a time.
-use Rattle.std.proofs.Common.{◌≡◌, ℕ, suc, ◌+◌, ◌<◌, ◌≤◌, Option, Some, None, List, [], ◌∷◌, ◌++◌, length, get_or, take, sym, ap, ◌∙◌, subst, arith, append_assoc, append-nil}
+use Rattle.std.proofs.Common.{◌≡◌, ℕ, suc, ◌+◌, ◌<◌, Option, Some, None, List, [], ◌∷◌, ◌++◌, length, get_or, take, sym, ap, ◌∙◌, subst, arith, append_assoc, append-nil}
 use Rattle.std.specs.Prelude.{nat_le}
 use Rattle.std.specs.List.{flat_map}
 use Rattle.std.proofs.lemmas.Grind.{flat_map-append}
@@ -8,7 +8,13 @@ use Rattle.hm_base.specs.Program.{Program}
 use Rattle.hm_history.specs.Memory.Words.{numbers}
 use Rattle.hm_history.specs.declared.Entry.{Entry}
 use Rattle.hm_history.proofs.Numbers.{numbers_append}
+use Rattle.hm_view.specs.Changes.{change_line, change_lines}
+use Rattle.hm_view.specs.Shown.{Change}
 use Rattle.hm_view.specs.Rows.{row, row_at, rows, finding, finding_at, findings}
+
+-- the lines of changes and of others after them
+pub lines_append : (xs ys : List Change) → change_lines (xs ++ ys) ≡ change_lines xs ++ change_lines ys
+lines_append xs ys = flat_map-append change_line xs ys
 
 -- one number more
 numbers_more : (n : ℕ) → numbers 0 (n + 1) ≡ numbers 0 n ++ n ∷ []

@@ -1,19 +1,20 @@
 -- What the user of the program is told.
-use Rattle.std.proofs.Common.{◌≡◌, ◌⊎◌, inl, inr, ℕ, ◌≤◌, true, false, List, length, Option, Some, None, refl, sym, ap, ◌∙◌, subst}
+use Rattle.std.proofs.Common.{◌≡◌, ◌⊎◌, inl, inr, ℕ, ◌≤◌, true, false, List, length, Option, Some, None, refl, sym, ap}
 use Rattle.hm_base.specs.Program.{Program}
 use Rattle.hm_check.specs.Judging.{IsLegalReportOf}
 use Rattle.hm_edge.specs.Reading.{ReadFaulted}
 use Rattle.hm_edge.specs.Traffic.{IsUntouched, NoFault, Traffic}
-use Rattle.hm_edge.specs.Users.{CutShort, EndsSo, GoesOut, IsStarted, NothingOut}
+use Rattle.hm_edge.specs.Users.{CutShort, GoesOut}
 use Rattle.hm_edge.specs.Writing.{WriteFaulted}
 use Rattle.hm_edge.specs.declared.status.Status.{Status}
 use Rattle.hm_edge.proofs.Telling.{added, ends_so, goes_out, known, left_over, nothing_out}
 use Rattle.hm_history.specs.declared.Entry.{Entry}
-use Rattle.hm_io.specs.Streams.{Adds, AddsFront, Rose, SinkState}
+use Rattle.hm_io.specs.Streams.{AddsFront, Rose, SinkState}
+use Rattle.hm_view.proofs.Told.{changes_are_told}
 use Rattle.hm_view.specs.Asked.{asked_of, fits, is_there}
 use Rattle.hm_view.specs.Runs.{Runs, name, usage}
-use Rattle.hm_view.specs.Theorem.{IsBad, IsOfPage, NoPage, TellsPage, Theorem, ToldBy, ToldPage}
-use Rattle.hm_view.specs.Views.{Draws, Drew, Finds, HasDrawn, HasSeen, Views, page}
+use Rattle.hm_view.specs.Theorem.{IsOfPage, NoPage, Theorem, ToldBy, ToldPage}
+use Rattle.hm_view.specs.Views.{Drew, Finds, HasSeen, Views, page}
 use Rattle.hm_view.specs.declared.asked.Asked.{Asked}
 
 done≢short : Status.Done ≡ Status.NoMemory → ⊥
@@ -55,6 +56,7 @@ module _ (x : Asked) (bytes held : List ℕ) (io : Traffic) (left : io.source.le
     there = d.drawn.0.there;
     few = d.drawn.0.few;
     out = goes_out bytes held io left holds (page x d.script d.history) d.drawn.1 (sent refl);
+    states = changes_are_told d.script d.history;
     alone = λ short c h is. by c h (finds short c h is);
   }
     where

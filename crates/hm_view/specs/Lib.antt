@@ -1,4 +1,5 @@
 pub mod Standing
+pub mod Shown
 pub mod Changes
 pub mod Rows
 pub mod Page

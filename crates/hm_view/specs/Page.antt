@@ -5,6 +5,7 @@ use Rattle.hm_base.specs.Program.{Program}
 use Rattle.hm_history.specs.declared.Entry.{Entry}
 use Rattle.hm_script.specs.Spelling.{text}
 use Rattle.hm_check.specs.Parts.{tail_of}
+use Rattle.hm_view.specs.Changes.{first_lines}
 use Rattle.hm_view.specs.Standing.{standing_line}
 use Rattle.hm_view.specs.Rows.{rows, findings}
 use Rattle.hm_view.specs.declared.page.TheConstants.{HEAD, TAIL}
@@ -24,9 +25,10 @@ page_end = TAIL.now
 unfoldable pub front : Program → List Entry → List ℕ
 front c h = text c ++ (codes "findings\n" ++ findings h (length h))
 
--- the rows before position `to`, of which those from `from` on are shown, and how each actor stands after them
+-- what holds before the first row, the rows before position `to`, of which those from `from` on are shown, and how each
+-- actor stands after them
 unfoldable pub middle : Program → List Entry → ℕ → ℕ → List ℕ
-middle c h from to = rows_line from ++ (rows c h from to ++ standing_line c (take to h))
+middle c h from to = rows_line from ++ (first_lines ++ (rows c h from to ++ standing_line c (take to h)))
 
 -- what follows the rows
 unfoldable pub ending : Program → List Entry → List ℕ

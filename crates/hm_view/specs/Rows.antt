@@ -1,12 +1,12 @@
 -- The lines of the rows, and of the findings.
-use Rattle.std.specs.Prelude.{ℕ, zero, suc, Bool, true, false, nat_le, if◌then◌else◌, Option, Some, None, List, []}
+use Rattle.std.specs.Prelude.{ℕ, zero, suc, Bool, true, false, nat_le, if◌then◌else◌, Some, None, List, []}
 use Rattle.std.specs.Prelude.{◌++◌, length, take, slice_get}
 use Rattle.hm_base.specs.Program.{Program}
 use Rattle.hm_history.specs.declared.Kind.{Kind}
 use Rattle.hm_history.specs.declared.Entry.{Entry}
 use Rattle.hm_report.specs.Report.{entry_line}
 use Rattle.hm_view.specs.Standing.{standing_line}
-use Rattle.hm_view.specs.Changes.{change_line}
+use Rattle.hm_view.specs.Changes.{entry_change_lines}
 
 -- how each actor stands before an entry, if the row is shown
 abbrev pub stands_if : Bool → Program → List Entry → List ℕ
@@ -14,7 +14,7 @@ stands_if shown c h = if shown then standing_line c h else []
 
 -- the row of an entry after a history
 abbrev pub row : Program → List Entry → Bool → Entry → List ℕ
-row c h shown e = stands_if shown c h ++ (entry_line (length h) e ++ change_line c h e)
+row c h shown e = stands_if shown c h ++ (entry_line (length h) e ++ entry_change_lines c h e)
 
 -- the row at a position; those before `from` are not shown
 abbrev pub row_at : Program → List Entry → ℕ → ℕ → List ℕ

@@ -1,5 +1,5 @@
 -- The theorem of the program hmmview: what its user is told.
-use Rattle.std.specs.Prelude.{◌≡◌, ◌⊎◌, ℕ, ◌<◌, ◌≤◌, true, false, List, length, Option, Some, None}
+use Rattle.std.specs.Prelude.{◌≡◌, ℕ, ◌<◌, ◌≤◌, true, false, List, length, Option, Some, None}
 use Rattle.hm_base.specs.Program.{Program}
 use Rattle.hm_check.specs.FirstBad.{IsFirstBad, IsLegalReport}
 use Rattle.hm_check.specs.Judging.{IsLegalReportOf}
@@ -10,6 +10,7 @@ use Rattle.hm_edge.specs.declared.status.Status.{Status}
 use Rattle.hm_history.specs.declared.Entry.{Entry}
 use Rattle.hm_io.specs.Streams.{SinkState}
 use Rattle.hm_view.specs.Asked.{asked_of, fits, is_there}
+use Rattle.hm_view.specs.Laws.{TellsStates}
 use Rattle.hm_view.specs.Runs.{Runs, name, usage}
 use Rattle.hm_view.specs.Views.{page}
 use Rattle.hm_view.specs.declared.asked.Asked.{Asked}
@@ -23,6 +24,8 @@ pub record TellsPage (x : Asked) (bytes held : List ℕ) (io : Traffic) : Type 0
   pub there : is_there x (length history) ≡ true
   pub few : fits x (length history) ≡ true
   pub out : GoesOut held (page x script history) io
+  -- What is put together of its lines of changes is what is shown of the state, after each row.
+  pub states : TellsStates script history
   -- It is the page of every script and history whose report the bytes are.
   pub alone : length bytes ≤ 268435456 → (c : Program) (h : List Entry) → IsLegalReportOf c h bytes
       → GoesOut held (page x c h) io

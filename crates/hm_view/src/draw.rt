@@ -7,6 +7,7 @@ ghost use Rattle.hm_check.specs.FirstBad.{IsLegalReport};
 ghost use Rattle.hm_report.specs.Written.{Writes, SentOn, FaultCause, ReportWants};
 ghost use Rattle.hm_view.specs.Page.{rows_line, front, middle, ending, behind_head, page_head, page_end, page_text};
 
+use crate::changes::add_first_lines;
 use crate::findings::add_findings;
 use crate::laws::legal_is_due;
 use crate::page::{end, head};
@@ -50,7 +51,7 @@ fn add_rows_line(text: &mut Text, out: &mut Buffer, from: u64) -> Result<(), NoM
     text.extend(out.as_slice())
 }
 
-/// Adds the rows before a position, of which those from `from` on are shown, and how the actors stand after them.
+/// Adds what holds before the first row, the rows before a position, of which those from `from` on are shown, and how the actors stand after them.
 #[tactic(auto, using(std::proofs::Common::append_assoc), unfolding(crate::specs::Page::middle))]
 fn add_middle(
     alloc: Global,
@@ -69,6 +70,7 @@ fn add_middle(
     ensures text { OnOk result (text.new ≡ text.old ++ middle world.old.script entries.now from to) }
 {
     add_rows_line(text, out, from)?;
+    add_first_lines(text, out)?;
     add_rows(alloc, text, out, world, entries, from, to)?;
     add_standing_line(alloc, text, out, &*world)
 }

@@ -1,8 +1,13 @@
 // What holds of the words of every page: a law in the contract of a function that does nothing.
-ghost use Rattle.hm_view.specs.Laws.{ChangesAreTold, LegalIsDue};
+ghost use Rattle.hm_view.specs.Laws.{ChangesAreTold, EachChangeIsTold, LegalIsDue};
 ghost use Rattle.hm_view.specs.Theorem.{Theorem};
 
-/// An entry's words of changes tell each mmap lock, frame lock and sequence that it changes.
+/// An entry's changes lead from what is shown before it to what is shown after it.
+pub fn each_change_is_told()
+    ensures { EachChangeIsTold }
+{}
+
+/// What is put together of the changes before a position is what is shown of the state there.
 pub fn changes_are_told()
     ensures { ChangesAreTold }
 {}

@@ -16,5 +16,5 @@ mod standing;
 pub use asked::{Asked, MOST_ROWS};
 pub use call::view;
 pub use draw::{page_text, write_page};
-pub use laws::{changes_are_told, legal_is_due, users_are_told};
+pub use laws::{changes_are_told, each_change_is_told, legal_is_due, users_are_told};
 pub use process::{NAME, USAGE, program};

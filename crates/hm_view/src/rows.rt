@@ -5,10 +5,10 @@ ghost use Rattle.hm_history.specs.Kernel.Due.{due};
 ghost use Rattle.hm_history.specs.Laws.{DueFrom};
 ghost use Rattle.hm_history.specs.declared.Progress.{Progress};
 ghost use Rattle.hm_world.specs.WorldValue.{opening, grown};
-ghost use Rattle.hm_view.specs.Changes.{change_line};
+ghost use Rattle.hm_view.specs.Changes.{entry_change_lines};
 ghost use Rattle.hm_view.specs.Rows.{row, rows};
 
-use crate::changes::{place_before, put_changes};
+use crate::changes::{add_change_lines, place_before};
 use crate::standing::add_standing_line;
 use hm_base::{NoMemory, Text};
 use hm_history::Entry;
@@ -17,7 +17,7 @@ use hm_report::{Buffer, add_entry};
 use hm_world::World;
 use std::alloc::Global;
 
-/// Goes on by the entry, which is due, and adds the line of its changes.
+/// Goes on by the entry, which is due, and adds the lines of its changes.
 #[tactic(auto, using(std::proofs::Common::append_assoc))]
 fn add_changes(
     alloc: Global,
@@ -31,16 +31,13 @@ fn add_changes(
     requires due { due world.old.script world.old.history entry.now.actor ≡ Progress.Did entry.now }
     ensures grown { OnOk result (world.new ≡ grown world.old entry.now.actor entry.now.kind) }
     ensures text { OnOk result (text.new
-        ≡ text.old ++ change_line world.old.script world.old.history entry.now) }
+        ≡ text.old ++ entry_change_lines world.old.script world.old.history entry.now) }
 {
     world.facts();
     let before = place_before(&*world, &entry.kind);
     world.add(copy_entry(alloc, entry)?)?;
     world.facts();
-    put_changes(out, &*world, &before, entry);
-    text.extend(b"=")?;
-    text.extend(out.as_slice())?;
-    text.push(b'\n')
+    add_change_lines(text, out, &*world, &before, entry)
 }
 
 /// Goes on by the entry, which is due, and adds its row.

@@ -59,41 +59,46 @@ function headingOf(key) {
 }
 const sectionOf = key => key.slice(0, key[0] === 'A' || key[0] === 'B' ? 12 : 1);
 
-function cut(areas, first, end) {
-  const left = [];
-  for (const [a, b, right] of areas) {
-    if (a < first) left.push([a, Math.min(b, first), right]);
-    if (b > end) left.push([Math.max(a, end), b, right]);
-  }
-  return left;
+// the areas with this right in a span of pages, or, with none, without the span
+function cut(areas, first, end, right) {
+  const parts = ([a, b, old]) => [[a, Math.min(b, first), old], [Math.max(a, first), Math.min(b, end), right],
+    [Math.max(a, end), b, old]];
+  return areas.flatMap(parts).filter(([a, b, w]) => a < b && w);
 }
 
 // the bytes of a page that are not zero, as runs: 4142 at 0x10000
 function bytesText(page, bytes) {
-  const at = [...bytes.keys()].filter(i => bytes.get(i) !== '00').sort((x, y) => x - y), runs = [];
-  for (const i of at) {
-    const run = runs[runs.length - 1];
-    if (run && run.end === i) { run.text += bytes.get(i); run.end += 1; }
-    else runs.push({ from: i, end: i + 1, text: bytes.get(i) });
+  const runs = [];
+  for (const i of [...bytes.keys()].filter(k => bytes.get(k).digits !== '00').sort((x, y) => x - y)) {
+    const run = runs[runs.length - 1], { digits } = bytes.get(i);
+    if (run && run.end === i) { run.text += digits; run.end += 1; }
+    else runs.push({ from: i, end: i + 1, text: digits });
   }
   return runs.map(r => r.text + ' at 0x' + (page * 4096 + r.from).toString(16)).join(', ');
 }
 
+// a map in a map of maps, which is made if it is not there
+function mapIn(maps, key) {
+  if (!maps.has(key)) maps.set(key, new Map());
+  return maps.get(key);
+}
+
+// What holds, put together of the lines of changes alone.
 class State {
   constructor() {
-    this.areas = new Map([['p0', []]]);
+    this.there = new Set();
+    this.areas = new Map();         // of each process: first page, page after the last, right
     this.places = new Map();        // of each process, by page
-    this.bytes = new Map();         // of each process, by page: a map from offset to byte
+    this.bytes = new Map();         // of each process, by page: a map from offset to byte, and who wrote it
     this.tables = new Map();
     this.mirrors = new Map();
     this.seq = new Map();
-    this.interval = new Map();
     this.held = new Set();
     this.locker = new Map();
     this.guards = new Map();        // of each actor: the process of its invalidation
     this.lines = new Map();
     this.changed = [];
-    this.tellProcess('p0');
+    this.row = 0;                   // whose changes these are
   }
 
   // a line of the state is this text from now on; none: it is gone
@@ -116,55 +121,43 @@ class State {
     return [...byKey.values()].filter(x => x[1] !== x[2]);
   }
 
+  // the lines of a process are shown while it is there, or has a page
   tellProcess(p) {
-    const there = this.areas.has(p), known = there || (this.places.get(p) || new Map()).size > 0;
-    const text = 'sequence ' + (this.seq.get(p) || '2');
-    this.put(section.process(p) + '0', known ? text : undefined);
+    const there = this.there.has(p), known = there || mapIn(this.places, p).size > 0;
+    this.put(section.process(p) + '0', known ? 'sequence ' + this.seq.get(p) : undefined);
     this.put(section.process(p) + '1', known && !there ? 'is not there' : undefined);
   }
 
   tellAreas(p, areas) {
     const old = this.areas.get(p) || [], key = a => section.process(p) + '2' + wide(a[0]);
-    if (areas) this.areas.set(p, areas); else this.areas.delete(p);
-    const now = new Set((areas || []).map(key));
+    this.areas.set(p, areas);
+    const now = new Set(areas.map(key));
     for (const a of old) if (!now.has(key(a))) this.put(key(a));
-    for (const a of areas || []) this.put(key(a), 'area ' + pagesText(String(a[0]), String(a[1] - a[0])) + ' ' + a[2]);
-    this.tellProcess(p);
-  }
-
-  setArea(p, first, count, right) {
-    const areas = cut(this.areas.get(p) || [], first, first + count);
-    if (right) areas.push([first, first + count, right]);
-    this.tellAreas(p, areas.sort((x, y) => x[0] - y[0]));
+    for (const a of areas) this.put(key(a), 'area ' + pagesText(String(a[0]), String(a[1] - a[0])) + ' ' + a[2]);
+    for (const page of mapIn(this.bytes, p).keys()) this.tellBytes(p, page);
   }
 
   tellPlace(p, page, text) {
-    if (!this.places.has(p)) this.places.set(p, new Map());
-    const t = this.places.get(p);
-    if (text) t.set(page, text); else t.delete(page);
+    if (text) mapIn(this.places, p).set(page, text); else mapIn(this.places, p).delete(page);
     this.put(section.process(p) + '3' + wide(page) + 'a', text && 'page ' + page + ' is ' + text);
     this.tellProcess(p);
   }
 
-  tellBytes(p, page, bytes) {
-    if (!this.bytes.has(p)) this.bytes.set(p, new Map());
-    const t = this.bytes.get(p);
-    if (bytes) t.set(page, bytes); else t.delete(page);
-    const text = bytes && bytesText(page, bytes);
+  // the bytes of a page are shown while it has an area
+  tellBytes(p, page) {
+    const bytes = mapIn(this.bytes, p).get(page), areas = this.areas.get(p) || [];
+    const text = bytes && areas.some(([a, b]) => a <= page && page < b) && bytesText(page, bytes);
     this.put(section.process(p) + '3' + wide(page) + 'b', text ? 'page ' + page + ' reads ' + text : undefined);
   }
 
-  clearBytes(p, first, end) {
-    for (const page of [...(this.bytes.get(p) || new Map()).keys()]) {
-      if (page >= first && page < end) this.tellBytes(p, page);
+  // the rows that wrote the bytes which somebody reads there
+  writers(who, at, n) {
+    const p = who[0] === 'm' ? this.mirrors.get(who).process : who, rows = new Set();
+    for (let i = 0; i < n; i++) {
+      const byte = (mapIn(this.bytes, p).get(Math.floor((at + i) / 4096)) || new Map()).get((at + i) % 4096);
+      if (byte) rows.add(byte.row);
     }
-  }
-
-  write(who, address, digits) {
-    const p = who[0] === 'm' ? this.mirrors.get(who).process : who, page = Math.floor(Number(address) / 4096);
-    const bytes = new Map((this.bytes.get(p) || new Map()).get(page));
-    for (let i = 0; 2 * i < digits.length; i++) bytes.set(Number(address) % 4096 + i, digits.substr(2 * i, 2));
-    this.tellBytes(p, page, bytes);
+    return [...rows];
   }
 
   tellFrame(f) {
@@ -172,83 +165,83 @@ class State {
     this.put(FRAMES + frameKey(f), this.held.has(f) ? f + (by ? ' locked by ' + by : '') : undefined);
   }
 
-  erase(m, first, count) {
-    const t = this.tables.get(m) || new Map();
-    for (const page of [...t.keys()]) if (page >= first && page < first + count) this.tellTable(m, page);
-  }
-
   tellTable(m, page, text) {
-    if (!this.tables.has(m)) this.tables.set(m, new Map());
-    if (text) this.tables.get(m).set(page, text); else this.tables.get(m).delete(page);
+    if (text) mapIn(this.tables, m).set(page, text); else mapIn(this.tables, m).delete(page);
     this.put(section.mirror(m) + '2' + wide(page), text && 'page ' + page + ' has ' + text);
   }
 
-  tellMirror(m, mirror) {
-    if (mirror) this.mirrors.set(m, mirror);
-    const x = this.mirrors.get(m);
-    this.put(section.mirror(m) + '0', x.gone ? undefined
-      : x.device + ' of ' + x.process + ', window ' + x.window + (x.leaving ? ', detaching' : ''));
-    this.put(section.mirror(m) + '1', x.gone ? undefined : 'interval at ' + (this.interval.get(m) || '0'));
+  erase(m, first, end) {
+    for (const page of [...mapIn(this.tables, m).keys()]) if (page >= first && page < end) this.tellTable(m, page);
   }
 
-  tellGuard(a, p, text) {
-    if (text) this.guards.set(a, p); else this.guards.delete(a);
-    this.put(section.process(p) + '4' + wide(a.slice(1)), text && a + ' invalidates ' + text);
+  tellMirror(m, is) {
+    const x = { ...this.mirrors.get(m), ...is }, gone = x.stage === 'gone';
+    this.mirrors.set(m, x);
+    this.put(section.mirror(m) + '0', gone ? undefined : x.device + ' of ' + x.process + ', window ' + x.window
+      + (x.stage === 'detaching' ? ', detaching' : ''));
+    this.put(section.mirror(m) + '1', gone ? undefined : 'interval at ' + x.interval);
   }
 }
 
-const effectOf = {
-  place(s, a, [p, page, ...x]) { s.tellPlace(p, +page, x[0] === 'none' ? undefined : x.join(' ')); },
-  take(s, a, [f]) { s.held.add(f); s.tellFrame(f); },
-  drop(s, a, [f]) { s.held.delete(f); s.tellFrame(f); },
-  set(s, a, [m, page, f, right]) { s.tellTable(m, +page, f + ' ' + right); },
-  told(s, a, [m, first, n]) { s.erase(m, +first, +n); },
-  start(s, a, [p, first, n]) { s.tellGuard(a, p, pagesText(first, n)); },
-  end(s, a, [p]) { s.tellGuard(a, p); },
-  mapped(s, a, [p, first, n, right]) {
-    s.setArea(p, +first, +n, right);
-    s.clearBytes(p, +first, +first + +n);
+// what each line of a change says, by its first word
+const CHANGES = {
+  reads(s, [a, p]) { s.put(LOCKS + wide(a.slice(1)), a + ' reads ' + p); },
+  writes(s, [a, p]) { s.put(LOCKS + wide(a.slice(1)), a + ' writes ' + p); },
+  unlock(s, [a]) { s.put(LOCKS + wide(a.slice(1))); },
+  held(s, [f]) { s.held.add(f); s.tellFrame(f); },
+  free(s, [f]) { s.held.delete(f); s.tellFrame(f); },
+  locked(s, [f, a]) { s.locker.set(f, a); s.tellFrame(f); },
+  loose(s, [f]) { s.locker.delete(f); s.tellFrame(f); },
+  there(s, [p]) { s.there.add(p); s.tellProcess(p); },
+  left(s, [p]) { s.there.delete(p); s.tellProcess(p); },
+  sequence(s, [p, n]) { s.seq.set(p, n); s.tellProcess(p); },
+  area(s, [p, first, n, right]) {
+    const areas = [...(s.areas.get(p) || []), [+first, +first + +n, right]];
+    s.tellAreas(p, areas.sort((x, y) => x[0] - y[0]));
   },
-  unmapped(s, a, [p, first, n]) {
-    s.setArea(p, +first, +n);
-    s.clearBytes(p, +first, +first + +n);
+  cut(s, [p, first, n]) { s.tellAreas(p, cut(s.areas.get(p) || [], +first, +first + +n)); },
+  right(s, [p, first, n, right]) { s.tellAreas(p, cut(s.areas.get(p) || [], +first, +first + +n, right)); },
+  bare(s, [p]) { s.tellAreas(p, []); },
+  copy(s, [p, to]) {
+    s.bytes.set(to, new Map(mapIn(s.bytes, p)));
+    s.tellAreas(to, s.areas.get(p) || []);
   },
-  protected(s, a, [p, first, n, right]) { s.setArea(p, +first, +n, right); },
-  forked(s, a, [p, child]) {
-    s.tellAreas(child, (s.areas.get(p) || []).slice());
-    for (const [page, bytes] of s.bytes.get(p) || []) s.tellBytes(child, page, bytes);
+  bytes(s, [p, at, digits]) {
+    for (let i = 0; 2 * i < digits.length; i++) {
+      const page = Math.floor((+at + i) / 4096), old = mapIn(s.bytes, p).get(page);
+      const bytes = i && (+at + i) % 4096 ? old : new Map(old);
+      bytes.set((+at + i) % 4096, { digits: digits.substr(2 * i, 2), row: s.row });
+      mapIn(s.bytes, p).set(page, bytes);
+    }
+    for (const page of mapIn(s.bytes, p).keys()) s.tellBytes(p, page);
   },
-  exited(s, a, [p]) {
-    s.clearBytes(p, 0, Infinity);
-    s.tellAreas(p);
+  zeros(s, [p, first, n]) {
+    for (const page of [...mapIn(s.bytes, p).keys()]) {
+      if (page < +first || page >= +first + +n) continue;
+      mapIn(s.bytes, p).delete(page);
+      s.tellBytes(p, page);
+    }
   },
-  stored(s, a, [who, address, digits]) { s.write(who, address, digits); },
-  added(s, a, [m, address, was, now]) { s.write(m, address, now); },
-  attached(s, a, [m, device, process, first, n]) { s.tellMirror(m, { device, process, window: pagesText(first, n) }); },
-  detaching(s, a, [m]) {
-    s.erase(m, 0, Infinity);
-    s.tellMirror(m, { ...s.mirrors.get(m), leaving: true });
+  place(s, [p, page, ...x]) { s.tellPlace(p, +page, x[0] === 'none' ? undefined : x.join(' ')); },
+  guard(s, [a, p, first, n]) {
+    s.guards.set(a, p);
+    s.put(section.process(p) + '4' + wide(a.slice(1)), a + ' invalidates ' + pagesText(first, n));
   },
-  detached(s, a, [m]) {
-    s.erase(m, 0, Infinity);
-    s.tellMirror(m, { ...s.mirrors.get(m), gone: true });
+  unguard(s, [a]) {
+    s.put(section.process(s.guards.get(a)) + '4' + wide(a.slice(1)));
+    s.guards.delete(a);
   },
-  withdrawn(s, a, [d]) { s.put(DEVICES + wide(d.slice(1)), d + ' withdrawn'); },
-  removed(s, a, [d]) { s.put(DEVICES + wide(d.slice(1)), d + ' removed'); },
+  attached(s, [m, device, process, first, n]) {
+    s.tellMirror(m, { device, process, window: pagesText(first, n), stage: 'attached', interval: '0' });
+  },
+  stage(s, [m, stage]) { s.tellMirror(m, { stage }); },
+  interval(s, [m, interval]) { s.tellMirror(m, { interval }); },
+  set(s, [m, page, f, right]) { s.tellTable(m, +page, f + ' ' + right); },
+  erase(s, [m, first, n]) { s.erase(m, +first, +first + +n); },
+  clear(s, [m]) { s.erase(m, 0, Infinity); },
+  withdrawn(s, [d]) { s.put(DEVICES + wide(d.slice(1)), d + ' withdrawn'); },
+  removed(s, [d]) { s.put(DEVICES + wide(d.slice(1)), d + ' removed'); },
 };
-
-// the words of a line `=`: locks and sequences after the entry
-function applyChange(s, what, value) {
-  const none = value === '-';
-  if (what[0] === 'a') s.put(LOCKS + wide(what.slice(1)), none ? undefined : what + ' ' + value.replace('/', ' '));
-  else if (what[0] === 'p') { s.seq.set(what, value); s.tellProcess(what); }
-  else if (what[0] === 'm') { s.interval.set(what, value); s.tellMirror(what); }
-  else {
-    const f = what.slice(1);
-    if (none) s.locker.delete(f); else s.locker.set(f, value);
-    s.tellFrame(f);
-  }
-}
 
 // ---- waits
 
@@ -316,7 +309,10 @@ class Report {
     this.from = 0;
     this.count = 0;
     this.state = new State();
-    this.begins = this.state.takeChanges();
+    this.begins = [];           // the changes before the first row
+    this.made = new Map();      // of each line of the state, the rows that changed it
+    this.told = new Map();      // of each mirror, the rows that told it
+    this.looks = new Map();     // of each actor and mirror, the row at which its look-up began
     this.readLines(text.split('\n'));
     this.useSchedule();
     this.setUp = setUpLines === undefined ? this.findSetUp() : this.rowsOf(setUpLines);
@@ -329,15 +325,44 @@ class Report {
     for (const text of lines) {
       if (part === 'script') {
         if (text === 'findings') part = 'findings'; else this.readScript(text);
-      } else if (text[0] === ':') stands = text.slice(2).split(' ').filter(x => x);
-      else if (text[0] === '=') this.finishRow(this.rows[this.rows.length - 1], text.slice(2));
-      else if (part === 'rows' && text[0] >= '0' && text[0] <= '9') {
-        this.beginRow(text.split(' '), stands);
-        stands = null;
-      } else this.readOther(text.split(' '), part);
+      } else if (text[0] === '=') this.change(text.split(' '));
+      else {
+        this.endRow();
+        if (text[0] === ':') stands = text.slice(2).split(' ').filter(x => x);
+        else if (part === 'rows' && text[0] >= '0' && text[0] <= '9') {
+          this.beginRow(text.split(' '), stands);
+          stands = null;
+        } else this.readOther(text.split(' '), part);
+      }
       if (part === 'findings' && text.startsWith('rows ')) part = 'rows';
     }
     this.last = stands && this.standsOf(stands);
+  }
+
+  change([, word, ...words]) { CHANGES[word](this.state, words); }
+
+  // the changes since the last row began are its own
+  endRow() {
+    const row = this.rows[this.rows.length - 1], changes = this.state.takeChanges();
+    if (!row) this.begins.push(...changes);
+    if (!row || row.changes) return;
+    row.changes = changes;
+    for (const [key] of changes) {
+      if (!this.made.has(key)) this.made.set(key, []);
+      this.made.get(key).push(row.at);
+    }
+  }
+
+  // the last row, up to this one, that made a line of the state what it is; none: it was so before the first row
+  madeBy(key, at) { return (this.made.get(key) || []).filter(x => x <= at).pop(); }
+
+  // the rows that a row goes back to: a load to the stores of its bytes, a retry to what told its mirror
+  causesOf({ actor, words: [word, m, at, digits] }, row) {
+    if (word === 'begin') this.looks.set(actor + m, row);
+    if (word === 'told' || word === 'detaching') this.told.set(m, [...(this.told.get(m) || []), row]);
+    if (word === 'retry') return (this.told.get(m) || []).filter(x => x > this.looks.get(actor + m)).slice(0, 1);
+    if (word === 'loaded' || word === 'fetched') return this.state.writers(m, +at, digits.length / 2);
+    return [];
   }
 
   readScript(text) {
@@ -374,25 +399,24 @@ class Report {
   }
 
   beginRow(words, stands) {
-    this.rows.push({ at: +words[0], actor: words[1], words: words.slice(2), stands: stands && this.standsOf(stands) });
-  }
-
-  finishRow(row, changes) {
-    const a = +row.actor.slice(1), s = this.state, effect = effectOf[row.words[0]];
-    const { op, isFirst } = this.actors[a].take(row.words);
+    const row = { at: +words[0], actor: words[1], words: words.slice(2), stands: stands && this.standsOf(stands) };
+    this.rows.push(row);
+    const a = +row.actor.slice(1), { op, isFirst } = this.actors[a].take(row.words);
     row.op = op;
     row.isFirst = isFirst;
     if (!this.begun[a]) this.begun = Object.assign(this.begun.slice(), { [a]: true });
     row.begun = this.begun;
     row.begunAfter = this.actors[a].begun;
     if (!row.begunAfter) this.begun = Object.assign(this.begun.slice(), { [a]: false });
-    if (row.words[0] === 'place') {
-      const [, p, page] = row.words, was = (s.places.get(p) || new Map()).get(+page) || '';
-      row.isLoss = was.startsWith('excl ') && was.split(' ')[2] !== row.actor;
-    }
-    if (effect) effect(s, row.actor, row.words.slice(1));
-    if (changes) for (const word of changes.split(' ')) applyChange(s, ...word.split('='));
-    row.changes = s.takeChanges();
+    row.isLoss = row.words[0] === 'place' && this.isLoss(row);
+    row.causes = this.causesOf(row, row.at);
+    this.state.row = row.at;
+  }
+
+  // whether a page that another actor had alone gets another place
+  isLoss({ actor, words: [, p, page] }) {
+    const was = mapIn(this.state.places, p).get(+page) || '';
+    return was.startsWith('excl ') && was.split(' ')[2] !== actor;
   }
 
   // which line of the schedule each row is a turn of. A line ends early if its actor waits or is done, and then the
@@ -423,6 +447,17 @@ class Report {
         this.findings.push({ at: row.at, kind: 'wait', text: waitSentence('a' + a, wait) });
       });
     }
+  }
+
+  // the script with a schedule that makes the rows up to this one, and no more
+  scriptUpTo(at) {
+    const isTurn = new Set(this.schedule.map(x => x.line)), runs = [];
+    for (const row of this.rows.slice(0, at + 1)) {
+      const run = runs[runs.length - 1];
+      if (run && run.actor === row.actor) run.count += 1; else runs.push({ actor: row.actor, count: 1 });
+    }
+    return [...this.script.filter((x, i) => !isTurn.has(i)),
+      ...runs.map(run => 'turns ' + run.actor.slice(1) + ' ' + run.count), ''].join('\n');
   }
 
   // how many rows the first lines of the schedule have

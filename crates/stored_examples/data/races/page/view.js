@@ -43,6 +43,7 @@ function layOut() {
   }
   for (const e of (drawn || new Map()).values()) e.remove();
   drawn = new Map();
+  tellMatches();
   byId('field').style.height = (items.length + 1) * HIGH + 'px';
   drawEnd();
 }
@@ -234,11 +235,26 @@ function itemSentence(item) {
   return isCopy ? expand(WORDS.folded, { f, g, k, last: last[3] }, '') : sentence(last);
 }
 
+// a word and links to rows; nothing if there are none
+function linksTo(word, rows) {
+  if (!rows.length) return [];
+  const p = make('p', 'goes', word + ' '), links = rows.sort((x, y) => x - y).map(at => {
+    const link = make('a', '', 'row ' + at);
+    if (at >= report.from) link.href = '#' + at;
+    return [link, ' '];
+  });
+  p.append(...links.flat());
+  return [p];
+}
+
+const CAUSES = { retry: 'told at', loaded: 'written at', fetched: 'written at' };
+
 function showNow(item, changes) {
   const row = report.rows[item.hi], box = byId('now'), says = itemSentence(item);
   const title = item.lo === item.hi ? 'Row ' + item.hi : 'Rows ' + item.lo + ' to ' + item.hi;
   box.replaceChildren(make('h2', '', title), make('p', 'mono ' + classOf(row.words[0]), entryText(row)),
-    make('p', '', says + '.'), make('p', 'goes', 'of ' + row.actor + ': ' + opText(row.op)));
+    make('p', '', says + '.'), ...linksTo(CAUSES[row.words[0]], row.causes),
+    make('p', 'goes', 'of ' + row.actor + ': ' + opText(row.op)));
   const waits = (row.stands || []).map((wait, a) => isWait(wait) && waitSentence('a' + a, wait)
     + (wait.since < row.at ? ', since row ' + wait.since : '')).filter(x => x);
   if (changes.length) box.append(changedList(changes));
@@ -280,11 +296,28 @@ function putLine(key) {
   } else if (old) old.textContent = text;
   else {
     const li = make('li', '', text);
+    li.dataset.key = key;
     s.list.insertBefore(li, s.keys[at] === undefined ? null : s.lines.get(s.keys[at]));
     s.lines.set(key, li);
     s.keys.splice(at, 0, key);
     s.box.hidden = false;
   }
+}
+
+// the row that made a line of the state, from an event on the line
+function makerOf(e) {
+  const li = e.target.closest('li');
+  return li ? report.madeBy(li.dataset.key, chosen) : undefined;
+}
+
+function tellMaker(e) {
+  const li = e.target.closest('li'), at = makerOf(e);
+  if (li) li.title = at === undefined ? 'so before the first row' : 'so since row ' + at + ': click to go there';
+}
+
+function goToMaker(e) {
+  const at = makerOf(e);
+  if (at !== undefined && !String(getSelection())) choose(at);
 }
 
 function showState(changes) {
@@ -326,6 +359,21 @@ function showScript() {
     before = i;
   }
   if (shown) shown.scrollIntoView({ block: 'nearest' });
+}
+
+// the script with a schedule that ends at the chosen row, for the clipboard
+async function copyScript() {
+  const text = report.scriptUpTo(chosen), button = byId('copy');
+  try {
+    await navigator.clipboard.writeText(text);
+  } catch {
+    const area = document.body.appendChild(Object.assign(make('textarea', 'away'), { value: text }));
+    area.select();
+    document.execCommand('copy');
+    area.remove();
+  }
+  button.textContent = 'copied';
+  setTimeout(() => { button.textContent = 'copy script up to here'; }, 1500);
 }
 
 function showTab(name) {
@@ -393,11 +441,22 @@ function inView(e, at) {
   if (left < box.scrollLeft || right > box.scrollLeft) box.scrollLeft = left;
 }
 
+// the place of the chosen row among those that the filter shows
+function tellMatches() {
+  const n = items.length, at = itemAt && chosen >= 0 ? itemAt[chosen] : -1;
+  byId('matches').textContent = !how.words.length ? ''
+    : at >= 0 ? at + 1 + ' of ' + n : plural(n, 'match', 'matches');
+}
+
+// what stands in the address: the chosen row, and the filter
+const address = () => '#' + chosen + (how.words.length ? '/' + encodeURIComponent(how.words.join(' ')) : '');
+
 function tellPosition(isQuiet) {
   byId('slider').value = chosen;
   byId('chosen').textContent = 'row ' + chosen + ' (' + report.from + ' to ' + (report.rows.length - 1) + ')';
   clearTimeout(hashTimer);
-  if (!isQuiet) hashTimer = setTimeout(() => history.replaceState(null, '', '#' + chosen), 200);
+  if (!isQuiet) hashTimer = setTimeout(() => history.replaceState(null, '', address()), 200);
+  tellMatches();
 }
 
 const step = by => {
@@ -417,7 +476,11 @@ function goTo(positions, isForward) {
 }
 
 function goToHash() {
-  const at = location.hash.slice(1);
+  const [at, ...words] = location.hash.slice(1).split('/');
+  if (words.length) {
+    byId('filter').value = decodeURIComponent(words.join('/'));
+    filter();
+  }
   if (!/^\d+$/.test(at)) return false;
   if (+at >= report.from && +at < report.rows.length) choose(+at);
   else byId('chosen').textContent = 'there is no row ' + at + ' here';
@@ -481,7 +544,8 @@ function tellHead() {
   const n = report.rows.length, isPart = report.from > 0 || n < report.count;
   const entries = plural(report.count, 'entry', 'entries'), actors = plural(report.actors.length, 'actor');
   const isRoomy = innerWidth > 700 && innerHeight > 600, isFew = report.findings.length <= 8 && isRoomy;
-  document.title = entries + ', ' + actors + ' - hmmview';
+  const file = decodeURIComponent(location.pathname.split('/').pop());
+  document.title = (file ? file + ': ' : '') + entries + ', ' + actors + ' - hmmview';
   byId('counts').textContent = entries + (isPart ? ', rows ' + report.from + ' to ' + (n - 1) : '') + '; ' + actors
     + (report.findings.length ? '' : '; no findings');
   const groups = Object.keys(KINDS).map(kind => [kind, report.findings.filter(x => x.kind === kind)]);
@@ -544,7 +608,7 @@ function onKey(e) {
   const isTyping = e.target.id === 'filter', isSliding = e.target.id === 'slider' && /^Arrow[LR]/.test(e.key);
   if (e.ctrlKey || e.altKey || e.metaKey || !items.length) return;
   if (isTyping && e.key === 'Escape') { e.target.value = ''; filter(); byId('rows').focus(); }
-  if (isTyping && e.key === 'Enter') byId('rows').focus();
+  if (isTyping && e.key === 'Enter') step(e.shiftKey ? -1 : 1);
   const act = !isTyping && !isSliding && Object.hasOwn(KEYS, e.key) && KEYS[e.key];
   if (!act) return;
   e.preventDefault();
@@ -554,6 +618,7 @@ function onKey(e) {
 function filter() {
   how.words = byId('filter').value.split(' ').filter(x => x);
   again();
+  history.replaceState(null, '', address());
 }
 
 function onResize() {
@@ -578,6 +643,9 @@ function listen() {
   byId('folds').addEventListener('click', () => setFolded(!how.folded));
   byId('layout').addEventListener('click', () => setNarrow(!how.compact));
   byId('filter').addEventListener('input', filter);
+  byId('copy').addEventListener('click', copyScript);
+  byId('state').addEventListener('click', goToMaker);
+  byId('state').addEventListener('mouseover', tellMaker);
   byId('tab-state').addEventListener('click', () => showTab('state'));
   byId('tab-script').addEventListener('click', () => showTab('script'));
   addEventListener('resize', onResize);
