@@ -66,6 +66,8 @@ def races(lines):
             said['outcomes'].append({'number': number(words[1]), 'answers': [], 'turns': []})
         elif words[0] in ('holds', 'fails', 'open'):
             said['conditions'].append({'ruling': words[0], 'condition': ' '.join(words[1:])})
+        elif words[:3] == ['in', 'no', 'outcome'] and said['conditions']:
+            said['conditions'][-1].setdefault('in no outcome', []).append(' '.join(words[3:]))
         elif words[0] == 'states':
             said.update(states(words))
         elif outcome is not None and words[0] == 'turns' and len(words) == 3:
@@ -87,7 +89,7 @@ def found(words):
     """What a row of `--all`, or the last lines of a race, say was found."""
     if words[:1] == ['breaks'] and len(words) == 2 and words[1] in PARTS:
         return {'found': 'breaks', 'breaks': words[1]}
-    if words in (['stuck'], ['none']):
+    if words in (['stuck'], ['none'], ['unused']):
         return {'found': words[0]}
     raise Unknown
 
@@ -108,8 +110,8 @@ def without(lines):
 def without_all(lines):
     said = {'program': 'hmmwithout', 'drivers': []}
     for text in lines:
-        row = re.fullmatch(r'(\S+) +(none|stuck|[a-z]+)(?: after ([0-9]+))? states ([0-9]+) (whole|cut)', text)
-        if not row or row[2] not in (*PARTS, 'none', 'stuck'):
+        row = re.fullmatch(r'(\S+) +([a-z]+)(?: after ([0-9]+))? states ([0-9]+) (whole|cut)', text)
+        if not row or row[2] not in (*PARTS, 'none', 'unused', 'stuck'):
             raise Unknown
         one = {'rule': row[1], 'found': 'breaks' if row[2] in PARTS else row[2]}
         if row[2] in PARTS:
@@ -186,7 +188,7 @@ def read(lines):
         return races
     if first[0] in ('legal', 'bad'):
         return judged
-    if re.fullmatch(r'[0-9]+ a[0-9]+ .*', lines[0]) or lines[0] in ('none', 'stuck'):
+    if re.fullmatch(r'[0-9]+ a[0-9]+ .*', lines[0]) or lines[0] in ('none', 'unused', 'stuck'):
         return without
     if re.fullmatch(r'\S+ +\S+( after [0-9]+)? states [0-9]+ (whole|cut)', lines[0]):
         return without_all

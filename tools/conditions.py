@@ -13,6 +13,8 @@ import os
 import re
 import sys
 
+import words as given
+
 TOP = os.path.dirname(os.path.dirname(os.path.realpath(__file__)))
 
 ENDINGS = ('loaded stored failed mapped unmapped protected forked exited attached detached refused migrated seen '
@@ -20,19 +22,39 @@ ENDINGS = ('loaded stored failed mapped unmapped protected forked exited attache
 ACTOR = re.compile(r'a(0|[1-9]|1[0-5])$')
 
 
-def nearest(word, known):
-    found = difflib.get_close_matches(word, known, 1, 0.6)
-    return f'; did you mean `{found[0]}`?' if found else ''
+def bad_begin(word):
+    """What stands before the first word of a condition, if something does."""
+    if word == '':
+        return 'it begins with a space'
+    if word[0] in '"\'':
+        return 'in a file a condition stands without quotes'
+    if word[0] == '\ufeff':
+        return 'a byte order mark stands before it: save the file without one'
+    return None
 
 
 def bad_word(words):
     """What is wrong with the words of a condition, if they are none: the place where they stop, and what may come."""
+    if bad_begin(words[0]):
+        return bad_begin(words[0])
     if words[0] not in ('some', 'none', 'every'):
-        return f'`{words[0]}` is no first word{nearest(words[0], ["some", "none", "every"]) or ": it is `some`, `none` or `every`"}'
+        return f'`{words[0]}` is no first word{given.nearest(words[0], ["some", "none", "every"]) or ": it is `some`, `none` or `every`"}'
     at = 'fresh'
     for before, word in zip(words, words[1:]):
         if word == '':
             return 'two spaces where one is due, or one at an end'
+        if at == 'fresh' and JOINS.get(word) == 'not':
+            return f'`{word}` is written `not`'
+        if at in ('fresh', 'negated') and NUMBER.match(word):
+            at = 'counted'
+            continue
+        if at == 'counted' and word != 'x':
+            return f'after a number `x` is wanted, and a line: `{before} x a0 ..`; here is `{word}`'
+        if at == 'counted':
+            at = 'negated'
+            continue
+        if at in ('fresh', 'negated') and re.match('[0-9]+x?$', word):
+            return f'`{word}`: how often is said by `2 x` before a line'
         if at in ('fresh', 'negated') and not (ACTOR.match(word) or at == 'fresh' and word == 'not'):
             return f'after `{before}` a whole line is wanted, which begins with an actor, as `a0`; here is `{word}`'
         if at == 'opened' and word in ('and', 'or', 'not'):
@@ -42,6 +64,8 @@ def bad_word(words):
         at = {'fresh': 'negated' if word == 'not' else 'opened', 'negated': 'opened', 'opened': 'inside'}.get(at, at)
         if at == 'inside' and word in ('and', 'or'):
             at = 'fresh'
+    if at == 'counted':
+        return f'after `{words[-2]}` a whole line is wanted, which begins with an actor, as `a0`; here is `{words[-1]}`'
     return None if at == 'inside' else f'it ends after `{words[-1]}`, where a whole line is wanted, as `a0 loaded p0 0x10000 41`'
 
 
@@ -51,7 +75,7 @@ def lines_of(words):
     for word in words[1:]:
         if word in ('and', 'or'):
             lines.append([])
-        elif word != 'not' or lines[-1]:
+        elif ACTOR.match(word) or lines[-1]:
             lines[-1].append(word)
     return lines
 
@@ -84,6 +108,8 @@ def access(who, done, words):
 
 NUMBER, BYTES, NONE = re.compile(r'(0|[1-9][0-9]*)$'), re.compile('[0-9a-f]{2}$'), None
 REFUSED = (['refused'], NUMBER, 'CAUSE')
+
+JOINS = {'AND': 'and', '&': 'and', '&&': 'and', 'OR': 'or', '|': 'or', '||': 'or', 'NOT': 'not', '!': 'not'}
 
 # What each operation may end with: words, and what one more word is like, if there is one.
 OPERATIONS = {
@@ -121,6 +147,23 @@ def spelled(form):
     return ' '.join([*form[0], form[2]]).rstrip()
 
 
+def slip(words, form):
+    """Which small mistake in the words of a line there is, beside a form that they could have."""
+    for word in words:
+        if word in JOINS:
+            return f'`{word}` is written `{JOINS[word]}`'
+        if word.startswith('#'):
+            return 'a comment stands in a line of its own'
+    if fits([word.lower() for word in words], form):
+        return 'it has capitals, and a line has none'
+    if fits([word.removeprefix('0x') if BYTES.match(word.removeprefix('0x')) else word for word in words], form):
+        return 'bytes stand without `0x`'
+    for word, due in zip(words, form[0]):
+        if word.isdigit() and hex(int(word)) == due:
+            return f'`{word}` is `{due}`: an address is hexadecimal'
+    return next((f'`{word}`: one value a line; `or` joins two lines' for word in words if ',' in word), None)
+
+
 def bad_line(words, actors):
     """Why no operation may end with the line, if none may."""
     actor, kind = int(words[0][1:]), words[1]
@@ -133,7 +176,7 @@ def bad_line(words, actors):
         return None
     if kind not in ENDINGS:
         of_op = {op: form[0][0] for op in OPERATIONS for form in OPERATIONS[op]([op, '0', '0x0', '1', '1', '1'])[:1]}
-        meant = f'; did you mean `{of_op[kind]}`?' if kind in of_op else nearest(kind, ENDINGS)
+        meant = f'; did you mean `{of_op[kind]}`?' if kind in of_op else given.nearest(kind, ENDINGS)
         return f'`{kind}` ends no operation{meant}'
     same = [(op, form) for op, form in forms if form[0][0] == kind]
     if not same:
@@ -141,7 +184,8 @@ def bad_line(words, actors):
         other = f'; {" and ".join(sorted(set(others)))} may' if others else ''
         return f'no operation of `{words[0]}` ends with `{kind}`{other}'
     best = max(same, key=lambda it: difflib.SequenceMatcher(None, words[1:], it[1][0]).ratio())
-    return f'`{" ".join(best[0])}` does not end so; it ends with `{words[0]} {spelled(best[1])}`'
+    small = slip(words[1:], best[1])
+    return (f'{small}; it' if small else f'`{" ".join(best[0])}` does not end so; it') + f' ends with `{words[0]} {spelled(best[1])}`'
 
 
 def trouble(condition, actors):

@@ -20,7 +20,7 @@ SCRIPT_BYTES = 4_194_304
 REPORT_BYTES = 268_435_456
 RUN_USAGE = ('usage: hmmrun replay | threads | race | generate N | trial N | upgrade | check | peek P ADDR LEN | '
              'advise | why')
-RACE_USAGE = 'usage: hmmraces [[--most] MOST] [--table | --script N | --expect CONDITION ..]'
+RACE_USAGE = 'usage: hmmraces [[--most] MOST] [--table | --script N | [--strict] --expect CONDITION ..]'
 VIEW_USAGE = 'usage: hmmview [FROM TO]'
 JUDGE_USAGE = 'usage: hmmjudge [--standing | --all]'
 TRACE_USAGE = 'usage: hmmtrace [--expect RULE ..]'
@@ -53,6 +53,8 @@ RUNS = [
     ('hmmraces', 'many', EMPTY, 2, b'', RACE_USAGE),
     ('hmmraces', '--expect some', EMPTY, 2, b'', 'condition 1: bad word 2'),
     ('hmmraces', ['--expect', 'none a0 load p0 0x10000 41'], EMPTY, 2, b'', 'condition 1: bad word 2'),
+    ('hmmraces', '--strict', EMPTY, 2, b'', RACE_USAGE),
+    ('hmmraces', ['--strict', '--expect', 'none a0'], EMPTY, 2, b'', 'condition 1: bad word 3'),
     ('hmmraces', '--script 2', EMPTY, 9, b'', 'no such outcome'),
     ('hmmraces', '', EMPTY + b'drain\n', 9, b'', NOTHING),
     ('hmmraces', '', b'', 3, b'', REFUSED),

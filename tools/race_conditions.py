@@ -24,23 +24,29 @@ class Wrong(Exception):
 
 
 def read_body(words):
-    """The alternatives of a body, each of literals: whether it is wanted, and its line."""
-    alternatives, wanted, line = [[]], True, []
+    """The alternatives of a body, each of literals: whether it is wanted, how often if that is said, and its line."""
+    alternatives, wanted, count, line = [[]], True, None, []
     for word in [*words, None]:
         if word in ('and', 'or', None):
-            alternatives[-1].append((wanted, ' '.join(line)))
-            wanted, line = True, []
+            alternatives[-1].append((wanted, count, ' '.join(line)))
+            wanted, count, line = True, None, []
             if word == 'or':
                 alternatives.append([])
         elif word == 'not' and not line:
             wanted = False
+        elif word.isdigit() and not line:
+            count = int(word)
+        elif word == 'x' and not line:
+            pass
         else:
             line.append(word)
     return alternatives
 
 
 def meets(alternatives, lines):
-    return any(all((line in lines) == wanted for wanted, line in literals) for literals in alternatives)
+    def is_there(count, line):
+        return line in lines if count is None else lines.count(line) == count
+    return any(all(is_there(count, line) == wanted for wanted, count, line in literals) for literals in alternatives)
 
 
 def holds(condition, outcomes):

@@ -1,6 +1,5 @@
 -- When a line is a text and a line feed.
 use Rattle.std.proofs.Common.{◌≡◌, ℕ, Bool, true, false, List, [], ◌∷◌, ◌++◌, refl, sym, ap, ◌∙◌}
-use Rattle.std.specs.Prelude.{◌||◌}
 use Rattle.std.specs.Str.{bytes_eq}
 use Rattle.std.proofs.lemmas.Bool.Decides.{same_from_decides, Decides-at}
 use Rattle.std.proofs.lemmas.List.{append_cancel_right}

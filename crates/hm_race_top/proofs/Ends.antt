@@ -1,5 +1,5 @@
 -- Where the schedules lead that are written.
-use Rattle.std.proofs.Common.{◌≡◌, ℕ, ◌≤◌, true, false, List, [], ◌∷◌, ◌++◌, length, refl, sym, ap, ◌∙◌, subst}
+use Rattle.std.proofs.Common.{◌≡◌, ℕ, ◌≤◌, true, false, List, [], ◌++◌, length, refl, sym, ap, ◌∙◌, subst}
 use Rattle.hm_base.specs.Program.{Program, IsScript, run_lines}
 use Rattle.hm_history.specs.Laws.{RunsAreDue}
 use Rattle.hm_history.specs.Kernel.Run.{run}

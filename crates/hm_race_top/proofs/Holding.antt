@@ -1,9 +1,14 @@
 -- What holds of the states that a search knows.
 use Rattle.std.proofs.Common.{◌≡◌, ℕ, ◌≤◌, Bool, true, false, List, length, refl}
 use Rattle.hm_base.specs.Program.{Program, IsScript}
-use Rattle.hm_race_top.specs.Text.Conditions.Rulings.{RulingsAreRight}
+use Rattle.hm_edge.specs.declared.status.Status.{Status}
+use Rattle.hm_race_top.specs.Text.Conditions.Absent.{SeenIsRight, StrictIsRight, have_absent}
+use Rattle.hm_race_top.specs.Text.Conditions.Laws.{AllListed, AllReal}
+use Rattle.hm_race_top.specs.Text.Conditions.Rulings.{RulingsAreRight, strictly, summary}
 use Rattle.hm_race_top.specs.Text.Conditions.Texts.{is_whole}
+use Rattle.hm_race_top.specs.declared.asked.Task.{Task}
 use Rattle.hm_race_top.specs.declared.text.conditions.question.Question.{Question}
+use Rattle.hm_race_top.specs.declared.text.conditions.rulings.Ruling.{Ruling}
 use Rattle.hm_history.specs.Kernel.Run.{run}
 use Rattle.hm_search.specs.Goals.{AreMissed, Reaches}
 use Rattle.hm_race_top.specs.Run.Known.{KnownValue, AreFewest, AreKnown, HaveForms, IsComplete, IsCut, IsNear, IsSoon}
@@ -13,9 +18,11 @@ use Rattle.hm_race_laws.specs.Closed.{AreDistinct}
 use Rattle.hm_race_laws.specs.Outcomes.{Point}
 use Rattle.hm_race_top.specs.Text.Laws.{lines_of, NoneTwice}
 use Rattle.hm_script.specs.Built.{has_drain}
+use Rattle.hm_race_top.specs.Asked.{goals_in}
 use Rattle.hm_race_top.specs.Goals.{settled}
 use Rattle.hm_race_top.specs.Laws.{AllIsListed, CompleteIsAll, KnownIsTrue, TrueIsReal}
 use Rattle.hm_race_top.specs.Races.{Holds}
+use Rattle.hm_race_top.specs.Telling.{IsStrict, ending_of, told}
 use Rattle.hm_race_top.specs.Ways.{blocks_known, ways_of, AreTrue, HaveAll}
 
 -- what a search of a script's race ensures that has this goal and knows so many states
@@ -41,15 +48,17 @@ pub record Rests : Type 0 where
   pub are_listed : AllIsListed
   pub twice : NoneTwice
   pub right : RulingsAreRight
+  pub seen : SeenIsRight
+  pub strict : StrictIsRight
 
 whole_is : (end : End) → is_whole end ≡ true → end ≡ End.Whole
 whole_is End.Whole e = refl
 whole_is End.Cut e = cc
 whole_is End.Reached e = cc
 
-pub holds_by : Rests → (most : ℕ) (c : Program) → IsScript c → has_drain c.schedule ≡ false → (qs : List Question) (known : List KnownValue) (end : End)
-    → HasSearched most c (settled qs (length c.actors)) (length known) known end → Holds most c qs known end
-holds_by by most c script none qs known end s = record {
+pub holds_by : Rests → (most : ℕ) (c : Program) → IsScript c → has_drain c.schedule ≡ false → (task : Task) (known : List KnownValue) (end : End)
+    → HasSearched most c (settled (goals_in task) (length c.actors)) (length known) known end → Holds most c task known end
+holds_by by most c script none task known end s = record {
   searched = s.are_known;
   real = real;
   distinct = by.twice (ways_of c known);
@@ -62,8 +71,9 @@ holds_by by most c script none qs known end s = record {
   soon = s.soon;
   near = s.near;
   missed = s.missed;
-  right = λ q l. by.right c q.condition (lines_of (blocks_known c known)) (is_whole end) (by.are_real c (blocks_known c known) real)
-      (λ w. by.are_listed c (blocks_known c known) (complete (whole_is end w)));
+  right = λ q l. by.right c q.condition (lines_of (blocks_known c known)) (is_whole end) are_outcomes are_listed;
+  seen = by.seen c (lines_of (blocks_known c known)) (is_whole end) are_outcomes are_listed;
+  strict = strict task;
   rising = s.rising;
   fewest = s.fewest;
 }
@@ -73,3 +83,37 @@ holds_by by most c script none qs known end s = record {
 
     complete : end ≡ End.Whole → HaveAll c (blocks_known c known)
     complete e = by.are_all c known (s.complete e)
+
+    are_outcomes : AllReal c (lines_of (blocks_known c known))
+    are_outcomes = by.are_real c (blocks_known c known) real
+
+    are_listed : is_whole end ≡ true → AllListed c (lines_of (blocks_known c known))
+    are_listed w = by.are_listed c (blocks_known c known) (complete (whole_is end w))
+
+    is_done : (r : Ruling) → ending_of r ≡ Status.Done → r ≡ Ruling.Holds
+    is_done Ruling.Holds e = refl
+    is_done Ruling.Fails e = cc
+    is_done Ruling.Open e = cc
+
+    strict_by : (qs : List Question) (status : Status) → (told c (Task.Strict qs) known end).ends ≡ status → IsStrict c (Task.Strict qs) status
+    strict_by qs Status.Done e = by.strict c qs (lines_of (blocks_known c known)) (is_whole end) are_outcomes
+        (is_done (strictly (summary qs (lines_of (blocks_known c known)) (is_whole end)) (have_absent qs (lines_of (blocks_known c known))) (is_whole end)) e)
+    strict_by qs (Status.NotLegal n) e = tt
+    strict_by qs Status.Usage e = tt
+    strict_by qs (Status.Refused r) e = tt
+    strict_by qs Status.ReadFault e = tt
+    strict_by qs Status.WriteFault e = tt
+    strict_by qs Status.NoMemory e = tt
+    strict_by qs Status.HistoryFull e = tt
+    strict_by qs Status.ScriptTooLong e = tt
+    strict_by qs Status.ReportTooLong e = tt
+    strict_by qs Status.NoRows e = tt
+    strict_by qs Status.TooManyRows e = tt
+    strict_by qs (Status.Race r) e = tt
+
+    strict : (t : Task) → IsStrict c t (told c t known end).ends
+    strict Task.Outcomes = tt
+    strict Task.Table = tt
+    strict (Task.Script n) = tt
+    strict (Task.Expect qs) = tt
+    strict (Task.Strict qs) = strict_by qs _ refl

@@ -15,6 +15,8 @@ mod Positions
 mod Ended
 mod Witness
 mod Right
+mod Absent
+mod Counted
 mod Cuts
 mod Connectives
 mod Growing

@@ -1,9 +1,8 @@
 -- The outcomes of a race, as conditions see them.
 use Rattle.std.proofs.Common.{◌≡◌, ℕ, ◌++◌, inl, inr, List, [], ◌∷◌, refl, sym, ap, ◌∙◌}
-use Rattle.hm_base.specs.Program.{Program}
 use Rattle.hm_history.specs.Kernel.Run.{run}
 use Rattle.hm_race_laws.specs.Closed.{IsListed}
-use Rattle.hm_race_top.specs.Text.Conditions.Laws.{IsReal, SameEnd}
+use Rattle.hm_race_top.specs.Text.Conditions.Laws.{SameEnd}
 use Rattle.hm_race_lines.specs.Answers.{answer_lines}
 use Rattle.hm_race_top.specs.Text.Laws.{lines_of}
 use Rattle.hm_race_top.specs.declared.text.block.OutcomeBlock.{OutcomeBlock}

@@ -2,7 +2,8 @@
 use Rattle.std.proofs.Common.{◌≡◌, ℕ, inr, Bool, true, false, Option, Some, None, List, length, refl, sym, ap, ◌∙◌, subst}
 use Rattle.hm_base.specs.Program.{Program}
 use Rattle.hm_race_top.specs.declared.text.conditions.rulings.Ruling.{Ruling}
-use Rattle.hm_race_top.specs.Text.Conditions.Rulings.{summary}
+use Rattle.hm_race_top.specs.Text.Conditions.Absent.{have_absent}
+use Rattle.hm_race_top.specs.Text.Conditions.Rulings.{strictly, summary}
 use Rattle.hm_race_top.specs.Text.Conditions.Texts.{is_whole}
 use Rattle.hm_edge.specs.declared.status.RaceEnd.{RaceEnd}
 use Rattle.hm_edge.specs.declared.status.Status.{Status}
@@ -46,8 +47,9 @@ telling_ends c Task.Outcomes bs states end = tt
 telling_ends c Task.Table bs states end = tt
 telling_ends c (Task.Script n) bs states end = script_ends c (numbered bs n) (is_whole end)
 telling_ends c (Task.Expect qs) bs states end = ruling_ends (summary qs (lines_of bs) (is_whole end))
+telling_ends c (Task.Strict qs) bs states end = ruling_ends (strictly (summary qs (lines_of bs) (is_whole end)) (have_absent qs (lines_of bs)) (is_whole end))
 
-module _ (most : ℕ) (c : Program) (task : Task) (known : List KnownValue) (end : End) (holds : Holds most c (questions_in task) known end) (none : has_drain c.schedule ≡ false) (asks : unasked c (questions_in task) ≡ None) (before after : SinkState) where
+module _ (most : ℕ) (c : Program) (task : Task) (known : List KnownValue) (end : End) (holds : Holds most c task known end) (none : has_drain c.schedule ≡ false) (asks : unasked c (questions_in task) ≡ None) (before after : SinkState) where
   found : (status : Status) → HasTold (told c task known end) before after status → Found most c task before after status
   found status w = record { known = known; end = end; holds = holds; written = w; races = none; asks = asks }
 

@@ -29,7 +29,7 @@ passing p (x ∷ xs) h = by (passing p xs) (p x) refl h
     by rest true e h = record { item = x; listed = inl refl; passes = e }
     by rest false e h = later (rest h)
 
-fails_of : (p : List ℕ → Bool) (xs : List (List ℕ)) (x : List ℕ) → list_any p xs ≡ false → IsListed xs x → p x ≡ false
+pub fails_of : {X : Type 0} (p : X → Bool) (xs : List X) (x : X) → list_any p xs ≡ false → IsListed xs x → p x ≡ false
 fails_of p [] x h l = absurd l
 fails_of p (y ∷ xs) x h l = by (λ g m. fails_of p xs x g m) (p y) refl h l
   where
@@ -44,7 +44,7 @@ from_not false u e = ap not e
 
 -- ---- without a witness
 
-all_say : (c : Program) (p : List ℕ → Bool) (xs : List (List ℕ)) → AllListed c xs → list_any p xs ≡ false → AllSay c p false
+pub all_say : (c : Program) (p : List ℕ → Bool) (xs : List (List ℕ)) → AllListed c xs → list_any p xs ≡ false → AllSay c p false
 all_say c p xs listed e es ends = fails_of p xs _ e (listed es ends)
 
 without : (q : Quantifier) (c : Program) (p : List ℕ → Bool) (xs : List (List ℕ)) → AllListed c xs → list_any (λ x. decides_for q (p x)) xs ≡ false → Says q (holds_for q p xs) c p
@@ -55,7 +55,7 @@ without Quantifier.Always c p xs listed e = subst (λ t. Says Quantifier.Always 
 
 -- ---- with a witness
 
-one_says : (c : Program) (p : List ℕ → Bool) (xs : List (List ℕ)) → AllReal c xs → list_any p xs ≡ true → OneSays c p true
+pub one_says : (c : Program) (p : List ℕ → Bool) (xs : List (List ℕ)) → AllReal c xs → list_any p xs ≡ true → OneSays c p true
 one_says c p xs real e =
     let f = passing p xs e in
     let r = real f.item f.listed in

@@ -1,11 +1,10 @@
 -- What the user of the program is told.
-use Rattle.std.proofs.Common.{◌≡◌, ◌⊎◌, inl, inr, ℕ, true, false, List, [], ◌∷◌, Option, Some, None, refl, sym, ap, ◌∙◌, subst}
+use Rattle.std.proofs.Common.{◌≡◌, ◌⊎◌, inl, inr, ℕ, true, false, List, [], ◌∷◌, Option, Some, None, refl, sym, ap, subst}
 use Rattle.hm_base.specs.Program.{Program}
-use Rattle.hm_edge.specs.Exits.{Exits}
 use Rattle.hm_edge.specs.Reading.{HasNotRead, IsTextOf, ReadAs, ReadFaulted}
 use Rattle.hm_edge.specs.Traffic.{IsUntouched, NoFault, Traffic}
-use Rattle.hm_edge.specs.Users.{CutShort, EndsSo, GoesOut, IsStarted, NothingOut, Spells, ToldNoScript}
-use Rattle.hm_edge.specs.Writing.{HasWritten, WriteFaulted}
+use Rattle.hm_edge.specs.Users.{CutShort}
+use Rattle.hm_edge.specs.Writing.{WriteFaulted}
 use Rattle.hm_edge.specs.declared.status.RaceEnd.{RaceEnd}
 use Rattle.hm_edge.specs.declared.status.Status.{Status}
 use Rattle.hm_edge.proofs.Telling.{cut_short, ends_so, goes_out, is_given, known, none_left, nothing_out, spells, told_no_script}
@@ -15,22 +14,21 @@ use Rattle.hm_io.specs.Streams.{Adds, SinkState}
 use Rattle.hm_script.specs.Built.{has_drain}
 use Rattle.hm_search.specs.declared.search.End.{End}
 use Rattle.hm_race_top.specs.Asked.{HasNoTask, front, questions_in}
-use Rattle.hm_race_top.specs.Races.{Does, DoesNothing, Found, HasFound, HasStopped, Holds, IsSure, Races, RacesBy, Searched, Searches}
+use Rattle.hm_race_top.specs.Races.{Found, HasFound, HasStopped, Holds, RacesBy, Searched, Searches}
 use Rattle.hm_race_top.specs.Run.Known.{KnownValue, MayFail}
 use Rattle.hm_race_top.specs.Runs.{Runs, name, usage}
 use Rattle.hm_race_top.proofs.Unasked.{none_has}
-use Rattle.hm_race_top.specs.Telling.{HasTold, IsSentOn, told}
-use Rattle.hm_race_top.specs.Theorem.{AreRight, IsOfRace, IsUnasked, NoRace, TellsRace, Theorem, ToldBy, ToldRace, ToldRacing, ToldTask}
+use Rattle.hm_race_top.specs.Telling.{HasTold, IsSentOn, IsStrict, told}
+use Rattle.hm_race_top.specs.Theorem.{AreRight, IsOfRace, IsUnasked, NoRace, TellsRace, Theorem, ToldBy, ToldRace, ToldRacing}
 use Rattle.hm_race_top.specs.declared.asked.Task.{Task}
-use Rattle.hm_race_top.specs.declared.telling.Telling.{Telling}
-use Rattle.hm_race_top.specs.declared.text.conditions.question.Question.{Question}
 
-are_right : (most : ℕ) (c : Program) (qs : List Question) (known : List KnownValue) (end : End) → Holds most c qs known end → AreRight most c qs known end
-are_right most c qs known end h = record {
+are_right : (most : ℕ) (c : Program) (task : Task) (known : List KnownValue) (end : End) → Holds most c task known end → AreRight most c task known end
+are_right most c task known end h = record {
   all = h.complete;
   real = h.real;
   once = h.distinct;
   right = h.right;
+  seen = h.seen;
   states = h.searched;
   states_once = h.once;
   all_states = h.all;
@@ -59,9 +57,10 @@ module _ (most : ℕ) (task : Task) (bytes held : List ℕ) (io : Traffic) (left
     asks = f.asks;
     known = f.known;
     end = f.end;
-    are = are_right most c (questions_in task) f.known f.end f.holds;
+    are = are_right most c task f.known f.end f.holds;
     ends = ends;
     out = goes_out bytes held io left holds (told c task f.known f.end).text adds sent;
+    strict = subst (IsStrict c task) (sym ends) f.holds.strict;
   }
 
   no_race : (Is : Program → Type 0) (c : Program) → ReadAs 4194304 (IsTextOf c) io.source io.source_after → Is c → io.sink_after ≡ io.sink → NoRace Is bytes held io
@@ -82,7 +81,7 @@ module _ (most : ℕ) (task : Task) (bytes held : List ℕ) (io : Traffic) (left
         spells = spells bytes held io left holds c read;
         known = f.known;
         end = f.end;
-        are = are_right most c (questions_in task) f.known f.end f.holds;
+        are = are_right most c task f.known f.end f.holds;
         text_is = is;
       }
 

@@ -85,3 +85,10 @@ found_none p bs i past before =
     let first : position_or_len p (lines_of bs) ≡ length (lines_of bs) = position_or_len_is p (lines_of bs) (length (lines_of bs)) [] (omega arith) (λ k low. before k [] (omega (arith, n))) (λ low. absurd (omega arith)) in
     let t = le-ltb (length (lines_of bs)) (length (lines_of bs)) (omega arith) in
     sym (ap (λ k. cond (ltb k (length (lines_of bs))) (Some k) None) first ∙ ap (λ u. cond u (Some (length (lines_of bs))) None) t)
+
+-- an outcome that is listed passes
+pub any_block : (p : List ℕ → Bool) (bs : List OutcomeBlock) (i : ℕ) (b : OutcomeBlock) → b ≡ get_or bs i b → i < length bs → p b.lines ≡ true → list_any p (lines_of bs) ≡ true
+any_block p bs i b is lt passes =
+    let n = lines_many bs in
+    let within : i < length (lines_of bs) = omega (arith, n) in
+    list_any_at p (lines_of bs) i [] within (ap p (line_at bs i b [] is lt) ∙ passes)

@@ -1,7 +1,8 @@
 -- What a call comes to: what was read, and what was written of its race.
-use Rattle.std.specs.Prelude.{◌≡◌, ◌⊎◌, ◌≤◌, ℕ, true, false, List, length, Option, Some, None, IfSome, ⊤}
+use Rattle.std.specs.Prelude.{◌≡◌, ◌⊎◌, ◌≤◌, ℕ, true, false, List, length, Option, Some, None, IfSome}
 use Rattle.hm_base.specs.Program.{Program}
-use Rattle.hm_race_top.specs.Text.Conditions.Rulings.{ruling_of, settles, IsRuled}
+use Rattle.hm_race_top.specs.Text.Conditions.Absent.{IsSeen, is_in}
+use Rattle.hm_race_top.specs.Text.Conditions.Rulings.{ruling_of, IsRuled}
 use Rattle.hm_race_top.specs.Text.Conditions.Texts.{is_whole}
 use Rattle.hm_race_top.specs.declared.text.conditions.question.Question.{Question}
 use Rattle.hm_history.specs.Kernel.Run.{run}
@@ -20,15 +21,15 @@ use Rattle.hm_edge.specs.Writing.{WriteFaulted}
 use Rattle.hm_edge.specs.declared.status.RaceEnd.{RaceEnd}
 use Rattle.hm_edge.specs.declared.status.Status.{Status}
 use Rattle.hm_script.specs.Built.{has_drain}
-use Rattle.hm_race_top.specs.Asked.{front, questions_in, HasNoTask, IsTask}
+use Rattle.hm_race_top.specs.Asked.{front, goals_in, questions_in, HasNoTask, IsTask}
 use Rattle.hm_race_top.specs.Goals.{settled}
 use Rattle.hm_race_top.specs.Text.Conditions.Asking.{unasked}
-use Rattle.hm_race_top.specs.Telling.{told, HasTold, IsSentOn}
+use Rattle.hm_race_top.specs.Telling.{told, HasTold, IsSentOn, IsStrict}
 use Rattle.hm_race_top.specs.Ways.{blocks_known, AreTrue, HaveAll}
 use Rattle.hm_race_top.specs.declared.asked.Task.{Task}
 
 -- What holds of the states that a search of a script's race knows, by how it ended.
-pub record Holds (most : ℕ) (c : Program) (qs : List Question) (known : List KnownValue) (end : End) : Type 0 where
+pub record Holds (most : ℕ) (c : Program) (task : Task) (known : List KnownValue) (end : End) : Type 0 where
   -- Each state that is counted is what its turns lead to from the set-up.
   pub searched : AreKnown c (run c) known
   -- Each block is true: the script with its schedule is a script whose run has these answers, and is legal.
@@ -46,14 +47,18 @@ pub record Holds (most : ℕ) (c : Program) (qs : List Question) (known : List K
   -- are actors.
   pub cut : end ≡ End.Cut → IsCut c most (length known)
   -- It is `stopped` only if an outcome settles the conditions; and if it is not, none of those that it knows does.
-  pub stopped : end ≡ End.Reached → Reaches (settled qs (length c.actors)) known
+  pub stopped : end ≡ End.Reached → Reaches (settled (goals_in task) (length c.actors)) known
   -- Only the states that it came to last can settle them.
-  pub soon : end ≡ End.Reached → IsSoon c (settled qs (length c.actors)) known
+  pub soon : end ≡ End.Reached → IsSoon c (settled (goals_in task) (length c.actors)) known
   pub near : end ≡ End.Reached → IsNear c most (length known)
-  pub missed : (end ≡ End.Reached → ⊥) → AreMissed (settled qs (length c.actors)) known
+  pub missed : (end ≡ End.Reached → ⊥) → AreMissed (settled (goals_in task) (length c.actors)) known
   -- What is said of each condition is right of the race.
-  pub right : (q : Question) → IsListed qs q
+  pub right : (q : Question) → IsListed (questions_in task) q
       → IsRuled c q.condition (ruling_of q.condition (lines_of (blocks_known c known)) (is_whole end))
+  -- So is what is said of each line that a condition may have: that an outcome has it, or that none has.
+  pub seen : (line : List ℕ) → IsSeen c line (is_in (lines_of (blocks_known c known)) line) (is_whole end)
+  -- With `--strict` a call ends as done only if outcomes have the lines of the conditions.
+  pub strict : IsStrict c task (told c task known end).ends
   -- The states stand in the order of how many turns lead to them, and no fewer turns lead to one of them.
   pub rising : AreRising known
   pub fewest : AreFewest c (run c) known
@@ -62,7 +67,7 @@ pub record Holds (most : ℕ) (c : Program) (qs : List Question) (known : List K
 pub record Found (most : ℕ) (c : Program) (task : Task) (before after : SinkState) (status : Status) : Type 0 where
   pub known : List KnownValue
   pub end : End
-  pub holds : Holds most c (questions_in task) known end
+  pub holds : Holds most c task known end
   -- The bytes written are the text of the task, and the call ends as it says; at `WriteFault` and `NoMemory` a front
   -- of them.
   pub written : HasTold (told c task known end) before after status

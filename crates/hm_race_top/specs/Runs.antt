@@ -11,7 +11,7 @@ name = codes "hmmraces"
 -- what it says if its words are none of the forms
 abbrev pub usage : List ℕ
 usage =
-    codes "usage: hmmraces [[--most] MOST] [--table | --script N | --expect CONDITION ..]"
+    codes "usage: hmmraces [[--most] MOST] [--table | --script N | [--strict] --expect CONDITION ..]"
 
 -- what the words ask for was done
 abbrev pub Runs : List (List ℕ) → Traffic → Status → Type 0

@@ -1,11 +1,13 @@
 -- What is written of a race, by the states that a search knows, and how the call ends then.
-use Rattle.std.specs.Prelude.{◌≡◌, ◌⊎◌, ℕ, ◌-◌, ◌==◌, Bool, true, false, if◌then◌else◌, Option, Some, None, List, []}
+use Rattle.std.specs.Prelude.{◌≡◌, ◌⊎◌, ℕ, ◌-◌, ◌==◌, Bool, false, if◌then◌else◌, Option, Some, None, List, []}
 use Rattle.std.specs.Prelude.{length, slice_get, ⊤}
 use Rattle.hm_base.specs.Program.{Program}
-use Rattle.hm_race_top.specs.Text.Conditions.Rulings.{summary}
+use Rattle.hm_race_top.specs.Text.Conditions.Absent.{AreSeen, have_absent}
+use Rattle.hm_race_top.specs.Text.Conditions.Rulings.{strictly, summary}
 use Rattle.hm_race_top.specs.Text.Conditions.Texts.{rulings_text, is_whole}
 use Rattle.hm_race_top.specs.declared.text.conditions.rulings.Ruling.{Ruling}
 use Rattle.hm_race_top.specs.declared.text.conditions.question.Question.{Question}
+use Rattle.hm_race_laws.specs.Closed.{IsListed}
 use Rattle.hm_edge.specs.Writing.{HasWritten}
 use Rattle.hm_edge.specs.declared.status.RaceEnd.{RaceEnd}
 use Rattle.hm_edge.specs.declared.status.Status.{Status}
@@ -50,16 +52,30 @@ abbrev pub rulings_told : List Question → List OutcomeBlock → ℕ → End �
 rulings_told qs bs states end =
     record { text = rulings_text qs bs states end; ends = ending_of (summary qs (lines_of bs) (is_whole end)) }
 
+-- the same with `--strict`
+abbrev pub strictly_told : List Question → List OutcomeBlock → ℕ → End → Telling
+strictly_told qs bs states end = record {
+  text = rulings_text qs bs states end;
+  ends = ending_of (strictly (summary qs (lines_of bs) (is_whole end)) (have_absent qs (lines_of bs)) (is_whole end));
+}
+
 -- what is written for a task, of the outcomes and the number of states that a search knows
 abbrev pub telling : Program → Task → List OutcomeBlock → ℕ → End → Telling
 telling c Task.Outcomes bs states end = done (outcomes_text bs states end)
 telling c Task.Table bs states end = done (table_text bs states end)
 telling c (Task.Script n) bs states end = script_told c (numbered bs n) (is_whole end)
 telling c (Task.Expect qs) bs states end = rulings_told qs bs states end
+telling c (Task.Strict qs) bs states end = strictly_told qs bs states end
 
 -- the same of the states that it knows
 abbrev pub told : Program → Task → List KnownValue → End → Telling
 told c task known end = telling c task (blocks_known c known) (length known) end
+
+-- With `--strict` a call that ends as done has found an outcome with each line of a condition, unless the condition
+-- says itself that there is none.
+abbrev pub IsStrict : Program → Task → Status → Type 0
+IsStrict c (Task.Strict qs) Status.Done = (q : Question) → IsListed qs q → AreSeen c q.condition
+IsStrict c task status = ⊤
 
 -- a call whose text goes out whole ends in one of these ways
 abbrev pub IsEnding : Status → Type 0

@@ -18,13 +18,14 @@ use Rattle.hm_script.specs.Built.{has_drain}
 use Rattle.hm_search.specs.Goals.{AreMissed, Reaches}
 use Rattle.hm_search.specs.Known.{AreRising, forms}
 use Rattle.hm_search.specs.declared.search.End.{End}
-use Rattle.hm_race_top.specs.Asked.{HasNoTask, IsTask, front, questions_in}
+use Rattle.hm_race_top.specs.Asked.{HasNoTask, IsTask, front, goals_in, questions_in}
 use Rattle.hm_race_top.specs.Goals.{settled}
 use Rattle.hm_race_top.specs.Races.{IsSure}
 use Rattle.hm_race_top.specs.Run.Known.{AreFewest, IsCut, IsKnown, IsNear, IsSoon, KnownValue, MayFail}
 use Rattle.hm_race_top.specs.Runs.{Runs, name, usage}
-use Rattle.hm_race_top.specs.Telling.{told}
+use Rattle.hm_race_top.specs.Telling.{IsStrict, told}
 use Rattle.hm_race_lines.specs.Answers.{answer_lines}
+use Rattle.hm_race_top.specs.Text.Conditions.Absent.{IsSeen, is_in}
 use Rattle.hm_race_top.specs.Text.Conditions.Rulings.{IsRuled, ruling_of}
 use Rattle.hm_race_top.specs.Text.Conditions.Asking.{NoneHas, unasked}
 use Rattle.hm_race_top.specs.Text.Conditions.Texts.{is_whole}
@@ -35,7 +36,7 @@ use Rattle.hm_race_top.specs.declared.text.block.OutcomeBlock.{OutcomeBlock}
 use Rattle.hm_race_top.specs.declared.text.conditions.question.Question.{Question}
 
 -- What is right of the outcomes and states that are told of a script's race.
-pub record AreRight (most : ℕ) (c : Program) (qs : List Question) (known : List KnownValue) (end : End) : Type 0 where
+pub record AreRight (most : ℕ) (c : Program) (task : Task) (known : List KnownValue) (end : End) : Type 0 where
   -- **If the search ended `whole`, every outcome is there**: after every list of entries that are due one after the
   -- other from the set-up on, after which all operations have ended, the lines of its answers are those of a block.
   pub all : end ≡ End.Whole → (es : List Entry) → DueFrom c (run c) es → ended c (run c ++ es) ≡ true
@@ -44,8 +45,11 @@ pub record AreRight (most : ℕ) (c : Program) (qs : List Question) (known : Lis
   pub real : (b : OutcomeBlock) → IsListed (blocks_known c known) b → IsTrueOf c b
   pub once : AreDistinct (lines_of (blocks_known c known))
   -- What is said of each condition is right of the race.
-  pub right : (q : Question) → IsListed qs q
+  pub right : (q : Question) → IsListed (questions_in task) q
       → IsRuled c q.condition (ruling_of q.condition (lines_of (blocks_known c known)) (is_whole end))
+  -- So is what is said of a line: that it is in no outcome of the race, or, if that is not said, that it is in one. At
+  -- `whole` one of the two is known of each line.
+  pub seen : (line : List ℕ) → IsSeen c line (is_in (lines_of (blocks_known c known)) line) (is_whole end)
   -- Each state that is counted is what its turns lead to, and none is counted twice; at `whole` all are counted, and
   -- they are no more than were asked for.
   pub states : (n : KnownValue) → IsListed known n → IsKnown c (run c) n
@@ -58,10 +62,10 @@ pub record AreRight (most : ℕ) (c : Program) (qs : List Question) (known : Lis
   -- A search is `cut` only if there are more states than were asked for.
   pub cut : end ≡ End.Cut → IsCut c most (length known)
   -- It is `stopped` only if an outcome settles the conditions, as soon as one does; else none that it knows does.
-  pub stopped : end ≡ End.Reached → Reaches (settled qs (length c.actors)) known
-  pub soon : end ≡ End.Reached → IsSoon c (settled qs (length c.actors)) known
+  pub stopped : end ≡ End.Reached → Reaches (settled (goals_in task) (length c.actors)) known
+  pub soon : end ≡ End.Reached → IsSoon c (settled (goals_in task) (length c.actors)) known
   pub near : end ≡ End.Reached → IsNear c most (length known)
-  pub missed : ¬ (end ≡ End.Reached) → AreMissed (settled qs (length c.actors)) known
+  pub missed : ¬ (end ≡ End.Reached) → AreMissed (settled (goals_in task) (length c.actors)) known
 
 -- The bytes are the text of a script, its race was searched, and what is told of that went out. The call ends as it
 -- says.
@@ -73,9 +77,12 @@ pub record TellsRace (most : ℕ) (task : Task) (bytes held : List ℕ) (io : Tr
   pub asks : unasked script (questions_in task) ≡ None
   pub known : List KnownValue
   pub end : End
-  pub are : AreRight most script (questions_in task) known end
+  pub are : AreRight most script task known end
   pub ends : status ≡ (told script task known end).ends
   pub out : GoesOut held (told script task known end).text io
+  -- With `--strict` it is 0 only if an outcome of the race has each line of each condition, unless the condition says
+  -- itself that none has it.
+  pub strict : IsStrict script task status
 
 -- the text tells of a search of the race of a script with these bytes
 pub record IsOfRace (most : ℕ) (task : Task) (bytes t : List ℕ) : Type 0 where
@@ -83,7 +90,7 @@ pub record IsOfRace (most : ℕ) (task : Task) (bytes t : List ℕ) : Type 0 whe
   pub spells : Spells script bytes
   pub known : List KnownValue
   pub end : End
-  pub are : AreRight most script (questions_in task) known end
+  pub are : AreRight most script task known end
   pub text_is : t ≡ (told script task known end).text
 
 -- The condition of this number has a line, whose first word has this number, that no operation of the script may end

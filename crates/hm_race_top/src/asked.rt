@@ -1,7 +1,8 @@
 // How many states a search may know, and what is to be written of a race, by the words after the program's name.
 ghost use Rattle.std.specs.Prelude.{◌≡◌, ◌<◌, ◌∷◌, [], None, Some, codes, length, map, string_bytes, IfOk, IfErr};
 ghost use Rattle.std.specs.Prelude.{MatchOption};
-ghost use Rattle.hm_race_top.specs.Asked.{after_most, front, questions_in, HasNoTask, IsTask};
+ghost use Rattle.hm_race_top.specs.Asked.{after_most, front, goals_in, questions_in};
+ghost use Rattle.hm_race_top.specs.Asked.{HasNoTask, IsTask};
 
 use crate::text::{BadQuestion, Question, questions_of};
 use hm_base::ListOf;
@@ -23,6 +24,8 @@ pub enum Task {
     Script(u64),
     /// Whether these conditions hold.
     Expect(ListOf<Question>),
+    /// The same; and also whether outcomes have the lines of these conditions.
+    Strict(ListOf<Question>),
 }
 
 impl Task {
@@ -31,8 +34,18 @@ impl Task {
         ensures { result.now ≡ questions_in self.now }
     {
         match self {
-            Task::Expect(questions) => questions.as_slice(),
+            Task::Expect(questions) | Task::Strict(questions) => questions.as_slice(),
             Task::Outcomes | Task::Table | Task::Script(_) => &[],
+        }
+    }
+
+    /// The conditions at which the search stops as soon as an outcome settles them.
+    pub(crate) fn goals(&self) -> &[Question]
+        ensures { result.now ≡ goals_in self.now }
+    {
+        match self {
+            Task::Expect(questions) => questions.as_slice(),
+            Task::Strict(_) | Task::Outcomes | Task::Table | Task::Script(_) => &[],
         }
     }
 }
@@ -116,6 +129,44 @@ fn script_task(word: &str, words: &[String]) -> Result<Task, Status>
     }
 }
 
+/// The task of these conditions, one at least, whose lines outcomes must have too.
+fn strict_expect_task(
+    alloc: Global,
+    word: &str,
+    next: &str,
+    texts: &[String],
+) -> Result<Task, Status>
+    requires word { word.now ≡ codes "--strict" }
+    requires next { next.now ≡ codes "--expect" }
+    requires some { 0 < length texts.now }
+    ensures task { IfOk result (IsTask (word.now ∷ next.now ∷ map string_bytes texts.now)) }
+    ensures none { IfErr result (HasNoTask (word.now ∷ next.now ∷ map string_bytes texts.now)) }
+{
+    let _ = word;
+    let _ = next;
+    match questions_of(alloc, texts) {
+        Ok(questions) => Ok(Task::Strict(questions)),
+        Err(BadQuestion::Word(at, word)) => Err(Status::Race(RaceEnd::NoCondition(at, word))),
+        Err(BadQuestion::NoMemory) => Err(Status::NoMemory),
+    }
+}
+
+/// The task of the words after `--strict`, one at least.
+fn strict_task(alloc: Global, word: &str, words: &[String]) -> Result<Task, Status>
+    requires word { word.now ≡ codes "--strict" }
+    requires some { 0 < length words.now }
+    ensures task { IfOk result (IsTask (word.now ∷ map string_bytes words.now)) }
+    ensures none { IfErr result (HasNoTask (word.now ∷ map string_bytes words.now)) }
+{
+    let [next, texts @ ..] = words else {
+        return Err(Status::Usage);
+    };
+    if next.as_str() != "--expect" || texts.is_empty() {
+        return Err(Status::Usage);
+    }
+    strict_expect_task(alloc, word, next.as_str(), texts)
+}
+
 /// The task of a word and of more.
 fn long_task(alloc: Global, word: &str, more: &[String]) -> Result<Task, Status>
     requires { 0 < length more.now }
@@ -127,6 +178,9 @@ fn long_task(alloc: Global, word: &str, more: &[String]) -> Result<Task, Status>
     }
     if word == "--script" {
         return script_task(word, more);
+    }
+    if word == "--strict" {
+        return strict_task(alloc, word, more);
     }
     Err(Status::Usage)
 }

@@ -73,7 +73,9 @@ fn search_from<K: Sink>(
     all_is_listed();
     crate::text::none_twice();
     crate::text::rulings_are_right();
-    let goal = Settling::new(alloc, task.questions(), script.actors.len());
+    crate::text::seen_is_right();
+    crate::text::strict_is_right();
+    let goal = Settling::new(alloc, task.goals(), script.actors.len());
     match search(alloc, race, &goal, most) {
         Ok(found) => write_found(alloc, script, task, &found, sink),
         Err(StepError::Full(_)) => Status::HistoryFull,

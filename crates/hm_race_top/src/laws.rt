@@ -47,7 +47,8 @@ pub fn all_is_listed()
     ensures { AllIsListed }
 {}
 
-/// No outcome has a line that no operation of the script may end with: what is refused for such a line asks for nothing.
+/// No outcome has a line that no operation of the script may end with: what is refused for such a line asks for
+/// nothing.
 pub fn none_has_unasked()
     ensures { NoneHasUnasked }
 {}

@@ -17,7 +17,7 @@ pub const NAME: &str = "hmmraces";
 
 /// What it says if its words are none of the forms.
 pub const USAGE: &str =
-    "usage: hmmraces [[--most] MOST] [--table | --script N | --expect CONDITION ..]";
+    "usage: hmmraces [[--most] MOST] [--table | --script N | [--strict] --expect CONDITION ..]";
 
 /// The call of hmmraces.
 struct Racing;

@@ -48,10 +48,12 @@ pub(crate) fn search<G: Goal<StateKey>>(
     ensures missed { IfOk result (λ x. ¬ (x.end ≡ End.Reached)
         → AreMissed (G.reached goal.now) (all_known G.read x.known.items)) }
     ensures real { IfOk result (λ x. AreReal race.now.script (run race.now.script) (all_known form_in x.known.items)) }
-    ensures known { IfOk result (λ x. AreKnown race.now.script (run race.now.script) (all_known form_in x.known.items)) }
+    ensures known { IfOk result (λ x.
+        AreKnown race.now.script (run race.now.script) (all_known form_in x.known.items)) }
     ensures distinct { IfOk result (λ x. AreDistinct (forms (all_known form_in x.known.items))) }
     ensures rising { IfOk result (λ x. AreRising (all_known form_in x.known.items)) }
-    ensures fewest { IfOk result (λ x. AreFewest race.now.script (run race.now.script) (all_known form_in x.known.items)) }
+    ensures fewest { IfOk result (λ x.
+        AreFewest race.now.script (run race.now.script) (all_known form_in x.known.items)) }
     ensures fails { IfErr result (λ e. MayFail race.now.script (run race.now.script) e) }
 {
     turns_are_all();

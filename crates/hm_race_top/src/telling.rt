@@ -3,13 +3,13 @@ ghost use Rattle.std.specs.Prelude.{◌≡◌, IfOk, MatchOption, None, Some};
 ghost use Rattle.hm_race_top.specs.Text.Conditions.Texts.{is_whole};
 ghost use Rattle.hm_race_top.specs.Text.Laws.{lines_of};
 ghost use Rattle.hm_race_top.specs.Telling.{HasTold, IsEnding, IsSentOn, ending_of, rulings_told, numbered};
-ghost use Rattle.hm_race_top.specs.Telling.{missing, script_told, telling};
+ghost use Rattle.hm_race_top.specs.Telling.{missing, script_told, strictly_told, telling};
 ghost use Rattle.hm_edge.specs.Writing.{WriteFaulted};
 
 use crate::asked::Task;
 use crate::text::{
-    OutcomeBlock, Question, Ruling, is_whole, outcomes_text, rulings_text, summary, table_text,
-    text_with_turns,
+    OutcomeBlock, Question, Ruling, have_absent, is_whole, outcomes_text, rulings_text, strictly,
+    summary, table_text, text_with_turns,
 };
 use hm_base::{NoMemory, Script, Text};
 use hm_edge::{RaceEnd, Status};
@@ -99,6 +99,25 @@ fn tell_rulings(
     })
 }
 
+/// The same with `--strict`.
+fn tell_strictly(
+    alloc: Global,
+    questions: &[Question],
+    blocks: &[OutcomeBlock],
+    states: u64,
+    end: End,
+) -> Result<Telling, NoMemory>
+    ensures telling { IfOk result (λ t. t ≡ strictly_told questions.now blocks.now states end) }
+    ensures ends { IfOk result (λ t. IsEnding t.ends) }
+{
+    let whole = is_whole(end);
+    let absent = have_absent(questions, blocks);
+    Ok(Telling {
+        text: rulings_text(alloc, questions, blocks, states, end)?,
+        ends: ending_of(strictly(summary(questions, blocks, whole), absent, whole)),
+    })
+}
+
 /// What is to be written for a task, of the outcomes that a search knows, and of how many states it knows.
 pub(crate) fn tell(
     alloc: Global,
@@ -117,6 +136,9 @@ pub(crate) fn tell(
         }
         Task::Expect(questions) => {
             return tell_rulings(alloc, questions.as_slice(), blocks, states, end);
+        }
+        Task::Strict(questions) => {
+            return tell_strictly(alloc, questions.as_slice(), blocks, states, end);
         }
         Task::Outcomes => outcomes_text(alloc, blocks, states, end)?,
         Task::Table => table_text(alloc, blocks, states, end)?,

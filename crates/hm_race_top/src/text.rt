@@ -16,9 +16,9 @@ pub use answers::answer_lines;
 pub use block::{OutcomeBlock, add_block};
 pub use conditions::{
     BadCondition, BadQuestion, Condition, Literal, Quantifier, Question, Ruling, Verdict, has_line,
-    holds_by_witness, is_whole, judge, listed_is_right, meets, parse, questions_of, real_is_right,
-    ruling_of, rulings_are_right, rulings_text, same_end, settles, summary, unasked,
-    whole_is_right,
+    have_absent, holds_by_witness, is_whole, judge, listed_is_right, meets, parse, questions_of,
+    real_is_right, ruling_of, rulings_are_right, rulings_text, same_end, seen_is_right, settles,
+    strict_is_right, strictly, summary, unasked, whole_is_right,
 };
 pub use decimal::add_decimal;
 pub use laws::{

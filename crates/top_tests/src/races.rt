@@ -2,7 +2,7 @@
 use crate::cases::{Case, EMPTY, Program, all_come_to, expected, refuses_too_long};
 
 const USAGE: &str =
-    "hmmraces: usage: hmmraces [[--most] MOST] [--table | --script N | --expect CONDITION ..]\n";
+    "hmmraces: usage: hmmraces [[--most] MOST] [--table | --script N | [--strict] --expect CONDITION ..]\n";
 
 const NOTHING: &str =
     "hmmraces: nothing is left to race after drain: end the schedule where the race is to begin\n";
@@ -24,6 +24,8 @@ fn hmmraces_ends_with_each_code(rt: HostRuntime) {
         expected("hmmraces many", EMPTY, 2, "", USAGE),
         expected("hmmraces 1 2", EMPTY, 2, "", USAGE),
         expected("hmmraces --expect some", EMPTY, 2, "", BAD_WORD),
+        expected("hmmraces --strict --table", EMPTY, 2, "", USAGE),
+        expected("hmmraces --strict --expect some", EMPTY, 2, "", BAD_WORD),
         expected("hmmraces --script 2", EMPTY, 9, "", no_outcome),
         expected("hmmraces", DRAINED, 9, "", NOTHING),
         expected("hmmraces", "", 3, "", BAD_HEADER),

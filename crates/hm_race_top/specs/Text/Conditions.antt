@@ -7,5 +7,6 @@ pub mod Tails
 pub mod Reading
 pub mod Questions
 pub mod Rulings
+pub mod Absent
 pub mod Asking
 pub mod Texts

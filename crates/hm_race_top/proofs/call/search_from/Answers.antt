@@ -4,7 +4,7 @@ use Rattle.hm_race_top.specs.declared.text.conditions.question.Question.{Questio
 use Rattle.hm_search.specs.Values.{all_known}
 use Rattle.hm_search.proofs.Exploring.{known_length}
 use Rattle.hm_race_states.specs.Keyed.{form_in}
-use Rattle.hm_race_top.specs.Asked.{questions_in}
+use Rattle.hm_race_top.specs.Asked.{goals_in}
 use Rattle.hm_race_top.specs.Goals.{settled}
 use Rattle.hm_race_top.specs.Telling.{HasTold, told}
 use Rattle.hm_race_top.proofs.Holding.{HasSearched, holds_by}
@@ -21,7 +21,7 @@ returns-in-Ok-clause-found g c =
     let end = c.in-Ok.found.end in
     let most = c.args.most in
     let all : length states ≡ length known = sym (known_length form_in states) in
-    let asked : c.new-goal.result.questions ≡ questions_in task = c.new-goal.ensures.questions ∙ c.questions.ensures in
+    let asked : c.new-goal.result.questions ≡ goals_in task = c.new-goal.ensures.questions ∙ c.goals.ensures in
     let actors : c.new-goal.result.actors ≡ length s.actors = c.new-goal.ensures.actors ∙ c.len.ensures ∙ ap (λ (p : Program). length p.actors) c.script.view_is ∙ ap (λ (p : Program). length p.actors) c.script-script.ensures in
     let searched : HasSearched most s (settled c.new-goal.result.questions c.new-goal.result.actors) (length states) known end = record {
       complete = c.in-Ok.ensures.complete;
@@ -44,9 +44,11 @@ returns-in-Ok-clause-found g c =
       are_listed = c.all_is_listed.ensures;
       twice = c.none_twice.ensures;
       right = c.rulings_are_right.ensures;
-    }) most s (subst (λ (p : Program). IsScript p) c.script-script.ensures c.facts.ensures) c.requires.races (questions_in task) known end
-    (subst (λ (n : ℕ). HasSearched most s (settled (questions_in task) (length s.actors)) n known end) all
-    (subst (λ (n : ℕ). HasSearched most s (settled (questions_in task) n) (length states) known end) actors
+      seen = c.seen_is_right.ensures;
+      strict = c.strict_is_right.ensures;
+    }) most s (subst (λ (p : Program). IsScript p) c.script-script.ensures c.facts.ensures) c.requires.races task known end
+    (subst (λ (n : ℕ). HasSearched most s (settled (goals_in task) (length s.actors)) n known end) all
+    (subst (λ (n : ℕ). HasSearched most s (settled (goals_in task) n) (length states) known end) actors
     (subst (λ (qs : List Question). HasSearched most s (settled qs c.new-goal.result.actors) (length states) known end) asked
     searched))))
     c.requires.races c.requires.asks (tells c.args.sink.now) (tells c.write_found.new.sink) c.write_found.result

@@ -1,4 +1,4 @@
-use Rattle.std.proofs.Common.{◌≡◌, List, length, ◌∙◌, sym, ap, subst}
+use Rattle.std.proofs.Common.{List, length, ◌∙◌, sym, ap, subst}
 use Rattle.hm_base.specs.Program.{Program}
 use Rattle.hm_search.specs.Values.{all_known}
 use Rattle.hm_search.proofs.Exploring.{known_length}

@@ -2,6 +2,7 @@
 use Rattle.std.specs.Prelude.{◌≡◌, ⊤, ℕ, ◌+◌, ◌==◌, nat_lt, Bool, true, false, ◌&&◌, if◌then◌else◌}
 use Rattle.std.specs.Prelude.{Option, Some, None, Result, Ok, Err, List, [], ◌∷◌, ◌++◌, length, map, codes}
 use Rattle.std.specs.List.{flat_map, list_all}
+use Rattle.std.specs.Fmt.{decimal}
 use Rattle.std.specs.Str.{bytes_eq}
 use Rattle.hm_script.specs.Numerals.{number}
 use Rattle.hm_script.specs.Splitting.{split}
@@ -30,9 +31,14 @@ joined between (x ∷ xs) = x ++ flat_map (λ y. between ++ y) xs
 abbrev pub not_text : Bool → List ℕ
 not_text wanted = if wanted then [] else codes " not"
 
+-- how often its line is to be there, if that is said
+abbrev pub count_text : Option ℕ → List ℕ
+count_text None = []
+count_text (Some n) = 32 ∷ decimal n ++ codes " x"
+
 -- a literal, with a space before each of its words
 abbrev pub literal_text : Literal → List ℕ
-literal_text l = not_text l.wanted ++ 32 ∷ l.line
+literal_text l = not_text l.wanted ++ (count_text l.count ++ 32 ∷ l.line)
 
 -- an alternative
 abbrev pub all_text : List Literal → List ℕ
@@ -65,6 +71,15 @@ abbrev pub is_actor : List ℕ → Bool
 is_actor [] = false
 is_actor (b ∷ digits) = if b == 97 then is_low (number digits) else false
 
+-- a number
+abbrev pub number_kind : Result ℕ Reason → WordKind
+number_kind (Ok n) = WordKind.Number n
+number_kind (Err r) = WordKind.Other
+
+-- what a word is for that is none of the others: a number, the `x` after one, or a word of an answer
+abbrev pub other_kind : List ℕ → WordKind
+other_kind w = if bytes_eq w (codes "x") then WordKind.Times else number_kind (number w)
+
 -- what a word is for
 abbrev pub word_kind : List ℕ → WordKind
 word_kind w =
@@ -72,12 +87,14 @@ word_kind w =
     else (if bytes_eq w (codes "or") then WordKind.Or
     else (if bytes_eq w (codes "not") then WordKind.Not
     else (if is_actor w then WordKind.Actor
-    else (if length w == 0 then WordKind.Empty else WordKind.Other))))
+    else (if length w == 0 then WordKind.Empty else other_kind w))))
 
 -- a word of this kind may stand in an answer
 abbrev pub goes_on : WordKind → Bool
 goes_on WordKind.Actor = true
 goes_on WordKind.Other = true
+goes_on WordKind.Times = true
+goes_on (WordKind.Number n) = true
 goes_on _ = false
 
 -- it is the name of an actor
@@ -115,11 +132,19 @@ is_plain body = list_all are_plain body
 abbrev pub place_after : Place → WordKind → Option Place
 place_after Place.Fresh WordKind.Not = Some Place.Negated
 place_after Place.Fresh WordKind.Actor = Some Place.Opened
+place_after Place.Fresh (WordKind.Number n) = Some (Place.Counted n)
 place_after Place.Negated WordKind.Actor = Some Place.Opened
+place_after Place.Negated (WordKind.Number n) = Some (Place.Counted n)
+place_after (Place.Counted n) WordKind.Times = Some Place.Times
+place_after Place.Times WordKind.Actor = Some Place.Opened
 place_after Place.Opened WordKind.Actor = Some Place.Inside
 place_after Place.Opened WordKind.Other = Some Place.Inside
+place_after Place.Opened WordKind.Times = Some Place.Inside
+place_after Place.Opened (WordKind.Number n) = Some Place.Inside
 place_after Place.Inside WordKind.Actor = Some Place.Inside
 place_after Place.Inside WordKind.Other = Some Place.Inside
+place_after Place.Inside WordKind.Times = Some Place.Inside
+place_after Place.Inside (WordKind.Number n) = Some Place.Inside
 place_after Place.Inside WordKind.And = Some Place.Fresh
 place_after Place.Inside WordKind.Or = Some Place.Fresh
 place_after _ _ = None

@@ -1,20 +1,24 @@
 -- The text of what has been read of a body.
-use Rattle.std.specs.Prelude.{ℕ, Bool, true, ◌&&◌, List, [], ◌++◌, codes}
+use Rattle.std.specs.Prelude.{ℕ, Bool, true, ◌&&◌, List, [], ◌∷◌, ◌++◌, codes}
 use Rattle.std.specs.List.{flat_map}
+use Rattle.std.specs.Fmt.{decimal}
 use Rattle.hm_script.specs.Splitting.{split}
 use Rattle.hm_race_top.specs.declared.text.conditions.condition.Literal.{Literal}
 use Rattle.hm_race_top.specs.declared.text.conditions.reading.Reading.{Reading}
 use Rattle.hm_race_top.specs.declared.text.conditions.words.Place.{Place}
-use Rattle.hm_race_top.specs.Text.Conditions.Grammar.{literal_text, all_text, are_plain, is_answer, is_front, is_plain}
+use Rattle.hm_race_top.specs.Text.Conditions.Grammar.{literal_text, all_text, are_plain, count_text}
+use Rattle.hm_race_top.specs.Text.Conditions.Grammar.{is_answer, is_front, is_plain, not_text}
 
 -- the literal that is being read
 abbrev pub literal_of : Reading → Literal
-literal_of r = record { wanted = r.wanted; line = r.line }
+literal_of r = record { wanted = r.wanted; count = r.count; line = r.line }
 
 -- its text so far
 abbrev pub open_text : Place → Literal → List ℕ
 open_text Place.Fresh l = []
 open_text Place.Negated l = codes " not"
+open_text (Place.Counted n) l = not_text l.wanted ++ 32 ∷ decimal n
+open_text Place.Times l = not_text l.wanted ++ count_text l.count
 open_text Place.Opened l = literal_text l
 open_text Place.Inside l = literal_text l
 
@@ -34,6 +38,8 @@ so_far r = ended_text r.body ++ (held_text r.literals ++ open_text r.place (lite
 abbrev pub line_stands : Place → List ℕ → Bool
 line_stands Place.Fresh line = true
 line_stands Place.Negated line = true
+line_stands (Place.Counted n) line = true
+line_stands Place.Times line = true
 line_stands Place.Opened line = is_front (split line)
 line_stands Place.Inside line = is_answer (split line)
 

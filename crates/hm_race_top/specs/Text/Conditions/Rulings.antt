@@ -39,6 +39,13 @@ summary qs outcomes whole =
     if one_has qs outcomes whole Ruling.Fails then Ruling.Fails
     else (if one_has qs outcomes whole Ruling.Open then Ruling.Open else Ruling.Holds)
 
+-- the same with `--strict`: a line that no outcome has, though its condition does not say so itself, counts as a
+-- condition that fails; and if not all outcomes are known, it is open whether one has it
+abbrev pub strictly : Ruling → Bool → Bool → Ruling
+strictly Ruling.Holds true true = Ruling.Fails
+strictly Ruling.Holds true false = Ruling.Open
+strictly r absent whole = r
+
 -- ---- what one outcome settles
 
 -- a condition that fails by a witness

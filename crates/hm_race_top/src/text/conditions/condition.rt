@@ -16,6 +16,8 @@ pub enum Quantifier {
 #[derive(Drop)]
 pub struct Literal {
     pub wanted: bool,
+    /// How often the outcome has it; at least once if this is none.
+    pub count: Option<u64>,
     /// The answer's line as it stands in an outcome, without its line feed.
     pub line: Text,
 }

@@ -42,7 +42,9 @@ fn end(reading: Reading, number: u64) -> Result<ListOf<ListOf<Literal>>, BadCond
 {
     match reading.place {
         Place::Inside => Ok(reading.finish()?),
-        Place::Fresh | Place::Negated | Place::Opened => Err(BadCondition::Word(number)),
+        Place::Fresh | Place::Negated | Place::Counted(_) | Place::Times | Place::Opened => {
+            Err(BadCondition::Word(number))
+        }
     }
 }
 

@@ -1,13 +1,13 @@
 // Whether an outcome meets a condition, and what all outcomes say of it.
 ghost use Rattle.std.specs.Prelude.{◌≡◌};
-ghost use Rattle.hm_race_top.specs.Text.Conditions.Meets.{all_hold, holds_in, meets};
+ghost use Rattle.hm_race_top.specs.Text.Conditions.Meets.{all_hold, holds_in, is_there, meets};
 ghost use Rattle.hm_race_top.specs.Text.Conditions.Judged.{by_witness, holds, is_witness, witness};
 ghost use Rattle.hm_race_top.specs.Text.Laws.{lines_of};
 
 use crate::text::block::OutcomeBlock;
 use crate::text::conditions::condition::{Condition, Literal, Quantifier};
 use crate::text::conditions::laws::holds_by_witness;
-use crate::text::conditions::lines::has_line;
+use crate::text::conditions::lines::{has_line, line_count};
 
 /// What outcomes say of a condition.
 #[derive(Clone, Copy)]
@@ -18,11 +18,21 @@ pub struct Verdict {
     pub witness: Option<usize>,
 }
 
+/// Whether an outcome of these lines has that of the literal, so often as it asks for.
+fn is_there(literal: &Literal, lines: &[u8]) -> bool
+    ensures { result ≡ is_there lines.now literal.now }
+{
+    match literal.count {
+        None => has_line(lines, literal.line.as_slice()),
+        Some(n) => line_count(lines, literal.line.as_slice()) == n,
+    }
+}
+
 /// Whether the literal holds of an outcome of these lines.
 fn holds_in(literal: &Literal, lines: &[u8]) -> bool
     ensures { result ≡ holds_in lines.now literal.now }
 {
-    let has = has_line(lines, literal.line.as_slice());
+    let has = is_there(literal, lines);
     if literal.wanted { has } else { !has }
 }
 

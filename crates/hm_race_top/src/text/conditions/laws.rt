@@ -1,4 +1,5 @@
 // Laws of conditions on the outcomes of a race: each is the contract of a function with an empty body.
+ghost use Rattle.hm_race_top.specs.Text.Conditions.Absent.{SeenIsRight, StrictIsRight};
 ghost use Rattle.hm_race_top.specs.Text.Conditions.Rulings.{RulingsAreRight};
 ghost use Rattle.hm_race_top.specs.Text.Conditions.Laws.{HoldsByWitness, ListedIsRight, RealIsRight, SameEnd};
 ghost use Rattle.hm_race_top.specs.Text.Conditions.Laws.{WholeIsRight};
@@ -31,4 +32,16 @@ pub fn same_end()
 /// What the outcomes that a search has found say of a condition is right of the race.
 pub fn rulings_are_right()
     ensures { RulingsAreRight }
+{}
+
+/// What the outcomes that a search has found say of a line is right of the race: that one has it, or, if all are known,
+/// that none has.
+pub fn seen_is_right()
+    ensures { SeenIsRight }
+{}
+
+/// If conditions hold with `--strict`, an outcome of the race has each of their lines, but for those of which a
+/// condition says itself that none has them.
+pub fn strict_is_right()
+    ensures { StrictIsRight }
 {}

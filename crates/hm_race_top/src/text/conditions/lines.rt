@@ -1,6 +1,6 @@
 // The lines of a text.
 ghost use Rattle.std.specs.Prelude.{◌≡◌, ◌∷◌, ◌++◌, [], ℕ, List, MatchOption};
-ghost use Rattle.hm_race_top.specs.Text.Conditions.Meets.{has_line, is_ended};
+ghost use Rattle.hm_race_top.specs.Text.Conditions.Meets.{has_line, is_ended, line_count};
 
 use hm_script::cut_line;
 
@@ -20,6 +20,22 @@ fn is_ended(line: &[u8], text: &[u8]) -> bool
         Some(front) => front == text,
         None => false,
     }
+}
+
+/// How many of the lines, each of which a line feed ends, are this text.
+pub(crate) fn line_count(lines: &[u8], text: &[u8]) -> u64
+    ensures { result ≡ line_count lines.now text.now }
+{
+    let mut count = 0;
+    let mut rest = lines;
+    while !rest.is_empty() {
+        let (line, after) = cut_line(rest);
+        if is_ended(line, text) {
+            count += 1;
+        }
+        rest = after;
+    }
+    count
 }
 
 /// Whether the text is one of the lines, each of which a line feed ends.

@@ -2,7 +2,7 @@
 ghost use Rattle.std.specs.Prelude.{◌≡◌, ◌∷◌, ◌++◌, [], true, IfOk, IfSome, MatchOption, None, Some};
 ghost use Rattle.hm_script.specs.Splitting.{split};
 ghost use Rattle.hm_race_top.specs.Text.Conditions.Grammar.{body_text, goes_on, is_front, is_plain, literal_text};
-ghost use Rattle.hm_race_top.specs.Text.Conditions.Grammar.{not_text};
+ghost use Rattle.hm_race_top.specs.Text.Conditions.Grammar.{count_text, not_text};
 ghost use Rattle.hm_race_top.specs.Text.Conditions.Grammar.{place_after, word_kind};
 ghost use Rattle.hm_race_top.specs.Text.Conditions.Reading.{literal_of, open_text, so_far, stands};
 ghost use Rattle.hm_race_top.specs.declared.text.conditions.words.Place.{Place};
@@ -21,8 +21,9 @@ pub struct Reading {
     pub body: ListOf<ListOf<Literal>>,
     /// Of the last alternative the literals that have ended.
     pub literals: ListOf<Literal>,
-    /// Of the last literal whether it is wanted, and the words so far.
+    /// Of the last literal whether it is wanted, how often, and the words of its line so far.
     pub wanted: bool,
+    pub count: Option<u64>,
     pub line: Text,
 }
 
@@ -38,6 +39,7 @@ impl Reading {
             body: ListOf::new(alloc),
             literals: ListOf::new(alloc),
             wanted: true,
+            count: None,
             line: Text::new(alloc),
         }
     }
@@ -57,13 +59,60 @@ impl Reading {
             body: self.body,
             literals: self.literals,
             wanted: self.wanted,
+            count: self.count,
             line: self.line,
         }
     }
 
-    /// With the first word of an answer, which is wanted or not.
-    fn opened(self, alloc: Global, wanted: bool, word: &[u8]) -> Result<Reading, NoMemory>
+    /// With a number, of an answer that is wanted or not.
+    fn counted(self, wanted: bool, n: u64, word: &[u8]) -> Reading
         requires open { open_text self.place (literal_of self) ≡ not_text wanted }
+        requires word { word_kind word.now ≡ WordKind.Number n }
+        requires plain { stands self ≡ true }
+        ensures place { result.place ≡ Place.Counted n }
+        ensures text { so_far result ≡ so_far self ++ 32 ∷ word.now }
+        ensures plain { stands result ≡ true }
+    {
+        let _ = word;
+        Reading {
+            place: Place::Counted(n),
+            body: self.body,
+            literals: self.literals,
+            wanted,
+            count: self.count,
+            line: self.line,
+        }
+    }
+
+    /// With the word `x` after this number.
+    fn repeated(self, n: u64, word: &[u8]) -> Reading
+        requires counted { self.place ≡ Place.Counted n }
+        requires word { word_kind word.now ≡ WordKind.Times }
+        requires plain { stands self ≡ true }
+        ensures place { result.place ≡ Place.Times }
+        ensures text { so_far result ≡ so_far self ++ 32 ∷ word.now }
+        ensures plain { stands result ≡ true }
+    {
+        let _ = word;
+        Reading {
+            place: Place::Times,
+            body: self.body,
+            literals: self.literals,
+            wanted: self.wanted,
+            count: Some(n),
+            line: self.line,
+        }
+    }
+
+    /// With the first word of an answer, which is wanted or not, and so often.
+    fn opened(
+        self,
+        alloc: Global,
+        wanted: bool,
+        count: Option<u64>,
+        word: &[u8],
+    ) -> Result<Reading, NoMemory>
+        requires open { open_text self.place (literal_of self) ≡ not_text wanted ++ count_text count }
         requires word { word_kind word.now ≡ WordKind.Actor }
         requires alone { split word.now ≡ word.now ∷ [] }
         requires plain { stands self ≡ true }
@@ -77,8 +126,24 @@ impl Reading {
             body: self.body,
             literals: self.literals,
             wanted,
+            count,
             line,
         })
+    }
+
+    /// The same after a number and `x`.
+    fn opened_after(self, alloc: Global, word: &[u8]) -> Result<Reading, NoMemory>
+        requires times { self.place ≡ Place.Times }
+        requires word { word_kind word.now ≡ WordKind.Actor }
+        requires alone { split word.now ≡ word.now ∷ [] }
+        requires plain { stands self ≡ true }
+        ensures place { IfOk result (λ r. r.place ≡ Place.Opened) }
+        ensures text { IfOk result (λ r. so_far r ≡ so_far self ++ 32 ∷ word.now) }
+        ensures plain { IfOk result (λ r. stands r ≡ true) }
+    {
+        let wanted = self.wanted;
+        let count = self.count;
+        self.opened(alloc, wanted, count, word)
     }
 
     /// With one more word of an answer.
@@ -100,6 +165,7 @@ impl Reading {
             body: self.body,
             literals: self.literals,
             wanted: self.wanted,
+            count: self.count,
             line,
         })
     }
@@ -117,8 +183,9 @@ impl Reading {
         Ok(Reading {
             place: Place::Fresh,
             body: self.body,
-            literals: with_literal(self.literals, self.wanted, self.line)?,
+            literals: with_literal(self.literals, self.wanted, self.count, self.line)?,
             wanted: true,
+            count: None,
             line: Text::new(alloc),
         })
     }
@@ -134,13 +201,14 @@ impl Reading {
     {
         let _ = word;
         let mut body = self.body;
-        let literals = with_literal(self.literals, self.wanted, self.line)?;
+        let literals = with_literal(self.literals, self.wanted, self.count, self.line)?;
         body.push(literals)?;
         Ok(Reading {
             place: Place::Fresh,
             body,
             literals: ListOf::new(alloc),
             wanted: true,
+            count: None,
             line: Text::new(alloc),
         })
     }
@@ -158,22 +226,36 @@ impl Reading {
         match self.place {
             Place::Fresh => match kind {
                 WordKind::Not => Ok(Some(self.negated(word))),
-                WordKind::Actor => Ok(Some(self.opened(alloc, true, word)?)),
+                WordKind::Number(n) => Ok(Some(self.counted(true, n, word))),
+                WordKind::Actor => Ok(Some(self.opened(alloc, true, None, word)?)),
                 _ => Ok(None),
             },
             Place::Negated => match kind {
-                WordKind::Actor => Ok(Some(self.opened(alloc, false, word)?)),
+                WordKind::Number(n) => Ok(Some(self.counted(false, n, word))),
+                WordKind::Actor => Ok(Some(self.opened(alloc, false, None, word)?)),
+                _ => Ok(None),
+            },
+            Place::Counted(n) => match kind {
+                WordKind::Times => Ok(Some(self.repeated(n, word))),
+                _ => Ok(None),
+            },
+            Place::Times => match kind {
+                WordKind::Actor => Ok(Some(self.opened_after(alloc, word)?)),
                 _ => Ok(None),
             },
             Place::Opened => match kind {
-                WordKind::Actor | WordKind::Other => Ok(Some(self.longer(word)?)),
-                _ => Ok(None),
+                WordKind::And | WordKind::Or | WordKind::Not | WordKind::Empty => Ok(None),
+                WordKind::Actor | WordKind::Times | WordKind::Number(_) | WordKind::Other => {
+                    Ok(Some(self.longer(word)?))
+                }
             },
             Place::Inside => match kind {
-                WordKind::Actor | WordKind::Other => Ok(Some(self.longer(word)?)),
                 WordKind::And => Ok(Some(self.and(alloc, word)?)),
                 WordKind::Or => Ok(Some(self.or(alloc, word)?)),
-                _ => Ok(None),
+                WordKind::Not | WordKind::Empty => Ok(None),
+                WordKind::Actor | WordKind::Times | WordKind::Number(_) | WordKind::Other => {
+                    Ok(Some(self.longer(word)?))
+                }
             },
         }
     }
@@ -186,7 +268,7 @@ impl Reading {
         ensures plain { IfOk result (λ body. is_plain body ≡ true) }
     {
         let mut body = self.body;
-        let literals = with_literal(self.literals, self.wanted, self.line)?;
+        let literals = with_literal(self.literals, self.wanted, self.count, self.line)?;
         body.push(literals)?;
         Ok(body)
     }
@@ -196,11 +278,16 @@ impl Reading {
 fn with_literal(
     literals: ListOf<Literal>,
     wanted: bool,
+    count: Option<u64>,
     line: Text,
 ) -> Result<ListOf<Literal>, NoMemory>
-    ensures { IfOk result (λ all. all ≡ literals ++ record { wanted = wanted; line = line } ∷ []) }
+    ensures { IfOk result (λ all. all ≡ literals ++ record { wanted = wanted; count = count; line = line } ∷ []) }
 {
     let mut literals = literals;
-    literals.push(Literal { wanted, line })?;
+    literals.push(Literal {
+        wanted,
+        count,
+        line,
+    })?;
     Ok(literals)
 }

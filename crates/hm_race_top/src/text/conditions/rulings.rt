@@ -1,7 +1,7 @@
 // What the outcomes that a search has found say of conditions, and whether one of them settles all.
 ghost use Rattle.std.specs.Prelude.{◌≡◌};
 ghost use Rattle.hm_race_top.specs.Text.Conditions.Rulings.{all_decided, fails_by, ruling_by, ruling_of, one_fails};
-ghost use Rattle.hm_race_top.specs.Text.Conditions.Rulings.{one_has, settles};
+ghost use Rattle.hm_race_top.specs.Text.Conditions.Rulings.{one_has, settles, strictly};
 ghost use Rattle.hm_race_top.specs.Text.Conditions.Rulings.{summary};
 ghost use Rattle.hm_race_top.specs.Text.Laws.{lines_of};
 
@@ -65,6 +65,18 @@ pub fn summary(questions: &[Question], blocks: &[OutcomeBlock], whole: bool) -> 
         return Ruling::Open;
     }
     Ruling::Holds
+}
+
+/// The same with `--strict`: a line that no outcome has, though its condition does not say so itself, counts as a
+/// condition that fails. If not all outcomes are known, it is open whether one has it.
+pub fn strictly(ruling: Ruling, absent: bool, whole: bool) -> Ruling
+    ensures { result ≡ strictly ruling absent whole }
+{
+    match ruling {
+        Ruling::Holds if absent && whole => Ruling::Fails,
+        Ruling::Holds if absent => Ruling::Open,
+        Ruling::Holds | Ruling::Fails | Ruling::Open => ruling,
+    }
 }
 
 /// Whether the condition fails by an outcome of these lines alone.

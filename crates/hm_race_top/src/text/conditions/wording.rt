@@ -2,12 +2,15 @@
 ghost use Rattle.std.specs.Prelude.{◌≡◌, ◌∷◌, ◌++◌, [], IfOk, OnOk};
 ghost use Rattle.hm_race_top.specs.Text.Conditions.Rulings.{ruling_of};
 ghost use Rattle.hm_race_top.specs.Text.Conditions.Judged.{witness};
+ghost use Rattle.hm_race_top.specs.Text.Conditions.Texts.{absent_text, absents_text, all_absents_text};
 ghost use Rattle.hm_race_top.specs.Text.Conditions.Texts.{ruling_word, rulings_text, is_whole, question_line};
 ghost use Rattle.hm_race_top.specs.Text.Conditions.Texts.{question_text};
 ghost use Rattle.hm_race_top.specs.Text.Conditions.Texts.{questions_text, witness_text};
 ghost use Rattle.hm_race_top.specs.Text.Laws.{lines_of};
 
 use crate::text::block::OutcomeBlock;
+use crate::text::conditions::absent::is_in;
+use crate::text::conditions::condition::{Condition, Literal};
 use crate::text::conditions::judging::judge;
 use crate::text::conditions::question::Question;
 use crate::text::conditions::rulings::{Ruling, ruling_of};
@@ -65,6 +68,51 @@ fn add_witness(
     }
 }
 
+/// Adds the line of a literal, if none of the outcomes has it.
+#[tactic(auto, using(std::proofs::Common::append_assoc))]
+fn add_absent(text: &mut Text, literal: &Literal, blocks: &[OutcomeBlock]) -> Result<(), NoMemory>
+    ensures { OnOk result (text.new ≡ text.old ++ absent_text (lines_of blocks.now) literal.now) }
+{
+    if is_in(blocks, literal.line.as_slice()) {
+        return Ok(());
+    }
+    text.extend(b"in no outcome ")?;
+    text.extend(literal.line.as_slice())?;
+    text.push(b'\n')
+}
+
+/// Adds such lines of an alternative.
+fn add_absents(
+    text: &mut Text,
+    literals: &[Literal],
+    blocks: &[OutcomeBlock],
+) -> Result<(), NoMemory>
+    ensures { OnOk result (text.new ≡ text.old ++ absents_text (lines_of blocks.now) literals.now) }
+{
+    for literal in literals {
+        add_absent(text, literal, blocks)?;
+    }
+    Ok(())
+}
+
+/// Adds such lines of a condition, if all outcomes are known.
+fn add_all_absents(
+    text: &mut Text,
+    condition: &Condition,
+    blocks: &[OutcomeBlock],
+    whole: bool,
+) -> Result<(), NoMemory>
+    ensures { OnOk result (text.new ≡ text.old ++ all_absents_text (lines_of blocks.now) whole condition.now) }
+{
+    if !whole {
+        return Ok(());
+    }
+    for literals in condition.body.as_slice() {
+        add_absents(text, literals.as_slice(), blocks)?;
+    }
+    Ok(())
+}
+
 /// Adds what is said of a condition.
 #[tactic(auto, using(std::proofs::Common::append_assoc))]
 fn add_question(
@@ -82,6 +130,7 @@ fn add_question(
         question,
         ruling_of(&question.condition, blocks, whole),
     )?;
+    add_all_absents(text, &question.condition, blocks, whole)?;
     add_witness(alloc, text, blocks, verdict.witness)
 }
 
@@ -101,8 +150,9 @@ fn add_questions(
     Ok(())
 }
 
-/// The text of what is said of conditions: for each a line with its ruling, and the outcome that decides it alone, if
-/// one does, with its number and a schedule that leads to it; then how many states a search knows, and how it ended.
+/// The text of what is said of conditions: for each a line with its ruling; if all outcomes are known, those of its
+/// lines that none of them has; and the outcome that decides it alone, if one does, with its number and a schedule that
+/// leads to it. Then how many states a search knows, and how it ended.
 #[tactic(auto, using(std::proofs::Common::append_assoc), unfolding(crate::specs::Text::Conditions::Texts::rulings_text))]
 pub fn rulings_text(
     alloc: Global,

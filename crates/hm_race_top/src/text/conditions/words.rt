@@ -1,7 +1,7 @@
 // The words of a condition.
 ghost use Rattle.std.specs.Prelude.{◌≡◌, ◌==◌, ◌<◌, ◌≤◌, ◌∷◌, ◌++◌, [], length, position, IfSome};
 ghost use Rattle.hm_script.specs.Splitting.{split};
-ghost use Rattle.hm_race_top.specs.Text.Conditions.Grammar.{is_actor, quantifier_of, word_kind};
+ghost use Rattle.hm_race_top.specs.Text.Conditions.Grammar.{is_actor, other_kind, quantifier_of, word_kind};
 ghost use Rattle.hm_race_top.specs.Text.Conditions.Tails.{size_of, tail_of, words_in};
 
 use crate::text::conditions::condition::Quantifier;
@@ -16,6 +16,9 @@ pub enum WordKind {
     /// The name of an actor, which is the first word of an answer.
     Actor,
     Empty,
+    /// `x`, after a number.
+    Times,
+    Number(u64),
     Other,
 }
 
@@ -26,6 +29,10 @@ pub enum Place {
     Fresh,
     /// After `not`.
     Negated,
+    /// After a number.
+    Counted(u64),
+    /// After a number and `x`.
+    Times,
     /// After the first word of an answer.
     Opened,
     /// After more of its words.
@@ -80,6 +87,19 @@ fn is_actor(word: &[u8]) -> bool
     }
 }
 
+/// What a word is for that is none of the others: a number, the `x` after one, or a word of an answer.
+fn other_kind(word: &[u8]) -> WordKind
+    ensures { result ≡ other_kind word.now }
+{
+    if word == b"x".as_slice() {
+        return WordKind::Times;
+    }
+    match number(word) {
+        Ok(n) => WordKind::Number(n),
+        Err(_) => WordKind::Other,
+    }
+}
+
 /// What the word is for.
 pub(crate) fn word_kind(word: &[u8]) -> WordKind
     ensures { result ≡ word_kind word.now }
@@ -95,6 +115,6 @@ pub(crate) fn word_kind(word: &[u8]) -> WordKind
     } else if word.is_empty() {
         WordKind::Empty
     } else {
-        WordKind::Other
+        other_kind(word)
     }
 }
