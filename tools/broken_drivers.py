@@ -46,8 +46,8 @@ def script_of(files):
 
 
 def line_of_each(script, answers, most):
-    for rule in ['none', *RULES]:
-        turns, part, states, whole = search(script, None if rule == 'none' else rule, answers, most)
+    for rule in ['right', *RULES]:
+        turns, part, states, whole = search(script, None if rule == 'right' else rule, answers, most)
         found = f'{part} after {len(turns)}' if part else 'none'
         print(f'{rule:24}', found, f'states {states}', 'whole' if whole else 'cut')
 
@@ -70,9 +70,10 @@ def main():
         return
     if it.all:
         return line_of_each(script_of(it.words), it.answers, it.most)
-    if not it.words or it.words[0] not in ('none', *RULES):
-        given.refuse('the first word is a rule, `none`, or --all')
-    race_of(script_of(it.words[1:]), None if it.words[0] == 'none' else it.words[0], it.answers, it.most)
+    if not it.words or it.words[0] not in ('right', *RULES):
+        word = it.words[0] if it.words else ''
+        given.refuse(f'the first word is a rule, `right`, or --all{given.nearest(word, RULES)}')
+    race_of(script_of(it.words[1:]), None if it.words[0] == 'right' else it.words[0], it.answers, it.most)
 
 
 if __name__ == '__main__':

@@ -184,7 +184,7 @@ def main():
     words.add_argument('--most', type=int, default=20_000)
     its = words.parse_intermixed_args()
     if its.rule not in RULES:
-        given.refuse(f'there is no rule `{its.rule}`')
+        given.refuse(f'there is no rule `{its.rule}`{given.nearest(its.rule, RULES)}')
     try:
         asked = Asked(scripts.parse(given.data_of(its.file)), its.rule, its.answers, its.most)
     except scripts.Refused as refused:

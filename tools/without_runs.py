@@ -6,9 +6,9 @@
 Each script is searched for each rule that both programs have, or for those RULEs that are named, once with all parts
 judged and once with answers alone: FILEs, or, if none is named, the scripts of examples/broken and those of
 examples/races that have a NAME.without; with --drawn, RUNS scripts (from seed 1) of two actors, drawn as
-tools/race_outcomes.py draws them. What is found must be the same part of legality, or `stuck`, or `none`, after the
-same number of entries; and each race that is written must end in an entry that breaks it. Where one of the two gave up
-at N states (2,000) without finding anything, nothing is compared, and it is counted. The numbers of states are not
+tools/race_outcomes.py draws them. What is found must be the same part of legality, or `stuck`, `none` or `unused`, after
+the same number of entries; and each race that is written must end in an entry that breaks it. Where one of the two gave
+up at N states (2,000) without finding anything, nothing is compared, and it is counted. The numbers of states are not
 compared: the programs tell states apart in different ways.
 
 COMMAND is './hmmwithout.sh --ready'; any program of the same behaviour will do. Ends with status 1 at the first
@@ -21,7 +21,7 @@ sys.path[:0] = [os.path.join(TOP, 'tools'), os.path.join(TOP, 'tools', 'referenc
 import race_outcomes
 import script as scripts
 import words as given
-from drivers.race import RULES, search
+from drivers.race import RULES, is_unused, search
 
 
 class Wrong(Exception):
@@ -44,8 +44,10 @@ def table_of(command, text, options):
 def compare_rule(script, rule, said, answers, most):
     """Whether the second program could be asked, and found the same."""
     found, is_whole = said
-    turns, part, _, whole = search(script, None if rule == 'none' else rule, answers, most)
+    turns, part, _, whole = search(script, None if rule == 'right' else rule, answers, most)
     wanted = f'{part} after {len(turns)}' if part else 'none'
+    if not part and rule != 'right' and is_whole and whole:
+        wanted = 'unused' if is_unused(script, rule, most) else 'none'
     if found != wanted and is_whole and whole:
         raise Wrong(f'{rule}{" --answers" if answers else ""}: {found}, and {wanted} by tools/broken_drivers.py')
     return found == wanted
@@ -77,7 +79,7 @@ def main():
     words = argparse.ArgumentParser(add_help=False, usage=__doc__)
     words.add_argument('files', nargs='*')
     words.add_argument('--drawn', nargs='+', type=int)
-    words.add_argument('--rules', nargs='+', default=['none', *RULES])
+    words.add_argument('--rules', nargs='+', default=['right', *RULES])
     words.add_argument('--most', type=int, default=2_000)
     words.add_argument('--with', dest='command', nargs=argparse.REMAINDER)
     asked = words.parse_args()

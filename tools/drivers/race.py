@@ -1,4 +1,6 @@
 """A race in which a rule is left out: the set-up by a right driver, turns, and the search over all orders."""
+import os, re
+
 import report as reports
 from due import Record, Wait
 from run import Machine
@@ -8,52 +10,26 @@ from drivers.driver import Driver
 from drivers.laws import Broken, Laws
 from drivers.world import World
 
-# what a driver does that leaves the rule out, or the memory manager
-RULES = {
-    'compare': 'commits a look-up without comparing sequences',
-    'compare-sequence': 'commits unless its interval is being invalidated at that moment',
-    'entry-right': 'enters every page for writes',
-    'mmap-lock': 'walks without the mmap lock',
-    'own-device': "takes another device's memory for its own",
-    'begin-waits': 'begins a look-up while its interval is being invalidated',
-    'begin-first': 'reads the sequence after the walk, not before',
-    'set-sequence': 'the callback leaves the sequence of the interval',
-    'erase': 'the callback leaves the entries',
-    'erase-all': 'the callback erases the first page of the span alone',
-    'erase-in-time': 'the callback has the entries erased when the invalidation ends',
-    'own-events': 'the callback ignores migrations of its own device, as lib/test_hmm.c does',
-    'own-sequence': 'the callback ignores them too, but the entries of a frame are erased when it is copied',
-    'own-entries': 'so it does, but it sets the sequence',
-    'stop-at-detach': 'uses its table after the detach',
-    'write-entry': 'writes through an entry for reads',
-    'detach-waits': 'detaches its mirror while that is being invalidated',
-    'copy-all': 'copies seven of eight parts',
-    'clear': 'gives a fresh page a frame that was not cleared',
-    'set-moved': 'enters the new frame though the page was lost',
-    'set-right': 'enters each moved page for writes',
-    'set-unless-invalidated': 'enters the new frame also while its interval is being invalidated',
-    'drop-lost': 'keeps the frame of a page that was lost',
-    'take-from-there': 'takes frames of a device that is withdrawn',
-    'evict-first': 'removes the device with its frames held',
-    'withdraw-first': 'evicts before it withdraws the device',
-    'wait-for-locked': 'passes over locked frames, and removes the device',
-    'exclusive-waits': 'enters an exclusive page also while its interval is being invalidated',
-    'look-again': 'adds to an exclusive page without a second look',
-    # the memory manager's own
-    'tell-first': 'an invalidation changes places first, and tells the mirrors at its end',
-    'end-last': 'an invalidation ends as if no other were under way',
-    'fork-narrows': "a fork gives the child the parent's right, and leaves the parent that right",
-    'fault-looks-again': 'a fault replaces a page without a second look at it',
-    'bring-home': "the CPU reads and writes a device's memory",
-    'freeze-others': 'a migration freezes no mapping of a frame but the first',
-    'freeze-first': 'a migration freezes the mappings of a frame only after it has copied that',
-    'fresh-looks-again': 'a migration places a fresh page without a second look at it',
-    'fresh-right': 'a migration places each fresh page for writes',
-    'back-right': 'each page that comes back is for writes',
-    'lock-page': 'a migration or an eviction takes a page that another one has locked',
-    'put-back': 'a page that was not moved stays a migration entry',
-    'drop-unnamed': 'a frame that no place names any more at the end of a migration is not dropped',
-}
+PAGE = os.path.join(os.path.dirname(os.path.abspath(__file__)), '..', '..', 'docs', 'BROKEN.md')
+
+
+def rules_of(page):
+    """What is done without each rule, by its word: of the two tables of the page, a sentence a rule."""
+    rules, subject = {}, None
+    for line in page:
+        cells = [cell.strip() for cell in line.split('|')]
+        if cells[1:2] == ['RULE']:
+            without = re.fullmatch(r'The (.+) without it', cells[2])
+            subject = without and f'the {without[1]}'
+        elif len(cells) == 1:
+            subject = None
+        elif subject and cells[1].startswith('`'):
+            rules[cells[1].strip('`')] = f'{subject} {cells[2]}'
+    return rules
+
+
+with open(PAGE, encoding='utf-8') as page:
+    RULES = rules_of(page)
 
 
 class Race(Machine):
@@ -95,8 +71,10 @@ class Race(Machine):
 
     # ---- what later turns, and their verdicts, depend on; positions and absolute sequences are no part of it
     def key(self):
-        return plain((tuple(self.ended), [generator_key(self.state, g) for g in self.running], state_key(self.state),
-                      state_key(self.laws), self.extras()))
+        return plain([generator_key(self.state, g) for g in self.running]), self.without_stacks()
+
+    def without_stacks(self):
+        return plain((tuple(self.ended), state_key(self.state), state_key(self.laws), self.extras()))
 
     def extras(self):
         w, x = self.state, self.laws
@@ -179,6 +157,37 @@ def search(script, rule, answers_alone=False, most=20_000):
                 return stuck, 'stuck' if stuck is not None else None, len(known), False
         front = later
     return stuck, 'stuck' if stuck is not None else None, len(known), True
+
+
+def does_alike(script, rule, turns, actor):
+    """Whether a turn after these, in all of which it did so, does what it does with a right driver."""
+    one, right = Race(script, rule, turns, True), Race(script, None, turns, True)
+    did, due = one.step(actor), right.step(actor)
+    if isinstance(did, Wait) or isinstance(due, Wait):
+        return isinstance(did, Wait) and isinstance(due, Wait)
+    # where the code of an actor is may differ, and a lock that is not taken is left out of this state alone
+    return did == due and (rule == 'mmap-lock' or one.without_stacks() == right.without_stacks())
+
+
+def is_unused(script, rule, most=20_000):
+    """Whether it does so in all orders of turns; none if there are too many states."""
+    actors, front = range(len(script.actors)), [()]
+    known = {Race(script, rule, (), True).key()}
+    while front:
+        later = []
+        for turns in front:
+            for actor in actors:
+                if not does_alike(script, rule, turns, actor):
+                    return False
+                race = Race(script, rule, turns, True)
+                did = race.step(actor)
+                if did is not None and not isinstance(did, Wait) and race.key() not in known:
+                    known.add(race.key())
+                    later.append(turns + (actor,))
+            if len(known) > most:
+                return None
+        front = later
+    return True
 
 
 def entries(script, rule, turns, answers_alone):

@@ -4,7 +4,7 @@
     tools/protocol/of_driver.py RULE SCRIPT SEED                    actors take turns that are drawn from the number SEED
     tools/protocol/of_driver.py RULE SCRIPT shortest [--answers]    the shortest race, as hmmwithout has it
 
-RULE is a word of docs/BROKEN.md, or `none`. The set-up is the script's schedule, made by a right driver. A drawn race
+RULE is a word of docs/BROKEN.md, or `right`. The set-up is the script's schedule, made by a right driver. A drawn race
 goes on after the driver has done wrong. Drivers are those of tools/drivers. Nothing of this is proved.
 """
 import os
@@ -73,7 +73,7 @@ class Told(Race):
         self.laws = Onward(script)
         for actor, entry in self.history:
             self.laws.apply(actor, entry)
-        self.state.rule = None if rule == 'none' else rule
+        self.state.rule = None if rule == 'right' else rule
 
     def step(self, actor):
         self.told.state = self.state
@@ -107,7 +107,7 @@ def drawn(data, rule, seed, answers=False):
 
 def shortest(data, rule, answers):
     """The shortest race that goes wrong, or none."""
-    turns, *_ = search(scripts.parse(data), None if rule == 'none' else rule, answers, 20_000)
+    turns, *_ = search(scripts.parse(data), None if rule == 'right' else rule, answers, 20_000)
     if not turns:
         return None
     race = Told(scripts.parse(data), rule, answers)

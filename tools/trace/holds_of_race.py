@@ -586,7 +586,7 @@ def main():
         if it.model:
             with open(it.model) as file:
                 model = file.read().splitlines()
-        rule = None if it.rule in (None, 'none') else it.rule
+        rule = None if it.rule in (None, 'right') else it.rule
         entries = entries_of(script, rule, lines) if it.rule else entries_of_outcome(script, it.outcome, lines)
         print(*converted(script, entries, rule, model, it.us), sep='\n')
     except OSError as error:

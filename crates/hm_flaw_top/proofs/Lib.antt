@@ -5,7 +5,11 @@ mod Named
 mod Asked
 mod Turning
 mod Waiting
+mod Sticking
 mod Playing
 mod Firsts
+mod Alike
+mod Leading
+mod Unused
 mod Answering
 mod Users

@@ -19,7 +19,7 @@ use Rattle.hm_history.specs.declared.Progress.{Progress}
 use Rattle.hm_flaws.specs.declared.flaws.Flaw.{Flaw}
 use Rattle.hm_flaws.specs.declared.parts.Part.{Part}
 use Rattle.hm_flaws.specs.Flawed.{due_by}
-use Rattle.hm_flaws.specs.Judged.{Judged, judged, judged_after, judged_entry, judged_from, judged_on, judged_turn}
+use Rattle.hm_flaws.specs.Judged.{Judged, judged, judged_entry, judged_from, judged_on, judged_turn}
 use Rattle.hm_flaws.specs.Parts.{broken_part}
 use Rattle.hm_flaws.specs.Races.{part_in}
 use Rattle.hm_flaw_states.specs.Keyed.{break_of, form_in}
@@ -35,20 +35,13 @@ use Rattle.hm_flaw_parts.proofs.Turns.{in_step, turns_are_judged, turns_go}
 use Rattle.hm_flaw_top.specs.declared.text.answer.Found.{Found}
 use Rattle.hm_flaw_top.specs.Search.Races.{FlawRaceValue, IsCopy, IsFlawRace, IsKeyOf}
 use Rattle.hm_flaw_top.specs.Search.Played.{IsPlayed, found_by, found_with}
-use Rattle.hm_flaw_top.proofs.Turning.{turned_point}
-
--- ---- no turn
+use Rattle.hm_flaw_top.proofs.Turning.{judged_more, turned_point}
 
 -- ---- one turn more
 
 -- the point after it
 point_more : (parts : List Part) (l : Flaw) (c : Program) (h : List Entry) (turns : List ℕ) (a : ℕ) → point_after parts l c h (turns ++ a ∷ []) ≡ point_turn parts l c (point_after parts l c h turns) a
 point_more parts l c h turns a = fold-append (point_turn parts l c) (point_from c h) turns (a ∷ [])
-
--- what the turns are judged to come to with it
-judged_more : (parts : List Part) (l : Flaw) (c : Program) (h : List Entry) (turns : List ℕ) (a : ℕ) (x : Judged) → judged_after parts l c h (turns ++ a ∷ []) x ≡ judged_on parts l c h (judged_after parts l c h turns x).broken (judged_after parts l c h turns x) a
-judged_more parts l c h [] a x = refl
-judged_more parts l c h (b ∷ turns) a x = judged_more parts l c h turns a (judged_on parts l c h x.broken x b)
 
 module _ (parts : List Part) (l : Flaw) (c : Program) (h : List Entry) (turns : List ℕ) (a : ℕ) (k : FlawKey) (p : IsPlayed parts l c h turns k) where
   abbrev so_far : Judged

@@ -54,6 +54,7 @@ is_right parts l c h most a x = record {
   breaks_none = λ e. (x.whole e).none;
   never_stuck = x.never;
   right = x.right;
+  unused = x.unused;
   reached = (λ e. broken_is a.found (x.reached.0 e), λ p. x.reached.1 (ap is_broken p.3));
   long = x.long;
   known = x.known;

@@ -1,5 +1,8 @@
 -- The shortest races of a driver with a flaw.
 pub mod Answers
+pub mod Alike
 pub mod Finding
 pub mod Played
 pub mod Races
+pub mod Same
+pub mod Unused

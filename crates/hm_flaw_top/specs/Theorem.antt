@@ -26,6 +26,7 @@ use Rattle.hm_search.specs.Goals.{AreMissed, IsSoon, Reaches}
 use Rattle.hm_search.specs.Known.{HaveForms, IsCut, IsKnown, IsNear, KnownValue, forms}
 use Rattle.hm_search.specs.declared.search.End.{End}
 use Rattle.hm_flaw_top.specs.Runs.{Runs, name, usage}
+use Rattle.hm_flaw_top.specs.Search.Unused.{IsUnused}
 use Rattle.hm_flaw_top.specs.Text.Answers.{race_length}
 use Rattle.hm_flaw_top.specs.Text.Names.{all_flaws}
 use Rattle.hm_flaw_top.specs.Text.Tasks.{task_in}
@@ -56,6 +57,9 @@ pub record IsRight (parts : List Part) (l : Flaw) (c : Program) (h : List Entry)
   pub never_stuck : a.end ≡ End.Whole → a.found ≡ Found.Nothing → NeverSticks parts l c h
   -- Nothing is told of the right driver.
   pub right : l ≡ Flaw.NoFlaw → a.found ≡ Found.Nothing
+  -- **It is told that a rule is unused if and only if all states are known, nothing was found, and without the rule the
+  -- driver comes in all turns to what the right one comes to: the same entries, and the same state.**
+  pub unused : (a.unused ≡ true) ↔ IsUnused parts l c h a.end a.found
   -- A race in which a part is broken is told if and only if the search stopped at it. The histories are no longer than
   -- any.
   pub reached :

@@ -9,15 +9,18 @@ ghost use Rattle.hm_flaw_parts.specs.Races.Races.{flaw_system};
 ghost use Rattle.hm_flaw_top.specs.Search.Answers.{IsAnswer};
 ghost use Rattle.hm_flaw_top.specs.Search.Races.{IsFirst};
 
+mod differing;
 mod finding;
 mod firsts;
 mod goals;
+mod keys;
 mod played;
 mod race;
+mod same_entries;
 mod stuck;
 
 use crate::text::Answer;
-use finding::found_of;
+use finding::answer_of;
 use goals::Broken;
 use hm_base::{NoMemory, Script};
 use hm_flaw_parts::Judging;
@@ -28,11 +31,11 @@ use hm_search::explore;
 use race::FlawRace;
 use std::alloc::Global;
 
-/// Searches the race of a driver with this flaw after a set-up, from the key after it, each state once and the nearest first, for an entry
-/// that breaks a part of legality, and stops after the step in which one is due. If there is none, it looks at the
-/// states that it knows for one at which nothing is due to anybody and some operation has not ended. It stops if it
-/// knows more than `most` states. It fails if memory runs out, and if a history has all its entries and one more is
-/// due.
+/// Searches the race of a driver with this flaw after a set-up, from the key after it, each state once and the nearest
+/// first, for an entry that breaks a part of legality, and stops after the step in which one is due. If there is none,
+/// it looks at the states that it knows for one at which nothing is due to anybody and some operation has not ended. It
+/// stops if it knows more than `most` states. It fails if memory runs out, and if a history has all its entries and one
+/// more is due.
 pub(crate) fn find_race(
     alloc: Global,
     script: &Script,
@@ -63,12 +66,8 @@ pub(crate) fn find_race(
         judging,
     };
     let explored = explore(&race, alloc, &Broken, most)?;
-    match found_of(&race, &explored.known, explored.end) {
-        Ok(found) => Ok(Answer {
-            found,
-            states: explored.known.len() as u64,
-            end: explored.end,
-        }),
+    match answer_of(&race, &explored.known, explored.end) {
+        Ok(answer) => Ok(answer),
         Err(NoMemory) => Err(StepError::NoMemory),
     }
 }

@@ -110,8 +110,8 @@ fn tell_all(
     }
 }
 
-/// What is to be written for a task, after a set-up whose entries were due one after the other. The key after the set-up
-/// is made once, for all searches. It fails as a search does, and if memory runs out.
+/// What is to be written for a task, after a set-up whose entries were due one after the other. The key after the set-
+/// up is made once, for all searches. It fails as a search does, and if memory runs out.
 pub(crate) fn tell(
     alloc: Global,
     script: &Script,

@@ -1,7 +1,7 @@
 // Searches the race of every script of the folder `races`, asks for the conditions there, and draws every report; of
-// the scripts of the folder `broken` it asks which rules a driver may leave out, and of both folders and of `drivers` for
-// shortest races of drivers that do. Compares what is written with the files beside the scripts, and the pages with the lines there,
-// between the files of the folder page.
+// the scripts of the folder `broken` it asks which rules a driver may leave out, and of both folders and of `drivers`
+// for shortest races of drivers that do. Compares what is written with the files beside the scripts, and the pages with
+// the lines there, between the files of the folder page.
 use crate::files::{stems, text};
 use crate::streams::{empty_sink, source_beside, words_in};
 use hm_edge::{RaceEnd, Status};

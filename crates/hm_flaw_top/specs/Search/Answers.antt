@@ -12,6 +12,7 @@ use Rattle.hm_search.specs.declared.search.End.{End}
 use Rattle.hm_flaw_parts.specs.Races.Races.{FlawPoint, flaw_system}
 use Rattle.hm_flaw_parts.specs.Races.Judging.{NeverSticks, Sticks, breaks_at, sticks_at}
 use Rattle.hm_flaw_parts.specs.Races.Shortest.{BreakLater, StickLater}
+use Rattle.hm_flaw_top.specs.Search.Unused.{IsUnused}
 use Rattle.hm_flaw_top.specs.Text.Answers.{race_length}
 use Rattle.hm_flaw_top.specs.declared.text.answer.Answer.{Answer}
 use Rattle.hm_flaw_top.specs.declared.text.answer.Found.{Found}
@@ -64,3 +65,4 @@ pub record IsAnswer (parts : List Part) (l : Flaw) (c : Program) (h : List Entry
   pub seen : a.found ≡ Found.Nothing → AreMissed (sticks_at l c) known
   pub reached : (a.end ≡ End.Reached) ↔ (is_broken a.found ≡ true)
   pub right : l ≡ Flaw.NoFlaw → a.found ≡ Found.Nothing
+  pub unused : (a.unused ≡ true) ↔ IsUnused parts l c h a.end a.found

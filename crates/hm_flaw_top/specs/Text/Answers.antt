@@ -1,5 +1,5 @@
 -- What a search has found of a driver, and the exit status of a program that writes it.
-use Rattle.std.specs.Prelude.{ℕ, ◌+◌, length}
+use Rattle.std.specs.Prelude.{ℕ, ◌+◌, Bool, true, false, List, length, codes}
 use Rattle.hm_search.specs.declared.search.End.{End}
 use Rattle.hm_flaw_top.specs.declared.text.answer.Answer.{Answer}
 use Rattle.hm_flaw_top.specs.declared.text.answer.Found.{Found}
@@ -9,6 +9,11 @@ abbrev pub race_length : Found → ℕ
 race_length (Found.Broken es e part) = length es + 1
 race_length (Found.Stuck es) = length es
 race_length Found.Nothing = 0
+
+-- the word for a search that found nothing
+abbrev pub nothing_word : Bool → List ℕ
+nothing_word true = codes "unused"
+nothing_word false = codes "none"
 
 -- how much of the race is known, as it is written: a search that came to an entry that breaks a part has looked at all
 -- that it was to look at

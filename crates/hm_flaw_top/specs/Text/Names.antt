@@ -22,9 +22,9 @@ manager_name Flaw.NotPutBack = codes "put-back"
 manager_name Flaw.UnnamedHeld = codes "drop-unnamed"
 manager_name l = []
 
--- the word of the rule that the driver leaves out, or the memory manager does; of the right driver `none`
+-- the word of the rule that the driver leaves out, or the memory manager does; of the right driver `right`
 abbrev pub name_of : Flaw → List ℕ
-name_of Flaw.NoFlaw = codes "none"
+name_of Flaw.NoFlaw = codes "right"
 name_of Flaw.NotCompared = codes "compare"
 name_of Flaw.ComparedNow = codes "compare-sequence"
 name_of Flaw.AllForWrites = codes "entry-right"

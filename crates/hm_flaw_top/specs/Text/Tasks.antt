@@ -14,16 +14,16 @@ use Rattle.hm_flaw_top.specs.declared.text.task.WordFault.{WordFault}
 
 -- ---- the words of a task
 
--- the word that says of which drivers: the rule that one leaves out, `none` of the right one, or all of them
+-- the word that says of which drivers: the rule that one leaves out, `right` of the right one, or all of them
 abbrev pub which_word : Which → List ℕ
 which_word (Which.One l) = name_of l
 which_word Which.All = codes "--all"
 
 -- the words after it, in any order: `--answers` if answers alone are judged, and `--most` with the number of states,
--- which is 20,000 without that
+-- which is 1,000,000 without that
 abbrev pub AreOptions : List (List ℕ) → Judging → ℕ → Type 0
-AreOptions [] Judging.AllParts n = n ≡ 20000
-AreOptions (u ∷ []) Judging.AnswersAlone n = (u ≡ codes "--answers") × (n ≡ 20000)
+AreOptions [] Judging.AllParts n = n ≡ 1000000
+AreOptions (u ∷ []) Judging.AnswersAlone n = (u ≡ codes "--answers") × (n ≡ 1000000)
 AreOptions (u ∷ v ∷ []) Judging.AllParts n = (u ≡ codes "--most") × (number v ≡ Ok n)
 AreOptions (u ∷ v ∷ w ∷ []) Judging.AnswersAlone n =
     ((u ≡ codes "--answers") × (v ≡ codes "--most") × (number w ≡ Ok n))
@@ -96,7 +96,7 @@ which_of w = which_by w (flaw_named w)
 
 -- the task of these drivers, if no more words come
 abbrev pub plain_task : Which → Task
-plain_task x = record { which = x; judging = Judging.AllParts; most = 20000 }
+plain_task x = record { which = x; judging = Judging.AllParts; most = 1000000 }
 
 -- by the drivers that the first word names
 abbrev pub task_by : Option Which → List (List ℕ) → Result Task BadWord

@@ -6,24 +6,24 @@ ghost use Rattle.hm_flaw_parts.specs.Races.Judging.{breaks_at, sticks_at};
 ghost use Rattle.hm_flaw_parts.specs.Races.Races.{FlawPoint};
 ghost use Rattle.hm_flaw_top.specs.Search.Finding.{IsFirstTrue};
 
+use crate::search::keys::StandingKey;
 use crate::search::race::FlawRace;
 use hm_base::NoMemory;
-use hm_flaw_states::key::FlawKey;
 use hm_search::{Goal, Known};
 
 /// A part of legality was broken.
 #[derive(Clone, Copy)]
 pub struct Broken;
 
-impl Goal<FlawKey> for Broken {
+impl Goal<StandingKey> for Broken {
     ghost Read = { FlawPoint };
 
     ghost read = { form_in };
 
     ghost reached = { λ _ x. breaks_at x };
 
-    fn is_reached(&self, key: &FlawKey) -> Result<bool, NoMemory> {
-        Ok(key.part().is_some())
+    fn is_reached(&self, key: &StandingKey) -> Result<bool, NoMemory> {
+        Ok(key.key().part().is_some())
     }
 }
 
@@ -33,14 +33,15 @@ pub struct Stuck<'a> {
     pub race: &'a FlawRace<'a>,
 }
 
-impl<'a> Goal<FlawKey> for Stuck<'a> {
+impl<'a> Goal<StandingKey> for Stuck<'a> {
     ghost Read = { FlawPoint };
 
     ghost read = { form_in };
 
     ghost reached = { λ s x. sticks_at s.race.now.flaw s.race.now.script x };
 
-    fn is_reached(&self, key: &FlawKey) -> Result<bool, NoMemory> {
+    fn is_reached(&self, key: &StandingKey) -> Result<bool, NoMemory> {
+        let key = key.key();
         if key.part().is_some() {
             return Ok(false);
         }
@@ -49,7 +50,7 @@ impl<'a> Goal<FlawKey> for Stuck<'a> {
 }
 
 // Whether the state counts as ended, and reaches the goal.
-fn is_at<G: Goal<FlawKey>>(goal: &G, state: &Known<FlawKey>) -> Result<bool, NoMemory>
+fn is_at<G: Goal<StandingKey>>(goal: &G, state: &Known<StandingKey>) -> Result<bool, NoMemory>
     ensures { IfOk result (λ b. b ≡ at_goal G.read (G.reached goal.now) state.now) }
 {
     if !state.ended {
@@ -59,9 +60,9 @@ fn is_at<G: Goal<FlawKey>>(goal: &G, state: &Known<FlawKey>) -> Result<bool, NoM
 }
 
 /// The place of the first known state that reaches the goal, if one does.
-pub(crate) fn first_reached<G: Goal<FlawKey>>(
+pub(crate) fn first_reached<G: Goal<StandingKey>>(
     goal: &G,
-    known: &[Known<FlawKey>],
+    known: &[Known<StandingKey>],
 ) -> Result<Option<usize>, NoMemory>
     ensures { IfOk result (IsFirstTrue (map (at_goal G.read (G.reached goal.now)) known.now)) }
 {

@@ -6,6 +6,7 @@ ghost use Rattle.hm_flaw_states.specs.Turns.{IsNextKey};
 ghost use Rattle.hm_flaw_parts.specs.Races.Races.{FlawPoint, flaw_system, point_from};
 
 use crate::search::firsts::copy_first;
+use crate::search::keys::StandingKey;
 use hm_base::{Actor, NoMemory, Script};
 use hm_flaw_parts::Judging;
 use hm_flaw_states::key::FlawKey;
@@ -17,8 +18,8 @@ use skip_rules::Multiples;
 use std::alloc::Global;
 use std::marker::Model;
 
-/// The race of a script after a set-up by a right driver, if the driver has this flaw, and is judged by these parts. The
-/// key after the set-up is the same for all of them.
+/// The race of a script after a set-up by a right driver, if the driver has this flaw, and is judged by these parts.
+/// The key after the set-up is the same for all of them.
 #[derive(Drop)]
 pub struct FlawRace<'a> {
     pub alloc: Global,
@@ -112,7 +113,7 @@ impl<'a> FlawRace<'a> {
 impl<'a> System for FlawRace<'a> {
     ghost use Rattle.hm_flaw_top.specs.Search.Races.{IsKeyOf};
 
-    type Key = FlawKey;
+    type Key = StandingKey;
 
     ghost Points = { FlawPoint };
 
@@ -139,26 +140,27 @@ impl<'a> System for FlawRace<'a> {
         self.set_up.len() as u64
     }
 
-    fn first(&self) -> Result<FlawKey, StepError> {
+    fn first(&self) -> Result<StandingKey, StepError> {
         match self.first_key() {
-            Ok(key) => Ok(key),
+            Ok(key) => Ok(StandingKey::of(key)),
             Err(NoMemory) => Err(StepError::NoMemory),
         }
     }
 
     fn next(
         &self,
-        key: &FlawKey,
+        key: &StandingKey,
         actor: Actor,
         entries: u64,
-    ) -> Result<Option<FlawKey>, StepError> {
-        match self.next_key(key, actor, entries) {
-            Ok(next) => Ok(next),
+    ) -> Result<Option<StandingKey>, StepError> {
+        match self.next_key(key.key(), actor, entries) {
+            Ok(Some(next)) => Ok(Some(StandingKey::of(next))),
+            Ok(None) => Ok(None),
             Err(NoMemory) => Err(StepError::NoMemory),
         }
     }
 
-    fn ended(&self, _key: &FlawKey) -> bool {
+    fn ended(&self, _key: &StandingKey) -> bool {
         true
     }
 }

@@ -1,6 +1,6 @@
 // What a search has found of a driver, and the exit status of a program that writes it.
 ghost use Rattle.std.specs.Prelude.{◌≡◌};
-ghost use Rattle.hm_flaw_top.specs.Text.Answers.{extent, answer_code};
+ghost use Rattle.hm_flaw_top.specs.Text.Answers.{extent, answer_code, nothing_word};
 
 use hm_base::ListOf;
 use hm_flaws::Part;
@@ -31,6 +31,9 @@ pub struct Answer {
     /// How many states the search knows.
     pub states: u64,
     pub end: End,
+    /// Whether the driver leaves a rule out, all states are known, nothing was found, and it never does otherwise than
+    /// the right driver.
+    pub unused: bool,
 }
 
 impl Answer {
@@ -46,6 +49,13 @@ impl Answer {
             },
             Found::Stuck { .. } | Found::Nothing => self.end,
         }
+    }
+
+    /// The word for a search that found nothing.
+    pub(crate) fn nothing_word(&self) -> &'static str
+        ensures { result.now ≡ nothing_word self.now.unused }
+    {
+        if self.unused { "unused" } else { "none" }
     }
 
     /// The exit status: 1 if the driver does what it must not do, 0 if it does so in no order of turns, and 10 if the

@@ -75,19 +75,28 @@ fn add_stuck(
     text.extend(b"stuck\n")
 }
 
-/// Adds the lines of what was found. The buffer is written over.
-fn add_found(text: &mut Text, out: &mut Buffer, start: u64, found: &Found) -> Result<(), NoMemory>
-    requires { start + race_length found.now < 2 ^ 64 }
-    ensures { OnOk result (text.new ≡ text.old ++ found_text start found.now) }
+/// Adds a word as a line.
+#[tactic(auto, using(std::proofs::Common::append_assoc))]
+fn add_word(text: &mut Text, word: &str) -> Result<(), NoMemory>
+    ensures { OnOk result (text.new ≡ text.old ++ (word.now ++ 10 ∷ [])) }
 {
-    match found {
+    text.extend(word.as_bytes())?;
+    text.push(b'\n')
+}
+
+/// Adds the lines of what was found. The buffer is written over.
+fn add_found(text: &mut Text, out: &mut Buffer, start: u64, answer: &Answer) -> Result<(), NoMemory>
+    requires { start + race_length answer.now.found < 2 ^ 64 }
+    ensures { OnOk result (text.new ≡ text.old ++ found_text start answer.now.unused answer.now.found) }
+{
+    match &answer.found {
         Found::Broken {
             entries,
             last,
             part,
         } => add_broken(text, out, start, entries.as_slice(), last, *part),
         Found::Stuck { entries } => add_stuck(text, out, start, entries.as_slice()),
-        Found::Nothing => text.extend(b"none\n"),
+        Found::Nothing => add_word(text, answer.nothing_word()),
     }
 }
 
@@ -100,7 +109,7 @@ pub fn answer_text(alloc: Global, start: u64, answer: &Answer) -> Result<Text, N
 {
     let mut out = Buffer::new(alloc)?;
     let mut text = Text::new(alloc);
-    add_found(&mut text, &mut out, start, &answer.found)?;
+    add_found(&mut text, &mut out, start, answer)?;
     add_states(alloc, &mut text, answer.states, answer.extent())?;
     Ok(text)
 }

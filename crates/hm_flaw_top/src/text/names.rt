@@ -86,12 +86,12 @@ fn manager_name(flaw: Flaw) -> &'static str
     }
 }
 
-/// The word of the rule that the driver leaves out, or the memory manager does; of the right driver `none`.
+/// The word of the rule that the driver leaves out, or the memory manager does; of the right driver `right`.
 pub fn rule_name(flaw: Flaw) -> &'static str
     ensures { result.now ≡ name_of flaw }
 {
     match flaw {
-        Flaw::NoFlaw => "none",
+        Flaw::NoFlaw => "right",
         Flaw::NotCompared => "compare",
         Flaw::ComparedNow => "compare-sequence",
         Flaw::AllForWrites => "entry-right",
@@ -136,7 +136,7 @@ fn first_named(word: &[u8]) -> Option<Flaw>
         .find(|flaw| rule_name(*flaw).as_bytes() == word)
 }
 
-/// The driver that leaves the rule of this name out; the right one for `none`.
+/// The driver that leaves the rule of this name out; the right one for `right`.
 pub fn rule_named(word: &[u8]) -> Option<Flaw>
     ensures named { result ≡ flaw_named word.now }
     ensures known { IfSome result (λ l. name_of l ≡ word.now) }

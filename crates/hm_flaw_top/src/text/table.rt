@@ -25,16 +25,16 @@ pub struct RuleAnswer {
 
 /// Adds what was found, in a few words.
 #[tactic(auto, using(std::proofs::Common::append_assoc))]
-fn add_outcome(alloc: Global, text: &mut Text, found: &Found) -> Result<(), NoMemory>
-    ensures { OnOk result (text.new ≡ text.old ++ outcome_words found.now) }
+fn add_outcome(alloc: Global, text: &mut Text, answer: &Answer) -> Result<(), NoMemory>
+    ensures { OnOk result (text.new ≡ text.old ++ outcome_words answer.now.unused answer.now.found) }
 {
-    match found {
+    match &answer.found {
         Found::Broken { entries, part, .. } => {
             text.extend(part_name(*part).as_bytes())?;
             add_decimal(alloc, text, b" after ", entries.as_slice().len() as u64 + 1)
         }
         Found::Stuck { entries } => add_decimal(alloc, text, b"stuck after ", entries.len()),
-        Found::Nothing => text.extend(b"none"),
+        Found::Nothing => text.extend(answer.nothing_word().as_bytes()),
     }
 }
 
@@ -50,7 +50,7 @@ pub fn add_rule_line(
 {
     add_padded(text, WIDTH, rule_name(rule).as_bytes())?;
     text.push(b' ')?;
-    add_outcome(alloc, text, &answer.found)?;
+    add_outcome(alloc, text, answer)?;
     text.push(b' ')?;
     add_states(alloc, text, answer.states, answer.extent())
 }

@@ -10,7 +10,7 @@ use hm_flaws::Flaw;
 use hm_script::number;
 
 /// As many states as a search may know, if no word says another number.
-pub const MOST_STATES: u64 = 20_000;
+pub const MOST_STATES: u64 = 1_000_000;
 
 /// Of which drivers shortest races are looked for.
 #[derive(Clone, Copy)]
@@ -35,7 +35,7 @@ pub struct Task {
 pub enum WordFault {
     /// It is missing.
     Missing,
-    /// It is no rule, and neither `none` nor `--all`.
+    /// It is no rule, and neither `right` nor `--all`.
     NoRule,
     /// No option that it could be comes there, or none at all.
     NoOption,
@@ -198,7 +198,7 @@ fn plain_task(which: Which) -> Task
     }
 }
 
-/// What the words ask for: a rule, `none` or `--all`, and then in any order `--answers` and `--most` with a number. Or
+/// What the words ask for: a rule, `right` or `--all`, and then in any order `--answers` and `--most` with a number. Or
 /// the first of them that may not stand there.
 pub fn task_of(words: &[String]) -> Result<Task, BadWord>
     ensures exact { result ≡ task_in (map string_bytes words.now) }

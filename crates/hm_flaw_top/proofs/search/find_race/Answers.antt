@@ -1,4 +1,5 @@
-use Rattle.std.proofs.Common.{◌≡◌, ◌≤◌, ℕ, Bool, List, length, map, ap, sym, ◌∙◌, subst}
+use Rattle.std.proofs.Common.{◌≡◌, ◌≤◌, ℕ, Bool, true, List, length, map, ap, sym, ◌∙◌, subst}
+use Rattle.std.specs.Prelude.{◌↔◌}
 use Rattle.hm_flaw_parts.specs.Judged.{judged_parts}
 use Rattle.hm_search.specs.Known.{IsCut, IsNear}
 use Rattle.hm_search.specs.Values.{all_known, at_goal}
@@ -6,17 +7,25 @@ use Rattle.hm_search.specs.declared.known.Known.{Known}
 use Rattle.hm_search.proofs.Exploring.{known_length}
 use Rattle.hm_flaw_states.specs.Keyed.{form_in}
 use Rattle.hm_flaw_states.specs.declared.key.FlawKey.{FlawKey}
+use Rattle.hm_search.specs.declared.search.End.{End}
+use Rattle.hm_flaw_top.specs.Search.Answers.{IsAnswer}
 use Rattle.hm_flaw_top.specs.Search.Finding.{HaveRoom, IsFoundFirst, goal_of}
+use Rattle.hm_flaw_top.specs.Search.Unused.{HaveEntries, IsUnused, LooksUnused}
 use Rattle.hm_flaw_top.proofs.Answering.{Laws, Searched, answered}
 use Rattle.hm_flaw_top.proofs.Firsts.{same_answers}
 use Rattle.hm_flaw_top.proofs.Rooms.{room_at}
+use Rattle.hm_flaw_top.proofs.Unused.{both_ways, have_entries, looks_right}
 use Rattle.hm_flaw_top.proofs.search.find_race.Goals as goal
 
-pub found_of-requires : goal.found_of-requires
-found_of-requires c =
+pub answer_of-requires : goal.answer_of-requires
+answer_of-requires c =
     let h = c.args.set_up.now in
-    subst (λ (xs : List (Known FlawKey)). HaveRoom h (all_known form_in xs)) (sym c.deref.ensures.value)
-    (room_at (judged_parts c.args.judging) c.args.flaw c.args.script.now h c.requires.few (all_known form_in c.in_ok-explored.explored.known.items) c.in_ok-explored.ensures.known)
+    let parts = judged_parts c.args.judging in
+    let ns = c.in_ok-explored.explored.known.items in
+    record {
+      room = subst (λ (xs : List (Known FlawKey)). HaveRoom h (all_known form_in xs)) (sym c.deref.ensures.value) (room_at parts c.args.flaw c.args.script.now h c.requires.few (all_known form_in ns) c.in_ok-explored.ensures.known);
+      entries = subst HaveEntries (sym c.deref.ensures.value) (have_entries c.args.judging c.args.flaw c.args.script.now h ns c.in_ok-explored.ensures.known);
+    }
 
 pub returns-in-Ok-clause-answer : goal.returns-in-Ok-clause-answer
 returns-in-Ok-clause-answer c =
@@ -49,6 +58,11 @@ returns-in-Ok-clause-answer c =
       near = λ e. subst (IsNear (length s.actors) c.args.most) many (found.near e);
       missed = found.missed;
     } in
-    answered law parts l s c.facts.ensures h c.requires.due c.requires.few c.args.most known c.len.result (c.len.ensures ∙ (sym c.deref.ensures.len ∙ (ap (λ (xs : List (Known FlawKey)). length xs) c.deref.ensures.value ∙ many))) end c.in-Ok.found searched
-    (subst (λ (bs : List Bool). IsFoundFirst parts l s h known bs c.in-Ok.found) (same_answers form_in (goal_of l s end) ns)
-    (subst (λ (xs : List (Known FlawKey)). IsFoundFirst parts l s h (all_known form_in xs) (map (at_goal form_in (goal_of l s end)) xs) c.in-Ok.found) c.deref.ensures.value c.in-Ok.ensures))
+    let a = c.in-Ok.answer in
+    let says = c.in-Ok.ensures in
+    let unused : (a.unused ≡ true) ↔ IsUnused parts l s h end a.found =
+    both_ways (subst (λ (xs : List (Known FlawKey)). (a.unused ≡ true) ↔ LooksUnused l s xs end a.found) c.deref.ensures.value says.unused) (looks_right c.args.judging l s h ns end a.found found.known found.all found.missed) in
+    subst (λ (z : End). IsAnswer parts l s h c.args.most (record { found = a.found; states = a.states; end = z; unused = a.unused })) (sym says.end)
+    (answered law parts l s c.facts.ensures h c.requires.due c.requires.few c.args.most known a.states (says.states ∙ (ap (λ (xs : List (Known FlawKey)). length xs) c.deref.ensures.value ∙ many)) a.unused end a.found unused searched
+    (subst (λ (bs : List Bool). IsFoundFirst parts l s h known bs a.found) (same_answers form_in (goal_of l s end) ns)
+    (subst (λ (xs : List (Known FlawKey)). IsFoundFirst parts l s h (all_known form_in xs) (map (at_goal form_in (goal_of l s end)) xs) a.found) c.deref.ensures.value says.found)))

@@ -9,5 +9,5 @@ returns-in-Stuck c =
     let old = c.args.text.now in
     let new = c.add_decimal-in-Stuck.new.text in
     let r = c.add_decimal-in-Stuck.result in
-    subst (λ (found : Found). OnOk r (new ≡ old ++ outcome_words found)) (sym c.in-Stuck.is)
+    subst (λ (found : Found). OnOk r (new ≡ old ++ outcome_words c.args.answer.now.unused found)) (sym c.in-Stuck.is)
     (subst (λ (n : ℕ). OnOk r (new ≡ old ++ (codes "stuck after " ++ decimal n))) c.len.ensures c.add_decimal-in-Stuck.ensures)
