@@ -49,6 +49,20 @@ fail() {
     exit 70
 }
 
+# What is done without each rule: a sentence a rule, of the tables of docs/BROKEN.md.
+rule_sentences() {
+    awk -F ' *[|] *' '
+        $2 == "RULE" && $3 ~ /^The .* without it$/ {
+            if (on++) print ""
+            sub(/ without it$/, "", $3)
+            print (on == 1 ? "RULE is one of these" : "or one of these") "; without it t" substr($3, 2) "\n"
+            in_table = 1
+            next
+        }
+        !/^[|]/ { in_table = 0 }
+        in_table && $2 ~ /^`/ { gsub(/`/, "", $2); printf "  %-23s %s\n", $2, $3 }' "$top/docs/BROKEN.md"
+}
+
 # What each program takes, a line for each word.
 
 words_hmmrun() {
@@ -73,21 +87,24 @@ words_hmmraces() {
   --script N           the whole script with the schedule of outcome N
   --expect CONDITION ..    whether each condition holds, such as 'none a0 loaded m0 0x10000 41'; status 1 if one fails
   --expect-file LINES  the same of each line of the file LINES that is neither blank nor a comment, as `# ..` is
-  MOST, --most MOST    before these: gives up beyond MOST states, and not beyond 1,000,000
+  --strict             with --expect or --expect-file: goes through all outcomes, and a line of a condition that is in
+                       none of them counts as a condition that fails, unless the condition says so itself
+  MOST, --most MOST    gives up beyond MOST states, and not beyond 1,000,000
+  --progress           says every five seconds how long it has searched, and in how much memory; so on a terminal
 END
 }
 
 words_hmmwithout() {
     cat <<END
   RULE                 reads a script: a shortest race in which a driver without this rule does what it must not do
-  none                 the same of the right driver, of which there is no such race
+  right                the same of the right driver, of which there is no such race
   --all                a line for each of these drivers
-  --answers            after these words: judges answers alone, and not the whole protocol
-  --most MOST          after these words: gives up beyond MOST states, and not beyond 20,000
+  --answers            judges answers alone, and not the whole protocol
+  --most MOST          gives up beyond MOST states, and not beyond 1,000,000
+  --progress           says every five seconds how long it has searched, and in how much memory; so on a terminal
 
-RULE is one of
-$rules.
 END
+    rule_sentences
 }
 
 words_hmmview() {
@@ -128,8 +145,9 @@ END
 usage() {
     local takes='WORD ..' several
     [ "$name" = hmmtrace ] && several=' ..'
-    [ "$name" = hmmraces ] && takes='[MOST] [--table | --script N | --expect CONDITION .. | --expect-file LINES]'
-    [ "$name" = hmmwithout ] && takes='RULE | none | --all [--answers] [--most MOST]'
+    [ "$name" = hmmraces ] &&
+        takes='[MOST] [--table | --script N | [--strict] (--expect CONDITION .. | --expect-file LINES)]'
+    [ "$name" = hmmwithout ] && takes='RULE | right | --all [--answers] [--most MOST]'
     [ "$name" = hmmview ] && takes='[FROM TO]'
     [ "$name" = hmmjudge ] && takes='[--standing | --all]'
     [ "$name" = hmmtrace ] && takes='[--expect RULE .. | --script RULE | --of-report]'
@@ -206,6 +224,7 @@ is_number() { [[ $1 =~ ^(0|[1-9][0-9]{0,19})$ ]] && { [ ${#1} -lt 20 ] || [[ ! $
 need_numbers() {
     local word
     for word in "$@"; do
+        [[ ! $word =~ ^[apm][0-9]+$ ]] || refuse "\`$word\`: its number alone, \`${word:1}\`"
         is_number "$word" || refuse "\`$word\` is no number below 2^64 (decimal digits, no leading zero)"
     done
 }
@@ -219,69 +238,112 @@ need_bytes() {
     [ $(($2 + $3)) -le $((1 << 48)) ] || refuse "the bytes end beyond 2^48"
 }
 
-# Of the words of hmmraces: the number of states, and what is to be written. Leaves them in `words`, and the number of
-# those that it has looked at in `taken`.
-read_race_words() {
-    local all=$#
-    if [ "${1-}" = --most ]; then
-        [ $# -ge 2 ] || refuse '`--most` takes one number'
-        need_numbers "$2"
-        words+=("$2")
-        shift 2
-    elif [[ ${1-} =~ ^[0-9]+$ ]]; then
-        need_numbers "$1"
-        words+=("$1")
-        shift
-    fi
-    case ${1-} in
-        --table)
-            words+=("$1")
-            shift ;;
-        --script)
-            [ $# -ge 2 ] || refuse '`--script` takes the number of an outcome'
-            need_numbers "$2"
-            words+=("$1" "$2")
-            shift 2 ;;
-        --expect)
-            words+=("$1")
-            shift
-            while [[ ${1-} =~ ^(some|none|every)\  ]]; do
-                words+=("$1")
-                shift
-            done
-            [ "${words[-1]}" != --expect ] || refuse 'a condition begins with `some`, `none` or `every`' ;;
-        --expect-file)
-            [ $# -ge 2 ] || refuse '`--expect-file` takes a file, a condition in each line; `#` begins a comment'
-            [ -r "$2" ] && [ -s "$2" ] || no_file "the file $2 has no line that may be read"
-            mapfile -t -O ${#words[@]} words < <(echo --expect; grep -v '^[[:space:]]*\(#\|$\)' "$2")
-            [ "${words[-1]}" != --expect ] || no_file "the file $2 has no condition"
-            shift 2 ;;
-    esac
-    [[ ! ${1-} =~ ^[0-9]+$ ]] || refuse 'one number at most: MOST'
-    taken=$((all - $#))
+is_rule() { grep -qxF -e "$1" <<<"$(printf '%s\n' $rules)"; }
+
+# How many states a search of hmmraces or hmmwithout may have, in `most`.
+set_most() {
+    [ ${#most[@]} -eq 0 ] || refuse 'one number at most: MOST'
+    need_numbers "$1"
+    most=("$1")
 }
 
-# Of the words of hmmwithout: a rule, and what is asked of it. Leaves them in `words`, and the number of those that it
-# has looked at in `taken`.
-read_rule_words() {
-    local all=$# given
-    given=$(printf '%s\n' none --all $rules)
-    [ $# -ge 1 ] || refuse 'which rule?'
-    grep -qxF -e "$1" <<<"$given" || refuse "there is no rule \`$1\`$(nearest "$1" $given)"
-    words=("$1")
-    shift
-    while [ "${1-}" = --answers ] || [ "${1-}" = --most ]; do
-        [[ " ${words[*]} " != *" $1 "* ]] || refuse "\`$1\` is there twice"
-        words+=("$1")
-        if [ "$1" = --most ]; then
-            [ $# -ge 2 ] || refuse '`--most` takes one number'
-            need_numbers "$2"
-            words+=("$2")
-            shift
-        fi
+# What hmmraces is to write of the outcomes, in `asked`.
+set_asked() {
+    [ ${#asked[@]} -eq 0 ] || refuse "\`${asked[0]}\` or \`$1\`, one of them"
+    asked=("$@")
+}
+
+# The conditions that these words begin with, in `conditions`.
+read_conditions() {
+    conditions=()
+    case ${1-} in
+        some | none | every) refuse "each condition is one word, in quotes: --expect '$1 a0 loaded 0x10000 41'" ;;
+    esac
+    while [[ ${1-} = *' '* ]] && [ ! -e "$1" ]; do
+        conditions+=("$1")
         shift
     done
-    taken=$((all - $#))
+    [ ${#conditions[@]} -gt 0 ] || refuse 'a condition begins with `some`, `none` or `every`'
+}
+
+# Of the words of hmmraces, in any order: the number of states, and what is to be written. Leaves them in `words`, and
+# the others in `rest`.
+read_race_words() {
+    local most=() strict=() asked=() conditions
+    while [ $# -gt 0 ]; do
+        case $1 in
+            --most)
+                [ $# -ge 2 ] || refuse '`--most` takes one number'
+                set_most "$2"
+                shift ;;
+            --table) set_asked "$1" ;;
+            --strict) strict=("$1") ;;
+            --script)
+                [ $# -ge 2 ] || refuse '`--script` takes the number of an outcome'
+                need_numbers "$2"
+                set_asked "$1" "$2"
+                shift ;;
+            --expect)
+                read_conditions "${@:2}"
+                set_asked "$1" "${conditions[@]}"
+                shift ${#conditions[@]} ;;
+            --expect-file)
+                [ $# -ge 2 ] || refuse '`--expect-file` takes a file, a condition in each line; `#` begins a comment'
+                [ -r "$2" ] && [ -s "$2" ] || no_file "the file $2 has no line that may be read"
+                mapfile -t conditions < <(grep -v '^[[:space:]]*\(#\|$\)' "$2")
+                [ ${#conditions[@]} -gt 0 ] || no_file "the file $2 has no condition"
+                set_asked --expect "${conditions[@]}"
+                shift ;;
+            *) [[ $1 =~ ^[0-9]+$ ]] && set_most "$1" || rest+=("$1") ;;
+        esac
+        shift
+    done
+    [ ${#strict[@]} -eq 0 ] || [ "${asked[0]-}" = --expect ] ||
+        refuse '`--strict` goes with `--expect` or `--expect-file`'
+    words=("${most[@]}" "${strict[@]}" "${asked[@]}")
+}
+
+# Which driver hmmwithout is asked about, in `rule`.
+set_rule() {
+    [ "$rule" = "${rule#--}" ] && [ "$1" = "${1#--}" ] || [ -z "$rule" ] || refuse '`--all` or one rule, not both'
+    [ -z "$rule" ] || refuse "one rule at a time: \`$rule\` or \`$1\`"
+    rule=$1
+}
+
+# Refuses words of hmmwithout that have no rule.
+refuse_no_rule() {
+    local given
+    given=$(printf '%s\n' right --all $rules)
+    [ $# -ge 1 ] || refuse 'which rule?'
+    [ ! -f "$1" ] || refuse "a rule is missing before the file: \`compare $1\`, say, or \`--all $1\`"
+    [[ $1 != *[+,]* ]] || refuse "\`$1\`: one rule at a time"
+    [ "$1" != none ] || refuse 'there is no rule `none`; the right driver is `right`'
+    refuse "there is no rule \`$1\`$(nearest "$1" $given)"
+}
+
+# Of the words of hmmwithout, in any order: a rule, and what is asked of it. Leaves them in `words`, and the others in
+# `rest`.
+read_rule_words() {
+    local rule= most=() asked=()
+    while [ $# -gt 0 ]; do
+        case $1 in
+            --most)
+                [ $# -ge 2 ] || refuse '`--most` takes one number'
+                set_most "$2"
+                shift ;;
+            --answers)
+                [ ${#asked[@]} -eq 0 ] || refuse "\`$1\` is there twice"
+                asked=("$1") ;;
+            --all | right) set_rule "$1" ;;
+            *)
+                if is_rule "$1"; then set_rule "$1"
+                elif is_number "$1"; then refuse "\`$1\`: \`--most $1\` is how many states a search may have"
+                else rest+=("$1"); fi ;;
+        esac
+        shift
+    done
+    [ -n "$rule" ] || refuse_no_rule "${rest[@]}"
+    words=("$rule" "${asked[@]}" ${most[@]+--most "${most[@]}"})
 }
 
 is_trace_rule() { grep -qxF -e "$1" <<<"$(printf '%s\n' $trace_rules)"; }
@@ -349,7 +411,7 @@ read_trace_words() {
             shift
         done
         if [ ${#words[@]} -eq 1 ] || { [ $# -gt 0 ] && [ "$1" != - ] && [ ! -e "$1" ]; }; then
-            [ $# -gt 0 ] || refuse '`--expect` takes a rule, or several'
+            [ $# -gt 0 ] && [ ! -e "$1" ] || refuse '`--expect` takes a rule, or several'
             refuse "there is no rule \`$1\`$(nearest "$1" $trace_rules)"
         fi
     fi
@@ -361,67 +423,110 @@ read_trace_words() {
     taken=$((all - $#))
 }
 
+# Refuses a word of hmmrun that it has not: it may be one of another program.
+refuse_word() {
+    local other=
+    [ ! -f "$1" ] || refuse "a word is missing before the file: \`replay $1\`, say"
+    case $1 in
+        run) refuse 'there is no word `run`; `replay` runs a script by its schedule, and `threads` from real threads' ;;
+        outcomes | races | --table | --script | --strict | --expect | --expect-file | --most) other=hmmraces ;;
+        judge | --all | --standing) other=hmmjudge ;;
+        view | page) other=hmmview ;;
+        without | rule | --answers) other=hmmwithout ;;
+        trace) other=hmmtrace ;;
+        -v | -V) refuse_option "$1" ;;
+    esac
+    [ -z "$other" ] || refuse "there is no word \`$1\`; $(sibling "$other") does that"
+    refuse "there is no word \`$1\`$(nearest "$1" replay threads race generate trial upgrade check peek \
+        advise why --quick --ready --path --help --version)"
+}
+
+# How another program is called from here.
+sibling() { [ "$installed" = yes ] && echo "$1" || echo "./$1.sh"; }
+
+# Of the words of hmmrun: the first, and those that it takes. Leaves them in `words`, and the others in `rest`.
+read_run_words() {
+    local takes
+    [ $# -gt 0 ] || refuse 'which word?'
+    case $1 in
+        replay | threads | race | upgrade | check | advise | why) takes=0 ;;
+        generate | trial)
+            [ $# -eq 2 ] || refuse "\`$1\` takes one number, and no file"
+            need_numbers "$2"
+            takes=1 ;;
+        peek)
+            [ $# -ge 4 ] || refuse '`peek` takes three words: P ADDR LEN'
+            need_bytes "${@:2:3}"
+            takes=3 ;;
+        *) refuse_word "$1" ;;
+    esac
+    words=("${@:1:takes + 1}")
+    rest=("${@:takes + 2}")
+}
+
+# Of the words of hmmjudge, hmmview and hmmevents, in any order: their options and numbers. Leaves these in `words`, and
+# the others in `rest`.
+read_report_words() {
+    local word
+    for word in "$@"; do
+        case $name:$word in
+            hmmjudge:--standing | hmmjudge:--all)
+                [ ${#words[@]} -eq 0 ] || refuse '`--standing` or `--all`, one of them'
+                words=("$word") ;;
+            hmmjudge:[0-9]*) is_number "$word" && refuse 'no word but --standing or --all, and FILE'; rest+=("$word") ;;
+            hmmevents:[0-9]*) is_number "$word" && refuse 'no word, but FILE'; rest+=("$word") ;;
+            *)
+                if [ "$name" = hmmview ] && [[ $word =~ ^[0-9]+$ ]]; then
+                    need_numbers "$word"
+                    words+=("$word")
+                else
+                    rest+=("$word")
+                fi ;;
+        esac
+    done
+    [ "$name" != hmmview ] || [ ${#words[@]} -eq 0 ] || [ ${#words[@]} -eq 2 ] || refuse 'two numbers: FROM TO'
+}
+
+# Refuses an option that the program has not.
+refuse_option() {
+    case $1 in -v | -V) refuse "there is no \`$1\` here; did you mean \`--version\`?" ;; esac
+    refuse "there is no \`$1\` here$(nearest "$1" --quick --ready --help --version \
+        $([ "$name" = hmmjudge ] && echo --standing --all) \
+        $([ "$name" = hmmraces ] && echo --table --script --strict --expect --expect-file --most --progress) \
+        $([ "$name" = hmmtrace ] && echo --expect --script --of-report) \
+        $([ "$name" = hmmwithout ] && echo --all --answers --most --progress))"
+}
+
+# Refuses a file that is not there: what was meant may be a word of another program, or a condition.
+refuse_missing() {
+    if [ "$name" = hmmraces ] && is_rule "$1"; then
+        refuse "\`$1\` is a rule; $(sibling hmmwithout) takes it"
+    elif [ "$name" = hmmraces ] && [[ $1 =~ ^(some|none|every)(\ |$) ]]; then
+        refuse "a condition comes after \`--expect\`, in quotes: --expect '$1'"
+    fi
+    no_file "there is no file $1"
+}
+
 # Looks at the words, and leaves those of the program in `words` and the file to read in `file`.
 read_words() {
-    local takes taken
+    local rest=() taken word
     words=() file= files=()
     case $name in
-        hmmraces)
-            read_race_words "$@"
-            shift "$taken" ;;
-        hmmwithout)
-            read_rule_words "$@"
-            shift "$taken" ;;
-        hmmrun)
-            [ $# -gt 0 ] || refuse 'which word?'
-            case $1 in
-                replay | threads | race | upgrade | check | advise | why) takes=0 ;;
-                generate | trial)
-                    [ $# -eq 2 ] || refuse "\`$1\` takes one number, and no file"
-                    need_numbers "$2"
-                    takes=1 ;;
-                peek)
-                    [ $# -ge 4 ] || refuse '`peek` takes three words: P ADDR LEN'
-                    need_bytes "${@:2:3}"
-                    takes=3 ;;
-                *)
-                    [ ! -f "$1" ] || refuse "a word is missing before the file: \`replay $1\`, say"
-                    refuse "there is no word \`$1\`$(nearest "$1" replay threads race generate trial upgrade check peek \
-                    advise why --quick --ready --path --help --version)" ;;
-            esac
-            words=("${@:1:takes + 1}")
-            shift $((takes + 1)) ;;
-        hmmjudge)
-            if [ "${1-}" = --standing ] || [ "${1-}" = --all ]; then
-                words=("$1")
-                shift
-            fi
-            is_number "${1-}" && refuse 'no word but --standing or --all, and FILE' ;;
+        hmmraces) read_race_words "$@" ;;
+        hmmwithout) read_rule_words "$@" ;;
+        hmmrun) read_run_words "$@" ;;
         hmmtrace)
             read_trace_words "$@"
-            shift "$taken"
-            is_number "${1-}" && refuse 'no word but --expect and --script, and FILE' ;;
-        hmmevents)
-            is_number "${1-}" && refuse 'no word, but FILE' ;;
-        *)
-            while [ $# -gt 0 ] && [[ $1 =~ ^[0-9]+$ ]]; do
-                need_numbers "$1"
-                words+=("$1")
-                shift
-            done
-            [ "$name" = hmmview ] && [ ${#words[@]} -ne 0 ] && [ ${#words[@]} -ne 2 ] &&
-                refuse 'two numbers: FROM TO' ;;
+            rest=("${@:taken + 1}")
+            is_number "${rest[0]-}" && refuse 'no word but --expect and --script, and FILE' ;;
+        *) read_report_words "$@" ;;
     esac
-    case ${1-} in
-        -?*) refuse "there is no \`$1\` here$(nearest "$1" --quick --ready --help --version \
-            $([ "$name" = hmmjudge ] && echo --standing --all) \
-            $([ "$name" = hmmraces ] && echo --table --script --expect --expect-file --most) \
-            $([ "$name" = hmmtrace ] && echo --expect --script --of-report) \
-            $([ "$name" = hmmwithout ] && echo --answers --most))" ;;
-    esac
-    [ $# -le 1 ] || refuse "too many words: \`${*:2}\`"
-    file=${1--}
-    [ "$file" = - ] || [ -e "$file" ] || no_file "there is no file $file"
+    for word in "${rest[@]}"; do
+        case $word in -?*) refuse_option "$word" ;; esac
+    done
+    [ ${#rest[@]} -le 1 ] || refuse "too many words: \`${rest[*]:1}\`"
+    file=${rest[0]--}
+    [ "$file" = - ] || [ -e "$file" ] || refuse_missing "$file"
     [ ! -d "$file" ] || no_file "$file is a folder"
     [ -r "$file" ] || [ "$file" = - ] || no_file "the file $file may not be read"
 }
@@ -528,6 +633,18 @@ explain_conditions() {
     done
 }
 
+# Says of a report that is not legal which is the first line whose position is not the next one.
+say_gap() {
+    awk '
+        /^history$/ { on = 1; next }
+        on && $1 ~ /^[0-9]+$/ && $1 != at {
+            printf "line %d has position %s where %d is due: ", NR, $1, at
+            print ($1 > at ? "an event before it is missing" : "an event is there twice")
+            exit
+        }
+        on { at++ }' "$1"
+}
+
 # If this is a script for people, and not one that begins as an exact one does, it is written exactly, and the program
 # is run on that.
 run_readable() {
@@ -536,7 +653,7 @@ run_readable() {
     exact=$(mktemp) || return
     if "$top/tools/hmm.py" "$2" >"$exact" 2>/dev/null; then
         say 'this is a script for people (docs/SCRIPT.md); tools/hmm.py wrote the exact one, which is run now'
-        "$1" "${words[@]}" <"$exact"
+        go "$1" <"$exact"
         status=$?
         [ "$name" != hmmraces ] || [ $status -ne 2 ] || explain_conditions "$exact"
         rm -f "$exact"
@@ -554,20 +671,53 @@ keep_script() {
     rm -f "$kept"
 }
 
+# Whether it is said while the program searches how long it has: asked for, or on a terminal.
+tells_progress() {
+    [ "$name" = hmmraces ] || [ "$name" = hmmwithout ] || return 1
+    [ "$progress" = yes ] || [ -t 2 ]
+}
+
+# Says every five seconds, until it is ended, how long that process has searched, and in how much memory.
+say_progress() {
+    local memory
+    while sleep 5; do
+        memory=$(awk '/^VmRSS/ { print int($2 / 1024) }' "/proc/$1/status" 2>/dev/null)
+        say "searching for $SECONDS seconds${memory:+; $memory MB of memory}"
+    done
+}
+
+# Runs the program on its words, and ends with its status. Ctrl-C ends it too.
+go() {
+    local searcher teller status
+    tells_progress || { "$1" "${words[@]}"; return; }
+    SECONDS=0
+    "$1" "${words[@]}" <&0 &
+    searcher=$!
+    say_progress "$searcher" &
+    teller=$!
+    trap 'kill -TERM "$searcher" "$teller" 2>/dev/null; exit 130' INT
+    trap 'kill -TERM "$searcher" "$teller" 2>/dev/null; exit 143' TERM HUP
+    wait "$searcher"
+    status=$?
+    trap - INT TERM HUP
+    { kill "$teller"; wait "$teller"; } 2>/dev/null
+    return "$status"
+}
+
 # Runs the program in place of this script. If it reads a file, this script stays, to say more of one that is refused.
 run() {
-    local status text=$file
+    local status gap text=$file
     [ ${#files[@]} -eq 0 ] || run_traces "$1"
-    command -v python3 >/dev/null || exec "$1" "${words[@]}"
+    command -v python3 >/dev/null || tells_progress || exec "$1" "${words[@]}"
     if reads_script && [ -p /dev/stdin ]; then
         keep_script
     fi
-    does_read && [ -f /dev/stdin ] || exec "$1" "${words[@]}"
+    does_read && [ -f /dev/stdin ] || tells_progress || exec "$1" "${words[@]}"
     [ "$text" = - ] && text=/dev/stdin
     reads_script && run_readable "$1" "$text"
-    "$1" "${words[@]}"
+    go "$1"
     status=$?
-    if [ "$name" = hmmtrace ]; then
+    if [ "$name" = hmmtrace ] || ! command -v python3 >/dev/null; then
         :
     elif [ $status -eq 3 ]; then
         explain "$text"
@@ -575,7 +725,10 @@ run() {
         [ $status -ne 2 ] || explain_conditions "$text"
     elif [ $status -eq 1 ] && [ "$(head -c 4 "$text")" = 'hmm ' ] && ! grep -q '^history$' "$text"; then
         say 'this is a script; what is read here is the report that `./hmmrun.sh replay` writes of it'
-    elif [ $status -eq 1 ] && [ "$name" != hmmjudge ] && [ "$(wc -c <"$text")" -lt 4000000 ]; then
+    elif [ $status -eq 1 ] && [ "$name" = hmmjudge ]; then
+        gap=$(say_gap "$text")
+        [ -z "$gap" ] || say "$gap"
+    elif [ $status -eq 1 ] && [ "$(wc -c <"$text")" -lt 4000000 ]; then
         "$top/tools/hmm.py" --due "$text" >&2
     fi
     exit $status
@@ -713,10 +866,14 @@ for word in "$@"; do
     esac
 done
 how=proved
+progress=no
 given=()
 for word in "$@"; do                # wherever they stand
     case $word in
         --quick | --ready) how=${word#--} ;;
+        --progress)
+            [ "$name" = hmmraces ] || [ "$name" = hmmwithout ] || refuse "there is no \`--progress\` here"
+            progress=yes ;;
         *) given+=("$word") ;;
     esac
 done

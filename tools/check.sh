@@ -2,10 +2,11 @@
 # tools/check.sh: what takes no proof, in half a minute: run it before each commit. Nothing is proved, and nothing built.
 #
 # Ends with status 1 if something is wrong: a number of tools/house.py grew, a copy of an example differs, an edit does
-# not apply, a field of a record is in no law, a case of tools/hmm.py has another answer, a tool cannot be executed, a
-# stored output is not read by tools/as_json.py, a page names a page or a file that is not there, a race of
-# tools/trace/suite.py has holds that its reader refuses, two pages say different things of a driver, or a rule's word is
-# missing in one of the places that have all of them.
+# not apply, a field of a record is in no law, a case of tools/hmm.py or of the programs' words has another answer, a
+# tool cannot be executed, a stored output is not read by tools/as_json.py, a page names a page or a file that is not
+# there, an outcome of Linux has the name of a variant by which no way comes to it, a race of tools/trace/suite.py has
+# holds that its reader refuses, two pages say different things of a driver, or a rule's word is missing in one of the
+# places that have all of them.
 set -u
 cd "$(dirname "$(realpath "$0")")/.." || exit 2
 wrong=0
@@ -22,6 +23,8 @@ case $cases in
     *' 0 wrong') ;;
     *) say "tools/hmm.py --test: $cases" ;;
 esac
+words=$(tools/word_cases.sh) || say "tools/word_cases.sh: $words"
+ways=$(tools/linux/ways.py --check) || say "tools/linux/ways.py --check: $ways"
 asked=$(tools/conditions.py --test) || say "tools/conditions.py --test: $asked"
 
 rows=$(tools/driver_rows.py --check) || say "tools/driver_rows.py --check: $rows"
@@ -45,11 +48,10 @@ for page in README.md docs/*.md examples/*.md tools/*/*.md; do
     done
 done
 
-# the rules' words: the program's help, the page of broken drivers, and the second judge of traces
+# the rules' words: the program's help, which is made of the page of broken drivers, and the second judge of traces
 rules=$(sed -n "/^rules='/,/'/p" hmmrun.sh | tr -d "'" | sed "s/^rules=//; s/ *#.*//")
-for rule in $rules; do
-    grep -q "\`$rule\`" docs/BROKEN.md || say "docs/BROKEN.md has no rule \`$rule\`"
-done
+told=$(./hmmwithout.sh --help | awk '/^RULE is one of these;/ { on = 1 } on && /^  [a-z]/ { print $1 }')
+[ "$(echo $told)" = "$(echo $rules)" ] || say 'the two tables of docs/BROKEN.md have other rules than hmmrun.sh'
 for rule in $(sed -n "/^RULES = /,/\]/p" tools/protocol/trace_judge.py | grep -oE "'[a-z-]+'" | tr -d "'"); do
     case " $(echo $rules) " in
         *" $rule "*) ;;

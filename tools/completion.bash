@@ -1,8 +1,16 @@
 # Completion of the programs' words in bash: `source tools/completion.bash`, or a copy of this file in
 # /usr/share/bash-completion/completions (tools/release.sh puts it there). It completes hmmrun and ./hmmrun.sh alike.
 
-# The rules that hmmwithout and hmmtrace take: those of the help that the program's script prints.
-_hmm_rules() { "$1" --help 2>/dev/null | awk '/^RULE is one of$/ { on = 1; next } on && /^$/ { exit } on' | tr -d '.'; }
+# The rules that hmmwithout and hmmtrace take: those of the help that the program's script prints. In that of hmmwithout
+# each begins a line.
+_hmm_rules() {
+    "$1" --help 2>/dev/null | awk '
+        /^RULE is one of these;/ { each = 1 }
+        each && /^  [a-z]/ { print $1 }
+        /^RULE is one of$/ { on = 1; next }
+        on && /^$/ { exit }
+        on' | tr -d '.'
+}
 
 _hmm() {
     local command=$1 word=$2 before=$3 name words
@@ -13,8 +21,8 @@ _hmm() {
         hmmtrace:--expect | hmmtrace:--script) words=$(_hmm_rules "$command") ;;
         *:--most | *:--script | hmmrun:generate | hmmrun:trial) return ;;
         hmmrun:*) words='replay threads race generate trial upgrade check peek advise why' ;;
-        hmmraces:*) words='--table --script --expect --expect-file --most' ;;
-        hmmwithout:*) words="none --all --answers --most $(_hmm_rules "$command")" ;;
+        hmmraces:*) words='--table --script --strict --expect --expect-file --most --progress' ;;
+        hmmwithout:*) words="right --all --answers --most --progress $(_hmm_rules "$command")" ;;
         hmmjudge:*) words='--standing --all' ;;
         hmmtrace:*) words='--expect --script --of-report' ;;
     esac

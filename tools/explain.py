@@ -149,7 +149,7 @@ def main():
     given.begin(__doc__)
     given.end_with_reader()
     fold = sys.argv[1:2] == ['--fold']
-    lines = given.data_of(sys.argv[1 + fold:]).decode('ascii', 'replace').splitlines()
+    lines = given.data_of(sys.argv[1 + fold:], ('--fold',)).decode('ascii', 'replace').splitlines()
     if 'history' not in lines:
         is_script = lines[:1] and lines[0].startswith('hmm ')
         print('explain.py: ' + ('this is a script; `./hmmrun.sh replay` writes its report' if is_script

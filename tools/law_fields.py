@@ -21,8 +21,9 @@ PROOFS = {'hm_edge': 'Telling', 'hm_top': 'Users', 'hm_race_top': 'Users', 'hm_f
 ROOTS = {'hm_edge': ['Exits'], 'hm_top': ['Runs'], 'hm_race_top': ['Races'], 'hm_flaw_top': ['Withouts'],
          'hm_judge': ['RunsAsked'], 'hm_view': ['Views'], 'hm_trace_top': ['Exits'], 'hm_projection': ['Runs']}
 # records that are no plumbing of a call, but words of which a theorem itself is made: a reader of it reads them too
-WORDS = {'AreQuestions', 'AreScript', 'Ends', 'EndsSo', 'FailsAtSome', 'HasFewTurns', 'IsFirstBad', 'IsLegalReport',
-         'IsLegalReportOf', 'IsNearest', 'IsQuestion', 'IsTextOf', 'IsTrueOf', 'AnsweredNone', 'Named', 'OneSays', 'Read', 'SawAll', 'Way'}
+WORDS = {'AnsweredNone', 'AreQuestions', 'AreScript', 'Ends', 'EndsSo', 'FailsAtSome', 'HasFewTurns', 'IsFirstBad',
+         'IsLegalReport', 'IsLegalReportOf', 'IsNearest', 'IsQuestion', 'IsTextOf', 'IsTrueOf', 'IsUnused',
+         'MayBeUnused', 'Named', 'OneSays', 'Read', 'SawAll', 'Way'}
 
 RECORD = re.compile(r'^pub record (\S+)(.*?)(?=^(?:pub |abbrev |unfoldable |-- |\Z))', re.M | re.S)
 OTHER = re.compile(r'^abbrev pub (\S+) :(.*?)(?=^(?:pub |abbrev |unfoldable |-- |\Z))', re.M | re.S)

@@ -1,5 +1,5 @@
 """What the tools have in common: --help, a file or standard input, and the program that they run."""
-import os, signal, subprocess, sys
+import difflib, os, signal, subprocess, sys
 
 TOP = os.path.dirname(os.path.dirname(os.path.abspath(__file__)))
 
@@ -23,16 +23,23 @@ def end_with_reader():
 
 def refuse(said):
     """The words are wrong: status 2."""
-    print(f'{tool()}: {said}; --help has the words', file=sys.stderr)
+    print(f"{tool()}: {said}{'' if said.endswith('?') else ';'} --help has the words", file=sys.stderr)
     sys.exit(2)
 
 
-def data_of(words):
-    """The bytes of the one file that the words name, or of standard input."""
+def nearest(word, known):
+    """Asks whether one of the known words was meant, if one is near."""
+    found = difflib.get_close_matches(word, list(known), 1, 0.6)
+    return f'; did you mean `{found[0]}`?' if found else ''
+
+
+def data_of(words, options=()):
+    """The bytes of the one file that the words name, or of standard input. The tool has these options."""
+    for word in words:
+        if word.startswith('-') and word != '-':
+            refuse(f'there is no `{word}`{nearest(word, [*options, "--help"])}')
     if len(words) > 1:
         refuse(f'`{words[1]}` is a word too many')
-    if words and words[0].startswith('-') and words[0] != '-':
-        refuse(f'there is no `{words[0]}`')
     if words and words[0] != '-':
         try:
             with open(words[0], 'rb') as file:
