@@ -100,7 +100,7 @@ words_hmmwithout() {
   right                the same of the right driver, of which there is no such race
   --all                a line for each of these drivers
   --answers            judges answers alone, and not the whole protocol
-  --most MOST          gives up beyond MOST states, and not beyond 1,000,000
+  --most MOST          gives up beyond MOST states, and not beyond 100,000, or 20,000 for each driver of --all
   --progress           says every five seconds how long it has searched, and in how much memory; so on a terminal
 
 END
@@ -343,7 +343,8 @@ read_rule_words() {
         shift
     done
     [ -n "$rule" ] || refuse_no_rule "${rest[@]}"
-    words=("$rule" "${asked[@]}" ${most[@]+--most "${most[@]}"})
+    [ ${#most[@]} -gt 0 ] || most=("$([ "$rule" = --all ] && echo 20000 || echo 100000)")
+    words=("$rule" "${asked[@]}" --most "${most[@]}")
 }
 
 is_trace_rule() { grep -qxF -e "$1" <<<"$(printf '%s\n' $trace_rules)"; }
