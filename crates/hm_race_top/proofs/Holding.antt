@@ -1,5 +1,8 @@
 -- What holds of the states that a search knows.
-use Rattle.std.proofs.Common.{◌≡◌, ℕ, ◌≤◌, Bool, true, false, List, length, refl}
+use Rattle.std.proofs.Common.{◌≡◌, ◌⊎◌, inl, inr, ℕ, ◌≤◌, Bool, true, false, List, [], ◌++◌, length, refl, sym, ap, ◌∙◌, subst}
+use Rattle.std.proofs.lemmas.List.{append-nil}
+use Rattle.hm_race_laws.proofs.Searching.{listed_cases}
+use Rattle.hm_race_top.specs.Run.Played.{HaveOrders}
 use Rattle.hm_base.specs.Program.{Program, IsScript}
 use Rattle.hm_edge.specs.declared.status.Status.{Status}
 use Rattle.hm_race_top.specs.Text.Conditions.Absent.{SeenIsRight, StrictIsRight, have_absent}
@@ -11,10 +14,10 @@ use Rattle.hm_race_top.specs.declared.text.conditions.question.Question.{Questio
 use Rattle.hm_race_top.specs.declared.text.conditions.rulings.Ruling.{Ruling}
 use Rattle.hm_history.specs.Kernel.Run.{run}
 use Rattle.hm_search.specs.Goals.{AreMissed, Reaches}
-use Rattle.hm_race_top.specs.Run.Known.{KnownValue, AreFewest, AreKnown, HaveForms, IsComplete, IsCut, IsNear, IsSoon}
+use Rattle.hm_race_top.specs.Run.Known.{KnownValue, AreFewest, AreKnown, HaveForms, IsComplete, IsCut, IsKnown, IsNear, IsSoon}
 use Rattle.hm_search.specs.Known.{forms, AreRising}
 use Rattle.hm_search.specs.declared.search.End.{End}
-use Rattle.hm_race_laws.specs.Closed.{AreDistinct}
+use Rattle.hm_race_laws.specs.Closed.{AreDistinct, IsListed}
 use Rattle.hm_race_laws.specs.Outcomes.{Point}
 use Rattle.hm_race_top.specs.Text.Laws.{lines_of, NoneTwice}
 use Rattle.hm_script.specs.Built.{has_drain}
@@ -40,6 +43,12 @@ pub record HasSearched (most : ℕ) (c : Program) (goal : Point → Bool) (count
   pub rising : AreRising known
   pub fewest : AreFewest c (run c) known
 
+-- what the orders ensure that were played after a search that ended so
+pub record HasPlayed (c : Program) (played : List KnownValue) (end : End) : Type 0 where
+  pub orders : end ≡ End.Cut → HaveOrders c played
+  pub led : AreKnown c (run c) played
+  pub none : (end ≡ End.Cut → ⊥) → played ≡ []
+
 -- the laws that this rests on
 pub record Rests : Type 0 where
   pub are_true : KnownIsTrue
@@ -56,12 +65,15 @@ whole_is End.Whole e = refl
 whole_is End.Cut e = cc
 whole_is End.Reached e = cc
 
-pub holds_by : Rests → (most : ℕ) (c : Program) → IsScript c → has_drain c.schedule ≡ false → (task : Task) (known : List KnownValue) (end : End)
-    → HasSearched most c (settled (goals_in task) (length c.actors)) (length known) known end → Holds most c task known end
-holds_by by most c script none task known end s = record {
+pub holds_by : Rests → (most : ℕ) (c : Program) → IsScript c → has_drain c.schedule ≡ false → (task : Task) (known played : List KnownValue) (end : End)
+    → HasSearched most c (settled (goals_in task) (length c.actors)) (length known) known end → HasPlayed c played end → Holds most c task known played end
+holds_by by most c script none task known played end s p = record {
   searched = s.are_known;
   real = real;
-  distinct = by.twice (ways_of c known);
+  orders = p.orders;
+  led = p.led;
+  no_order = p.none;
+  distinct = by.twice (ways_of c (known ++ played));
   complete = complete;
   all = s.all;
   few = s.few;
@@ -71,33 +83,46 @@ holds_by by most c script none task known end s = record {
   soon = s.soon;
   near = s.near;
   missed = s.missed;
-  right = λ q l. by.right c q.condition (lines_of (blocks_known c known)) (is_whole end) are_outcomes are_listed;
-  seen = by.seen c (lines_of (blocks_known c known)) (is_whole end) are_outcomes are_listed;
+  right = λ q l. by.right c q.condition (lines_of (blocks_known c (known ++ played))) (is_whole end) are_outcomes are_listed;
+  seen = by.seen c (lines_of (blocks_known c (known ++ played))) (is_whole end) are_outcomes are_listed;
   strict = strict task;
   rising = s.rising;
   fewest = s.fewest;
 }
   where
-    real : AreTrue c (blocks_known c known)
-    real = by.are_true c script none known s.are_known
+    real : AreTrue c (blocks_known c (known ++ played))
+    real = by.are_true c script none (known ++ played) each
+      where
+        each : AreKnown c (run c) (known ++ played)
+        each n l = from (listed_cases known played n l)
+          where
+            from : IsListed known n ⊎ IsListed played n → IsKnown c (run c) n
+            from (inl k) = s.are_known n k
+            from (inr k) = p.led n k
 
-    complete : end ≡ End.Whole → HaveAll c (blocks_known c known)
-    complete e = by.are_all c known (s.complete e)
+    complete : end ≡ End.Whole → HaveAll c (blocks_known c (known ++ played))
+    complete e = by.are_all c (known ++ played) (subst (λ (ns : List KnownValue). IsComplete c (run c) ns) (sym (ap (λ (ns : List KnownValue). known ++ ns) (p.none (not_cut e)) ∙ append-nil known)) (s.complete e))
+      where
+        not_cut : end ≡ End.Whole → end ≡ End.Cut → ⊥
+        not_cut e k = no (sym e ∙ k)
+          where
+            no : End.Whole ≡ End.Cut → ⊥
+            no e = cc
 
-    are_outcomes : AllReal c (lines_of (blocks_known c known))
-    are_outcomes = by.are_real c (blocks_known c known) real
+    are_outcomes : AllReal c (lines_of (blocks_known c (known ++ played)))
+    are_outcomes = by.are_real c (blocks_known c (known ++ played)) real
 
-    are_listed : is_whole end ≡ true → AllListed c (lines_of (blocks_known c known))
-    are_listed w = by.are_listed c (blocks_known c known) (complete (whole_is end w))
+    are_listed : is_whole end ≡ true → AllListed c (lines_of (blocks_known c (known ++ played)))
+    are_listed w = by.are_listed c (blocks_known c (known ++ played)) (complete (whole_is end w))
 
     is_done : (r : Ruling) → ending_of r ≡ Status.Done → r ≡ Ruling.Holds
     is_done Ruling.Holds e = refl
     is_done Ruling.Fails e = cc
     is_done Ruling.Open e = cc
 
-    strict_by : (qs : List Question) (status : Status) → (told c (Task.Strict qs) known end).ends ≡ status → IsStrict c (Task.Strict qs) status
-    strict_by qs Status.Done e = by.strict c qs (lines_of (blocks_known c known)) (is_whole end) are_outcomes
-        (is_done (strictly (summary qs (lines_of (blocks_known c known)) (is_whole end)) (have_absent qs (lines_of (blocks_known c known))) (is_whole end)) e)
+    strict_by : (qs : List Question) (status : Status) → (told c (Task.Strict qs) known played end).ends ≡ status → IsStrict c (Task.Strict qs) status
+    strict_by qs Status.Done e = by.strict c qs (lines_of (blocks_known c (known ++ played))) (is_whole end) are_outcomes
+        (is_done (strictly (summary qs (lines_of (blocks_known c (known ++ played))) (is_whole end)) (have_absent qs (lines_of (blocks_known c (known ++ played)))) (is_whole end)) e)
     strict_by qs (Status.NotLegal n) e = tt
     strict_by qs Status.Usage e = tt
     strict_by qs (Status.Refused r) e = tt
@@ -111,7 +136,7 @@ holds_by by most c script none task known end s = record {
     strict_by qs Status.TooManyRows e = tt
     strict_by qs (Status.Race r) e = tt
 
-    strict : (t : Task) → IsStrict c t (told c t known end).ends
+    strict : (t : Task) → IsStrict c t (told c t known played end).ends
     strict Task.Outcomes = tt
     strict Task.Table = tt
     strict (Task.Script n) = tt

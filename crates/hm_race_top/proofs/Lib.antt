@@ -34,3 +34,4 @@ mod Outcomes
 mod Turns
 mod Users
 pub mod Unasked
+mod Playing

@@ -1,5 +1,5 @@
 -- What a call has found, by how it ends.
-use Rattle.std.proofs.Common.{◌≡◌, ℕ, inr, Bool, true, false, Option, Some, None, List, length, refl, sym, ap, ◌∙◌, subst}
+use Rattle.std.proofs.Common.{◌≡◌, ℕ, inr, Bool, true, false, Option, Some, None, List, ◌++◌, length, refl, sym, ap, ◌∙◌, subst}
 use Rattle.hm_base.specs.Program.{Program}
 use Rattle.hm_race_top.specs.declared.text.conditions.rulings.Ruling.{Ruling}
 use Rattle.hm_race_top.specs.Text.Conditions.Absent.{have_absent}
@@ -49,14 +49,14 @@ telling_ends c (Task.Script n) bs states end = script_ends c (numbered bs n) (is
 telling_ends c (Task.Expect qs) bs states end = ruling_ends (summary qs (lines_of bs) (is_whole end))
 telling_ends c (Task.Strict qs) bs states end = ruling_ends (strictly (summary qs (lines_of bs) (is_whole end)) (have_absent qs (lines_of bs)) (is_whole end))
 
-module _ (most : ℕ) (c : Program) (task : Task) (known : List KnownValue) (end : End) (holds : Holds most c task known end) (none : has_drain c.schedule ≡ false) (asks : unasked c (questions_in task) ≡ None) (before after : SinkState) where
-  found : (status : Status) → HasTold (told c task known end) before after status → Found most c task before after status
-  found status w = record { known = known; end = end; holds = holds; written = w; races = none; asks = asks }
+module _ (most : ℕ) (c : Program) (task : Task) (known played : List KnownValue) (end : End) (holds : Holds most c task known played end) (none : has_drain c.schedule ≡ false) (asks : unasked c (questions_in task) ≡ None) (before after : SinkState) where
+  found : (status : Status) → HasTold (told c task known played end) before after status → Found most c task before after status
+  found status w = record { known = known; played = played; end = end; holds = holds; written = w; races = none; asks = asks }
 
-  not_so : (status : Status) → (IsOfOutcomes status → ⊥) → status ≡ (told c task known end).ends → ⊥
+  not_so : (status : Status) → (IsOfOutcomes status → ⊥) → status ≡ (told c task known played end).ends → ⊥
   not_so status none same = none (subst IsOfOutcomes (sym same) (telling_ends c task _ _ end))
 
-  race_found : (e : RaceEnd) → HasTold (told c task known end) before after (Status.Race e) → HasFound most c task before after (Status.Race e)
+  race_found : (e : RaceEnd) → HasTold (told c task known played end) before after (Status.Race e) → HasFound most c task before after (Status.Race e)
   race_found (RaceEnd.NoCondition m n) w = absurd (not_so (Status.Race (RaceEnd.NoCondition m n)) (λ u. u) w.0)
   race_found RaceEnd.Fails w = found (Status.Race RaceEnd.Fails) w
   race_found RaceEnd.Unsettled w = found (Status.Race RaceEnd.Unsettled) w
@@ -66,7 +66,7 @@ module _ (most : ℕ) (c : Program) (task : Task) (known : List KnownValue) (end
   race_found RaceEnd.Broken w = absurd (not_so (Status.Race RaceEnd.Broken) (λ u. u) w.0)
   race_found RaceEnd.Open w = absurd (not_so (Status.Race RaceEnd.Open) (λ u. u) w.0)
 
-  pub has_found : (status : Status) → HasTold (told c task known end) before after status → HasFound most c task before after status
+  pub has_found : (status : Status) → HasTold (told c task known played end) before after status → HasFound most c task before after status
   has_found Status.Done w = found Status.Done w
   has_found Status.WriteFault w = found Status.WriteFault w
   has_found Status.NoMemory w = inr (found Status.NoMemory w)
@@ -148,7 +148,7 @@ all_sent (Status.Race RaceEnd.Open) pending i same = same
 
 -- ---- one text
 
-pub told_same : (c : Program) (task : Task) (known : List KnownValue) (end : End) (bs : List OutcomeBlock) (actors states : ℕ) → actors ≡ length c.actors → states ≡ length known → bs ≡ blocks_of (ways_by actors known)
-    → telling c task bs states end ≡ told c task known end
-told_same c task known end bs actors states is all same =
-    ap (λ (n : ℕ). telling c task bs n end) all ∙ ap (λ (x : List OutcomeBlock). telling c task x (length known) end) (same ∙ ap (λ (n : ℕ). blocks_of (ways_by n known)) is)
+pub told_same : (c : Program) (task : Task) (known played : List KnownValue) (end : End) (bs : List OutcomeBlock) (actors states : ℕ) → actors ≡ length c.actors → states ≡ length known → bs ≡ blocks_of (ways_by actors (known ++ played))
+    → telling c task bs states end ≡ told c task known played end
+told_same c task known played end bs actors states is all same =
+    ap (λ (n : ℕ). telling c task bs n end) all ∙ ap (λ (x : List OutcomeBlock). telling c task x (length known) end) (same ∙ ap (λ (n : ℕ). blocks_of (ways_by n (known ++ played))) is)

@@ -22,11 +22,14 @@ use Rattle.hm_race_top.specs.Telling.{HasTold, IsSentOn, IsStrict, told}
 use Rattle.hm_race_top.specs.Theorem.{AreRight, IsOfRace, IsUnasked, NoRace, TellsRace, Theorem, ToldBy, ToldRace, ToldRacing}
 use Rattle.hm_race_top.specs.declared.asked.Task.{Task}
 
-are_right : (most : ℕ) (c : Program) (task : Task) (known : List KnownValue) (end : End) → Holds most c task known end → AreRight most c task known end
-are_right most c task known end h = record {
+are_right : (most : ℕ) (c : Program) (task : Task) (known played : List KnownValue) (end : End) → Holds most c task known played end → AreRight most c task known played end
+are_right most c task known played end h = record {
   all = h.complete;
   real = h.real;
   once = h.distinct;
+  orders = h.orders;
+  led = h.led;
+  no_order = h.no_order;
   right = h.right;
   seen = h.seen;
   states = h.searched;
@@ -47,8 +50,8 @@ module _ (most : ℕ) (task : Task) (bytes held : List ℕ) (io : Traffic) (left
   same_held same = ap (λ (k : SinkState). k.held) same
 
   -- a script was read, and what is told of its race went out
-  tells_race : (c : Program) (status : Status) → ReadAs 4194304 (IsTextOf c) io.source io.source_after → (f : Found most c task io.sink io.sink_after status) → status ≡ (told c task f.known f.end).ends
-      → Adds io.sink.held io.sink_after.held (told c task f.known f.end).text → io.sink_after.pending ≡ false → TellsRace most task bytes held io status
+  tells_race : (c : Program) (status : Status) → ReadAs 4194304 (IsTextOf c) io.source io.source_after → (f : Found most c task io.sink io.sink_after status) → status ≡ (told c task f.known f.played f.end).ends
+      → Adds io.sink.held io.sink_after.held (told c task f.known f.played f.end).text → io.sink_after.pending ≡ false → TellsRace most task bytes held io status
   tells_race c status read f ends adds sent = record {
     script = c;
     spells = spells bytes held io left holds c read;
@@ -56,10 +59,11 @@ module _ (most : ℕ) (task : Task) (bytes held : List ℕ) (io : Traffic) (left
     races = f.races;
     asks = f.asks;
     known = f.known;
+    played = f.played;
     end = f.end;
-    are = are_right most c task f.known f.end f.holds;
+    are = are_right most c task f.known f.played f.end f.holds;
     ends = ends;
-    out = goes_out bytes held io left holds (told c task f.known f.end).text adds sent;
+    out = goes_out bytes held io left holds (told c task f.known f.played f.end).text adds sent;
     strict = subst (IsStrict c task) (sym ends) f.holds.strict;
   }
 
@@ -75,19 +79,20 @@ module _ (most : ℕ) (task : Task) (bytes held : List ℕ) (io : Traffic) (left
   of_race : (c : Program) → ReadAs 4194304 (IsTextOf c) io.source io.source_after → Found most c task io.sink io.sink_after Status.NoMemory → CutShort (IsOfRace most task bytes) held io
   of_race c read f = by f.written
     where
-      text_of : (t : List ℕ) → t ≡ (told c task f.known f.end).text → IsOfRace most task bytes t
+      text_of : (t : List ℕ) → t ≡ (told c task f.known f.played f.end).text → IsOfRace most task bytes t
       text_of t is = record {
         script = c;
         spells = spells bytes held io left holds c read;
         known = f.known;
+        played = f.played;
         end = f.end;
-        are = are_right most c task f.known f.end f.holds;
+        are = are_right most c task f.known f.played f.end f.holds;
         text_is = is;
       }
 
-      by : HasTold (told c task f.known f.end) io.sink io.sink_after Status.NoMemory → CutShort (IsOfRace most task bytes) held io
+      by : HasTold (told c task f.known f.played f.end) io.sink io.sink_after Status.NoMemory → CutShort (IsOfRace most task bytes) held io
       by (inl same) = inl (nothing_out bytes held io left holds (same_held same))
-      by (inr w) = cut_short bytes held io left holds (λ u. u ≡ (told c task f.known f.end).text) (IsOfRace most task bytes) text_of w
+      by (inr w) = cut_short bytes held io left holds (λ u. u ≡ (told c task f.known f.played f.end).text) (IsOfRace most task bytes) text_of w
 
   searched : (c : Program) (status : Status) → ReadAs 4194304 (IsTextOf c) io.source io.source_after → HasFound most c task io.sink io.sink_after status → WriteFaulted io.sink.faults io.sink_after.faults status → IsSentOn io.sink_after.pending status
       → ToldRace most task bytes held io status

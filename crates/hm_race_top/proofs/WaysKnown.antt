@@ -12,7 +12,7 @@ use Rattle.hm_race_top.specs.Text.Laws.{lines_of, WaysAreShown}
 use Rattle.hm_race_top.specs.Text.Text.{Way, block_of, with_block, blocks_of}
 use Rattle.hm_race_top.specs.declared.text.block.OutcomeBlock.{OutcomeBlock}
 use Rattle.hm_race_top.specs.Laws.{WaysAreOutcomes, CompleteIsAll}
-use Rattle.hm_race_top.specs.Ways.{way_by, ways_by, ways_of, blocks_known}
+use Rattle.hm_race_top.specs.Ways.{way_by, ways_by, ways_of, with_ways, blocks_known}
 
 pub ways_are_outcomes : WaysAreOutcomes
 ways_are_outcomes c [] = refl
@@ -62,36 +62,42 @@ came_from actors (n ∷ ns) w l = by (came_from actors ns w) n.ended refl l
 
 -- ---- one more state
 
-ways_more : (actors : ℕ) (ns : List KnownValue) (n : KnownValue) → ways_by actors (ns ++ n ∷ []) ≡ ways_by actors ns ++ ways_by actors (n ∷ [])
-ways_more actors [] n = refl
-ways_more actors (m ∷ ns) n = by (ways_more actors ns n) m.ended
+pub ways_more : (actors : ℕ) (ns ms : List KnownValue) → ways_by actors (ns ++ ms) ≡ ways_by actors ns ++ ways_by actors ms
+ways_more actors [] ms = refl
+ways_more actors (m ∷ ns) ms = by (ways_more actors ns ms) m.ended
   where
-    by : ways_by actors (ns ++ n ∷ []) ≡ ways_by actors ns ++ ways_by actors (n ∷ []) → (t : Bool)
-        → (if t then way_by actors m ∷ ways_by actors (ns ++ n ∷ []) else ways_by actors (ns ++ n ∷ []))
-        ≡ (if t then way_by actors m ∷ ways_by actors ns else ways_by actors ns) ++ ways_by actors (n ∷ [])
+    by : ways_by actors (ns ++ ms) ≡ ways_by actors ns ++ ways_by actors ms → (t : Bool)
+        → (if t then way_by actors m ∷ ways_by actors (ns ++ ms) else ways_by actors (ns ++ ms))
+        ≡ (if t then way_by actors m ∷ ways_by actors ns else ways_by actors ns) ++ ways_by actors ms
     by rest true = ap (λ (ws : List Way). way_by actors m ∷ ws) rest
     by rest false = rest
 
+-- blocks of known states, and then of more
+pub more_blocks : (actors : ℕ) (ns ms : List KnownValue) (bs new : List OutcomeBlock) → bs ≡ blocks_of (ways_by actors ns) → new ≡ with_ways bs (ways_by actors ms) → new ≡ blocks_of (ways_by actors (ns ++ ms))
+more_blocks actors ns ms bs new so next =
+    next ∙ ap (λ (cs : List OutcomeBlock). with_ways cs (ways_by actors ms)) so
+    ∙ sym (ap blocks_of (ways_more actors ns ms) ∙ fold-append (λ (cs : List OutcomeBlock) (w : Way). with_block cs (block_of w)) [] (ways_by actors ns) (ways_by actors ms))
+
 module _ (actors : ℕ) (ns : List KnownValue) (i : ℕ) (n : KnownValue) (lt : i < length ns) (is : get_or ns i n ≡ n) where
   grown : ways_by actors (take (i + 1) ns) ≡ ways_by actors (take i ns) ++ ways_by actors (n ∷ [])
-  grown = ap (ways_by actors) (take_more ns i n lt ∙ ap (λ (x : KnownValue). take i ns ++ x ∷ []) is) ∙ ways_more actors (take i ns) n
+  grown = ap (ways_by actors) (take_more ns i n lt ∙ ap (λ (x : KnownValue). take i ns ++ x ∷ []) is) ∙ ways_more actors (take i ns) (n ∷ [])
 
-  pub one_ended : (bs new : List OutcomeBlock) → n.ended ≡ true → bs ≡ blocks_of (ways_by actors (take i ns)) → new ≡ with_block bs (block_of (way_by actors n))
-      → new ≡ blocks_of (ways_by actors (take (i + 1) ns))
-  one_ended bs new e so next =
+  pub one_ended : (start bs new : List OutcomeBlock) → n.ended ≡ true → bs ≡ with_ways start (ways_by actors (take i ns)) → new ≡ with_block bs (block_of (way_by actors n))
+      → new ≡ with_ways start (ways_by actors (take (i + 1) ns))
+  one_ended start bs new e so next =
       let one : ways_by actors (n ∷ []) ≡ way_by actors n ∷ [] =
       ap (λ (t : Bool). if t then way_by actors n ∷ [] else []) e in
       next ∙ ap (λ (cs : List OutcomeBlock). with_block cs (block_of (way_by actors n))) so
-      ∙ sym (ap blocks_of (grown ∙ ap (λ (ws : List Way). ways_by actors (take i ns) ++ ws) one)
-      ∙ fold-append (λ (cs : List OutcomeBlock) (w : Way). with_block cs (block_of w)) [] (ways_by actors (take i ns)) (way_by actors n ∷ []))
+      ∙ sym (ap (with_ways start) (grown ∙ ap (λ (ws : List Way). ways_by actors (take i ns) ++ ws) one)
+      ∙ fold-append (λ (cs : List OutcomeBlock) (w : Way). with_block cs (block_of w)) start (ways_by actors (take i ns)) (way_by actors n ∷ []))
 
-  pub one_open : (bs : List OutcomeBlock) → n.ended ≡ false → bs ≡ blocks_of (ways_by actors (take i ns))
-      → bs ≡ blocks_of (ways_by actors (take (i + 1) ns))
-  one_open bs e so =
+  pub one_open : (start bs : List OutcomeBlock) → n.ended ≡ false → bs ≡ with_ways start (ways_by actors (take i ns))
+      → bs ≡ with_ways start (ways_by actors (take (i + 1) ns))
+  one_open start bs e so =
       let none : ways_by actors (n ∷ []) ≡ [] =
       ap (λ (t : Bool). if t then way_by actors n ∷ [] else []) e in
-      so ∙ sym (ap blocks_of (grown ∙ ap (λ (ws : List Way). ways_by actors (take i ns) ++ ws) none)
-      ∙ fold-append (λ (cs : List OutcomeBlock) (w : Way). with_block cs (block_of w)) [] (ways_by actors (take i ns)) [])
+      so ∙ sym (ap (with_ways start) (grown ∙ ap (λ (ws : List Way). ways_by actors (take i ns) ++ ws) none)
+      ∙ fold-append (λ (cs : List OutcomeBlock) (w : Way). with_block cs (block_of w)) start (ways_by actors (take i ns)) [])
 
 -- all of them were taken
 pub took_all : (ns : List KnownValue) (i : ℕ) → length ns ≤ i → take i ns ≡ ns

@@ -1,5 +1,5 @@
 -- What a call comes to: what was read, and what was written of its race.
-use Rattle.std.specs.Prelude.{◌≡◌, ◌⊎◌, ◌≤◌, ℕ, true, false, List, length, Option, Some, None, IfSome}
+use Rattle.std.specs.Prelude.{◌≡◌, ◌⊎◌, ◌≤◌, ℕ, true, false, List, [], ◌++◌, length, Option, Some, None, IfSome}
 use Rattle.hm_base.specs.Program.{Program}
 use Rattle.hm_race_top.specs.Text.Conditions.Absent.{IsSeen, is_in}
 use Rattle.hm_race_top.specs.Text.Conditions.Rulings.{ruling_of, IsRuled}
@@ -11,6 +11,7 @@ use Rattle.hm_search.specs.Goals.{AreMissed, Reaches}
 use Rattle.hm_race_top.specs.Run.Known.{KnownValue, AreFewest, AreKnown, HaveForms}
 use Rattle.hm_search.specs.Known.{forms, AreRising}
 use Rattle.hm_race_top.specs.Run.Known.{IsCut, IsNear, IsSoon, MayFail}
+use Rattle.hm_race_top.specs.Run.Played.{HaveOrders}
 use Rattle.hm_search.specs.declared.search.End.{End}
 use Rattle.hm_race_laws.specs.Closed.{AreDistinct, IsListed}
 use Rattle.hm_race_top.specs.Text.Laws.{lines_of}
@@ -28,16 +29,22 @@ use Rattle.hm_race_top.specs.Telling.{told, HasTold, IsSentOn, IsStrict}
 use Rattle.hm_race_top.specs.Ways.{blocks_known, AreTrue, HaveAll}
 use Rattle.hm_race_top.specs.declared.asked.Task.{Task}
 
--- What holds of the states that a search of a script's race knows, by how it ended.
-pub record Holds (most : ℕ) (c : Program) (task : Task) (known : List KnownValue) (end : End) : Type 0 where
+-- What holds of the states that a search of a script's race knows, by how it ended, and of those to which orders of
+-- turns came that were played after it.
+pub record Holds (most : ℕ) (c : Program) (task : Task) (known played : List KnownValue) (end : End) : Type 0 where
   -- Each state that is counted is what its turns lead to from the set-up.
   pub searched : AreKnown c (run c) known
   -- Each block is true: the script with its schedule is a script whose run has these answers, and is legal.
-  pub real : AreTrue c (blocks_known c known)
+  pub real : AreTrue c (blocks_known c (known ++ played))
+  -- If the search was `cut`, an order of turns was played for each actor, which goes as long as it can. Each came to
+  -- what is written of it. No order was played after another search.
+  pub orders : end ≡ End.Cut → HaveOrders c played
+  pub led : AreKnown c (run c) played
+  pub no_order : (end ≡ End.Cut → ⊥) → played ≡ []
   -- No two blocks have the same answers.
-  pub distinct : AreDistinct (lines_of (blocks_known c known))
+  pub distinct : AreDistinct (lines_of (blocks_known c (known ++ played)))
   -- If it is `whole`, every outcome that the race can come to is there.
-  pub complete : end ≡ End.Whole → HaveAll c (blocks_known c known)
+  pub complete : end ≡ End.Whole → HaveAll c (blocks_known c (known ++ played))
   -- Then every state to which the race can come is counted, and they are at most as many as were asked for.
   pub all : end ≡ End.Whole → HaveForms c (run c) known
   pub few : end ≡ End.Whole → length known ≤ most
@@ -54,11 +61,11 @@ pub record Holds (most : ℕ) (c : Program) (task : Task) (known : List KnownVal
   pub missed : (end ≡ End.Reached → ⊥) → AreMissed (settled (goals_in task) (length c.actors)) known
   -- What is said of each condition is right of the race.
   pub right : (q : Question) → IsListed (questions_in task) q
-      → IsRuled c q.condition (ruling_of q.condition (lines_of (blocks_known c known)) (is_whole end))
+      → IsRuled c q.condition (ruling_of q.condition (lines_of (blocks_known c (known ++ played))) (is_whole end))
   -- So is what is said of each line that a condition may have: that an outcome has it, or that none has.
-  pub seen : (line : List ℕ) → IsSeen c line (is_in (lines_of (blocks_known c known)) line) (is_whole end)
+  pub seen : (line : List ℕ) → IsSeen c line (is_in (lines_of (blocks_known c (known ++ played))) line) (is_whole end)
   -- With `--strict` a call ends as done only if outcomes have the lines of the conditions.
-  pub strict : IsStrict c task (told c task known end).ends
+  pub strict : IsStrict c task (told c task known played end).ends
   -- The states stand in the order of how many turns lead to them, and no fewer turns lead to one of them.
   pub rising : AreRising known
   pub fewest : AreFewest c (run c) known
@@ -66,11 +73,12 @@ pub record Holds (most : ℕ) (c : Program) (task : Task) (known : List KnownVal
 -- The race of a script was searched, and this was written.
 pub record Found (most : ℕ) (c : Program) (task : Task) (before after : SinkState) (status : Status) : Type 0 where
   pub known : List KnownValue
+  pub played : List KnownValue
   pub end : End
-  pub holds : Holds most c task known end
+  pub holds : Holds most c task known played end
   -- The bytes written are the text of the task, and the call ends as it says; at `WriteFault` and `NoMemory` a front
   -- of them.
-  pub written : HasTold (told c task known end) before after status
+  pub written : HasTold (told c task known played end) before after status
   -- The schedule of the script does not end in `drain`.
   pub races : has_drain c.schedule ≡ false
   -- Its operations may end with each line of the conditions.

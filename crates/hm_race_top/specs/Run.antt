@@ -4,3 +4,4 @@ pub mod Turns
 pub mod Systems
 pub mod Known
 pub mod Laws
+pub mod Played

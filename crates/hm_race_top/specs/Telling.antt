@@ -1,5 +1,5 @@
 -- What is written of a race, by the states that a search knows, and how the call ends then.
-use Rattle.std.specs.Prelude.{◌≡◌, ◌⊎◌, ℕ, ◌-◌, ◌==◌, Bool, false, if◌then◌else◌, Option, Some, None, List, []}
+use Rattle.std.specs.Prelude.{◌≡◌, ◌⊎◌, ℕ, ◌-◌, ◌==◌, Bool, false, if◌then◌else◌, Option, Some, None, List, [], ◌++◌}
 use Rattle.std.specs.Prelude.{length, slice_get, ⊤}
 use Rattle.hm_base.specs.Program.{Program}
 use Rattle.hm_race_top.specs.Text.Conditions.Absent.{AreSeen, have_absent}
@@ -67,9 +67,9 @@ telling c (Task.Script n) bs states end = script_told c (numbered bs n) (is_whol
 telling c (Task.Expect qs) bs states end = rulings_told qs bs states end
 telling c (Task.Strict qs) bs states end = strictly_told qs bs states end
 
--- the same of the states that it knows
-abbrev pub told : Program → Task → List KnownValue → End → Telling
-told c task known end = telling c task (blocks_known c known) (length known) end
+-- the same of the states that it knows, and of those to which orders came that were played after it
+abbrev pub told : Program → Task → List KnownValue → List KnownValue → End → Telling
+told c task known played end = telling c task (blocks_known c (known ++ played)) (length known) end
 
 -- With `--strict` a call that ends as done has found an outcome with each line of a condition, unless the condition
 -- says itself that there is none.

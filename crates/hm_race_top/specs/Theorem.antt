@@ -22,6 +22,7 @@ use Rattle.hm_race_top.specs.Asked.{HasNoTask, IsTask, front, goals_in, question
 use Rattle.hm_race_top.specs.Goals.{settled}
 use Rattle.hm_race_top.specs.Races.{IsSure}
 use Rattle.hm_race_top.specs.Run.Known.{AreFewest, IsCut, IsKnown, IsNear, IsSoon, KnownValue, MayFail}
+use Rattle.hm_race_top.specs.Run.Played.{HaveOrders}
 use Rattle.hm_race_top.specs.Runs.{Runs, name, usage}
 use Rattle.hm_race_top.specs.Telling.{IsStrict, told}
 use Rattle.hm_race_lines.specs.Answers.{answer_lines}
@@ -36,20 +37,25 @@ use Rattle.hm_race_top.specs.declared.text.block.OutcomeBlock.{OutcomeBlock}
 use Rattle.hm_race_top.specs.declared.text.conditions.question.Question.{Question}
 
 -- What is right of the outcomes and states that are told of a script's race.
-pub record AreRight (most : ℕ) (c : Program) (task : Task) (known : List KnownValue) (end : End) : Type 0 where
+pub record AreRight (most : ℕ) (c : Program) (task : Task) (known played : List KnownValue) (end : End) : Type 0 where
   -- **If the search ended `whole`, every outcome is there**: after every list of entries that are due one after the
   -- other from the set-up on, after which all operations have ended, the lines of its answers are those of a block.
   pub all : end ≡ End.Whole → (es : List Entry) → DueFrom c (run c) es → ended c (run c ++ es) ≡ true
-      → IsListed (lines_of (blocks_known c known)) (answer_lines (outcome c (answers_of es)))
+      → IsListed (lines_of (blocks_known c (known ++ played))) (answer_lines (outcome c (answers_of es)))
   -- Every outcome that is there can come: its schedule leads to it, by a legal history. None is there twice.
-  pub real : (b : OutcomeBlock) → IsListed (blocks_known c known) b → IsTrueOf c b
-  pub once : AreDistinct (lines_of (blocks_known c known))
+  pub real : (b : OutcomeBlock) → IsListed (blocks_known c (known ++ played)) b → IsTrueOf c b
+  pub once : AreDistinct (lines_of (blocks_known c (known ++ played)))
+  -- **If the search was `cut`, each actor has an order of turns in which it goes as long as it can**, and somebody else
+  -- then: until nobody can go on, or through 4,096 turns. If all operations have ended there, its outcome is there.
+  pub orders : end ≡ End.Cut → HaveOrders c played
+  pub led : (n : KnownValue) → IsListed played n → IsKnown c (run c) n
+  pub no_order : ¬ (end ≡ End.Cut) → played ≡ []
   -- What is said of each condition is right of the race.
   pub right : (q : Question) → IsListed (questions_in task) q
-      → IsRuled c q.condition (ruling_of q.condition (lines_of (blocks_known c known)) (is_whole end))
+      → IsRuled c q.condition (ruling_of q.condition (lines_of (blocks_known c (known ++ played))) (is_whole end))
   -- So is what is said of a line: that it is in no outcome of the race, or, if that is not said, that it is in one. At
   -- `whole` one of the two is known of each line.
-  pub seen : (line : List ℕ) → IsSeen c line (is_in (lines_of (blocks_known c known)) line) (is_whole end)
+  pub seen : (line : List ℕ) → IsSeen c line (is_in (lines_of (blocks_known c (known ++ played))) line) (is_whole end)
   -- Each state that is counted is what its turns lead to, and none is counted twice; at `whole` all are counted, and
   -- they are no more than were asked for.
   pub states : (n : KnownValue) → IsListed known n → IsKnown c (run c) n
@@ -76,10 +82,11 @@ pub record TellsRace (most : ℕ) (task : Task) (bytes held : List ℕ) (io : Tr
   pub races : has_drain script.schedule ≡ false
   pub asks : unasked script (questions_in task) ≡ None
   pub known : List KnownValue
+  pub played : List KnownValue
   pub end : End
-  pub are : AreRight most script task known end
-  pub ends : status ≡ (told script task known end).ends
-  pub out : GoesOut held (told script task known end).text io
+  pub are : AreRight most script task known played end
+  pub ends : status ≡ (told script task known played end).ends
+  pub out : GoesOut held (told script task known played end).text io
   -- With `--strict` it is 0 only if an outcome of the race has each line of each condition, unless the condition says
   -- itself that none has it.
   pub strict : IsStrict script task status
@@ -89,9 +96,10 @@ pub record IsOfRace (most : ℕ) (task : Task) (bytes t : List ℕ) : Type 0 whe
   pub script : Program
   pub spells : Spells script bytes
   pub known : List KnownValue
+  pub played : List KnownValue
   pub end : End
-  pub are : AreRight most script task known end
-  pub text_is : t ≡ (told script task known end).text
+  pub are : AreRight most script task known played end
+  pub text_is : t ≡ (told script task known played end).text
 
 -- The condition of this number has a line, whose first word has this number, that no operation of the script may end
 -- with; and no outcome of its race has such a line.

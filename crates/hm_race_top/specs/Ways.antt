@@ -1,5 +1,5 @@
 -- The ways to the outcomes that a search knows, and what holds of what is written of them.
-use Rattle.std.specs.Prelude.{◌≡◌, ◌≤◌, ℕ, true, if◌then◌else◌, length, List, [], ◌∷◌, ◌++◌, map}
+use Rattle.std.specs.Prelude.{◌≡◌, ◌≤◌, ℕ, true, if◌then◌else◌, length, List, [], ◌∷◌, ◌++◌, map, fold}
 use Rattle.hm_base.specs.Program.{Program, IsScript, run_lines}
 use Rattle.hm_history.specs.Laws.{DueFrom}
 use Rattle.hm_history.specs.Kernel.Legal.{Legal}
@@ -13,7 +13,7 @@ use Rattle.hm_search.specs.Known.{turns_at}
 use Rattle.hm_race_lines.specs.Answers.{answer_lines}
 use Rattle.hm_race_top.specs.Text.Laws.{lines_of}
 use Rattle.hm_race_top.specs.Text.Schedule.{with_turns}
-use Rattle.hm_race_top.specs.Text.Text.{Way, block_of, blocks_of}
+use Rattle.hm_race_top.specs.Text.Text.{Way, block_of, blocks_of, with_block}
 use Rattle.hm_race_top.specs.declared.text.block.OutcomeBlock.{OutcomeBlock}
 
 -- the way to the state with this number, whose form this is, with the answers of `actors` actors
@@ -32,6 +32,10 @@ ways_by actors (n ∷ ns) = if n.ended then way_by actors n ∷ ways_by actors n
 -- the ways to the outcomes of a script's race, of what a search knows
 abbrev pub ways_of : Program → List KnownValue → List Way
 ways_of c ns = ways_by (length c.actors) ns
+
+-- with the blocks of these ways, but for those whose lines are there already
+abbrev pub with_ways : List OutcomeBlock → List Way → List OutcomeBlock
+with_ways bs ws = fold (λ cs w. with_block cs (block_of w)) bs ws
 
 -- what is written of them
 abbrev pub blocks_known : Program → List KnownValue → List OutcomeBlock

@@ -3,6 +3,7 @@ ghost use Rattle.std.specs.Prelude.{◌≡◌, false, None, map, string_bytes};
 ghost use Rattle.hm_search.specs.Values.{all_known};
 ghost use Rattle.hm_race_states.specs.Keyed.{form_in};
 ghost use Rattle.hm_race_top.specs.Asked.{questions_in};
+ghost use Rattle.hm_race_top.specs.Run.Played.{all_played};
 ghost use Rattle.hm_race_top.specs.Text.Conditions.Asking.{unasked};
 ghost use Rattle.hm_race_top.specs.Races.{HasFound, Races, Searches};
 ghost use Rattle.hm_race_top.specs.Telling.{HasTold, IsSentOn, told};
@@ -12,7 +13,7 @@ ghost use Rattle.hm_edge.specs.Writing.{WriteFaulted};
 
 use crate::asked::{Task, front, task_of};
 use crate::laws::{all_is_listed, complete_is_all, known_is_true, true_is_real};
-use crate::run::{ScriptRace, search};
+use crate::run::{Played, ScriptRace, orders_after, search};
 use crate::settling::Settling;
 use crate::telling::{tell, write_telling};
 use crate::text::unasked;
@@ -25,22 +26,23 @@ use hm_race_states::key::StateKey;
 use hm_search::Explored;
 use std::alloc::Global;
 
-/// Writes what is asked for, of a search that has ended.
+/// Writes what is asked for, of a search that has ended, and of the orders that were played after it.
 fn write_found<K: Sink>(
     alloc: Global,
     script: &Script,
     task: &Task,
     found: &Explored<StateKey>,
+    orders: &[Played],
     sink: &mut K,
 ) -> Status
-    ensures written { HasTold (told script.now task.now (all_known form_in found.now.known.items) found.now.end)
-        (K.state sink.old) (K.state sink.new) result }
+    ensures written { HasTold (told script.now task.now (all_known form_in found.now.known.items)
+        (all_played orders.now) found.now.end) (K.state sink.old) (K.state sink.new) result }
     ensures faults { WriteFaulted (K.state sink.old).faults (K.state sink.new).faults result }
     ensures flushed { IsSentOn (K.state sink.new).pending result }
 {
     script.facts();
     let known = found.known.as_slice();
-    let Ok(blocks) = blocks_of(alloc, script.actors.len(), known) else {
+    let Ok(blocks) = blocks_of(alloc, script.actors.len(), known, orders) else {
         return Status::NoMemory;
     };
     let states = known.len() as u64;
@@ -77,7 +79,10 @@ fn search_from<K: Sink>(
     crate::text::strict_is_right();
     let goal = Settling::new(alloc, task.goals(), script.actors.len());
     match search(alloc, race, &goal, most) {
-        Ok(found) => write_found(alloc, script, task, &found, sink),
+        Ok(found) => match orders_after(alloc, race, found.end) {
+            Ok(orders) => write_found(alloc, script, task, &found, orders.as_slice(), sink),
+            Err(NoMemory) => Status::NoMemory,
+        },
         Err(StepError::Full(_)) => Status::HistoryFull,
         Err(StepError::NoMemory) => Status::NoMemory,
     }

@@ -13,6 +13,7 @@ ghost use Rattle.hm_race_states.specs.Keyed.{form_in};
 
 mod keys;
 mod laws;
+mod played;
 mod race;
 mod turn;
 
@@ -20,6 +21,7 @@ use hm_history::StepError;
 use hm_race_states::key::StateKey;
 use hm_search::{End, Explored, Goal, explore};
 pub use laws::{forms_have_outcomes, known_are_real, races_are_systems, turns_are_all};
+pub(crate) use played::{Played, orders_after};
 pub(crate) use race::ScriptRace;
 pub use race::set_up_of;
 use std::alloc::Global;
