@@ -7,7 +7,7 @@ use Rattle.hm_flaws.specs.Parts.{all_parts, answers_alone}
 use Rattle.hm_flaws.specs.Recalled.{Recalled, meets_part_in}
 use Rattle.hm_flaws.specs.declared.parts.Part.{Part}
 use Rattle.hm_flaw_parts.specs.declared.judged.Judging.{Judging}
-use Rattle.hm_flaw_parts.specs.declared.judged.MetParts.{MetParts}
+use Rattle.hm_parts.specs.declared.parts.Parts.{Parts}
 
 -- the parts
 abbrev pub judged_parts : Judging → List Part
@@ -19,7 +19,7 @@ abbrev pub unless_met : Bool → Part → Option Part → Option Part
 unless_met met part rest = elim met [ true ↦ rest | false ↦ Some part ]
 
 -- the first part that is not met
-abbrev pub first_of : MetParts → Option Part
+abbrev pub first_of : Parts → Option Part
 first_of x =
     unless_met x.answers Part.Answers
     (unless_met x.places Part.Places
@@ -30,7 +30,7 @@ first_of x =
     (unless_met x.kept Part.Kept None))))))
 
 -- these are the parts that the entry meets, by what is recalled and how far the actors have come
-pub record AreMet (c : Program) (n : Recalled) (g : ℕ → Going) (e : Entry) (x : MetParts) : Type 0 where
+pub record AreMet (c : Program) (n : Recalled) (g : ℕ → Going) (e : Entry) (x : Parts) : Type 0 where
   pub answers : x.answers ≡ meets_part_in c n g e Part.Answers
   pub places : x.places ≡ meets_part_in c n g e Part.Places
   pub frames : x.frames ≡ meets_part_in c n g e Part.Frames

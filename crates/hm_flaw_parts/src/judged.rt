@@ -3,6 +3,7 @@ ghost use Rattle.std.specs.Prelude.{◌≡◌};
 ghost use Rattle.hm_flaw_parts.specs.Judged.{first_of};
 
 use hm_flaws::Part;
+use hm_parts::Parts;
 
 /// Which parts of legality an entry is judged by.
 #[derive(Clone, Copy)]
@@ -13,44 +14,30 @@ pub enum Judging {
     AnswersAlone,
 }
 
-/// Which parts of legality an entry meets.
-#[derive(Clone, Copy)]
-pub struct MetParts {
-    pub answers: bool,
-    pub places: bool,
-    pub frames: bool,
-    pub sequences: bool,
-    pub untold: bool,
-    pub guarded: bool,
-    pub kept: bool,
-}
-
-impl MetParts {
-    /// The first part that is not met.
-    pub fn first_broken(&self) -> Option<Part>
-        ensures { result ≡ first_of self.now }
-    {
-        if !self.answers {
-            return Some(Part::Answers);
-        }
-        if !self.places {
-            return Some(Part::Places);
-        }
-        if !self.frames {
-            return Some(Part::Frames);
-        }
-        if !self.sequences {
-            return Some(Part::Sequences);
-        }
-        if !self.untold {
-            return Some(Part::Untold);
-        }
-        if !self.guarded {
-            return Some(Part::Guarded);
-        }
-        if !self.kept {
-            return Some(Part::Kept);
-        }
-        None
+/// The first part that is not met.
+pub fn first_unmet(met: &Parts) -> Option<Part>
+    ensures { result ≡ first_of met.now }
+{
+    if !met.answers {
+        return Some(Part::Answers);
     }
+    if !met.places {
+        return Some(Part::Places);
+    }
+    if !met.frames {
+        return Some(Part::Frames);
+    }
+    if !met.sequences {
+        return Some(Part::Sequences);
+    }
+    if !met.untold {
+        return Some(Part::Untold);
+    }
+    if !met.guarded {
+        return Some(Part::Guarded);
+    }
+    if !met.kept {
+        return Some(Part::Kept);
+    }
+    None
 }

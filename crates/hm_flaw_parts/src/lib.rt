@@ -10,7 +10,7 @@ pub mod races;
 mod told_spans;
 mod values;
 
-pub use judged::{Judging, MetParts};
+pub use judged::{Judging, first_unmet};
 pub use marks::Marks;
 pub use told_spans::{ToldSpan, ToldSpans};
 pub use values::{Position, SetMark};

@@ -4,9 +4,9 @@ ghost use Rattle.std.specs.Prelude.{◌≡◌, ◌==◌, ◌&&◌, ◌||◌, ℕ
 ghost use Rattle.std.specs.Prelude.{if◌then◌else◌, slice_index_or, IfOk};
 ghost use Rattle.hm_history.specs.Memory.Lookups.{is_begin_of, is_set_of, set_from};
 ghost use Rattle.hm_history.specs.Memory.After.{After};
-ghost use Rattle.hm_history.specs.Memory.Rules.{is_finishing, is_no_frame, needs_full};
+ghost use Rattle.hm_history.specs.Memory.Rules.{is_finishing, is_no_frame};
 ghost use Rattle.hm_laws.specs.Past.{is_position};
-ghost use Rattle.hm_flaws.specs.Recalled.{fails_rightly_in, is_full, is_untold_by, told_by, uses_untold_in};
+ghost use Rattle.hm_flaws.specs.Recalled.{fails_rightly_in, is_full, is_untold_by, uses_untold_in};
 ghost use Rattle.hm_flaw_parts.specs.Buckets.{mixed_short, marks_number};
 ghost use Rattle.hm_flaw_parts.specs.Alike.{SameMarks};
 ghost use Rattle.hm_flaw_parts.specs.Marks.{at_of, marked_next, marked_start, marks_in, recalled_by, set_of, told_next};
@@ -16,8 +16,9 @@ ghost use Rattle.hm_race_keys.specs.Sparse.{found};
 
 use crate::told_spans::{ToldSpan, ToldSpans};
 use crate::values::{Position, SetMark};
-use hm_base::{Actor, Cause, MirrorId, NoMemory, PoolId};
-use hm_history::{Entry, KeptWhy, Kind, Who};
+use hm_base::{Actor, MirrorId, NoMemory, PoolId};
+use hm_history::{Entry, Kind, Who};
+use hm_parts::{is_finishing, is_no_frame, is_told_by, needs_full};
 use hm_race_keys::sparse::{Sparse, mixed};
 use hm_reads::Reads;
 use std::alloc::Global;
@@ -43,50 +44,6 @@ fn is_position(noted: &Option<Position>, at: u64) -> bool
     match noted {
         None => false,
         Some(position) => at == position.at,
-    }
-}
-
-fn is_finishing(kind: &Kind) -> bool
-    ensures { result ≡ is_finishing kind.now }
-{
-    matches!(kind, Kind::Place { .. } | Kind::Done(_) | Kind::Drop(_))
-}
-
-fn is_no_frame(entry: &Entry) -> bool
-    ensures { result ≡ is_no_frame (entry.now ∷ []) }
-{
-    matches!(
-        &entry.kind,
-        Kind::Kept {
-            at: _,
-            why: KeptWhy::NoFrame
-        }
-    )
-}
-
-// Whether the entry fails or is refused for want of a frame.
-fn needs_full(kind: &Kind) -> bool
-    ensures { result ≡ needs_full kind.now }
-{
-    match kind {
-        Kind::Failed {
-            who: _,
-            addr: _,
-            len: _,
-            cause,
-        } => matches!(cause, Cause::NoFrame),
-        Kind::Refused(cause) => matches!(cause, Cause::NoFrame),
-        _ => false,
-    }
-}
-
-// Whether a page that was told last there, if anywhere, was not told after a position.
-fn is_told_by(told: Option<u64>, since: u64) -> bool
-    ensures { result ≡ told_by told since }
-{
-    match told {
-        None => true,
-        Some(at) => at <= since,
     }
 }
 
@@ -284,7 +241,8 @@ impl Marks {
 
     // Whether the mirror's entry on the page was set after a look-up since which nobody was told.
     fn is_untold(&self, mirror: MirrorId, page: u64) -> bool
-        ensures { result ≡ is_untold_by ((marks_in self.now).set mirror page) (told_in self.now.told.value mirror page) }
+        ensures { result
+            ≡ is_untold_by ((marks_in self.now).set mirror page) (told_in self.now.told.value mirror page) }
     {
         let told = self.told.last(mirror, page);
         match self.sets.get(mirror.number(), page) {

@@ -5,8 +5,6 @@ use Rattle.hm_base.specs.declared.Frame.{Frame}
 use Rattle.hm_base.specs.declared.Place.{Place}
 use Rattle.hm_history.specs.Memory.Places.{Places}
 use Rattle.hm_folds.specs.Standing.{is_backed, is_moving_of}
-use Rattle.hm_folds.specs.declared.shares.Shares.{Shares}
-use Rattle.hm_flaw_states.specs.declared.judging.sharing.PageShares.{PageShares}
 use Rattle.hm_flaw_states.specs.declared.judging.sharing.Sharing.{Sharing}
 use Rattle.hm_flaw_states.specs.declared.judging.sharing.Sharing.TheVariants.{Standing, Moving}
 
@@ -19,7 +17,3 @@ has_to_do Moving s f x = is_moving_of f x
 abbrev pub is_counted : Sharing → Bool → Places → Frame → Place → Bool
 is_counted sharing false s f x = has_to_do sharing s f x
 is_counted sharing true s f x = has_to_do sharing s f x && writable x
-
--- the pages, and how many of them are writable
-abbrev pub shares_in : PageShares → Shares
-shares_in x = record { pages = x.pages; writers = x.writers }

@@ -20,9 +20,10 @@ use hm_base::{
     Script, Span,
 };
 use hm_flaws::Flaw;
+use hm_folds::place_tests::right_allows;
 use hm_history::TableRight;
 use hm_history::phases::{Migrating, MoveStep, Phase};
-use hm_race_states::here::{allows, is_exclusive_by};
+use hm_race_states::here::is_exclusive_by;
 use hm_reads::Reads;
 use hm_reads::operations::{is_to_device, op_mirror, page_of};
 use std::alloc::Global;
@@ -348,7 +349,7 @@ impl<'a, W: Details> Reads for Found<'a, W> {
 
     fn is_usable(&self, mirror: MirrorId, page: Page, writes: bool) -> bool {
         match self.own.table.get(mirror, page) {
-            Some(entry) => allows(entry.mapping.right, writes),
+            Some(entry) => right_allows(entry.mapping.right, writes),
             None => false,
         }
     }
@@ -397,7 +398,8 @@ impl<'a, W: Details> Finds for Found<'a, W> {
 
     fn is_readable(&self, mirror: MirrorId, page: Page) -> bool {
         match self.own.table.get(mirror, page) {
-            Some(entry) => allows(entry.mapping.right, false) && entry.mapping.target.is_some(),
+            Some(entry) => right_allows(entry.mapping.right, false)
+                && entry.mapping.target.is_some(),
             None => false,
         }
     }

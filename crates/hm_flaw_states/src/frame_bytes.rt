@@ -1,6 +1,6 @@
 // The bytes of frames.
-ghost use Rattle.std.specs.Prelude.{◌≡◌, ℕ, ◌*◌, ◌+◌, ◌≤◌, ◌<◌, ◌&&◌, nat_le, nat_lt, [], true, Some, if◌then◌else◌, length};
-ghost use Rattle.std.specs.Prelude.{IfOk, OnOk};
+ghost use Rattle.std.specs.Prelude.{◌≡◌, ℕ, ◌*◌, ◌+◌, ◌≤◌, ◌<◌, ◌&&◌, nat_le, nat_lt, [], true, Some, length};
+ghost use Rattle.std.specs.Prelude.{if◌then◌else◌, IfOk, OnOk};
 ghost use Rattle.hm_base.specs.PlaceWords.{pool_index, with_frame};
 ghost use Rattle.hm_base.specs.declared.Frame.{Frame as AnyFrame};
 ghost use Rattle.hm_history.specs.Memory.Words.{bytes_from};

@@ -1,8 +1,8 @@
 // The invalidations under way, one of each actor at most, kept exactly.
-ghost use Rattle.std.specs.Prelude.{◌≡◌, ◌++◌, ◌∷◌, ℕ, [], true, Some, None, length, option_copied, option_map, IfOk};
+ghost use Rattle.std.specs.Prelude.{◌≡◌, ℕ, [], true, Some, None, length, option_copied, option_map, IfOk};
 ghost use Rattle.std.specs.Prelude.{OnOk};
 ghost use Rattle.hm_history.specs.Memory.Words.{with_at};
-ghost use Rattle.hm_history.specs.Memory.Sequences.{Guarded, overlapping, sequences_next, with_told};
+ghost use Rattle.hm_history.specs.Memory.Sequences.{overlapping, sequences_next, with_told};
 ghost use Rattle.hm_folds.specs.Kept.{has_mirror};
 ghost use Rattle.hm_flaw_states.specs.Exact.{exact_in};
 ghost use Rattle.hm_flaw_states.specs.Guards.{guard_in, guard_of, guarded_in, guards_in, mirrors_in};
@@ -226,7 +226,8 @@ impl ActorGuards {
         kind: &Kind,
     ) -> Result<(), NoMemory>
         ensures { OnOk result
-            (guards_in self.new.guards.items ≡ (sequences_next (guarded_in seqs.now self.old.guards.items) actor kind.now).guard) }
+            (guards_in self.new.guards.items
+            ≡ (sequences_next (guarded_in seqs.now self.old.guards.items) actor kind.now).guard) }
     {
         match kind {
             Kind::Start { proc, span, seq: _ } => {

@@ -13,10 +13,11 @@ use hm_base::{
     Actor, Bytes, Cause, Dev, Frame, MirrorId, NoMemory, Op, Page, Place, PoolId, Proc, Rights,
     Script, Span,
 };
+use hm_folds::place_tests::right_allows;
 use hm_history::TableRight;
 use hm_history::locks::MapLock;
 use hm_history::phases::{Migrating, MoveStep, Phase};
-use hm_race_states::here::{allows, bytes_of, is_exclusive_by};
+use hm_race_states::here::{bytes_of, is_exclusive_by};
 use hm_race_states::tasks::RaceTask;
 use hm_reads::Reads;
 use hm_reads::operations::{is_to_device, op_mirror};
@@ -260,7 +261,7 @@ impl<'a> Reads for FlawHere<'a> {
 
     fn is_usable(&self, mirror: MirrorId, page: Page, writes: bool) -> bool {
         match self.state.tables.get(mirror, page) {
-            Some(entry) => allows(entry.mapping.right, writes),
+            Some(entry) => right_allows(entry.mapping.right, writes),
             None => false,
         }
     }

@@ -9,18 +9,17 @@ ghost use Rattle.hm_flaw_states.specs.States.{state_in};
 ghost use Rattle.hm_flaw_states.specs.Tidy.{IsTidy, TidyFor};
 
 mod answers;
-mod losing;
 mod places;
 mod sequences;
 mod sharing;
 
 use crate::here::FlawHere;
 use hm_base::NoMemory;
-use hm_flaw_parts::{Judging, Marks, MetParts};
+use hm_flaw_parts::{Judging, Marks, first_unmet};
 use hm_flaws::Part;
 use hm_history::phases::Migrating;
 use hm_history::{Entry, Kind};
-use hm_parts::meets_kept;
+use hm_parts::{Parts, meets_kept};
 use std::alloc::Global;
 
 // Which parts the entry meets; the records are those of its actor.
@@ -30,7 +29,7 @@ fn met_parts(
     marks: &Marks,
     records: &[Migrating],
     entry: &Entry,
-) -> Result<MetParts, NoMemory>
+) -> Result<Parts, NoMemory>
     requires tidy { IsTidy (state_in here.now.state.now).after.places }
     requires records { records.now ≡ ((state_in here.now.state.now).going entry.now.actor).pages }
     ensures { IfOk result (AreMet here.now.script.now
@@ -38,7 +37,7 @@ fn met_parts(
         (state_in here.now.state.now).going entry.now) }
 {
     let (actor, kind) = (entry.actor, &entry.kind);
-    Ok(MetParts {
+    Ok(Parts {
         answers: here.meets_answers(alloc, kind)?,
         places: here.meets_places(alloc, actor, kind)?,
         frames: marks.meets_frames(here, entry),
@@ -80,7 +79,7 @@ pub(crate) fn first_broken(
     match judging {
         Judging::AllParts => {
             let met = met_parts(alloc, here, marks, records, entry)?;
-            Ok(met.first_broken())
+            Ok(first_unmet(&met))
         }
         Judging::AnswersAlone => broken_answers(alloc, here, &entry.kind),
     }

@@ -18,7 +18,7 @@ pub struct KeptGuard {
 }
 
 /// Whether the set has a mirror.
-pub(crate) fn has_some(set: &[bool; 32]) -> bool
+pub fn has_some(set: &[bool; 32]) -> bool
     ensures { result ≡ nat_lt 0 (length (mirrors_of set.now)) }
 {
     for number in 0..32usize {
@@ -147,7 +147,8 @@ pub(crate) fn covers_told(guard: &Option<KeptGuard>, proc: Proc, page: Page) -> 
     }
 }
 
-fn has_page(span: Span, page: Page) -> bool
+/// Whether the page is one of the span.
+pub fn has_page(span: Span, page: Page) -> bool
     ensures { result ≡ covers span page }
 {
     let first = span.first().number();
@@ -155,7 +156,7 @@ fn has_page(span: Span, page: Page) -> bool
 }
 
 /// Whether the spans have the same pages.
-pub(crate) fn same_span(one: Span, other: Span) -> bool
+pub fn same_span(one: Span, other: Span) -> bool
     ensures { result ≡ same_span one other }
 {
     one.first() == other.first() && one.count() == other.count()

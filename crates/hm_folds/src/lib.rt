@@ -4,22 +4,22 @@
 
 mod been;
 mod commits;
-mod guards;
+pub mod guards;
 mod held;
 mod held_frames;
 pub mod intervals;
 pub mod memory;
 pub mod mirror_tables;
 mod numbers;
-mod place_tests;
+pub mod place_tests;
 mod places;
 mod plain;
 mod sequences;
-mod shares;
+pub mod shares;
 mod stored;
 mod table_map;
 mod windows;
 
 pub use places::PlaceState;
-pub use plain::PlainState;
+pub use plain::{PlainState, is_cause};
 pub use sequences::SeqState;

@@ -8,8 +8,8 @@ use hm_base::frames::{is_frame, sys_frame};
 use hm_base::{Actor, Dev, Frame, Place, PoolId};
 use hm_history::TableRight;
 
-// Whether the CPU may read, or write, through a place.
-pub(crate) fn cpu_may(place: &Place, writes: bool) -> bool
+/// Whether the CPU may read, or write, through a place.
+pub fn cpu_may(place: &Place, writes: bool) -> bool
     ensures { result ≡ (if writes then cpu_writes place.now else cpu_reads place.now) }
 {
     match place {
@@ -22,8 +22,8 @@ pub(crate) fn cpu_may(place: &Place, writes: bool) -> bool
     }
 }
 
-// Whether an entry with this right is read, or written.
-pub(crate) fn right_allows(right: TableRight, writes: bool) -> bool
+/// Whether an entry with this right is read, or written.
+pub fn right_allows(right: TableRight, writes: bool) -> bool
     ensures { result ≡ (if writes then may_write right else may_read right) }
 {
     match right {
@@ -33,8 +33,8 @@ pub(crate) fn right_allows(right: TableRight, writes: bool) -> bool
     }
 }
 
-// Whether a device reads, or writes, a page with this place through an entry that others may have too.
-pub(crate) fn place_allows(place: &Place, writes: bool) -> bool
+/// Whether a device reads, or writes, a page with this place through an entry that others may have too.
+pub fn place_allows(place: &Place, writes: bool) -> bool
     ensures { result ≡ (not (is_exclusive place.now) && (if writes then writable place.now else true)) }
 {
     match place {
@@ -43,13 +43,15 @@ pub(crate) fn place_allows(place: &Place, writes: bool) -> bool
     }
 }
 
-pub(crate) fn is_sole(right: TableRight) -> bool
+/// Whether one actor alone has the page of an entry with this right.
+pub fn is_sole(right: TableRight) -> bool
     ensures { result ≡ is_sole right }
 {
     matches!(right, TableRight::Sole)
 }
 
-pub(crate) fn is_exclusive_of(place: &Place, actor: Actor, target: &Option<Frame>) -> bool
+/// Whether the actor has the page of this place alone, and the entry names its frame.
+pub fn is_exclusive_of(place: &Place, actor: Actor, target: &Option<Frame>) -> bool
     ensures { result ≡ is_exclusive_of place.now actor target.now }
 {
     match place {
@@ -60,7 +62,8 @@ pub(crate) fn is_exclusive_of(place: &Place, actor: Actor, target: &Option<Frame
     }
 }
 
-pub(crate) fn is_for_device(target: &Option<Frame>, dev: Dev) -> bool
+/// Whether an entry of the device may name this: a frame of its own or of the system, or none.
+pub fn is_for_device(target: &Option<Frame>, dev: Dev) -> bool
     ensures { result ≡ is_for_device target.now dev }
 {
     match target {

@@ -393,7 +393,8 @@ impl PlainState {
     }
 }
 
-fn is_cause(found: Option<Cause>, cause: Cause) -> bool
+/// Whether this cause was found, of those that are told by areas and windows.
+pub fn is_cause(found: Option<Cause>, cause: Cause) -> bool
     ensures { result ≡ is_cause found cause }
 {
     match (found, cause) {

@@ -20,7 +20,7 @@ pub struct Shares {
 
 impl Shares {
     /// Those of one page with this place.
-    pub(crate) fn of_page(place: &Place) -> Shares
+    pub fn of_page(place: &Place) -> Shares
         ensures { result ≡ share_of place.now }
     {
         Shares {
@@ -40,7 +40,7 @@ impl Shares {
     }
 
     /// So many fewer.
-    pub(crate) fn less(self, fewer: Shares) -> Shares
+    pub fn less(self, fewer: Shares) -> Shares
         ensures { result ≡ less self fewer }
     {
         Shares {
@@ -50,7 +50,7 @@ impl Shares {
     }
 
     /// Whether, with these more, none is writable or there is one page at the most.
-    pub(crate) fn has_one_writer_with(self, more: Shares) -> bool
+    pub fn has_one_writer_with(self, more: Shares) -> bool
         ensures { result ≡ has_one_writer (plus self more) }
     {
         let one = match self.pages {

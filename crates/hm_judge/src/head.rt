@@ -25,8 +25,8 @@ fn head_fault(alloc: Global, bytes: &[u8], line: u64) -> Result<Fault, NoMemory>
     }
 }
 
-/// The line `history`, if it may stand in the place of this line: the version and the number of frames are a script, and
-/// so are these with any lines that a script goes on with.
+/// The line `history`, if it may stand in the place of this line: the version and the number of frames are a script,
+/// and so are these with any lines that a script goes on with.
 fn history_at(alloc: Global, line: u64) -> Result<Text, NoMemory>
     ensures { IfOk result (λ t. t ≡ (if nat_lt line 3 then [] else history_line)) }
 {

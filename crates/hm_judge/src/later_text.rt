@@ -1,10 +1,7 @@
 // The text of what is said of the entries after a first bad line.
-ghost use Rattle.std.specs.Prelude.{◌≡◌, ◌+◌, ◌^◌, ◌≤◌, ◌∷◌, ◌++◌, [], codes, length, IfOk, OnOk};
-ghost use Rattle.std.specs.Fmt.{decimal};
-ghost use Rattle.hm_report.specs.Report.{entry_line};
+ghost use Rattle.std.specs.Prelude.{◌≡◌, ◌+◌, ◌^◌, ◌≤◌, ◌++◌, length, IfOk, OnOk};
 ghost use Rattle.hm_judge.specs.LaterTexts.{also_line, also_lines, also_text, answer_text, early_text, followed_text};
 ghost use Rattle.hm_judge.specs.LaterTexts.{last_line, late_text, later_text, stop_line, stops};
-ghost use Rattle.hm_judge.specs.Texts.{judgement_text};
 
 use crate::answer::Answer;
 use crate::asked::Asked;

@@ -10,22 +10,24 @@ use hm_base::{Actor, Cause, PoolId};
 use hm_folds::PlaceState;
 use hm_history::{Entry, KeptWhy, Kind};
 
-fn is_finishing(kind: &Kind) -> bool
+/// Whether an entry of this kind ends what its actor asked a frame for.
+pub fn is_finishing(kind: &Kind) -> bool
     ensures { result ≡ is_finishing kind.now }
 {
     matches!(kind, Kind::Place { .. } | Kind::Done(_) | Kind::Drop(_))
 }
 
-fn is_no_frame(entry: &Entry) -> bool
+/// Whether the entry keeps something for want of a frame.
+pub fn is_no_frame(entry: &Entry) -> bool
     ensures { result ≡ is_no_frame (entry.now ∷ []) }
 {
-    match &entry.kind {
+    matches!(
+        &entry.kind,
         Kind::Kept {
             at: _,
-            why: KeptWhy::NoFrame,
-        } => true,
-        _ => false,
-    }
+            why: KeptWhy::NoFrame
+        }
+    )
 }
 
 fn wants_frame(cause: Cause) -> bool
@@ -35,7 +37,7 @@ fn wants_frame(cause: Cause) -> bool
 }
 
 /// Whether the entry fails or is refused for want of a frame.
-pub(crate) fn needs_full(kind: &Kind) -> bool
+pub fn needs_full(kind: &Kind) -> bool
     ensures { result ≡ needs_full kind.now }
 {
     match kind {

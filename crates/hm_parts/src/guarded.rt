@@ -11,7 +11,7 @@ use hm_folds::{PlaceState, SeqState};
 use hm_history::{Entry, Kind};
 
 /// Whether a page that had the old place loses a mapping, its frame or its write right with the new one.
-pub(crate) fn loses(old: &Place, new: &Place) -> bool
+pub fn loses(old: &Place, new: &Place) -> bool
     ensures { result ≡ loses old.now new.now }
 {
     match old {

@@ -46,9 +46,9 @@ impl Parts {
     }
 }
 
-/// Which parts the entry meets after a history of entries that were due, which was followed. The world is that after the
-/// history, and the records are those of the entry's actor. The entry is taken, so what is kept stands for the history no
-/// longer.
+/// Which parts the entry meets after a history of entries that were due, which was followed. The world is that after
+/// the history, and the records are those of the entry's actor. The entry is taken, so what is kept stands for the
+/// history no longer.
 pub(crate) fn parts_of<W: Reads>(
     world: &W,
     followed: &mut Follower,

@@ -89,7 +89,7 @@ fn is_position(noted: Option<u64>, at: u64) -> bool
 }
 
 /// Whether a page that was told last there, if anywhere, was not told after a position.
-fn is_told_by(told: Option<u64>, since: u64) -> bool
+pub fn is_told_by(told: Option<u64>, since: u64) -> bool
     ensures { result ≡ told_by told since }
 {
     match told {

@@ -19,8 +19,8 @@ use Rattle.hm_spaces.specs.Spaces.{SpacesFit}
 abbrev pub bytes_next : (ℕ → ℕ → ℕ) → (ℕ → Option MirrorState) → Kind → ℕ → ℕ → ℕ
 bytes_next f mirrors k = (plain_next (record plain_start { bytes = f; mirrors = mirrors }) k).bytes
 
--- what a stack asks of an entry: it has room for what the entry puts on it, a count of frames has room for one more, and
--- after it a fork between the two halves of a page is at a page
+-- what a stack asks of an entry: it has room for what the entry puts on it, a count of frames has room for one more,
+-- and after it a fork between the two halves of a page is at a page
 pub record StackTakes (o : Op) (st : List Phase) (k : Kind) (seen : Seen) : Type 0 where
   pub fits : StackFits o st k seen
   pub ranged : IsTrue (top_in_range (slice_get (stack_after o st k seen) 0))

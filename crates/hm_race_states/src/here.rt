@@ -1,8 +1,8 @@
 // What steps ask of a state of a race: each call reads one part.
-ghost use Rattle.std.specs.Prelude.{◌≡◌, ◌==◌, ◌+◌, ◌<◌, ◌≤◌, ◌&&◌, ℕ, if◌then◌else◌, true, None, Some, length, map};
+ghost use Rattle.std.specs.Prelude.{◌≡◌, ◌==◌, ◌+◌, ◌<◌, ◌≤◌, ◌&&◌, ℕ, true, None, Some, length, map};
 ghost use Rattle.std.specs.Prelude.{slice_get, option_copied, IfOk};
 ghost use Rattle.std.specs.Rc.{rc_value};
-ghost use Rattle.hm_history.specs.Memory.Places.{is_exclusive_by, may_read, may_write};
+ghost use Rattle.hm_history.specs.Memory.Places.{is_exclusive_by};
 ghost use Rattle.hm_history.specs.Memory.Words.{bytes_from};
 ghost use Rattle.hm_history.specs.Kernel.Going.{is_direct, sets_now, concerns};
 ghost use Rattle.hm_laws.specs.Allowed.{InPage};
@@ -18,6 +18,7 @@ use hm_base::{
     Actor, Bytes, Cause, Dev, Frame, MirrorId, NoMemory, Op, Page, Place, PoolId, Proc, Rights,
     Script, Span,
 };
+use hm_folds::place_tests::right_allows;
 use hm_history::TableRight;
 use hm_history::phases::{Migrating, MoveStep, Phase};
 use hm_reads::Reads;
@@ -83,17 +84,6 @@ pub fn is_exclusive_by(place: &Place, actor: Actor) -> bool
             actor: by,
         } => actor == *by,
         _ => false,
-    }
-}
-
-/// Whether a table entry of this right reads, or writes.
-pub fn allows(right: TableRight, writes: bool) -> bool
-    ensures { result ≡ (if writes then may_write right else may_read right) }
-{
-    match right {
-        TableRight::Read => !writes,
-        TableRight::Write => true,
-        TableRight::Sole => false,
     }
 }
 
@@ -311,7 +301,7 @@ impl<'a> Reads for Here<'a> {
 
     fn is_usable(&self, mirror: MirrorId, page: Page, writes: bool) -> bool {
         match self.state.tables.get(mirror, page) {
-            Some(mapping) => allows(mapping.right, writes),
+            Some(mapping) => right_allows(mapping.right, writes),
             None => false,
         }
     }

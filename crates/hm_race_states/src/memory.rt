@@ -80,7 +80,8 @@ impl RaceBytes {
         self.items.set(proc.number(), addr, Written { byte })
     }
 
-    /// Writes bytes of a process from an address on, in one page. It fails if memory runs out; then some may be written.
+    /// Writes bytes of a process from an address on, in one page. It fails if memory runs out; then some may be
+    /// written.
     pub fn write(&mut self, proc: Proc, addr: u64, bytes: &[u8]) -> Result<(), NoMemory>
         requires { InPage addr (length bytes.now) }
         ensures { OnOk result

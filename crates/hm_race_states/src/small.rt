@@ -1,7 +1,7 @@
 // Small sequences, and how they go on by an entry: of a process's sequence counts whether it is odd, of an interval's
 // whether it is its process's.
-ghost use Rattle.std.specs.Prelude.{◌≡◌, ◌<◌, ◌≤◌, ◌+◌, ℕ, true, false, None, nat_le, length, filter, find, slice_index_or};
-ghost use Rattle.std.specs.Prelude.{IfOk};
+ghost use Rattle.std.specs.Prelude.{◌≡◌, ◌<◌, ◌≤◌, ◌+◌, ℕ, true, false, None, nat_le, length, filter, find};
+ghost use Rattle.std.specs.Prelude.{slice_index_or, IfOk};
 ghost use Rattle.hm_base.specs.Pages.{Pages};
 ghost use Rattle.hm_history.specs.Memory.Words.{numbers};
 ghost use Rattle.hm_history.specs.Memory.Sequences.{is_above, sequences_start, sequences_next, interval_seq};

@@ -1,8 +1,9 @@
 // Whether an entry answers rightly in a state: by the bytes, areas, processes and mirrors that it has.
-ghost use Rattle.std.specs.Prelude.{◌≡◌, ◌==◌, ◌&&◌, ◌+◌, ◌<◌, ◌≤◌, ◌^◌, true, None, Some, is_none, is_some, length, IfOk};
+ghost use Rattle.std.specs.Prelude.{◌≡◌, ◌==◌, ◌&&◌, ◌+◌, ◌<◌, ◌≤◌, ◌^◌, true, None, Some, is_none, is_some, length};
+ghost use Rattle.std.specs.Prelude.{IfOk};
 ghost use Rattle.hm_history.specs.Memory.Words.{page_of, same_bytes, bytes_from};
 ghost use Rattle.hm_history.specs.Memory.Plain.{MirrorState, plain_accepts, rights_of, cause_at, outside_cause};
-ghost use Rattle.hm_history.specs.Memory.Plain.{is_cause, may_fail, owner, proc_of, plain_bytes};
+ghost use Rattle.hm_history.specs.Memory.Plain.{may_fail, owner, proc_of, plain_bytes};
 ghost use Rattle.hm_history.specs.declared.Kind.{Kind as AnyKind};
 ghost use Rattle.hm_history.specs.declared.Who.{Who as AnyWho};
 ghost use Rattle.hm_folds.specs.Plain.{accepts_process};
@@ -13,6 +14,7 @@ ghost use Rattle.hm_flaw_states.specs.States.{state_in};
 
 use crate::here::FlawHere;
 use hm_base::{Area, Cause, MirrorId, NoMemory, Op, Proc, Rights};
+use hm_folds::is_cause;
 use hm_history::{Kind, Who};
 use hm_race_states::memory::RaceBytes;
 use hm_race_states::spaces::RaceSpaces;
@@ -34,17 +36,6 @@ fn none_past(areas: &[Area])
 {
     for done in 0..areas.len() {
         areas[areas.len() - 1 - done].span.facts();
-    }
-}
-
-fn is_cause(found: Option<Cause>, cause: Cause) -> bool
-    ensures { result ≡ is_cause found cause }
-{
-    match (found, cause) {
-        (Some(Cause::Outside), Cause::Outside) => true,
-        (Some(Cause::Unmapped), Cause::Unmapped) => true,
-        (Some(Cause::Forbidden), Cause::Forbidden) => true,
-        _ => false,
     }
 }
 

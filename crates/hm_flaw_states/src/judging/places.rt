@@ -1,10 +1,8 @@
 // Whether the places, frames and mirror tables of a state allow an entry.
-ghost use Rattle.std.specs.Prelude.{◌≡◌, ◌&&◌, not, true, if◌then◌else◌, IfOk};
-ghost use Rattle.hm_base.specs.PlaceWords.{writable};
+ghost use Rattle.std.specs.Prelude.{◌≡◌, if◌then◌else◌, IfOk};
 ghost use Rattle.hm_history.specs.Memory.Words.{page_of};
 ghost use Rattle.hm_history.specs.Memory.Plain.{mirror_owner, owned};
-ghost use Rattle.hm_history.specs.Memory.Places.{cpu_reads, cpu_writes, holds_target, is_exclusive, is_exclusive_of};
-ghost use Rattle.hm_history.specs.Memory.Places.{is_for_device, is_removed, is_sole, is_target, places_accept};
+ghost use Rattle.hm_history.specs.Memory.Places.{holds_target, is_for_device, is_removed, is_target, places_accept};
 ghost use Rattle.hm_history.specs.Memory.Places.{stands_for, table_reads, table_sole, table_writes};
 ghost use Rattle.hm_history.specs.declared.Kind.{Kind as AnyKind};
 ghost use Rattle.hm_folds.specs.Standing.{accepts_frames, entry_allows, may_access};
@@ -16,66 +14,15 @@ use crate::details::Details;
 use crate::here::FlawHere;
 use crate::own_tables::OwnEntry;
 use crate::owns::backing;
-use hm_base::frames::{is_frame, names, sys_frame};
-use hm_base::{Actor, Dev, Frame, MirrorId, NoMemory, Page, Place, PoolId, Proc};
-use hm_history::{Kind, TableRight, Who};
-use hm_race_states::here::allows;
+use hm_base::frames::{is_frame, names};
+use hm_base::{Actor, Frame, MirrorId, NoMemory, Page, Place, PoolId, Proc};
+use hm_folds::place_tests::{
+    cpu_may, is_exclusive_of, is_for_device, is_sole, place_allows, right_allows,
+};
+use hm_history::{Kind, Who};
 use hm_reads::Reads;
 use hm_reads::operations::page_of;
 use std::alloc::Global;
-
-// Whether the CPU may read, or write, through a place.
-fn cpu_may(place: &Place, writes: bool) -> bool
-    ensures { result ≡ (if writes then cpu_writes place.now else cpu_reads place.now) }
-{
-    match place {
-        Place::Zero => !writes,
-        Place::Sys {
-            number: _,
-            writable,
-        } => !writes || *writable,
-        _ => false,
-    }
-}
-
-// Whether a device reads, or writes, a page with this place through an entry that others may have too.
-fn place_allows(place: &Place, writes: bool) -> bool
-    ensures { result ≡ (not (is_exclusive place.now) && (if writes then writable place.now else true)) }
-{
-    match place {
-        Place::Exclusive { .. } => false,
-        _ => !writes || place.writable(),
-    }
-}
-
-fn is_sole(right: TableRight) -> bool
-    ensures { result ≡ is_sole right }
-{
-    matches!(right, TableRight::Sole)
-}
-
-fn is_exclusive_of(place: &Place, actor: Actor, target: &Option<Frame>) -> bool
-    ensures { result ≡ is_exclusive_of place.now actor target.now }
-{
-    match place {
-        Place::Exclusive { number, actor: by } => {
-            actor == *by && is_frame(*target, &sys_frame(*number))
-        }
-        _ => false,
-    }
-}
-
-fn is_for_device(target: &Option<Frame>, dev: Dev) -> bool
-    ensures { result ≡ is_for_device target.now dev }
-{
-    match target {
-        None => true,
-        Some(frame) => match frame.pool {
-            PoolId::System => true,
-            PoolId::Device(of) => dev == of,
-        },
-    }
-}
 
 impl<'a> FlawHere<'a> {
     /// Whether there is a next state of places after an entry of the actor.
@@ -177,7 +124,7 @@ impl<'a> FlawHere<'a> {
             (record { target = entry.now.mapping.target; right = entry.now.mapping.right; from = entry.now.since })
             place.now writes }
     {
-        if !allows(entry.mapping.right, writes) {
+        if !right_allows(entry.mapping.right, writes) {
             return false;
         }
         if !place_allows(place, writes) {

@@ -15,10 +15,11 @@ use crate::details::Details;
 use crate::exact_seqs::ExactSeqs;
 use crate::guards::ActorGuard;
 use crate::here::FlawHere;
-use crate::judging::losing::loses;
 use crate::owns::told_seq;
 use hm_base::{Actor, MirrorId, Page, Proc, Span};
+use hm_folds::guards::{has_page, has_some, same_span};
 use hm_history::Kind;
+use hm_parts::loses;
 use hm_reads::Reads;
 
 // Whether the mirror was told.
@@ -27,18 +28,6 @@ fn has(told: &[MirrorId], mirror: u32) -> bool
 {
     for one in told {
         if one.number() == mirror {
-            return true;
-        }
-    }
-    false
-}
-
-// Whether the set has a mirror.
-fn has_some(set: &[bool; 32]) -> bool
-    ensures { result ≡ nat_lt 0 (length (mirrors_of set.now)) }
-{
-    for number in 0..32usize {
-        if set[number] {
             return true;
         }
     }
@@ -80,20 +69,6 @@ fn lower_told(all: &[bool; 32], told: &[MirrorId], mirror: MirrorId) -> bool
         }
     }
     true
-}
-
-// Whether the spans have the same pages.
-fn same_span(one: Span, other: Span) -> bool
-    ensures { result ≡ same_span one other }
-{
-    one.first() == other.first() && one.count() == other.count()
-}
-
-fn has_page(span: Span, page: Page) -> bool
-    ensures { result ≡ covers span page }
-{
-    let first = span.first().number();
-    first <= page.number() && page.number() < first + span.count()
 }
 
 // Whether the mirror is the next that the guard tells.

@@ -1,13 +1,12 @@
 // How many pages have to do with a frame, and whether no page shares what a writable one stands for once an entry was
 // made.
-ghost use Rattle.std.specs.Prelude.{◌≡◌, ℕ, Some, unwrap_or};
+ghost use Rattle.std.specs.Prelude.{◌≡◌, unwrap_or};
 ghost use Rattle.hm_base.specs.declared.Frame.{Frame as AnyFrame};
 ghost use Rattle.hm_history.specs.Memory.Contents.{backing};
 ghost use Rattle.hm_history.specs.Memory.Places.{one_writer, places_next};
 ghost use Rattle.hm_history.specs.declared.Kind.{Kind as AnyKind};
-ghost use Rattle.hm_folds.specs.Shares.{has_one_writer, less, plus};
-ghost use Rattle.hm_folds.specs.Standing.{is_backed, one_writer_after, pages_where, share_of, shares_where};
-ghost use Rattle.hm_flaw_states.specs.Sharing.{has_to_do, is_counted, shares_in};
+ghost use Rattle.hm_folds.specs.Standing.{is_backed, one_writer_after, pages_where, shares_where};
+ghost use Rattle.hm_flaw_states.specs.Sharing.{has_to_do, is_counted};
 ghost use Rattle.hm_flaw_states.specs.States.{all_places, state_in};
 ghost use Rattle.hm_flaw_states.specs.Tidy.{IsTidy};
 
@@ -17,6 +16,7 @@ use crate::owns::backing;
 use crate::placed::Asks;
 use hm_base::frames::is_frame;
 use hm_base::{Frame, Page, Place, Proc};
+use hm_folds::shares::Shares;
 use hm_reads::Reads;
 
 /// What a page may have to do with a frame.
@@ -26,13 +26,6 @@ pub enum Sharing {
     Standing,
     /// It is a migration entry of the frame.
     Moving,
-}
-
-/// A number of pages, and how many of them are writable.
-#[derive(Clone, Copy)]
-pub struct PageShares {
-    pub pages: u64,
-    pub writers: u64,
 }
 
 // Whether a page has to do with a frame, and is writable if that is asked.
@@ -69,40 +62,6 @@ impl<'a> Asks for SharesFrame<'a> {
     }
 }
 
-impl PageShares {
-    // Those of one page with this place.
-    fn of_page(place: &Place) -> PageShares
-        ensures { shares_in result ≡ share_of place.now }
-    {
-        PageShares {
-            pages: 1,
-            writers: if place.writable() { 1 } else { 0 },
-        }
-    }
-
-    // So many fewer.
-    fn less(self, fewer: PageShares) -> PageShares
-        ensures { shares_in result ≡ less (shares_in self) (shares_in fewer) }
-    {
-        PageShares {
-            pages: self.pages.saturating_sub(fewer.pages),
-            writers: self.writers.saturating_sub(fewer.writers),
-        }
-    }
-
-    // Whether, with these more, none is writable or there is one page at the most.
-    fn has_one_writer_with(self, more: PageShares) -> bool
-        ensures { result ≡ has_one_writer (plus (shares_in self) (shares_in more)) }
-    {
-        let one = match self.pages {
-            0 => more.pages <= 1,
-            1 => more.pages == 0,
-            _ => false,
-        };
-        one || (self.writers == 0 && more.writers == 0)
-    }
-}
-
 impl<'a> FlawHere<'a> {
     // How many pages have to do with the frame; of the writable ones, if that is asked.
     fn count_shares(&self, sharing: Sharing, frame: &Frame, writes: bool) -> u64
@@ -119,12 +78,12 @@ impl<'a> FlawHere<'a> {
     }
 
     // How many pages have to do with the frame, and how many of them are writable.
-    fn shares(&self, sharing: Sharing, frame: &Frame) -> PageShares
-        ensures { shares_in result
+    fn shares(&self, sharing: Sharing, frame: &Frame) -> Shares
+        ensures { result
             ≡ shares_where (all_places self.now.state.now)
             (has_to_do sharing (all_places self.now.state.now) frame.now) }
     {
-        PageShares {
+        Shares {
             pages: self.count_shares(sharing, frame, false),
             writers: self.count_shares(sharing, frame, true),
         }
@@ -134,15 +93,15 @@ impl<'a> FlawHere<'a> {
     fn has_one_writer_after(
         &self,
         to: &Option<Frame>,
-        more: PageShares,
+        more: Shares,
         from: &Option<Frame>,
-        fewer: PageShares,
+        fewer: Shares,
     ) -> bool
         ensures { result
             ≡ one_writer_after
             (λ (f : AnyFrame). shares_where (all_places self.now.state.now)
             (is_backed (all_places self.now.state.now) f))
-            to.now (shares_in more) from.now (shares_in fewer) }
+            to.now more from.now fewer }
     {
         match to {
             None => true,
@@ -168,9 +127,9 @@ impl<'a> FlawHere<'a> {
         let old = self.place(proc, page);
         self.has_one_writer_after(
             &backing(self, place),
-            PageShares::of_page(place),
+            Shares::of_page(place),
             &backing(self, &old),
-            PageShares::of_page(&old),
+            Shares::of_page(&old),
         )
     }
 
