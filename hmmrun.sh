@@ -229,6 +229,13 @@ need_numbers() {
     done
 }
 
+# That an option has a number after it.
+need_number_of() {
+    [ $# -ge 2 ] || refuse "\`$1\` takes ${takes_number[$1]}"
+    is_number "$2" || refuse "\`$1\` takes ${takes_number[$1]}, and \`$2\` is none"
+}
+declare -A takes_number=([--most]='the number of states that a search may have' [--script]='the number of an outcome')
+
 need_bytes() {
     need_numbers "$1" "$3"
     [ ${#1} -le 2 ] && [ "$1" -le 31 ] || refuse "process $1: processes are 0 to 31"
@@ -257,13 +264,21 @@ set_asked() {
 read_conditions() {
     conditions=()
     case ${1-} in
-        some | none | every) refuse "each condition is one word, in quotes: --expect '$1 a0 loaded 0x10000 41'" ;;
+        some | none | every)
+            local words=()
+            while [ $# -gt 0 ] && [[ $1 != -* ]] && [ ! -e "$1" ]; do
+                words+=("$1")
+                shift
+            done
+            [ ${#words[@]} -gt 1 ] || words+=(a0 loaded p0 0x10000 41)
+            refuse "each condition is one word, in quotes: --expect '${words[*]}'" ;;
     esac
     while [[ ${1-} = *' '* ]] && [ ! -e "$1" ]; do
         conditions+=("$1")
         shift
     done
-    [ ${#conditions[@]} -gt 0 ] || refuse 'a condition begins with `some`, `none` or `every`'
+    [ ${#conditions[@]} -gt 0 ] ||
+        refuse 'a condition begins with `some`, `none` or `every`, in quotes: --expect '"'none a0 loaded p0 0x10000 41'"
 }
 
 # Of the words of hmmraces, in any order: the number of states, and what is to be written. Leaves them in `words`, and
@@ -273,14 +288,13 @@ read_race_words() {
     while [ $# -gt 0 ]; do
         case $1 in
             --most)
-                [ $# -ge 2 ] || refuse '`--most` takes one number'
+                need_number_of "$@"
                 set_most "$2"
                 shift ;;
             --table) set_asked "$1" ;;
             --strict) strict=("$1") ;;
             --script)
-                [ $# -ge 2 ] || refuse '`--script` takes the number of an outcome'
-                need_numbers "$2"
+                need_number_of "$@"
                 set_asked "$1" "$2"
                 shift ;;
             --expect)
@@ -289,8 +303,9 @@ read_race_words() {
                 shift ${#conditions[@]} ;;
             --expect-file)
                 [ $# -ge 2 ] || refuse '`--expect-file` takes a file, a condition in each line; `#` begins a comment'
-                [ -r "$2" ] && [ -s "$2" ] || no_file "the file $2 has no line that may be read"
-                mapfile -t conditions < <(grep -v '^[[:space:]]*\(#\|$\)' "$2")
+                [ -e "$2" ] || no_file "there is no file $2"
+                [ -r "$2" ] && [ ! -d "$2" ] || no_file "the file $2 may not be read"
+                mapfile -t conditions < <(tr -d '\r' <"$2" | grep -v '^[[:space:]]*\(#\|$\)')
                 [ ${#conditions[@]} -gt 0 ] || no_file "the file $2 has no condition"
                 set_asked --expect "${conditions[@]}"
                 shift ;;
@@ -328,7 +343,7 @@ read_rule_words() {
     while [ $# -gt 0 ]; do
         case $1 in
             --most)
-                [ $# -ge 2 ] || refuse '`--most` takes one number'
+                need_number_of "$@"
                 set_most "$2"
                 shift ;;
             --answers)
@@ -456,7 +471,7 @@ read_run_words() {
             need_numbers "$2"
             takes=1 ;;
         peek)
-            [ $# -ge 4 ] || refuse '`peek` takes three words: P ADDR LEN'
+            [ $# -ge 4 ] && [ ! -f "$4" ] || refuse '`peek` takes three words: P ADDR LEN'
             need_bytes "${@:2:3}"
             takes=3 ;;
         *) refuse_word "$1" ;;
@@ -490,7 +505,17 @@ read_report_words() {
 
 # Refuses an option that the program has not.
 refuse_option() {
-    case $1 in -v | -V) refuse "there is no \`$1\` here; did you mean \`--version\`?" ;; esac
+    local other=
+    case $1 in
+        -v | -V) refuse "there is no \`$1\` here; did you mean \`--version\`?" ;;
+        --answers) other=hmmwithout ;;
+        --table | --strict | --expect-file) other=hmmraces ;;
+        --standing) other=hmmjudge ;;
+        --of-report) other=hmmtrace ;;
+        --script | --expect) [ "$name" = hmmtrace ] || other=hmmraces ;;
+        --all) [ "$name" = hmmraces ] && other=hmmwithout ;;
+    esac
+    [ -z "$other" ] || [ "$other" = "$name" ] || refuse "there is no \`$1\` here; $(sibling "$other") has it"
     refuse "there is no \`$1\` here$(nearest "$1" --quick --ready --help --version \
         $([ "$name" = hmmjudge ] && echo --standing --all) \
         $([ "$name" = hmmraces ] && echo --table --script --strict --expect --expect-file --most --progress) \
@@ -506,6 +531,15 @@ refuse_missing() {
         refuse "a condition comes after \`--expect\`, in quotes: --expect '$1'"
     fi
     no_file "there is no file $1"
+}
+
+# Refuses words that are more than a file.
+refuse_many() {
+    local word
+    [ "$name" != hmmraces ] || for word in "${rest[@]}"; do
+        [ -f "$word" ] || ! is_rule "$word" || refuse "\`$word\` is a rule; $(sibling hmmwithout) takes it"
+    done
+    refuse "too many words: \`${rest[*]:1}\`"
 }
 
 # Looks at the words, and leaves those of the program in `words` and the file to read in `file`.
@@ -525,7 +559,7 @@ read_words() {
     for word in "${rest[@]}"; do
         case $word in -?*) refuse_option "$word" ;; esac
     done
-    [ ${#rest[@]} -le 1 ] || refuse "too many words: \`${rest[*]:1}\`"
+    [ ${#rest[@]} -le 1 ] || refuse_many
     file=${rest[0]--}
     [ "$file" = - ] || [ -e "$file" ] || refuse_missing "$file"
     [ ! -d "$file" ] || no_file "$file is a folder"
@@ -533,6 +567,12 @@ read_words() {
 }
 
 does_read() { case ${words[0]-} in generate | trial) return 1 ;; esac; }
+
+# Whether it is seen without reading that standard input is empty.
+reads_nothing() {
+    [ ${#files[@]} -eq 0 ] || return 1
+    [ /dev/stdin -ef /dev/null ] || { [ -f /dev/stdin ] && [ ! -s /dev/stdin ]; }
+}
 
 # What a build is made from.
 
@@ -634,6 +674,15 @@ explain_conditions() {
     done
 }
 
+# Says of a script or a report that is given as a trace what makes one of it.
+explain_no_trace() {
+    if grep -q '^history$' "$1"; then
+        say 'this is a report; `--of-report` writes the trace of its history'
+    else
+        say "this is a script; \`$(sibling hmmrun) replay\` writes its report, and \`--of-report\` the trace of that"
+    fi
+}
+
 # Says of a report that is not legal which is the first line whose position is not the next one.
 say_gap() {
     awk '
@@ -718,12 +767,18 @@ run() {
     reads_script && run_readable "$1" "$text"
     go "$1"
     status=$?
-    if [ "$name" = hmmtrace ] || ! command -v python3 >/dev/null; then
+    if ! command -v python3 >/dev/null; then
         :
+    elif [ "$name" = hmmtrace ]; then
+        [ $status -ne 3 ] || [ "$(head -c 4 "$text")" != 'hmm ' ] || explain_no_trace "$text"
     elif [ $status -eq 3 ]; then
         explain "$text"
     elif [ "$name" = hmmraces ] || [ "$name" = hmmwithout ]; then
         [ $status -ne 2 ] || explain_conditions "$text"
+        [[ $status -ne 9 || " ${words[*]} " != *' --script '* ]] ||
+            say 'outcomes are numbered from 1; without `--script N` all are written, or with `--table` a row for each'
+    elif [ $status -eq 9 ] && [ "$name" = hmmview ]; then
+        say "the report has $(sed '1,/^history$/d' "$text" | grep -c '^[0-9]') rows, from 0"
     elif [ $status -eq 1 ] && [ "$(head -c 4 "$text")" = 'hmm ' ] && ! grep -q '^history$' "$text"; then
         say 'this is a script; what is read here is the report that `./hmmrun.sh replay` writes of it'
     elif [ $status -eq 1 ] && [ "$name" = hmmjudge ]; then
@@ -896,6 +951,9 @@ elif does_read && [ ${#files[@]} -eq 0 ] && [ -t 0 ]; then
 fi
 [ "$how" = ready ] && { is_proved_fresh && how=proved || how=quick; }
 [ "$how" = quick ] && run_quick
+if [ "$path" = no ] && does_read && reads_nothing && ! is_proved_fresh; then
+    no_file 'what is read is empty, and nothing is proved for that'
+fi
 make_proved
 [ "$path" = no ] || { echo "$program"; exit 0; }
 run "$program"

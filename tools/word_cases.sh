@@ -21,6 +21,7 @@ done
 cd "$top" || exit 2
 printf 'hmm 2\n' >FILE
 printf 'none a0 loaded 0x10000 41\n' >LINES
+printf '# from Windows\r\n\r\nnone a0 loaded 0x10000 41\r\n' >WINDOWS
 cases=0 wrong=0
 while IFS=$'\t' read -r program words wanted; do
     case $program in '' | '#'*) continue ;; esac
