@@ -33,16 +33,43 @@ def bad_begin(word):
     return None
 
 
+# What other tools have for a first word.
+FIRST = {'some': 'exists any possible may', 'none': 'never no forbidden not', 'every': 'all always forall each must'}
+
+
+def meant_first(word):
+    """Which first word was meant, or all of them."""
+    meant = next((first for first, others in FIRST.items() if word.lower() in others.split()), None)
+    if meant:
+        return f'; did you mean `{meant}`?'
+    return given.nearest(word, FIRST) or ': it is `some`, `none` or `every`'
+
+
+def no_line(word, behind):
+    """Why no line begins with this word, if that is seen of it and of the word behind it."""
+    if word[0] in '([{':
+        return f'`{word}`: there are no brackets; `and` binds closer than `or`'
+    if word == 'actor' and NUMBER.match(behind):
+        return f'`actor {behind}` is written `a{behind}`'
+    if NUMBER.match(word) and behind in ENDINGS:
+        return f'an actor is written with an a: `a{word} {behind} ..`'
+    if NUMBER.match(word) and ACTOR.match(behind):
+        return f'a line has no position: leave `{word}` out; `{word} x {behind} ..` would say how often'
+    return None
+
+
 def bad_word(words):
     """What is wrong with the words of a condition, if they are none: the place where they stop, and what may come."""
     if bad_begin(words[0]):
         return bad_begin(words[0])
     if words[0] not in ('some', 'none', 'every'):
-        return f'`{words[0]}` is no first word{given.nearest(words[0], ["some", "none", "every"]) or ": it is `some`, `none` or `every`"}'
+        return f'`{words[0]}` is no first word{meant_first(words[0])}'
     at = 'fresh'
-    for before, word in zip(words, words[1:]):
+    for before, word, behind in zip(words, words[1:], [*words[2:], '']):
         if word == '':
             return 'two spaces where one is due, or one at an end'
+        if at in ('fresh', 'negated') and no_line(word, behind):
+            return no_line(word, behind)
         if at == 'fresh' and JOINS.get(word) == 'not':
             return f'`{word}` is written `not`'
         if at in ('fresh', 'negated') and NUMBER.match(word):
@@ -161,6 +188,14 @@ def slip(words, form):
     for word, due in zip(words, form[0]):
         if word.isdigit() and hex(int(word)) == due:
             return f'`{word}` is `{due}`: an address is hexadecimal'
+        if word.isdigit() and f'0x{int(word) * 4096:x}' == due:
+            return f'`{word}` is a page, and `{due}` its address'
+    if form[2].startswith('YY') and form[1] is not NONE and words[:-1] == form[0] and ',' not in words[-1]:
+        digits = re.search(r'\{(\d+)\}', form[1].pattern)[1]
+        return f'`{words[-1]}`: {digits} hexadecimal digits are wanted, and there is no sign for any byte'
+    length = len(form[0]) + (form[1] is not NONE)
+    if len(words) > length and fits(words[:length], form):
+        return f'a line ends before `{words[length]}`: `and` or `or` stands between two lines'
     return next((f'`{word}`: one value a line; `or` joins two lines' for word in words if ',' in word), None)
 
 
@@ -177,7 +212,9 @@ def bad_line(words, actors):
     if kind not in ENDINGS:
         of_op = {op: form[0][0] for op in OPERATIONS for form in OPERATIONS[op]([op, '0', '0x0', '1', '1', '1'])[:1]}
         meant = f'; did you mean `{of_op[kind]}`?' if kind in of_op else given.nearest(kind, ENDINGS)
-        return f'`{kind}` ends no operation{meant}'
+        ends = sorted({form[0][0] for _, form in forms} - {'refused'})
+        those = f'; those of `{words[0]}` end with {", ".join(ends)}, or refused'
+        return f'`{kind}` ends no operation{meant or those}'
     same = [(op, form) for op, form in forms if form[0][0] == kind]
     if not same:
         others = [f'a{a}' for a, ops in enumerate(actors) for op in ops if kind in [form[0][0] for form in OPERATIONS[op[0]](op)]]
@@ -197,8 +234,7 @@ def trouble(condition, actors):
 
 
 def actors_of(script):
-    with open(script, encoding='utf-8', errors='replace', newline='\n') as file:
-        return operations(file.read())
+    return operations(given.data_of([script]).decode(errors='replace'))
 
 
 def test():
@@ -214,10 +250,11 @@ def test():
 
 
 def main():
+    given.begin(__doc__)
     if sys.argv[1:] == ['--test']:
         sys.exit(test())
     if len(sys.argv) < 3:
-        sys.exit(__doc__)
+        given.refuse('two words are wanted, a script and a condition')
     actors = actors_of(sys.argv[1])
     for number, condition in enumerate(sys.argv[2:], 1):
         said = trouble(condition, actors)
