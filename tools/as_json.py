@@ -194,7 +194,9 @@ def read(lines):
         return without_all
     if first[0] == 'states':
         return races
-    return traced
+    if first[0] in ('events', 'trace'):
+        return traced
+    raise Unknown
 
 
 def main():
@@ -211,8 +213,8 @@ def main():
     try:
         said = read(lines)(looked)
     except Unknown:
-        print(f'as_json.py: line {looked.count} is none that a program writes there: {lines[looked.count - 1]}',
-              file=sys.stderr)
+        at = max(looked.count, 1)
+        print(f'as_json.py: line {at} is none that a program writes there: {lines[at - 1]}', file=sys.stderr)
         return 3
     json.dump(said, sys.stdout, indent=indent, ensure_ascii=False)
     print()

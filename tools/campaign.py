@@ -107,6 +107,8 @@ def keep(folder, wrong):
 
 def main():
     words.begin(__doc__)
+    if len(sys.argv) > 1 and sys.argv[1] not in PARTS and not sys.argv[1].startswith('-'):
+        words.refuse(f'there is no kind `{sys.argv[1]}`{words.nearest(sys.argv[1], PARTS)}')
     parse = argparse.ArgumentParser(usage=__doc__)
     parse.add_argument('kind', choices=sorted(PARTS))
     parse.add_argument('first', type=int)

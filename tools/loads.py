@@ -13,6 +13,8 @@ import pathlib
 import re
 import sys
 
+import words as given
+
 MODULE = re.compile(r'part/Rattle-([a-z_]+)(?:-specs|-proofs)?[.-]?(?:contracts\.)?(.*)')
 
 
@@ -30,8 +32,9 @@ def modules(name):
 
 
 def main():
-    if len(sys.argv) not in (2, 3) or sys.argv[1] in ('-h', '--help'):
-        sys.exit(__doc__)
+    given.begin(__doc__)
+    if len(sys.argv) not in (2, 3):
+        given.refuse('the name of a library is wanted')
     crates, functions, count = collections.Counter(), collections.Counter(), 0
     for crate, path, length in modules(sys.argv[1]):
         count += 1

@@ -144,8 +144,11 @@ def main():
     if sys.argv[1] not in RULES:
         given.refuse(f'there is no rule `{sys.argv[1]}`{given.nearest(sys.argv[1], RULES)}')
     rule, race, shortest = sys.argv[1:]
+    data = given.data_of([race])
+    if b'states ' in data:
+        given.refuse(f'the script comes first, and then the race: {rule} {shortest} {race}')
     try:
-        script = scripts.parse(given.data_of([race]))
+        script = scripts.parse(data)
     except scripts.Refused as bad:
         print(f'view_broken.py: script line {bad.args[0]}: {bad.args[1]}', file=sys.stderr)
         sys.exit(3)

@@ -229,10 +229,13 @@ def main():
     if len(numbers) not in (0, 2):
         given.refuse('two numbers are wanted, FROM TO, or none')
     first, behind = numbers or (0, None)
+    data = given.data_of(words, ('--lines', '--constants'))
     try:
-        text = ''.join(line + '\n' for line in page_lines(given.data_of(words, ('--lines', '--constants')), first, behind))
+        text = ''.join(line + '\n' for line in page_lines(data, first, behind))
     except (reports.NotLegal, scripts.Refused) as bad:
         print(f'view_page.py: not legal: line {bad.args[0]}', file=sys.stderr)
+        if data.startswith(b'hmm ') and b'\nhistory\n' not in data:
+            print('view_page.py: this is a script; `./hmmrun.sh replay` writes its report', file=sys.stderr)
         sys.exit(1)
     head, tail = ('', '') if '--lines' in sys.argv else page_parts()
     sys.stdout.write(head + text + tail)

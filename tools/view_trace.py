@@ -158,6 +158,8 @@ def main():
     given.begin(__doc__)
     given.end_with_reader()
     data = given.data_of(sys.argv[1:])
+    if data.startswith(b'hmm '):
+        given.refuse('this is no trace; `./hmmtrace.sh --of-report REPORT` writes the trace of a report')
     first, verdicts = verdicts_of(data)
     name = html.escape(os.path.basename(sys.argv[1]) if len(sys.argv) > 1 else 'a trace')
     print(f'<!doctype html>\n<html lang="en"><meta charset="utf-8"><title>{name} - hmmtrace</title>\n<style>{STYLE}</style>\n'

@@ -51,7 +51,9 @@ def judge(data, further=False):
 def main():
     given.begin(__doc__)
     words = {'replay': replay, 'check': check, 'judge': judge, 'all': lambda data: judge(data, True)}
-    if not 2 <= len(sys.argv) <= 3 or sys.argv[1] not in words:
+    if len(sys.argv) > 1 and sys.argv[1] not in words:
+        given.refuse(f'there is no word `{sys.argv[1]}`{given.nearest(sys.argv[1], words)}')
+    if not 2 <= len(sys.argv) <= 3:
         status, message, text = 2, 'usage: cli.py replay | check | judge | all', ''
     else:
         status, message, text = words[sys.argv[1]](given.data_of(sys.argv[2:]))
