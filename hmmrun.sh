@@ -661,6 +661,8 @@ begins_exactly() {
 explain() {
     if begins_exactly "$1"; then
         "$top/tools/hmm.py" --explain "$1" | tail -n +2 >&2
+        "$top/tools/hmm.py" "$1" >/dev/null 2>&1 &&
+            say 'without its first line it is a script for people, which is run too (docs/SCRIPT.md)'
     else
         "$top/tools/hmm.py" "$1" >/dev/null
     fi

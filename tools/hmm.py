@@ -28,6 +28,7 @@ ALL_TURNS = 1_000_000
 WIDTH = 100      # of a line that is shown
 KINDS = {'P': 'process', 'M': 'mirror', 'D': 'device', 'A': 'actor', 'DEVICE': 'device', 'ACTOR': 'actor'}
 LETTERS = {'process': 'p', 'mirror': 'm', 'device': 'd', 'actor': 'a'}
+FOR_PEOPLE = {'page', 'process', 'mirror', 'until'}     # words that an exact script has not
 MOST = {'process': 31, 'mirror': 31, 'device': 3, 'actor': 15}
 # words of other programs, and the word that is meant
 MEANT = {'mmap': 'map', 'munmap': 'unmap', 'mprotect': 'protect', 'read': 'load', 'write': 'store', 'clone': 'fork',
@@ -89,6 +90,10 @@ def did_you_mean(word, known):
 
 # One word each.
 
+def a(noun):
+    return f'an {noun}' if noun[0] in 'aeiou' else f'a {noun}'
+
+
 def decimal(word, what='this'):
     """A number, or why the word is none."""
     if re.fullmatch(r'0|[1-9][0-9]*', word):
@@ -96,7 +101,9 @@ def decimal(word, what='this'):
             raise word.trouble(f'{what} is a number below 2^64')
         return int(word)
     if re.fullmatch(r'0[xX][0-9a-fA-F]+', word):
-        raise word.trouble(f'{what} is decimal: {word} is {int(word, 16)}')
+        lies = int(word, 16) // scripts.PAGE_BYTES if what == 'a page' else 0
+        meant = f', and the address {word} lies in page {lies}' if lies else ''
+        raise word.trouble(f'{what} is decimal: {word} is {int(word, 16)}{meant}')
     if re.fullmatch(r'[0-9]+', word):
         raise word.trouble(f'no leading zeros: {int(word)}')
     if re.fullmatch(r'[+-][0-9]+', word):
@@ -166,13 +173,13 @@ class Script:
         if re.fullmatch(letter + r'(0|[1-9][0-9]*)', word):
             if self.exact:
                 raise word.trouble(f'in a script a {kind} is a number: {word[1:]}')
-            return decimal(self.part_of(word, 1), f'a {kind}')
+            return decimal(self.part_of(word, 1), a(kind))
         if not self.exact and re.match(r'[A-Za-z_]', word):
             names = [name for name, (of, _) in self.names.items() if of == kind]
             near, can = did_you_mean(word, names), kind in ('process', 'mirror')
             raise word.trouble(f'there is no {kind} `{word}`' + (near or (
                 f'; `{kind} {word} = 0` above would name one' if can else '')))
-        return decimal(word, f'a {kind}')
+        return decimal(word, a(kind))
 
     @staticmethod
     def part_of(word, start, end=None):
@@ -288,13 +295,15 @@ class Script:
 
     def known(self):
         words = set(scripts.OPERATIONS) | set(scripts.OTHER_LINES) | {'hmm'}
-        return words if self.exact else words | {'page', 'process', 'mirror', 'until'}
+        return words if self.exact else words | FOR_PEOPLE
 
     def line(self, words):
         word, *rest = words
         if self.exact:
             self.order(word, rest)
         if word not in self.known() and not (self.exact and word == 'history'):
+            if self.exact and word in FOR_PEOPLE:
+                raise word.trouble(f'`{word}` is a word of scripts for people: leave the line `hmm ..` out, and it is one')
             raise word.trouble(f'there is no word `{word}`' + did_you_mean(word, self.known()))
         if not self.exact and self.schedule and word not in ('turns', 'until', 'drain'):
             raise word.trouble(f'`{word}` stands above the first `turns`, `until` or `drain`, in line {self.last}')
@@ -393,7 +402,7 @@ class Script:
         if re.fullmatch(r'0x[0-9a-f]+', rest[2]) and word == 'page':
             raise rest[2].trouble(f'a page is its number, which is decimal: {rest[2]} is {int(rest[2], 16)}, and the '
                                   f'address {rest[2]} lies in page {int(rest[2], 16) // scripts.PAGE_BYTES}')
-        number = decimal(rest[2], f'a {word}')
+        number = decimal(rest[2], a(word))
         if number > MOST.get(str(word), scripts.PAGES - 1):
             raise rest[2].trouble(UNITS['PAGE'] if word == 'page' else f'0 to {MOST[str(word)]}')
         self.name(str(word), rest[0], number)
