@@ -4,8 +4,9 @@
     ./hmmwithout.sh RULE [--answers] RACE.hmm > SHORTEST
     tools/view_broken.py RULE RACE.hmm SHORTEST > page.html
 
-The page is that of hmmview. Its last row is marked, and above it stands which part of legality that row breaks, and
-which rule is left out. The turns are those of the race that hmmwithout found; tools/drivers takes them once more, and
+The page is that of hmmview. Its last row is marked, and above it stands which part of legality that row breaks, which
+rule is left out, and where: the first row in which a right driver, or memory manager, would do something else, which is
+marked too. If no entry tells, as of an entry of the table that is not erased, there is no such row. The turns are those of the race that hmmwithout found; tools/drivers takes them once more, and
 must come to the same entries. Who waits is what such a driver finds. What the state says at a row is what the entries
 say, as docs/REPORT.md has it: an entry that the driver should have erased is not shown. Nobody has proved it.
 Ends with status 3 if the script is none, and with 1 if SHORTEST is no such race.
@@ -18,6 +19,7 @@ import report as reports
 import script as scripts
 from drivers.laws import Broken
 from drivers.race import RULES, Race, entries
+from due import Wait
 from run import Machine
 
 HERE = os.path.dirname(os.path.abspath(__file__))
@@ -54,12 +56,24 @@ def actor_of(line):
 class Shown:
     """A race whose rows are shown one after the other, by machines of their own: asking what is due moves one on."""
 
-    def __init__(self, script, rule, turns, answers_alone):
-        self.script, self.rule, self.turns, self.answers_alone = script, rule, turns, answers_alone
+    def __init__(self, script, rule, written, answers_alone):
+        self.script, self.rule, self.written, self.answers_alone = script, rule, written, answers_alone
+        self.turns = tuple(actor_of(line) for line in written)
         self.set_up = [actor for actor, _ in self.after(0).history]
 
     def after(self, count):
         return Race(self.script, self.rule, self.turns[:count], self.answers_alone)
+
+    def left_out(self):
+        """The first row in which a right driver would do something else, and what that is; none if there is no such row."""
+        for at, (actor, written) in enumerate(zip(self.turns, self.written)):
+            race = self.after(at)
+            race.state.rule = None
+            due, _ = race.due(actor)
+            line = None if isinstance(due, Wait) else reports.line(len(race.history), actor, due)
+            if line != written:
+                return len(race.history), 'a wait was due' if line is None else f'`{line.split(" ", 1)[1]}` was due'
+        return None
 
     def standing(self, count, actor):
         race = self.after(count)
@@ -121,7 +135,7 @@ def race_of(script, rule, text):
     turns = tuple(actor_of(line) for line in written)
     for answers_alone in (False, True):
         if entries_of(script, rule, turns, answers_alone) == written:
-            return Shown(script, rule, turns, answers_alone), part
+            return Shown(script, rule, written, answers_alone), part
     no_race('this driver comes to other entries')
 
 
@@ -131,6 +145,8 @@ def page_text(shown, part, rule):
         mark = file.read()
     says = f'breaks {part}: {BREAKS[part]}' if part else 'after it nobody can go on, and an operation has not ended'
     words = f'data-says="{html.escape(says)}" data-rule="{rule}" data-does="{html.escape(RULES[rule])}"'
+    if left_out := shown.left_out():
+        words += f' data-row="{left_out[0]}" data-due="{html.escape(left_out[1])}"'
     mark = mark.replace('<section id="broken"', f'<section id="broken" {words} data-setup="{len(shown.set_up)}"')
     lines = ''.join(line + '\n' for line in shown.lines())
     return head + lines + tail.replace('</body>', mark + '</body>')
