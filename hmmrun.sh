@@ -676,6 +676,16 @@ explain_conditions() {
     done
 }
 
+# How more states are allowed to a search that was cut and has not answered.
+say_more_states() {
+    local at most=1000000
+    for at in "${!words[@]}"; do
+        [ "${words[at]}" != --most ] || most=${words[at + 1]}
+    done
+    [ "$name" = hmmwithout ] || ! is_number "${words[0]}" || most=${words[0]}
+    [ "$most" -ge 1000000 ] || say "\`--most $((most < 100000 ? most * 10 : 1000000))\` allows more; here it was $most"
+}
+
 # Says of a script or a report that is given as a trace what makes one of it.
 explain_no_trace() {
     if grep -q '^history$' "$1"; then
@@ -732,7 +742,7 @@ tells_progress() {
 # Says every five seconds, until it is ended, how long that process has searched, and in how much memory.
 say_progress() {
     local memory
-    while sleep 5; do
+    while sleep 5 </dev/null >/dev/null 2>&1; do     # it may outlive this program, and keeps no pipe open
         memory=$(awk '/^VmRSS/ { print int($2 / 1024) }' "/proc/$1/status" 2>/dev/null)
         say "searching for $SECONDS seconds${memory:+; $memory MB of memory}"
     done
@@ -777,6 +787,7 @@ run() {
         explain "$text"
     elif [ "$name" = hmmraces ] || [ "$name" = hmmwithout ]; then
         [ $status -ne 2 ] || explain_conditions "$text"
+        [ $status -ne 10 ] || say_more_states
         [[ $status -ne 9 || " ${words[*]} " != *' --script '* ]] ||
             say 'outcomes are numbered from 1; without `--script N` all are written, or with `--table` a row for each'
     elif [ $status -eq 9 ] && [ "$name" = hmmview ]; then
