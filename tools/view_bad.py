@@ -1,7 +1,7 @@
 #!/usr/bin/env python3
 """The page of a report that is not legal: its rows up to the bad line, and above them what hmmjudge says of that line.
 
-    ./hmmjudge.sh REPORT > JUDGED
+    ./hmmjudge.sh --quick REPORT > JUDGED
     tools/view_bad.py REPORT JUDGED > page.html
 
 If the bad line is that of an entry, it is the last row, and marked. It leads to no state, so nothing is due after it.

@@ -1,7 +1,7 @@
 #!/usr/bin/env python3
 """One page of a race that punishes a driver, or the memory manager, if it leaves one rule out.
 
-    ./hmmwithout.sh RULE [--answers] RACE.hmm > SHORTEST
+    ./hmmwithout.sh --quick RULE [--answers] RACE.hmm > SHORTEST
     tools/view_broken.py RULE RACE.hmm SHORTEST > page.html
 
 The page is that of hmmview. Its last row is marked, and above it stands which part of legality that row breaks, which

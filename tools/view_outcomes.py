@@ -1,7 +1,7 @@
 #!/usr/bin/env python3
 """One page of a race: its outcomes as a table, and the history that leads to each.
 
-    ./hmmraces.sh RACE.hmm > OUTCOMES
+    ./hmmraces.sh --quick RACE.hmm > OUTCOMES
     tools/view_outcomes.py RACE.hmm OUTCOMES > page.html
 
 A click on an outcome shows the report that its schedule gives, as hmmview does, and where it parts from the outcome
