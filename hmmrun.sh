@@ -396,6 +396,8 @@ join_traces() {
 check_traces() {
     local one
     for one in "$@"; do
+        [ -e "$one" ] || ! is_trace_rule "$one" ||
+            refuse "\`$one\` is a rule; \`--expect $one\` asks whether it was tested, and all are judged"
         [ -e "$one" ] || no_file "there is no file $one"
         [ -f "$one" ] && [ -r "$one" ] || no_file "the file $one may not be read"
         [ ! -s "$one" ] || [ "$(tail -c 1 "$one" | wc -l)" -eq 1 ] || no_file "the last line of $one has no line feed"
@@ -537,8 +539,9 @@ refuse_missing() {
 refuse_many() {
     local word
     [ "$name" != hmmraces ] || for word in "${rest[@]}"; do
-        [ -f "$word" ] || ! is_rule "$word" || refuse "\`$word\` is a rule; $(sibling hmmwithout) takes it"
+        [ -e "$word" ] || refuse_missing "$word"
     done
+    [ ! -f "${rest[0]}" ] || [ ! -f "${rest[1]}" ] || refuse "one file at a time: \`${rest[0]}\` or \`${rest[1]}\`"
     refuse "too many words: \`${rest[*]:1}\`"
 }
 
