@@ -8,6 +8,8 @@
 import re, sys
 from pathlib import Path
 
+import words as given
+
 TOP = Path(__file__).resolve().parent.parent
 TITLE = 'Drivers that do otherwise'
 
@@ -63,6 +65,7 @@ def with_column(text):
 
 
 def main():
+    given.begin(__doc__)
     page = TOP / 'docs/BROKEN.md'
     text = page.read_text(encoding='utf-8')
     new = with_column(text)
@@ -72,7 +75,7 @@ def main():
             print('docs/BROKEN.md says otherwise than docs/DRIVERS.md of', ', '.join(differ))
         return int(bool(differ))
     if sys.argv[1:]:
-        sys.exit(__doc__)
+        given.refuse('one word at most: --check')
     page.write_text(new, encoding='utf-8')
     return 0
 

@@ -7,6 +7,7 @@
 # In the environment: ACCEL (tcg, which works without /dev/kvm; kvm is faster where it works), CPU (max; host with
 # kvm), CPUS (2), MEM (768), APPEND (more words for the kernel), QEMU (more words for qemu).
 set -eu
+case ${1-} in --help | -h) sed -n '2,/^set/{/^#/s/^# \{0,1\}//p}' "$0"; exit 0 ;; esac
 work=${1:?the folder that build.sh filled}
 kernel=$work/bzImage.${2:?stock or changed}
 in=${3:?the file that the guest reads}

@@ -10,6 +10,7 @@
 # What is there already is not made again; but the changed kernel is, if edit_driver.py is not the one that it was built
 # with. To make all again, remove W. The compiler warns of large frames in test_hmm.c; that is no error.
 set -eu
+case ${1-} in --help | -h) sed -n '2,/^set/{/^#/s/^# \{0,1\}//p}' "$0"; exit 0 ;; esac
 here=$(cd "$(dirname "$0")" && pwd)
 work=${1:?a folder to build in}
 jobs=${2:-2}

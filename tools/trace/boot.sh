@@ -6,6 +6,7 @@
 # for one with coherent memory), FIRST (the first run's number, 0), SIZE (events that the probes have room for), REMOVES
 # (1: each round removes that memory, 0), and the words of ../linux/boot.sh: ACCEL, CPU, CPUS, MEM.
 set -eu
+case ${1-} in --help | -h) sed -n '2,/^set/{/^#/s/^# \{0,1\}//p}' "$0"; exit 0 ;; esac
 here=$(cd "$(dirname "$0")" && pwd)
 work=${1:?the folder that build.sh filled}
 rule=${2:?a rule, or right}

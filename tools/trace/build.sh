@@ -7,6 +7,7 @@
 # The kernel's package is not installed: its image is taken out. VERSION (6.1.0-57) in the environment is another one;
 # its headers must be there. What is there already is not fetched again; the probes and the drivers are made anew.
 set -eu
+case ${1-} in --help | -h) sed -n '2,/^set/{/^#/s/^# \{0,1\}//p}' "$0"; exit 0 ;; esac
 here=$(cd "$(dirname "$0")" && pwd)
 mkdir -p "${1:?a folder to build in}"
 work=$(cd "$1" && pwd)

@@ -7,6 +7,7 @@
 # MODULE is what build.sh or `make M=..` has made of hmm_probes.c for the kernel that runs; `modinfo MODULE` has all
 # parameters. If events are missing, the last line of the trace is `lost ..`, and this says so.
 set -eu
+case ${1-} in --help | -h) sed -n '2,/^set/{/^#/s/^# \{0,1\}//p}' "$0"; exit 0 ;; esac
 usage() {
     echo 'usage: record.sh MODULE OUT PARAMETER .. -- COMMAND ..' >&2
     exit 2

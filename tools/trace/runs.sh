@@ -9,6 +9,7 @@
 # Drivers whose entries may be stale do not write: their writes would go to pages that are the guest's again. Those
 # whose rule is about migrations have a device with coherent memory, and some of them a slow one.
 set -eu
+case ${1-} in --help | -h) sed -n '2,/^set/{/^#/s/^# \{0,1\}//p}' "$0"; exit 0 ;; esac
 here=$(cd "$(dirname "$0")" && pwd)
 work=${1:?the folder that build.sh filled}
 shift

@@ -6,6 +6,7 @@
 # In the environment: RUNS (of each rule, 20), SECONDS_MOST (of a boot, 400), ONLY_OWN (1: the driver's own rule alone),
 # and the variables of ../linux/boot.sh.
 set -eu
+case ${1-} in --help | -h) sed -n '2,/^set/{/^#/s/^# \{0,1\}//p}' "$0"; exit 0 ;; esac
 here=$(cd "$(dirname "$0")" && pwd)
 work=${1:?the folder that build.sh filled}
 shift
