@@ -266,6 +266,11 @@ def main():
     words.add_argument('file', nargs='?')
     words.add_argument('--drawn', nargs='+', type=int)
     words.add_argument('--with', dest='command', nargs=argparse.REMAINDER)
+    for word in sys.argv[1:]:
+        if word == '--with':
+            break
+        if word.startswith('--') and word != '--drawn':
+            given.refuse(f'there is no `{word}`{given.nearest(word, ("--drawn", "--with"))}')
     asked = words.parse_args()
     if asked.drawn:
         command = asked.command or given.ready('hmmraces')

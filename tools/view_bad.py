@@ -53,6 +53,8 @@ def page_lines(script, actors, bad):
 
 def page_text(data, said):
     judged = said.splitlines()
+    if judged and judged[0].startswith('hmm '):
+        given.refuse('the report comes first, and then what hmmjudge wrote of it')
     if not judged or not judged[0].startswith('bad '):
         nothing('hmmjudge named no bad line, so hmmview draws the report')
     at = int(judged[0].split(' ')[1])

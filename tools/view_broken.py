@@ -136,7 +136,7 @@ def race_of(script, rule, text):
     for answers_alone in (False, True):
         if entries_of(script, rule, turns, answers_alone) == written:
             return Shown(script, rule, written, answers_alone), part
-    no_race('this driver comes to other entries')
+    no_race('this driver comes to other entries; was it written of another rule, or of another script?')
 
 
 def page_text(shown, part, rule):

@@ -88,7 +88,7 @@ def main():
     script, text = (given.data_of([name]).decode() for name in sys.argv[1:])
     outcomes, last = outcomes_of(text)
     if not outcomes:
-        given.refuse('the second file has no outcome')
+        given.refuse('the second file has no outcome: the script comes first, and then what hmmraces wrote of it')
     try:
         sys.stdout.write(page_text(script, outcomes, last))
     except scripts.Refused as refused:
