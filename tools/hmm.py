@@ -303,7 +303,8 @@ class Script:
             self.order(word, rest)
         if word not in self.known() and not (self.exact and word == 'history'):
             if self.exact and word in FOR_PEOPLE:
-                raise word.trouble(f'`{word}` is a word of scripts for people: leave the line `hmm ..` out, and it is one')
+                raise word.trouble(f'`{word}` is a word of scripts for people: leave the line `hmm ..` out, '
+                                   'and it is one')
             raise word.trouble(f'there is no word `{word}`' + did_you_mean(word, self.known()))
         if not self.exact and self.schedule and word not in ('turns', 'until', 'drain'):
             raise word.trouble(f'`{word}` stands above the first `turns`, `until` or `drain`, in line {self.last}')

@@ -65,7 +65,7 @@ class Shown:
         return Race(self.script, self.rule, self.turns[:count], self.answers_alone)
 
     def left_out(self):
-        """The first row in which a right driver would do something else, and what that is; none if there is no such row."""
+        """The first row in which a right driver would do something else, and what that is; none if there is none."""
         for at, (actor, written) in enumerate(zip(self.turns, self.written)):
             race = self.after(at)
             race.state.rule = None
