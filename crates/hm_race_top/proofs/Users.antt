@@ -17,6 +17,7 @@ use Rattle.hm_race_top.specs.Asked.{HasNoTask, front, questions_in}
 use Rattle.hm_race_top.specs.Races.{Found, HasFound, HasStopped, Holds, RacesBy, Searched, Searches}
 use Rattle.hm_race_top.specs.Run.Known.{KnownValue, MayFail}
 use Rattle.hm_race_top.specs.Runs.{Runs, name, usage}
+use Rattle.hm_race_top.proofs.Playing.{order_of}
 use Rattle.hm_race_top.proofs.Unasked.{none_has}
 use Rattle.hm_race_top.specs.Telling.{HasTold, IsSentOn, IsStrict, told}
 use Rattle.hm_race_top.specs.Theorem.{AreRight, IsOfRace, IsUnasked, NoRace, TellsRace, Theorem, ToldBy, ToldRace, ToldRacing}
@@ -27,7 +28,8 @@ are_right most c task known played end h = record {
   all = h.complete;
   real = h.real;
   once = h.distinct;
-  orders = h.orders;
+  orders = λ cut a below. order_of c played (h.orders cut) a below;
+  each = λ cut. (h.orders cut).each;
   led = h.led;
   no_order = h.no_order;
   right = h.right;
