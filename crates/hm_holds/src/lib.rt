@@ -6,6 +6,7 @@ ghost use Rattle.hm_holds.specs.Laws.{HeldRacesAreSystems, KeptTurnsAreJudged, K
 ghost use Rattle.hm_holds.specs.Laws.{SureBreaks, WholeIsSure};
 
 mod holds;
+mod same;
 mod words;
 
 pub use holds::{Hold, HoldState, Nth};
