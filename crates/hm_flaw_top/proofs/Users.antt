@@ -27,13 +27,13 @@ use Rattle.hm_race_top.specs.declared.telling.Telling.{Telling}
 use Rattle.hm_script.specs.Built.{has_drain}
 use Rattle.hm_search.specs.declared.search.End.{End}
 use Rattle.hm_flaw_top.specs.Runs.{Runs, name, usage}
-use Rattle.hm_flaw_top.specs.Search.Answers.{IsAnswer, IsFound, is_broken}
+use Rattle.hm_flaw_search.specs.Answers.{IsAnswer, IsFound, is_broken}
 use Rattle.hm_flaw_top.specs.Text.Tasks.{task_in}
 use Rattle.hm_flaw_top.specs.Theorem.{IsOfRaces, IsRight, TellsRaces, Theorem, ToldBy, ToldOf, ToldRaces, ToldWithout}
 use Rattle.hm_flaw_top.specs.Told.{Tells}
 use Rattle.hm_flaw_top.specs.Withouts.{Found as Sought, HasFound, MayStop, Searched, Searches, WithoutsBy}
-use Rattle.hm_flaw_top.specs.declared.text.answer.Answer.{Answer}
-use Rattle.hm_flaw_top.specs.declared.text.answer.Found.{Found}
+use Rattle.hm_flaw_search.specs.declared.answer.Answer.{Answer}
+use Rattle.hm_flaw_search.specs.declared.answer.Found.{Found}
 use Rattle.hm_flaw_top.specs.declared.text.task.BadWord.{BadWord}
 use Rattle.hm_flaw_top.specs.declared.text.task.Task.{Task}
 use Rattle.hm_flaw_top.specs.declared.text.task.Which.{Which}

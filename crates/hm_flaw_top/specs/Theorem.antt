@@ -26,14 +26,14 @@ use Rattle.hm_search.specs.Goals.{AreMissed, IsSoon, Reaches}
 use Rattle.hm_search.specs.Known.{HaveForms, IsCut, IsKnown, IsNear, KnownValue, forms}
 use Rattle.hm_search.specs.declared.search.End.{End}
 use Rattle.hm_flaw_top.specs.Runs.{Runs, name, usage}
-use Rattle.hm_flaw_top.specs.Search.Unused.{IsUnused}
-use Rattle.hm_flaw_top.specs.Text.Answers.{race_length}
+use Rattle.hm_flaw_search.specs.Unused.{IsUnused}
+use Rattle.hm_flaw_search.specs.Outcomes.{race_length}
 use Rattle.hm_flaw_top.specs.Text.Names.{all_flaws}
 use Rattle.hm_flaw_top.specs.Text.Tasks.{task_in}
 use Rattle.hm_flaw_top.specs.Told.{rules_in, told_all, told_one}
 use Rattle.hm_flaw_top.specs.Withouts.{MayStop}
-use Rattle.hm_flaw_top.specs.declared.text.answer.Answer.{Answer}
-use Rattle.hm_flaw_top.specs.declared.text.answer.Found.{Found}
+use Rattle.hm_flaw_search.specs.declared.answer.Answer.{Answer}
+use Rattle.hm_flaw_search.specs.declared.answer.Found.{Found}
 use Rattle.hm_flaw_top.specs.declared.text.table.RuleAnswer.{RuleAnswer}
 use Rattle.hm_flaw_top.specs.declared.text.task.Task.{Task}
 use Rattle.hm_flaw_top.specs.declared.text.task.Which.{Which}

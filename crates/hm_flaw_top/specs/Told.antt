@@ -4,11 +4,11 @@ use Rattle.hm_base.specs.Program.{Program}
 use Rattle.hm_flaws.specs.declared.flaws.Flaw.{Flaw}
 use Rattle.hm_flaws.specs.declared.parts.Part.{Part}
 use Rattle.hm_flaw_parts.specs.Races.Races.{flaw_system}
-use Rattle.hm_flaw_top.specs.Search.Answers.{IsAnswer}
+use Rattle.hm_flaw_search.specs.Answers.{IsAnswer}
 use Rattle.hm_flaw_top.specs.Text.Lines.{answer_text}
 use Rattle.hm_flaw_top.specs.Text.Names.{all_flaws}
 use Rattle.hm_flaw_top.specs.Text.Table.{rules_text}
-use Rattle.hm_flaw_top.specs.declared.text.answer.Answer.{Answer}
+use Rattle.hm_flaw_search.specs.declared.answer.Answer.{Answer}
 use Rattle.hm_flaw_top.specs.declared.text.table.RuleAnswer.{RuleAnswer}
 use Rattle.hm_flaw_top.specs.declared.text.task.Which.{Which}
 use Rattle.hm_history.specs.declared.Entry.{Entry}

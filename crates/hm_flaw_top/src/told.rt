@@ -1,7 +1,7 @@
 // What is to be written of drivers that leave a rule out, and how the call ends then.
 ghost use Rattle.std.specs.Prelude.{◌≡◌, ◌≤◌, [], length, IfErr, IfOk};
 ghost use Rattle.hm_flaw_parts.specs.Judged.{judged_parts};
-ghost use Rattle.hm_flaw_top.specs.Search.Races.{IsFirst};
+ghost use Rattle.hm_flaw_search.specs.Races.{IsFirst};
 ghost use Rattle.hm_flaw_top.specs.Text.Names.{all_flaws};
 ghost use Rattle.hm_flaw_parts.specs.Races.Races.{flaw_system};
 ghost use Rattle.hm_history.specs.Laws.{DueFrom};
@@ -10,9 +10,9 @@ ghost use Rattle.hm_search.specs.Known.{MayFail};
 ghost use Rattle.hm_flaw_top.specs.Told.{rules_in, AreAnswers, FailsAtSome, FlawsMayFail, Tells, TellsAll, TellsOne};
 
 use crate::ending::{ending_of, ending_of_all};
-use crate::search::find_race;
 use crate::text::{RuleAnswer, Task, Which, all_flaws, answer_text, rules_text};
 use hm_base::{ListOf, NoMemory, Script};
+use hm_flaw_search::find_race;
 use hm_flaw_states::first_key;
 use hm_flaw_states::key::FlawKey;
 use hm_flaws::Flaw;

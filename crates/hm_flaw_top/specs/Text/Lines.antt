@@ -4,10 +4,10 @@ use Rattle.hm_flaws.specs.declared.parts.Part.{Part}
 use Rattle.hm_history.specs.declared.Entry.{Entry}
 use Rattle.hm_race_top.specs.Text.Text.{states_line}
 use Rattle.hm_report.specs.Report.{entry_line, entry_lines}
-use Rattle.hm_flaw_top.specs.Text.Answers.{extent, nothing_word}
+use Rattle.hm_flaw_search.specs.Outcomes.{extent, nothing_word}
 use Rattle.hm_flaw_top.specs.Text.Names.{part_text}
-use Rattle.hm_flaw_top.specs.declared.text.answer.Answer.{Answer}
-use Rattle.hm_flaw_top.specs.declared.text.answer.Found.{Found}
+use Rattle.hm_flaw_search.specs.declared.answer.Answer.{Answer}
+use Rattle.hm_flaw_search.specs.declared.answer.Found.{Found}
 
 -- the line of the part that is broken
 abbrev pub breaks_line : Part → List ℕ

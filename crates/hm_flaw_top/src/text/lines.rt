@@ -2,12 +2,12 @@
 ghost use Rattle.std.specs.Prelude.{◌≡◌, ◌+◌, ◌<◌, ◌^◌, ◌++◌, ◌∷◌, [], codes, length, IfOk, OnOk};
 ghost use Rattle.hm_report.specs.Report.{entry_line, entry_lines};
 ghost use Rattle.hm_race_top.specs.Text.Text.{states_line};
-ghost use Rattle.hm_flaw_top.specs.Text.Answers.{extent, race_length};
+ghost use Rattle.hm_flaw_search.specs.Outcomes.{extent, race_length};
 ghost use Rattle.hm_flaw_top.specs.Text.Lines.{answer_text, breaks_line, broken_text, found_text};
 
-use crate::text::answer::{Answer, Found};
 use crate::text::names::part_name;
 use hm_base::{NoMemory, Text};
+use hm_flaw_search::{Answer, Found};
 use hm_flaws::Part;
 use hm_history::Entry;
 use hm_race_top::text::add_states;

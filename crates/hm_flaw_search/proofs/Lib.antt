@@ -1,0 +1,10 @@
+mod Rooms
+mod Turning
+mod Waiting
+mod Sticking
+mod Playing
+mod Reached
+mod Alike
+mod Leading
+mod Unused
+mod Answering
