@@ -1,0 +1,5 @@
+pub mod Keys
+pub mod Races
+pub mod Tried
+pub mod Finding
+pub mod Events
