@@ -1,7 +1,10 @@
 -- Holds of which none can be left out.
-use Rattle.std.specs.Prelude.{◌≡◌, ℕ, ◌+◌, ◌<◌, List, length, remove}
+use Rattle.std.specs.Prelude.{◌≡◌, ℕ, ◌+◌, ◌<◌, List, length, remove, ⊤}
 use Rattle.hm_flaw_search.specs.Races.{FlawRaceValue}
+use Rattle.hm_history.specs.declared.StepError.{StepError}
 use Rattle.hm_holds.specs.declared.holds.Hold.{Hold}
+use Rattle.hm_search.specs.Known.{MayFail}
+use Rattle.hm_held_search.specs.Races.{held_value}
 use Rattle.hm_held_search.specs.Tried.{ArePast, FailBy, IsSure}
 use Rattle.hm_held_search.specs.declared.finding.FoundHolds.{FoundHolds}
 use Rattle.hm_held_search.specs.declared.finding.Less.{Less}
@@ -27,3 +30,8 @@ abbrev pub IsFound : FlawRaceValue → List Hold → ℕ → FoundHolds → Type
 IsFound r first most (FoundHolds.Needed holds n) = IsSure r holds.items most n × AreNeeded r holds.items
 IsFound r first most (FoundHolds.NotSure turns) = FailBy r first turns.items
 IsFound r first most FoundHolds.Cut = ArePast r most
+
+-- why a search for holds fails: memory; or with some holds a search fails since the history is full
+abbrev pub MayFailBy : FlawRaceValue → StepError → Type 0
+MayFailBy r StepError.NoMemory = ⊤
+MayFailBy r (StepError.Full n) = (ds : List Hold) × MayFail (held_value r ds) (StepError.Full n)

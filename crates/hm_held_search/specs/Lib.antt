@@ -3,3 +3,4 @@ pub mod Races
 pub mod Tried
 pub mod Finding
 pub mod Events
+pub mod Text

@@ -1,6 +1,7 @@
 // The holds that are needed.
-ghost use Rattle.std.specs.Prelude.{◌≡◌, ◌<◌, remove, length, IfOk};
-ghost use Rattle.hm_held_search.specs.Finding.{IsFound, IsLess};
+ghost use Rattle.std.specs.Prelude.{◌≡◌, ◌<◌, remove, length, IfErr, IfOk};
+ghost use Rattle.hm_history.specs.declared.StepError.{StepError as AnyError};
+ghost use Rattle.hm_held_search.specs.Finding.{IsFound, IsLess, MayFailBy};
 ghost use Rattle.hm_held_search.specs.Tried.{IsSure};
 
 use crate::tried::{Tried, try_holds};
@@ -36,7 +37,8 @@ enum Less {
 // The holds but the one at this place.
 fn without(alloc: Global, holds: &[Hold], at: usize) -> Result<Vec<Hold>, StepError>
     requires { at < length holds.now }
-    ensures { IfOk result (λ v. v.items ≡ remove holds.now at) }
+    ensures left { IfOk result (λ v. v.items ≡ remove holds.now at) }
+    ensures fails { IfErr result (λ e. e ≡ AnyError.NoMemory) }
 {
     match Vec::from_slice(alloc, holds) {
         Ok(mut rest) => {
@@ -49,7 +51,8 @@ fn without(alloc: Global, holds: &[Hold], at: usize) -> Result<Vec<Hold>, StepEr
 
 // The first list of holds but one with which every order of turns goes wrong.
 fn leave_one(race: &FlawRace, holds: &[Hold], most: u64) -> Result<Less, StepError>
-    ensures { IfOk result (IsLess race.now holds.now most) }
+    ensures less { IfOk result (IsLess race.now holds.now most) }
+    ensures fails { IfErr result (MayFailBy race.now) }
 {
     for at in 0..holds.len() {
         let rest = without(race.alloc, holds, at)?;
@@ -75,7 +78,8 @@ fn leave_out(
     most: u64,
 ) -> Result<FoundHolds, StepError>
     requires { IsSure race.now first.items most count }
-    ensures { IfOk result (IsFound race.now first.items most) }
+    ensures found { IfOk result (IsFound race.now first.items most) }
+    ensures fails { IfErr result (MayFailBy race.now) }
 {
     let mut holds = first;
     let mut states = count;
@@ -97,7 +101,8 @@ fn leave_out(
 /// Leaves out of these holds what is not needed: with those that are left every order of turns goes wrong, and without
 /// one of them some order does not. Each is proved by a search of at most `most` states.
 pub fn find_holds(race: &FlawRace, first: Vec<Hold>, most: u64) -> Result<FoundHolds, StepError>
-    ensures { IfOk result (IsFound race.now first.items most) }
+    ensures found { IfOk result (IsFound race.now first.items most) }
+    ensures fails { IfErr result (MayFailBy race.now) }
 {
     match try_holds(race, &first, most)? {
         Tried::Sure(states) => leave_out(race, first, states, most),
