@@ -17,8 +17,8 @@ use hm_reads::Reads;
 use skip_rules::Multiples;
 
 impl<'a> FlawRace<'a> {
-    // Whether an entry is due to the actor.
-    fn can_go(&self, key: &FlawKey, actor: Actor) -> Result<bool, NoMemory>
+    /// Whether an entry is due to the actor.
+    pub fn can_go(&self, key: &FlawKey, actor: Actor) -> Result<bool, NoMemory>
         ensures { IfOk result
             (λ b. b ≡ is_entry (due_by self.now.flaw self.now.script (form_in key.now).flawed actor)) }
     {

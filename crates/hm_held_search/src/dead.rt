@@ -1,9 +1,7 @@
 // Whether no actor may go on, and nothing went wrong.
 ghost use Rattle.std.specs.Prelude.{◌≡◌, not, IfOk};
 ghost use Rattle.std.specs.List.{list_all};
-ghost use Rattle.hm_history.specs.Kernel.Run.{actors_of, is_entry};
-ghost use Rattle.hm_flaws.specs.Flawed.{due_by};
-ghost use Rattle.hm_flaw_states.specs.Keyed.{form_in};
+ghost use Rattle.hm_history.specs.Kernel.Run.{actors_of};
 ghost use Rattle.hm_holds.specs.Held.{HeldPoint, held_go, is_dead};
 ghost use Rattle.hm_search.specs.Values.{key_forms};
 ghost use Rattle.hm_held_search.specs.Keys.{held_form};
@@ -12,26 +10,7 @@ ghost use Rattle.hm_held_search.specs.Tried.{IsDeadPlace};
 use crate::keys::HeldKey;
 use hm_base::{Actor, NoMemory};
 use hm_flaw_search::FlawRace;
-use hm_flaw_states::due_by;
-use hm_flaw_states::here::FlawHere;
-use hm_flaw_states::key::FlawKey;
-use hm_history::Progress;
 use hm_search::{Goal, Known};
-use skip_rules::Multiples;
-
-// Whether an entry is due to the actor.
-fn is_due(race: &FlawRace, key: &FlawKey, actor: Actor) -> Result<bool, NoMemory>
-    ensures { IfOk result (λ b. b ≡ is_entry (due_by race.now.flaw race.now.script (form_in key.now).flawed actor)) }
-{
-    let here = FlawHere {
-        script: race.script,
-        state: &key.state,
-    };
-    match due_by(&here, &key.own, race.flaw, &Multiples, race.alloc, actor)? {
-        Progress::Did(_) => Ok(true),
-        Progress::Waiting(_) | Progress::Idle => Ok(false),
-    }
-}
 
 // Whether no part was broken, an entry is due to the actor, and no hold keeps it from making it.
 fn may_go(race: &FlawRace, key: &HeldKey, actor: Actor) -> Result<bool, NoMemory>
@@ -40,7 +19,7 @@ fn may_go(race: &FlawRace, key: &HeldKey, actor: Actor) -> Result<bool, NoMemory
     if key.stops(actor) || key.race.key().part().is_some() {
         return Ok(false);
     }
-    is_due(race, key.race.key(), actor)
+    race.can_go(key.race.key(), actor)
 }
 
 // Whether no actor may go on.
