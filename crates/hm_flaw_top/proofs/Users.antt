@@ -1,21 +1,18 @@
 -- What the user of the program is told.
-use Rattle.std.proofs.Common.{◌≡◌, ◌⊎◌, inl, inr, ℕ, ◌+◌, ◌≤◌, Bool, true, false, List, [], length, Option, Some, None, refl, sym, ap, ◌∙◌, subst}
-use Rattle.std.specs.Prelude.{◌↔◌, Result, Ok, Err}
+use Rattle.std.proofs.Common.{◌≡◌, ◌⊎◌, inl, inr, ℕ, true, false, List, Some, refl, ap, subst}
+use Rattle.std.specs.Prelude.{Result, Ok, Err}
 use Rattle.std.proofs.lemmas.Bool.{false≢true}
 use Rattle.hm_base.specs.Program.{Program}
-use Rattle.hm_edge.specs.Exits.{Exits}
 use Rattle.hm_edge.specs.Reading.{HasNotRead, IsTextOf, ReadAs, ReadFaulted}
 use Rattle.hm_edge.specs.Traffic.{IsUntouched, NoFault, Traffic}
-use Rattle.hm_edge.specs.Users.{CutShort, EndsSo, GoesOut, IsStarted, NothingOut, Spells}
-use Rattle.hm_edge.specs.Writing.{HasWritten, WriteFaulted}
+use Rattle.hm_edge.specs.Users.{CutShort}
+use Rattle.hm_edge.specs.Writing.{WriteFaulted}
 use Rattle.hm_edge.specs.declared.status.RaceEnd.{RaceEnd}
 use Rattle.hm_edge.specs.declared.status.Status.{Status}
 use Rattle.hm_edge.proofs.Telling.{cut_short, ends_so, goes_out, is_given, known, none_left, nothing_out, spells, told_no_script}
-use Rattle.hm_flaws.specs.Judged.{Breaks}
 use Rattle.hm_flaws.specs.declared.flaws.Flaw.{Flaw}
 use Rattle.hm_flaws.specs.declared.parts.Part.{Part}
 use Rattle.hm_flaw_parts.specs.Judged.{judged_parts}
-use Rattle.hm_flaw_parts.specs.Races.Judging.{Sticks}
 use Rattle.hm_history.specs.Kernel.Run.{run}
 use Rattle.hm_history.specs.declared.Entry.{Entry}
 use Rattle.hm_history.specs.declared.StepError.{StepError}
@@ -25,7 +22,6 @@ use Rattle.hm_race_top.specs.Telling.{HasTold, IsSentOn}
 use Rattle.hm_race_top.specs.Theorem.{NoRace}
 use Rattle.hm_race_top.specs.declared.telling.Telling.{Telling}
 use Rattle.hm_script.specs.Built.{has_drain}
-use Rattle.hm_search.specs.declared.search.End.{End}
 use Rattle.hm_flaw_top.specs.Runs.{Runs, name, usage}
 use Rattle.hm_flaw_search.specs.Answers.{IsAnswer, IsFound, is_broken}
 use Rattle.hm_flaw_top.specs.Text.Tasks.{task_in}
@@ -73,6 +69,7 @@ is_right parts l c h most a x = record {
 
 told_of : (which : Which) (parts : List Part) (most : ℕ) (c : Program) (h : List Entry) (t : Telling) → Tells which parts most c h t → ToldOf which parts most c h t
 told_of (Which.One l) parts most c h t x = record { answer = x.answer; is = is_right parts l c h most x.answer x.is; told = x.told }
+told_of (Which.Holds l) parts most c h t x = record { answer = x.answer; is = is_right parts l c h most x.answer x.is; race = x.race; of_race = x.of_race; more = x.more; holds = x.holds; told = x.told }
 told_of Which.All parts most c h t x = record { rows = x.rows; rules = x.rules; are = λ row listed. is_right parts row.rule c h most row.answer (x.are row listed); told = x.told }
 
 -- ---- the streams of a call

@@ -11,7 +11,7 @@ name = codes "hmmwithout"
 -- what it says if a word is bad
 abbrev pub usage : List ℕ
 usage =
-    codes "usage: hmmwithout RULE | right | --all [--answers] [--most MOST], with RULE one of compare compare-sequence "
+    codes "usage: hmmwithout RULE [--holds] | right [--holds] | --all [--answers] [--most MOST], with RULE one of compare compare-sequence "
     ++ (codes "entry-right mmap-lock own-device begin-waits begin-first set-sequence erase erase-all erase-in-time "
     ++ (codes "own-events own-sequence own-entries stop-at-detach write-entry detach-waits copy-all clear set-moved "
     ++ (codes "set-right set-unless-invalidated drop-lost take-from-there evict-first withdraw-first wait-for-locked "

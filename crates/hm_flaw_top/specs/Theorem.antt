@@ -1,9 +1,9 @@
 -- The theorem of the program hmmwithout: what its user is told.
-use Rattle.std.specs.Prelude.{◌≡◌, ◌⊎◌, ◌↔◌, ℕ, ◌+◌, ◌≤◌, true, false, List, [], length, Some, None}
+use Rattle.std.specs.Prelude.{◌≡◌, ◌↔◌, ℕ, ◌+◌, ◌≤◌, true, false, List, [], length, Some}
 use Rattle.std.specs.Prelude.{Result, Ok, Err}
 use Rattle.hm_base.specs.Program.{Program}
 use Rattle.hm_edge.specs.Exits.{Arguments, Exits}
-use Rattle.hm_edge.specs.Traffic.{IsUntouched, Traffic}
+use Rattle.hm_edge.specs.Traffic.{Traffic}
 use Rattle.hm_edge.specs.Users.{CutShort, EndsSo, GoesOut, IsStarted, Spells, ToldNoScript, ToldUsage}
 use Rattle.hm_edge.specs.declared.status.RaceEnd.{RaceEnd}
 use Rattle.hm_edge.specs.declared.status.Status.{Status}
@@ -28,9 +28,10 @@ use Rattle.hm_search.specs.declared.search.End.{End}
 use Rattle.hm_flaw_top.specs.Runs.{Runs, name, usage}
 use Rattle.hm_flaw_search.specs.Unused.{IsUnused}
 use Rattle.hm_flaw_search.specs.Outcomes.{race_length}
+use Rattle.hm_flaw_search.specs.Races.{FlawRaceValue}
 use Rattle.hm_flaw_top.specs.Text.Names.{all_flaws}
 use Rattle.hm_flaw_top.specs.Text.Tasks.{task_in}
-use Rattle.hm_flaw_top.specs.Told.{rules_in, told_all, told_one}
+use Rattle.hm_flaw_top.specs.Told.{IsRaceOf, TellsMore, rules_in, told_all, told_more, told_one}
 use Rattle.hm_flaw_top.specs.Withouts.{MayStop}
 use Rattle.hm_flaw_search.specs.declared.answer.Answer.{Answer}
 use Rattle.hm_flaw_search.specs.declared.answer.Found.{Found}
@@ -92,6 +93,18 @@ pub record ToldOne (parts : List Part) (most : ℕ) (l : Flaw) (c : Program) (h 
   pub is : IsRight parts l c h most answer
   pub told : t ≡ told_one (length h) answer
 
+-- what is told of one driver and of the holds of the race: **every order of turns that keeps them goes wrong, and
+-- without one of them some order does not** (`IsFound`)
+pub record ToldHeld (parts : List Part) (most : ℕ) (l : Flaw) (c : Program) (h : List Entry) (t : Telling)
+    : Type 0 where
+  pub answer : Answer
+  pub is : IsRight parts l c h most answer
+  pub race : FlawRaceValue
+  pub of_race : IsRaceOf parts l c h race
+  pub more : List ℕ
+  pub holds : TellsMore race most answer.found more
+  pub told : t ≡ told_more (length h) answer more
+
 -- what is told of all drivers: a line for each, in their order
 pub record ToldAll (parts : List Part) (most : ℕ) (c : Program) (h : List Entry) (t : Telling) : Type 0 where
   pub rows : List RuleAnswer
@@ -102,6 +115,7 @@ pub record ToldAll (parts : List Part) (most : ℕ) (c : Program) (h : List Entr
 -- what is told of those that are asked for
 abbrev pub ToldOf : Which → List Part → ℕ → Program → List Entry → Telling → Type 0
 ToldOf (Which.One l) parts most c h t = ToldOne parts most l c h t
+ToldOf (Which.Holds l) parts most c h t = ToldHeld parts most l c h t
 ToldOf Which.All parts most c h t = ToldAll parts most c h t
 
 -- The bytes are the text of a script, the races of drivers were searched after its run, and what is told of that went

@@ -17,7 +17,7 @@ pub const NAME: &str = "hmmwithout";
 
 /// What it says if a word is bad.
 pub const USAGE: &str =
-    "usage: hmmwithout RULE | right | --all [--answers] [--most MOST], with RULE one of compare compare-sequence \
+    "usage: hmmwithout RULE [--holds] | right [--holds] | --all [--answers] [--most MOST], with RULE one of compare compare-sequence \
     entry-right mmap-lock own-device begin-waits begin-first set-sequence erase erase-all erase-in-time \
     own-events own-sequence own-entries stop-at-detach write-entry detach-waits copy-all clear set-moved \
     set-right set-unless-invalidated drop-lost take-from-there evict-first withdraw-first wait-for-locked \
