@@ -18,11 +18,11 @@ use Rattle.hm_history.specs.declared.Entry.{Entry}
 use Rattle.hm_history.specs.declared.Progress.{Progress}
 use Rattle.hm_flaws.specs.declared.flaws.Flaw.{Flaw}
 use Rattle.hm_flaws.specs.declared.parts.Part.{Part}
-use Rattle.hm_flaws.specs.Flawed.{due_by}
+use Rattle.hm_flaws.specs.Flawed.{due_by, flawed_after}
 use Rattle.hm_flaws.specs.Judged.{Judged, judged, judged_entry, judged_from, judged_on, judged_turn}
 use Rattle.hm_flaws.specs.Parts.{broken_part}
 use Rattle.hm_flaws.specs.Races.{part_in}
-use Rattle.hm_flaw_states.specs.Keyed.{break_of, form_in}
+use Rattle.hm_flaw_states.specs.Keyed.{break_of, broken_in, entries_in, form_in}
 use Rattle.hm_flaw_states.specs.Turns.{IsNextKey, IsTurned}
 use Rattle.hm_flaw_states.specs.declared.key.BrokenBy.{BrokenBy}
 use Rattle.hm_flaw_states.specs.declared.key.FlawKey.{FlawKey}
@@ -34,7 +34,10 @@ use Rattle.hm_flaw_parts.proofs.Systems.{turn_stays}
 use Rattle.hm_flaw_parts.proofs.Turns.{in_step, turns_are_judged, turns_go}
 use Rattle.hm_flaw_search.specs.declared.answer.Found.{Found}
 use Rattle.hm_flaw_search.specs.Races.{FlawRaceValue, IsCopy, IsFlawRace, IsKeyOf}
-use Rattle.hm_flaw_search.specs.Played.{IsPlayed, found_by, found_with}
+use Rattle.hm_flaw_search.specs.Owing.{IsOwed, IsOwedAt, IsOwedNow, earlier, race_entries}
+use Rattle.hm_flaw_search.specs.Played.{IsOwedAfter, IsPlayed, found_by, found_with}
+use Rattle.hm_flaw_search.specs.declared.answer.Owed.{Owed}
+use Rattle.hm_flaw_search.proofs.Owing.{owed_more}
 use Rattle.hm_flaw_search.proofs.Turning.{judged_more, turned_point}
 
 -- ---- one turn more
@@ -66,6 +69,18 @@ module _ (parts : List Part) (l : Flaw) (c : Program) (h : List Entry) (turns : 
     entries = p.entries ∙ ap (λ (x : Judged). x.entries) (sym (all_stays is));
     broken = p.broken ∙ ap (λ (x : Judged). x.broken) (sym (all_stays is));
   }
+
+  -- nothing is owed that was not
+  pub owed_stays : is_due_at l c (form_in k) a ≡ false → (was now : Option Owed) → IsOwedAfter parts l c h turns was → IsOwedAt l c (form_in k) a now → IsOwedAfter parts l c h (turns ++ a ∷ []) (earlier was now)
+  owed_stays is was now q r = subst (λ (x : Judged). IsOwed l c h (race_entries (found_by x)) (earlier was now)) (sym (all_stays is)) (by was now q r)
+    where
+      never : (w : Owed) → IsOwedNow l c (form_in k) a w → ⊥
+      never w y = false≢true (sym is ∙ (ap (λ (o : Option Part). is_none o && is_entry (due_by l c (form_in k).flawed a)) y.none ∙ ap is_entry y.made))
+
+      by : (was now : Option Owed) → IsOwedAfter parts l c h turns was → IsOwedAt l c (form_in k) a now → IsOwedAfter parts l c h turns (earlier was now)
+      by (Some w) now q r = q
+      by None None q r = q
+      by None (Some w) q r = absurd (never w r)
 
   module _ (n : FlawKey) (z : IsTurned parts l c k a n) where
     abbrev breaks : Option Part
@@ -109,6 +124,24 @@ module _ (parts : List Part) (l : Flaw) (c : Program) (h : List Entry) (turns : 
     pub played_on : IsPlayed parts l c h (turns ++ a ∷ []) n
     played_on = by_part breaks refl
 
+    -- ---- what is owed
+
+    race_by : (o : Option Part) → race_entries (found_by (judged_entry parts l c h so_far z.entry o)) ≡ so_far.entries ++ z.entry ∷ []
+    race_by None = refl
+    race_by (Some part) = refl
+
+    race_on : race_entries (found_by (judged parts l c h (turns ++ a ∷ []))) ≡ so_far.entries ++ z.entry ∷ []
+    race_on = ap (λ (x : Judged). race_entries (found_by x)) judged_on_so ∙ race_by breaks
+
+    race_so_far : race_entries (found_by so_far) ≡ so_far.entries
+    race_so_far = ap (λ (o : Option (Entry × Part)). race_entries (found_with so_far.entries o)) none_before
+
+    here : (form_in k).flawed ≡ flawed_after l c h so_far.entries
+    here = ap (λ (x : FlawPoint). x.flawed) same ∙ (turns_go parts l c h turns).same
+
+    pub owed_on : (was now : Option Owed) → IsOwedAfter parts l c h turns was → IsOwedAt l c (form_in k) a now → IsOwedAfter parts l c h (turns ++ a ∷ []) (earlier was now)
+    owed_on was now q r = subst (λ (es : List Entry). IsOwed l c h es (earlier was now)) (sym race_on) (owed_more l c h so_far.entries z.entry a (form_in k) here z.none z.due was now (subst (λ (es : List Entry). IsOwed l c h es was) race_so_far q) r)
+
 module _ (parts : List Part) (l : Flaw) (c : Program) (h : List Entry) (turns : List ℕ) (i a : ℕ) (k m : FlawKey) (o : Option FlawKey) (p : IsPlayed parts l c h (take i turns) k) (below : i < length turns) (is : a ≡ get_or turns i a) (next : IsNextKey parts l c k a o) where
   more : take i turns ++ a ∷ [] ≡ take (i + 1) turns
   more = ap (λ (j : ℕ). take i turns ++ j ∷ []) is ∙ sym (take_more turns i a below)
@@ -118,6 +151,13 @@ module _ (parts : List Part) (l : Flaw) (c : Program) (h : List Entry) (turns : 
 
   pub goes_not : o ≡ None → m ≡ k → IsPlayed parts l c h (take (i + 1) turns) m
   goes_not none same = subst (IsPlayed parts l c h (take (i + 1) turns)) (sym same) (subst (λ (ts : List ℕ). IsPlayed parts l c h ts k) more (played_stays parts l c h (take i turns) a k p (subst (IsNextKey parts l c k a) none next)))
+
+  pub owed_goes : (was now : Option Owed) → IsOwedAfter parts l c h (take i turns) was → IsOwedAt l c (form_in k) a now → IsOwedAfter parts l c h (take (i + 1) turns) (earlier was now)
+  owed_goes was now q r = subst (λ (ts : List ℕ). IsOwedAfter parts l c h ts (earlier was now)) more (by o next)
+    where
+      by : (o : Option FlawKey) → IsNextKey parts l c k a o → IsOwedAfter parts l c h (take i turns ++ a ∷ []) (earlier was now)
+      by None is = owed_stays parts l c h (take i turns) a k p is was now q r
+      by (Some n) z = owed_on parts l c h (take i turns) a k p n z was now q r
 
 -- ---- what is kept
 
@@ -147,15 +187,15 @@ key_stays r k m i same h = subst (λ x. IsKeyOf r x (i + 1)) (sym same) (record 
 
 -- ---- what was found
 
-pub found_broken : (parts : List Part) (l : Flaw) (c : Program) (h : List Entry) (turns : List ℕ) (k : FlawKey) (by : BrokenBy) (es : List Entry) (e : Entry)
-    → IsPlayed parts l c h turns k → k.broken ≡ Some by → es ≡ (judged parts l c h turns).entries → e ≡ by.entry.value → Found.Broken es e by.part ≡ found_by (judged parts l c h turns)
-found_broken parts l c h turns k by es e p is entries entry =
+pub found_broken : (k : FlawKey) (by : BrokenBy) (es : List Entry) (e : Entry) → k.broken ≡ Some by → es ≡ entries_in k → e ≡ by.entry.value → Found.Broken es e by.part ≡ found_with (entries_in k) (broken_in k)
+found_broken k by es e is entries entry =
     ap (λ (x : Entry). Found.Broken es x by.part) entry
     ∙ (ap (λ (xs : List Entry). found_with xs (Some (by.entry.value, by.part))) entries
-    ∙ ap (found_with (judged parts l c h turns).entries) (sym (ap (option_map break_of) is) ∙ p.broken))
+    ∙ ap (found_with (entries_in k)) (sym (ap (option_map break_of) is)))
 
-pub found_unbroken : (parts : List Part) (l : Flaw) (c : Program) (h : List Entry) (turns : List ℕ) (k : FlawKey) (es : List Entry)
-    → IsPlayed parts l c h turns k → k.broken ≡ None → es ≡ (judged parts l c h turns).entries → Found.Stuck es ≡ found_by (judged parts l c h turns)
-found_unbroken parts l c h turns k es p is entries =
-    ap (λ (xs : List Entry). found_with xs None) entries
-    ∙ ap (found_with (judged parts l c h turns).entries) (sym (ap (option_map break_of) is) ∙ p.broken)
+pub found_unbroken : (k : FlawKey) (es : List Entry) → k.broken ≡ None → es ≡ entries_in k → Found.Stuck es ≡ found_with (entries_in k) (broken_in k)
+found_unbroken k es is entries = ap (λ (xs : List Entry). found_with xs None) entries ∙ ap (found_with (entries_in k)) (sym (ap (option_map break_of) is))
+
+-- what is found at a key is what its turns come to
+pub found_there : (parts : List Part) (l : Flaw) (c : Program) (h : List Entry) (turns : List ℕ) (k : FlawKey) (f : Found) → IsPlayed parts l c h turns k → f ≡ found_with (entries_in k) (broken_in k) → f ≡ found_by (judged parts l c h turns)
+found_there parts l c h turns k f p is = is ∙ (ap (λ (es : List Entry). found_with es (broken_in k)) p.entries ∙ ap (found_with (judged parts l c h turns).entries) p.broken)
