@@ -1,17 +1,14 @@
 -- What is owed in a race that has one entry more.
-use Rattle.std.proofs.Common.{◌≡◌, ℕ, ◌+◌, true, Option, Some, None, List, [], ◌∷◌, ◌++◌, length, refl, sym, ap, ◌∙◌, subst, fold, append_assoc, arith}
-use Rattle.std.specs.Prelude.{is_some}
-use Rattle.std.proofs.lemmas.Bool.{false≢true}
+use Rattle.std.proofs.Common.{◌≡◌, ℕ, ◌+◌, Option, Some, None, List, [], ◌∷◌, ◌++◌, length, refl, sym, ap, ◌∙◌, subst, fold, append_assoc, arith}
 use Rattle.hm_base.specs.Program.{Program}
 use Rattle.hm_history.specs.Kernel.Going.{state_of, state_start}
 use Rattle.hm_history.specs.declared.Entry.{Entry}
 use Rattle.hm_history.specs.declared.Progress.{Progress}
 use Rattle.hm_history.proofs.Going.{lengths}
 use Rattle.hm_flaws.specs.declared.flaws.Flaw.{Flaw}
-use Rattle.hm_flaws.specs.declared.parts.Part.{Part}
 use Rattle.hm_flaws.specs.Flawed.{Flawed, due_by, flawed_after, flawed_from, flawed_next}
 use Rattle.hm_flaw_parts.specs.Races.Races.{FlawPoint}
-use Rattle.hm_flaw_parts.proofs.Turns.{due_to_own}
+use Rattle.hm_flaw_parts.proofs.Turns.{due_to_own, flawed_lengths}
 use Rattle.hm_flaw_search.specs.Alike.{entry_of}
 use Rattle.hm_flaw_search.specs.Owing.{AreRightFrom, IsOwed, IsOwedAt, earlier}
 use Rattle.hm_flaw_search.specs.declared.answer.Owed.{Owed}
@@ -24,10 +21,6 @@ right_more l c t [] e r d = (d, tt)
 right_more l c t (f ∷ es) e r d = (r.0, right_more l c (flawed_next l c t f) es e r.1 d)
 
 -- how long the history is after some entries
-flawed_lengths : (l : Flaw) (c : Program) (t : Flawed) (es : List Entry) → (fold (flawed_next l c) t es).state.after.length ≡ t.state.after.length + length es
-flawed_lengths l c t [] = omega arith
-flawed_lengths l c t (e ∷ es) = omega (arith, flawed_lengths l c (flawed_next l c t e) es)
-
 long_after : (l : Flaw) (c : Program) (h es : List Entry) → (flawed_after l c h es).state.after.length ≡ length h + length es
 long_after l c h es = omega (arith, flawed_lengths l c (flawed_from (state_of c h)) es, lengths c (state_start c) h)
 
@@ -66,17 +59,6 @@ made_by (Progress.Did f) e is = cc
 made_by (Progress.Waiting why) e is = cc
 made_by Progress.Idle e is = cc
 
--- after a part was broken nothing is owed
-pub none_broken : (l : Flaw) (c : Program) (x : FlawPoint) (a : ℕ) (o : Option Part) → o ≡ x.broken → is_some o ≡ true → IsOwedAt l c x a None
-none_broken l c x a o same some e none made = absurd (false≢true (sym (ap is_some (same ∙ none)) ∙ some))
-
 -- two turns that come to the same entry
 pub none_alike : (l : Flaw) (c : Program) (x : FlawPoint) (a : ℕ) → entry_of (due_by l c x.flawed a) ≡ entry_of (due_by Flaw.NoFlaw c x.flawed a) → IsOwedAt l c x a None
 none_alike l c x a same e none made = made_by (due_by Flaw.NoFlaw c x.flawed a) e (sym same ∙ ap entry_of made)
-
--- a turn that comes to no entry
-pub none_made : (l : Flaw) (c : Program) (x : FlawPoint) (a : ℕ) → entry_of (due_by l c x.flawed a) ≡ None → IsOwedAt l c x a None
-none_made l c x a nothing e none made = absurd (never (sym nothing ∙ ap entry_of made))
-  where
-    never : None ≡ Some e → ⊥
-    never is = cc

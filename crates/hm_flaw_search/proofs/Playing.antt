@@ -1,6 +1,5 @@
 -- A key after turns, one after the other, and the entries that led to it.
 use Rattle.std.proofs.Common.{◌≡◌, ℕ, ◌+◌, ◌<◌, ◌≤◌, false, ◌&&◌, Option, Some, None, List, [], ◌∷◌, ◌++◌, length, take, refl, sym, ap, ◌∙◌, subst, get_or, arith}
-use Rattle.std.specs.Option.{option_map}
 use Rattle.std.specs.Prelude.{Err, IfOk, IfSome, Ok, Result, is_none}
 use Rattle.std.proofs.lemmas.Bool.{false≢true}
 use Rattle.std.proofs.lemmas.List.{take_more}
@@ -22,9 +21,8 @@ use Rattle.hm_flaws.specs.Flawed.{due_by, flawed_after}
 use Rattle.hm_flaws.specs.Judged.{Judged, judged, judged_entry, judged_from, judged_on, judged_turn}
 use Rattle.hm_flaws.specs.Parts.{broken_part}
 use Rattle.hm_flaws.specs.Races.{part_in}
-use Rattle.hm_flaw_states.specs.Keyed.{break_of, broken_in, entries_in, form_in}
+use Rattle.hm_flaw_states.specs.Keyed.{form_in}
 use Rattle.hm_flaw_states.specs.Turns.{IsNextKey, IsTurned}
-use Rattle.hm_flaw_states.specs.declared.key.BrokenBy.{BrokenBy}
 use Rattle.hm_flaw_states.specs.declared.key.FlawKey.{FlawKey}
 use Rattle.hm_flaw_parts.specs.Races.Races.{FlawPoint, broken_at, is_due_at, point_from, point_turn}
 use Rattle.hm_flaw_parts.specs.Races.Judging.{point_after, point_of}
@@ -32,7 +30,6 @@ use Rattle.hm_flaw_parts.proofs.BrokenTurns.{no_entry}
 use Rattle.hm_flaw_parts.proofs.MarkedTurns.{broken_same}
 use Rattle.hm_flaw_parts.proofs.Systems.{turn_stays}
 use Rattle.hm_flaw_parts.proofs.Turns.{in_step, turns_are_judged, turns_go}
-use Rattle.hm_flaw_search.specs.declared.answer.Found.{Found}
 use Rattle.hm_flaw_search.specs.Races.{FlawRaceValue, IsCopy, IsFlawRace, IsKeyOf}
 use Rattle.hm_flaw_search.specs.Owing.{IsOwed, IsOwedAt, IsOwedNow, earlier, race_entries}
 use Rattle.hm_flaw_search.specs.Played.{IsOwedAfter, IsPlayed, found_by, found_with}
@@ -184,18 +181,3 @@ key_next r o n m i some same h = subst (λ k. IsKeyOf r k (i + 1)) (sym same) (s
 
 pub key_stays : (r : FlawRaceValue) (k m : FlawKey) (i : ℕ) → m ≡ k → IsKeyOf r k i → IsKeyOf r m (i + 1)
 key_stays r k m i same h = subst (λ x. IsKeyOf r x (i + 1)) (sym same) (record { kept = h.kept; few = omega (arith, h.few) })
-
--- ---- what was found
-
-pub found_broken : (k : FlawKey) (by : BrokenBy) (es : List Entry) (e : Entry) → k.broken ≡ Some by → es ≡ entries_in k → e ≡ by.entry.value → Found.Broken es e by.part ≡ found_with (entries_in k) (broken_in k)
-found_broken k by es e is entries entry =
-    ap (λ (x : Entry). Found.Broken es x by.part) entry
-    ∙ (ap (λ (xs : List Entry). found_with xs (Some (by.entry.value, by.part))) entries
-    ∙ ap (found_with (entries_in k)) (sym (ap (option_map break_of) is)))
-
-pub found_unbroken : (k : FlawKey) (es : List Entry) → k.broken ≡ None → es ≡ entries_in k → Found.Stuck es ≡ found_with (entries_in k) (broken_in k)
-found_unbroken k es is entries = ap (λ (xs : List Entry). found_with xs None) entries ∙ ap (found_with (entries_in k)) (sym (ap (option_map break_of) is))
-
--- what is found at a key is what its turns come to
-pub found_there : (parts : List Part) (l : Flaw) (c : Program) (h : List Entry) (turns : List ℕ) (k : FlawKey) (f : Found) → IsPlayed parts l c h turns k → f ≡ found_with (entries_in k) (broken_in k) → f ≡ found_by (judged parts l c h turns)
-found_there parts l c h turns k f p is = is ∙ (ap (λ (es : List Entry). found_with es (broken_in k)) p.entries ∙ ap (found_with (judged parts l c h turns).entries) p.broken)
