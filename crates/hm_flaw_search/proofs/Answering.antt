@@ -26,7 +26,9 @@ use Rattle.hm_flaw_search.specs.declared.answer.Found.{Found}
 use Rattle.hm_flaw_search.specs.Answers.{IsAnswer, IsFound, is_broken}
 use Rattle.hm_flaw_search.specs.Finding.{IsFirstTrue, IsFoundFirst, found_at, goal_of}
 use Rattle.hm_flaw_search.specs.Played.{found_by, found_with}
+use Rattle.hm_flaw_search.specs.Owing.{IsOwed, race_entries}
 use Rattle.hm_flaw_search.specs.Unused.{IsUnused}
+use Rattle.hm_flaw_search.specs.declared.answer.Owed.{Owed}
 use Rattle.hm_flaw_search.proofs.Reached.{first_known, none_known}
 
 -- the laws
@@ -64,7 +66,7 @@ broken≢nothing es e part is = cc
 stuck≢nothing : (es : List Entry) → Found.Stuck es ≡ Found.Nothing → ⊥
 stuck≢nothing es is = cc
 
-module _ (law : Laws) (parts : List Part) (l : Flaw) (c : Program) (sc : IsScript c) (h : List Entry) (d : DueFrom c [] h) (few : length h ≤ 2000000) (most : ℕ) (known : List (KnownValue FlawPoint)) (n : ℕ) (count : n ≡ length known) (u : Bool) where
+module _ (law : Laws) (parts : List Part) (l : Flaw) (c : Program) (sc : IsScript c) (h : List Entry) (d : DueFrom c [] h) (few : length h ≤ 2000000) (most : ℕ) (known : List (KnownValue FlawPoint)) (n : ℕ) (count : n ≡ length known) (u : Bool) (w : Option Owed) where
   -- ---- known states
 
   -- the entries of a known state, and those of the set-up, are not too many
@@ -83,10 +85,10 @@ module _ (law : Laws) (parts : List Part) (l : Flaw) (c : Program) (sc : IsScrip
 
   -- ---- answers
 
-  answer : (end : End) (f : Found) → (u ≡ true) ↔ IsUnused parts l c h end f → Searched parts l c h most known end → IsFound parts l c h f → length h + race_length f ≤ 2000000
+  answer : (end : End) (f : Found) → (u ≡ true) ↔ IsUnused parts l c h end f → IsOwed l c h (race_entries f) w → Searched parts l c h most known end → IsFound parts l c h f → length h + race_length f ≤ 2000000
       → (end ≡ End.Whole → f ≡ Found.Nothing → NeverSticks parts l c h) → (f ≡ Found.Nothing → AreMissed (sticks_at l c) known) → ((end ≡ End.Reached) ↔ (is_broken f ≡ true)) → (l ≡ Flaw.NoFlaw → f ≡ Found.Nothing)
-      → IsAnswer parts l c h most (record { found = f; states = n; end = end; unused = u })
-  answer end f unused s found long never seen reached right = record {
+      → IsAnswer parts l c h most (record { found = f; states = n; end = end; unused = u; owed = w })
+  answer end f unused owed s found long never seen reached right = record {
     known = known;
     states = count;
     searched = s.each;
@@ -106,44 +108,45 @@ module _ (law : Laws) (parts : List Part) (l : Flaw) (c : Program) (sc : IsScrip
     reached = reached;
     right = right;
     unused = unused;
+    owed = owed;
   }
 
-  broken_answer : (f : Found) → (u ≡ true) ↔ IsUnused parts l c h End.Reached f → Searched parts l c h most known End.Reached → (place : Option ℕ) → IsFirstTrue (map (reaches breaks_at) known) place → f ≡ found_at parts l c h known place
-      → IsAnswer parts l c h most (record { found = f; states = n; end = End.Reached; unused = u })
-  broken_answer f unused s None first same =
+  broken_answer : (f : Found) → (u ≡ true) ↔ IsUnused parts l c h End.Reached f → IsOwed l c h (race_entries f) w → Searched parts l c h most known End.Reached → (place : Option ℕ) → IsFirstTrue (map (reaches breaks_at) known) place → f ≡ found_at parts l c h known place
+      → IsAnswer parts l c h most (record { found = f; states = n; end = End.Reached; unused = u; owed = w })
+  broken_answer f unused owed s None first same =
       let r = s.reached refl in
       absurd (false≢true (sym (none_known breaks_at known first r.state r.listed r.ended) ∙ r.reached))
-  broken_answer f unused s (Some at) first same =
+  broken_answer f unused owed s (Some at) first same =
       let z = first_known breaks_at known at first in
       let b = law.first_breaks parts l c h known s.each s.fewer s.rising z.state z.first in
       let k = s.each z.state (listed_first breaks_at z.state z.first) in
       let es : List Entry = (judged parts l c h z.state.turns).entries in
       let is : f ≡ Found.Broken es b.entry b.part = same ∙ (ap (λ (turns : List ℕ). found_by (judged parts l c h turns)) z.turns ∙ ap (found_with es) b.broken) in
-      subst (λ (g : Found). IsAnswer parts l c h most (record { found = g; states = n; end = End.Reached; unused = u })) (sym is)
-      (answer End.Reached (Found.Broken es b.entry b.part) (subst (λ (g : Found). (u ≡ true) ↔ IsUnused parts l c h End.Reached g) is unused) s (b.breaks, subst (BreakLater parts l c h) (sym b.long) b.later) (omega (arith, room z.state k, b.long))
+      subst (λ (g : Found). IsAnswer parts l c h most (record { found = g; states = n; end = End.Reached; unused = u; owed = w })) (sym is)
+      (answer End.Reached (Found.Broken es b.entry b.part) (subst (λ (g : Found). (u ≡ true) ↔ IsUnused parts l c h End.Reached g) is unused) (subst (λ (g : Found). IsOwed l c h (race_entries g) w) is owed) s (b.breaks, subst (BreakLater parts l c h) (sym b.long) b.later) (omega (arith, room z.state k, b.long))
       (λ e u. absurd (whole≢reached (sym e))) (λ u. absurd (broken≢nothing es b.entry b.part u)) (λ e. refl, λ e. refl)
       (λ right. absurd (not_right z.state k (or_left (is_some z.state.form.broken) (is_stuck l c z.state.form.flawed) z.first.reached) right)))
 
-  unbroken_answer : (end : End) → (end ≡ End.Reached → ⊥) → (f : Found) → (u ≡ true) ↔ IsUnused parts l c h end f → Searched parts l c h most known end → (place : Option ℕ) → IsFirstTrue (map (reaches (sticks_at l c)) known) place → f ≡ found_at parts l c h known place
-      → IsAnswer parts l c h most (record { found = f; states = n; end = end; unused = u })
-  unbroken_answer end other f unused s None first same =
-      subst (λ (g : Found). IsAnswer parts l c h most (record { found = g; states = n; end = end; unused = u })) (sym same)
-      (answer end Found.Nothing (subst (λ (g : Found). (u ≡ true) ↔ IsUnused parts l c h end g) same unused) s tt (omega (arith, few)) (λ e u. law.whole_sticks parts l c h known s.each (s.all e) (none_known (sticks_at l c) known first))
+  unbroken_answer : (end : End) → (end ≡ End.Reached → ⊥) → (f : Found) → (u ≡ true) ↔ IsUnused parts l c h end f → IsOwed l c h (race_entries f) w → Searched parts l c h most known end → (place : Option ℕ) → IsFirstTrue (map (reaches (sticks_at l c)) known) place → f ≡ found_at parts l c h known place
+      → IsAnswer parts l c h most (record { found = f; states = n; end = end; unused = u; owed = w })
+  unbroken_answer end other f unused owed s None first same =
+      subst (λ (g : Found). IsAnswer parts l c h most (record { found = g; states = n; end = end; unused = u; owed = w })) (sym same)
+      (answer end Found.Nothing (subst (λ (g : Found). (u ≡ true) ↔ IsUnused parts l c h end g) same unused) (subst (λ (g : Found). IsOwed l c h (race_entries g) w) same owed) s tt (omega (arith, few)) (λ e u. law.whole_sticks parts l c h known s.each (s.all e) (none_known (sticks_at l c) known first))
       (λ u. none_known (sticks_at l c) known first) (λ e. absurd (other e), λ e. absurd (false≢true e)) (λ right. refl))
-  unbroken_answer end other f unused s (Some at) first same =
+  unbroken_answer end other f unused owed s (Some at) first same =
       let z = first_known (sticks_at l c) known at first in
       let b = law.first_sticks parts l c h known s.each s.fewer s.rising z.state z.first in
       let k = s.each z.state (listed_first (sticks_at l c) z.state z.first) in
       let es : List Entry = (judged parts l c h z.state.turns).entries in
       let is : f ≡ Found.Stuck es = same ∙ (ap (λ (turns : List ℕ). found_by (judged parts l c h turns)) z.turns ∙ ap (found_with es) b.unbroken) in
       let stuck = (and_parts (is_none z.state.form.broken) (is_stuck l c z.state.form.flawed) z.first.reached).1 in
-      subst (λ (g : Found). IsAnswer parts l c h most (record { found = g; states = n; end = end; unused = u })) (sym is)
-      (answer end (Found.Stuck es) (subst (λ (g : Found). (u ≡ true) ↔ IsUnused parts l c h end g) is unused) s (b.sticks, subst (StickLater parts l c h) (sym b.long) b.later) (omega (arith, room z.state k, b.long))
+      subst (λ (g : Found). IsAnswer parts l c h most (record { found = g; states = n; end = end; unused = u; owed = w })) (sym is)
+      (answer end (Found.Stuck es) (subst (λ (g : Found). (u ≡ true) ↔ IsUnused parts l c h end g) is unused) (subst (λ (g : Found). IsOwed l c h (race_entries g) w) is owed) s (b.sticks, subst (StickLater parts l c h) (sym b.long) b.later) (omega (arith, room z.state k, b.long))
       (λ e u. absurd (stuck≢nothing es u)) (λ u. absurd (stuck≢nothing es u)) (λ e. absurd (other e), λ e. absurd (false≢true e))
       (λ right. absurd (not_right z.state k (or_right (is_some z.state.form.broken) (is_stuck l c z.state.form.flawed) stuck) right)))
 
-  pub answered : (end : End) (f : Found) → (u ≡ true) ↔ IsUnused parts l c h end f → Searched parts l c h most known end → IsFoundFirst parts l c h known (map (reaches (goal_of l c end)) known) f
-      → IsAnswer parts l c h most (record { found = f; states = n; end = end; unused = u })
-  answered End.Reached f unused s z = broken_answer f unused s z.place z.first z.same
-  answered End.Whole f unused s z = unbroken_answer End.Whole whole≢reached f unused s z.place z.first z.same
-  answered End.Cut f unused s z = unbroken_answer End.Cut cut≢reached f unused s z.place z.first z.same
+  pub answered : (end : End) (f : Found) → (u ≡ true) ↔ IsUnused parts l c h end f → IsOwed l c h (race_entries f) w → Searched parts l c h most known end → IsFoundFirst parts l c h known (map (reaches (goal_of l c end)) known) f
+      → IsAnswer parts l c h most (record { found = f; states = n; end = end; unused = u; owed = w })
+  answered End.Reached f unused owed s z = broken_answer f unused owed s z.place z.first z.same
+  answered End.Whole f unused owed s z = unbroken_answer End.Whole whole≢reached f unused owed s z.place z.first z.same
+  answered End.Cut f unused owed s z = unbroken_answer End.Cut cut≢reached f unused owed s z.place z.first z.same

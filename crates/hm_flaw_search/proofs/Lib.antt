@@ -3,6 +3,7 @@ mod Turning
 mod Waiting
 mod Sticking
 mod Playing
+mod Owing
 mod Reached
 mod Alike
 mod Leading

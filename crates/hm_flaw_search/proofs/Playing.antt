@@ -1,6 +1,5 @@
 -- A key after turns, one after the other, and the entries that led to it.
 use Rattle.std.proofs.Common.{◌≡◌, ℕ, ◌+◌, ◌<◌, ◌≤◌, false, ◌&&◌, Option, Some, None, List, [], ◌∷◌, ◌++◌, length, take, refl, sym, ap, ◌∙◌, subst, get_or, arith}
-use Rattle.std.specs.Option.{option_map}
 use Rattle.std.specs.Prelude.{Err, IfOk, IfSome, Ok, Result, is_none}
 use Rattle.std.proofs.lemmas.Bool.{false≢true}
 use Rattle.std.proofs.lemmas.List.{take_more}
@@ -18,13 +17,12 @@ use Rattle.hm_history.specs.declared.Entry.{Entry}
 use Rattle.hm_history.specs.declared.Progress.{Progress}
 use Rattle.hm_flaws.specs.declared.flaws.Flaw.{Flaw}
 use Rattle.hm_flaws.specs.declared.parts.Part.{Part}
-use Rattle.hm_flaws.specs.Flawed.{due_by}
+use Rattle.hm_flaws.specs.Flawed.{due_by, flawed_after}
 use Rattle.hm_flaws.specs.Judged.{Judged, judged, judged_entry, judged_from, judged_on, judged_turn}
 use Rattle.hm_flaws.specs.Parts.{broken_part}
 use Rattle.hm_flaws.specs.Races.{part_in}
-use Rattle.hm_flaw_states.specs.Keyed.{break_of, form_in}
+use Rattle.hm_flaw_states.specs.Keyed.{form_in}
 use Rattle.hm_flaw_states.specs.Turns.{IsNextKey, IsTurned}
-use Rattle.hm_flaw_states.specs.declared.key.BrokenBy.{BrokenBy}
 use Rattle.hm_flaw_states.specs.declared.key.FlawKey.{FlawKey}
 use Rattle.hm_flaw_parts.specs.Races.Races.{FlawPoint, broken_at, is_due_at, point_from, point_turn}
 use Rattle.hm_flaw_parts.specs.Races.Judging.{point_after, point_of}
@@ -32,9 +30,11 @@ use Rattle.hm_flaw_parts.proofs.BrokenTurns.{no_entry}
 use Rattle.hm_flaw_parts.proofs.MarkedTurns.{broken_same}
 use Rattle.hm_flaw_parts.proofs.Systems.{turn_stays}
 use Rattle.hm_flaw_parts.proofs.Turns.{in_step, turns_are_judged, turns_go}
-use Rattle.hm_flaw_search.specs.declared.answer.Found.{Found}
 use Rattle.hm_flaw_search.specs.Races.{FlawRaceValue, IsCopy, IsFlawRace, IsKeyOf}
-use Rattle.hm_flaw_search.specs.Played.{IsPlayed, found_by, found_with}
+use Rattle.hm_flaw_search.specs.Owing.{IsOwed, IsOwedAt, IsOwedNow, earlier, race_entries}
+use Rattle.hm_flaw_search.specs.Played.{IsOwedAfter, IsPlayed, found_by, found_with}
+use Rattle.hm_flaw_search.specs.declared.answer.Owed.{Owed}
+use Rattle.hm_flaw_search.proofs.Owing.{owed_more}
 use Rattle.hm_flaw_search.proofs.Turning.{judged_more, turned_point}
 
 -- ---- one turn more
@@ -66,6 +66,18 @@ module _ (parts : List Part) (l : Flaw) (c : Program) (h : List Entry) (turns : 
     entries = p.entries ∙ ap (λ (x : Judged). x.entries) (sym (all_stays is));
     broken = p.broken ∙ ap (λ (x : Judged). x.broken) (sym (all_stays is));
   }
+
+  -- nothing is owed that was not
+  pub owed_stays : is_due_at l c (form_in k) a ≡ false → (was now : Option Owed) → IsOwedAfter parts l c h turns was → IsOwedAt l c (form_in k) a now → IsOwedAfter parts l c h (turns ++ a ∷ []) (earlier was now)
+  owed_stays is was now q r = subst (λ (x : Judged). IsOwed l c h (race_entries (found_by x)) (earlier was now)) (sym (all_stays is)) (by was now q r)
+    where
+      never : (w : Owed) → IsOwedNow l c (form_in k) a w → ⊥
+      never w y = false≢true (sym is ∙ (ap (λ (o : Option Part). is_none o && is_entry (due_by l c (form_in k).flawed a)) y.none ∙ ap is_entry y.made))
+
+      by : (was now : Option Owed) → IsOwedAfter parts l c h turns was → IsOwedAt l c (form_in k) a now → IsOwedAfter parts l c h turns (earlier was now)
+      by (Some w) now q r = q
+      by None None q r = q
+      by None (Some w) q r = absurd (never w r)
 
   module _ (n : FlawKey) (z : IsTurned parts l c k a n) where
     abbrev breaks : Option Part
@@ -109,6 +121,24 @@ module _ (parts : List Part) (l : Flaw) (c : Program) (h : List Entry) (turns : 
     pub played_on : IsPlayed parts l c h (turns ++ a ∷ []) n
     played_on = by_part breaks refl
 
+    -- ---- what is owed
+
+    race_by : (o : Option Part) → race_entries (found_by (judged_entry parts l c h so_far z.entry o)) ≡ so_far.entries ++ z.entry ∷ []
+    race_by None = refl
+    race_by (Some part) = refl
+
+    race_on : race_entries (found_by (judged parts l c h (turns ++ a ∷ []))) ≡ so_far.entries ++ z.entry ∷ []
+    race_on = ap (λ (x : Judged). race_entries (found_by x)) judged_on_so ∙ race_by breaks
+
+    race_so_far : race_entries (found_by so_far) ≡ so_far.entries
+    race_so_far = ap (λ (o : Option (Entry × Part)). race_entries (found_with so_far.entries o)) none_before
+
+    here : (form_in k).flawed ≡ flawed_after l c h so_far.entries
+    here = ap (λ (x : FlawPoint). x.flawed) same ∙ (turns_go parts l c h turns).same
+
+    pub owed_on : (was now : Option Owed) → IsOwedAfter parts l c h turns was → IsOwedAt l c (form_in k) a now → IsOwedAfter parts l c h (turns ++ a ∷ []) (earlier was now)
+    owed_on was now q r = subst (λ (es : List Entry). IsOwed l c h es (earlier was now)) (sym race_on) (owed_more l c h so_far.entries z.entry a (form_in k) here z.none z.due was now (subst (λ (es : List Entry). IsOwed l c h es was) race_so_far q) r)
+
 module _ (parts : List Part) (l : Flaw) (c : Program) (h : List Entry) (turns : List ℕ) (i a : ℕ) (k m : FlawKey) (o : Option FlawKey) (p : IsPlayed parts l c h (take i turns) k) (below : i < length turns) (is : a ≡ get_or turns i a) (next : IsNextKey parts l c k a o) where
   more : take i turns ++ a ∷ [] ≡ take (i + 1) turns
   more = ap (λ (j : ℕ). take i turns ++ j ∷ []) is ∙ sym (take_more turns i a below)
@@ -118,6 +148,13 @@ module _ (parts : List Part) (l : Flaw) (c : Program) (h : List Entry) (turns : 
 
   pub goes_not : o ≡ None → m ≡ k → IsPlayed parts l c h (take (i + 1) turns) m
   goes_not none same = subst (IsPlayed parts l c h (take (i + 1) turns)) (sym same) (subst (λ (ts : List ℕ). IsPlayed parts l c h ts k) more (played_stays parts l c h (take i turns) a k p (subst (IsNextKey parts l c k a) none next)))
+
+  pub owed_goes : (was now : Option Owed) → IsOwedAfter parts l c h (take i turns) was → IsOwedAt l c (form_in k) a now → IsOwedAfter parts l c h (take (i + 1) turns) (earlier was now)
+  owed_goes was now q r = subst (λ (ts : List ℕ). IsOwedAfter parts l c h ts (earlier was now)) more (by o next)
+    where
+      by : (o : Option FlawKey) → IsNextKey parts l c k a o → IsOwedAfter parts l c h (take i turns ++ a ∷ []) (earlier was now)
+      by None is = owed_stays parts l c h (take i turns) a k p is was now q r
+      by (Some n) z = owed_on parts l c h (take i turns) a k p n z was now q r
 
 -- ---- what is kept
 
@@ -144,18 +181,3 @@ key_next r o n m i some same h = subst (λ k. IsKeyOf r k (i + 1)) (sym same) (s
 
 pub key_stays : (r : FlawRaceValue) (k m : FlawKey) (i : ℕ) → m ≡ k → IsKeyOf r k i → IsKeyOf r m (i + 1)
 key_stays r k m i same h = subst (λ x. IsKeyOf r x (i + 1)) (sym same) (record { kept = h.kept; few = omega (arith, h.few) })
-
--- ---- what was found
-
-pub found_broken : (parts : List Part) (l : Flaw) (c : Program) (h : List Entry) (turns : List ℕ) (k : FlawKey) (by : BrokenBy) (es : List Entry) (e : Entry)
-    → IsPlayed parts l c h turns k → k.broken ≡ Some by → es ≡ (judged parts l c h turns).entries → e ≡ by.entry.value → Found.Broken es e by.part ≡ found_by (judged parts l c h turns)
-found_broken parts l c h turns k by es e p is entries entry =
-    ap (λ (x : Entry). Found.Broken es x by.part) entry
-    ∙ (ap (λ (xs : List Entry). found_with xs (Some (by.entry.value, by.part))) entries
-    ∙ ap (found_with (judged parts l c h turns).entries) (sym (ap (option_map break_of) is) ∙ p.broken))
-
-pub found_unbroken : (parts : List Part) (l : Flaw) (c : Program) (h : List Entry) (turns : List ℕ) (k : FlawKey) (es : List Entry)
-    → IsPlayed parts l c h turns k → k.broken ≡ None → es ≡ (judged parts l c h turns).entries → Found.Stuck es ≡ found_by (judged parts l c h turns)
-found_unbroken parts l c h turns k es p is entries =
-    ap (λ (xs : List Entry). found_with xs None) entries
-    ∙ ap (found_with (judged parts l c h turns).entries) (sym (ap (option_map break_of) is) ∙ p.broken)

@@ -12,6 +12,7 @@ use Rattle.hm_search.specs.declared.search.End.{End}
 use Rattle.hm_flaw_parts.specs.Races.Races.{FlawPoint, flaw_system}
 use Rattle.hm_flaw_parts.specs.Races.Judging.{NeverSticks, Sticks, breaks_at, sticks_at}
 use Rattle.hm_flaw_parts.specs.Races.Shortest.{BreakLater, StickLater}
+use Rattle.hm_flaw_search.specs.Owing.{IsOwed, race_entries}
 use Rattle.hm_flaw_search.specs.Unused.{IsUnused}
 use Rattle.hm_flaw_search.specs.Outcomes.{race_length}
 use Rattle.hm_flaw_search.specs.declared.answer.Answer.{Answer}
@@ -66,3 +67,4 @@ pub record IsAnswer (parts : List Part) (l : Flaw) (c : Program) (h : List Entry
   pub reached : (a.end ≡ End.Reached) ↔ (is_broken a.found ≡ true)
   pub right : l ≡ Flaw.NoFlaw → a.found ≡ Found.Nothing
   pub unused : (a.unused ≡ true) ↔ IsUnused parts l c h a.end a.found
+  pub owed : IsOwed l c h (race_entries a.found) a.owed

@@ -1,4 +1,5 @@
 pub mod Outcomes
+pub mod Owing
 pub mod Answers
 pub mod Alike
 pub mod Finding

@@ -8,7 +8,9 @@ use Rattle.hm_flaws.specs.Judged.{Judged, judged}
 use Rattle.hm_flaw_states.specs.Keyed.{form_in, entries_in, broken_in}
 use Rattle.hm_flaw_states.specs.declared.key.FlawKey.{FlawKey}
 use Rattle.hm_flaw_parts.specs.Races.Judging.{point_after}
+use Rattle.hm_flaw_search.specs.Owing.{IsOwed, race_entries}
 use Rattle.hm_flaw_search.specs.declared.answer.Found.{Found}
+use Rattle.hm_flaw_search.specs.declared.answer.Owed.{Owed}
 
 -- the key is that of the point after these turns, with the entries that they are judged to come to, and the one that
 -- breaks a part
@@ -26,3 +28,7 @@ found_with es (Some y) = Found.Broken es y.0 y.1
 -- what was found after turns that are judged to come to this, if they break a part or nobody can go on
 abbrev pub found_by : Judged → Found
 found_by x = found_with x.entries x.broken
+
+-- this is owed in the race to which the turns lead
+abbrev pub IsOwedAfter : List Part → Flaw → Program → List Entry → List ℕ → Option Owed → Type 0
+IsOwedAfter parts l c h turns o = IsOwed l c h (race_entries (found_by (judged parts l c h turns))) o

@@ -2,9 +2,9 @@
 ghost use Rattle.std.specs.Prelude.{◌≡◌};
 ghost use Rattle.hm_flaw_search.specs.Outcomes.{extent, answer_code, nothing_word};
 
-use hm_base::ListOf;
+use hm_base::{Actor, ListOf};
 use hm_flaws::Part;
-use hm_history::Entry;
+use hm_history::{Entry, Progress};
 use hm_search::End;
 
 /// What was found.
@@ -24,6 +24,16 @@ pub enum Found {
     Nothing,
 }
 
+/// What was due where a driver does otherwise than the right one.
+#[derive(Drop)]
+pub struct Owed {
+    /// The position in the history of the entry that was made in its place.
+    pub at: u64,
+    pub actor: Actor,
+    /// What the right driver would have come to with that turn, in the same state.
+    pub due: Progress,
+}
+
 /// What a search for races of a driver says.
 #[derive(Drop)]
 pub struct Answer {
@@ -34,6 +44,9 @@ pub struct Answer {
     /// Whether the driver leaves a rule out, all states are known, nothing was found, and it never does otherwise than
     /// the right driver.
     pub unused: bool,
+    /// What was due where the driver first does otherwise in the race. `None` if each entry is one that the right
+    /// driver would have made in the same state: then the rule left out a step, which is not looked for any more.
+    pub owed: Option<Owed>,
 }
 
 impl Answer {

@@ -22,8 +22,8 @@ use hm_history::Progress;
 use hm_search::{Known, SearchKey};
 use skip_rules::Multiples;
 
-// Whether two turns come to the same entry, or both to none.
-fn same_due(one: &Progress, other: &Progress) -> bool
+/// Whether two turns come to the same entry, or both to none.
+pub(crate) fn same_due(one: &Progress, other: &Progress) -> bool
     ensures yes { result ≡ true → entry_of one.now ≡ entry_of other.now }
     ensures no { entry_of one.now ≡ entry_of other.now → result ≡ true }
 {
@@ -46,8 +46,13 @@ fn same_next(one: &Option<FlawKey>, other: &Option<FlawKey>) -> bool
 }
 
 impl<'a> FlawRace<'a> {
-    // What is due to the actor, if the driver has this flaw.
-    fn due_with(&self, flaw: Flaw, key: &FlawKey, actor: Actor) -> Result<Progress, NoMemory>
+    /// What is due to the actor, if the driver has this flaw.
+    pub(crate) fn due_with(
+        &self,
+        flaw: Flaw,
+        key: &FlawKey,
+        actor: Actor,
+    ) -> Result<Progress, NoMemory>
         ensures { IfOk result (λ p. p ≡ due_by flaw self.now.script (form_in key.now).flawed actor) }
     {
         let here = FlawHere {

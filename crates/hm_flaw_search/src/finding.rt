@@ -3,12 +3,14 @@ ghost use Rattle.std.specs.Prelude.{◌≡◌, ◌↔◌, length, map, true, IfO
 ghost use Rattle.hm_search.specs.Values.{all_known, at_goal};
 ghost use Rattle.hm_flaw_parts.specs.Judged.{judged_parts};
 ghost use Rattle.hm_flaw_states.specs.Keyed.{form_in};
+ghost use Rattle.hm_flaw_search.specs.Owing.{IsOwed, race_entries};
 ghost use Rattle.hm_flaw_search.specs.Unused.{HaveEntries, LooksUnused, MayBeUnused};
 ghost use Rattle.hm_flaw_search.specs.Finding.{goal_of, HaveRoom, IsFoundFirst};
 
 use crate::answer::{Answer, Found};
 use crate::goals::{Broken, Stuck, first_reached};
 use crate::keys::StandingKey;
+use crate::played::Shown;
 use crate::race::FlawRace;
 use hm_base::NoMemory;
 use hm_flaws::Flaw;
@@ -19,27 +21,34 @@ fn found_first<G: Goal<StandingKey>>(
     race: &FlawRace,
     goal: &G,
     known: &[Known<StandingKey>],
-) -> Result<Found, NoMemory>
+) -> Result<Shown, NoMemory>
     requires { HaveRoom race.now.set_up (all_known form_in known.now) }
-    ensures { IfOk result (IsFoundFirst (judged_parts race.now.judging) race.now.flaw race.now.script
-        race.now.set_up (all_known form_in known.now) (map (at_goal G.read (G.reached goal.now)) known.now)) }
+    ensures found { IfOk result (λ s. IsFoundFirst (judged_parts race.now.judging) race.now.flaw race.now.script
+        race.now.set_up (all_known form_in known.now) (map (at_goal G.read (G.reached goal.now)) known.now) s.found) }
+    ensures owed { IfOk result (λ s. IsOwed race.now.flaw race.now.script race.now.set_up
+        (race_entries s.found) s.owed) }
 {
     match first_reached(goal, known)? {
         Some(at) => {
             let turns = turns_to(race.alloc, known, at)?;
             race.race_of(&turns)
         }
-        None => Ok(Found::Nothing),
+        None => Ok(Shown {
+            found: Found::Nothing,
+            owed: None,
+        }),
     }
 }
 
 // What was found by a search that knows these states, and ended so: if it came to an entry that breaks a part, the
 // first such, and else the first state at which nobody can go on.
-fn found_of(race: &FlawRace, known: &[Known<StandingKey>], end: End) -> Result<Found, NoMemory>
+fn found_of(race: &FlawRace, known: &[Known<StandingKey>], end: End) -> Result<Shown, NoMemory>
     requires { HaveRoom race.now.set_up (all_known form_in known.now) }
-    ensures { IfOk result (IsFoundFirst (judged_parts race.now.judging) race.now.flaw race.now.script
+    ensures found { IfOk result (λ s. IsFoundFirst (judged_parts race.now.judging) race.now.flaw race.now.script
         race.now.set_up (all_known form_in known.now)
-        (map (at_goal form_in (goal_of race.now.flaw race.now.script end)) known.now)) }
+        (map (at_goal form_in (goal_of race.now.flaw race.now.script end)) known.now) s.found) }
+    ensures owed { IfOk result (λ s. IsOwed race.now.flaw race.now.script race.now.set_up
+        (race_entries s.found) s.owed) }
 {
     match end {
         End::Reached => found_first(race, &Broken, known),
@@ -91,13 +100,16 @@ pub(crate) fn answer_of(
     ensures end { IfOk result (λ a. a.end ≡ end) }
     ensures unused { IfOk result (λ a. (a.unused ≡ true)
         ↔ LooksUnused race.now.flaw race.now.script known.now end a.found) }
+    ensures owed { IfOk result (λ a. IsOwed race.now.flaw race.now.script race.now.set_up
+        (race_entries a.found) a.owed) }
 {
-    let found = found_of(race, known, end)?;
-    let unused = is_unused(race, known, end, &found)?;
+    let shown = found_of(race, known, end)?;
+    let unused = is_unused(race, known, end, &shown.found)?;
     Ok(Answer {
-        found,
+        found: shown.found,
         states: known.len() as u64,
         end,
         unused,
+        owed: shown.owed,
     })
 }

@@ -7,13 +7,14 @@ mod finding;
 mod firsts;
 mod goals;
 mod keys;
+mod owed;
 mod played;
 mod race;
 mod same_entries;
 mod search;
 mod stuck;
 
-pub use answer::{Answer, Found};
+pub use answer::{Answer, Found, Owed};
 pub use keys::StandingKey;
 pub use race::FlawRace;
 pub use search::find_race;

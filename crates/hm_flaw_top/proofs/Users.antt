@@ -51,6 +51,7 @@ is_right parts l c h most a x = record {
   never_stuck = x.never;
   right = x.right;
   unused = x.unused;
+  owed = x.owed;
   reached = (λ e. broken_is a.found (x.reached.0 e), λ p. x.reached.1 (ap is_broken p.3));
   long = x.long;
   known = x.known;

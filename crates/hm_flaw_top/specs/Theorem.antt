@@ -26,6 +26,7 @@ use Rattle.hm_search.specs.Goals.{AreMissed, IsSoon, Reaches}
 use Rattle.hm_search.specs.Known.{HaveForms, IsCut, IsKnown, IsNear, KnownValue, forms}
 use Rattle.hm_search.specs.declared.search.End.{End}
 use Rattle.hm_flaw_top.specs.Runs.{Runs, name, usage}
+use Rattle.hm_flaw_search.specs.Owing.{IsOwed, race_entries}
 use Rattle.hm_flaw_search.specs.Unused.{IsUnused}
 use Rattle.hm_flaw_search.specs.Outcomes.{race_length}
 use Rattle.hm_flaw_search.specs.Races.{FlawRaceValue}
@@ -61,6 +62,10 @@ pub record IsRight (parts : List Part) (l : Flaw) (c : Program) (h : List Entry)
   -- **It is told that a rule is unused if and only if all states are known, nothing was found, and without the rule the
   -- driver comes in all turns to what the right one comes to: the same entries, and the same state.**
   pub unused : (a.unused ≡ true) ↔ IsUnused parts l c h a.end a.found
+  -- **What is told to be owed was due to that actor by the right driver, in the state after the entries before, and the
+  -- entry that was made in its place is another, the first such; if nothing is told, the right driver would have made
+  -- each entry in the same state.**
+  pub owed : IsOwed l c h (race_entries a.found) a.owed
   -- A race in which a part is broken is told if and only if the search stopped at it. The histories are no longer than
   -- any.
   pub reached :

@@ -62,7 +62,7 @@ returns-in-Ok-clause-answer c =
     let says = c.in-Ok.ensures in
     let unused : (a.unused ≡ true) ↔ IsUnused parts l s h end a.found =
     both_ways (subst (λ (xs : List (Known FlawKey)). (a.unused ≡ true) ↔ LooksUnused l s xs end a.found) c.deref.ensures.value says.unused) (looks_right c.args.judging l s h ns end a.found found.known found.all found.missed) in
-    subst (λ (z : End). IsAnswer parts l s h c.args.most (record { found = a.found; states = a.states; end = z; unused = a.unused })) (sym says.end)
-    (answered law parts l s c.facts.ensures h c.requires.due c.requires.few c.args.most known a.states (says.states ∙ (ap (λ (xs : List (Known FlawKey)). length xs) c.deref.ensures.value ∙ many)) a.unused end a.found unused searched
+    subst (λ (z : End). IsAnswer parts l s h c.args.most (record { found = a.found; states = a.states; end = z; unused = a.unused; owed = a.owed })) (sym says.end)
+    (answered law parts l s c.facts.ensures h c.requires.due c.requires.few c.args.most known a.states (says.states ∙ (ap (λ (xs : List (Known FlawKey)). length xs) c.deref.ensures.value ∙ many)) a.unused a.owed end a.found unused says.owed searched
     (subst (λ (bs : List Bool). IsFoundFirst parts l s h known bs a.found) (same_answers form_in (goal_of l s end) ns)
     (subst (λ (xs : List (Known FlawKey)). IsFoundFirst parts l s h (all_known form_in xs) (map (at_goal form_in (goal_of l s end)) xs) a.found) c.deref.ensures.value says.found)))
