@@ -7,9 +7,12 @@ use Rattle.hm_flaw_top.specs.declared.text.task.Which.{Which}
 use Rattle.hm_history.specs.declared.Entry.{Entry}
 use Rattle.hm_history.specs.declared.StepError.{StepError}
 use Rattle.hm_search.specs.Known.{MayFail}
+use Rattle.hm_flaw_parts.specs.Judged.{judged_parts}
 use Rattle.hm_flaw_parts.specs.Races.Races.{flaw_system}
+use Rattle.hm_flaw_search.specs.Races.{FlawRaceValue}
+use Rattle.hm_held_search.specs.Finding.{MayFailBy}
 use Rattle.hm_holds.specs.Held.{held_system}
-use Rattle.hm_flaw_top.specs.Told.{FlawsMayFail}
+use Rattle.hm_flaw_top.specs.Told.{FlawsMayFail, HoldsMayFail}
 
 -- it has as many entries as a history has
 pub full_flaws : (x : Which) (parts : List Part) (c : Program) (h : List Entry) (n : ℕ) → FlawsMayFail x parts c h (StepError.Full n) → FlawsMayFail x parts c h (StepError.Full 2000000)
@@ -23,3 +26,8 @@ pub no_memory_fails : (x : Which) (parts : List Part) (c : Program) (h : List En
 no_memory_fails (Which.One l) parts c h = tt
 no_memory_fails (Which.Holds l) parts c h = inl tt
 no_memory_fails Which.All parts c h = record { flaw = Flaw.NoFlaw; fails = tt }
+
+-- a search for holds fails as one of the race's does
+pub held_fails : (r : FlawRaceValue) (e : StepError) → MayFailBy r e → HoldsMayFail (judged_parts r.judging) r.flaw r.script r.set_up e
+held_fails r StepError.NoMemory f = inl tt
+held_fails r (StepError.Full n) f = inr f

@@ -6,6 +6,7 @@ use Rattle.hm_race_top.specs.declared.telling.Telling.{Telling}
 use Rattle.hm_flaw_top.specs.Endings.{ending_of}
 use Rattle.hm_flaw_top.specs.Text.Lines.{answer_text}
 use Rattle.hm_flaw_top.specs.Told.{AddsMore, told_more}
+use Rattle.hm_flaw_top.proofs.Full.{held_fails}
 use Rattle.hm_flaw_top.proofs.told.tell_holds.Goals as goal
 
 abbrev telling : List ℕ → Status → Telling
@@ -30,3 +31,8 @@ returns-in-Ok-add_holds-clause-tells c =
       holds = adds.tells;
       told = told_so (length c.args.set_up.now) c.in-Ok.answer c.in-Ok-answer_text.text adds.more c.add_holds.new.text c.ending_of.result c.in-Ok-answer_text.ensures adds.added c.ending_of.ensures.same;
     }
+
+pub returns-clause-fails : goal.returns-clause-fails
+returns-clause-fails c =
+    let r : FlawRaceValue = record { script = c.args.script.now; set_up = c.args.set_up.now; first = c.args.first.now; flaw = c.args.flaw; judging = c.args.task.judging } in
+    held_fails r c.in-Err-add_holds.error c.in-Err-add_holds.ensures.fails
