@@ -22,11 +22,17 @@ use Rattle.hm_race_top.specs.Telling.{HasTold, IsSentOn}
 use Rattle.hm_race_top.specs.Theorem.{NoRace}
 use Rattle.hm_race_top.specs.declared.telling.Telling.{Telling}
 use Rattle.hm_script.specs.Built.{has_drain}
+use Rattle.std.specs.Prelude.{remove}
+use Rattle.hm_flaw_search.specs.Races.{FlawRaceValue}
+use Rattle.hm_held_search.specs.Finding.{IsFound as AreFound}
+use Rattle.hm_held_search.specs.declared.finding.FoundHolds.{FoundHolds}
+use Rattle.hm_holds.specs.Orders.{AreSure, TurnsFail}
+use Rattle.hm_holds.specs.declared.holds.Hold.{Hold}
 use Rattle.hm_flaw_top.specs.Runs.{Runs, name, usage}
 use Rattle.hm_flaw_search.specs.Answers.{IsAnswer, IsFound, is_broken}
 use Rattle.hm_flaw_top.specs.Text.Tasks.{task_in}
-use Rattle.hm_flaw_top.specs.Theorem.{IsOfRaces, IsRight, TellsRaces, Theorem, ToldBy, ToldOf, ToldRaces, ToldWithout}
-use Rattle.hm_flaw_top.specs.Told.{Tells}
+use Rattle.hm_flaw_top.specs.Theorem.{AreRight, IsOfRaces, IsRight, TellsRaces, Theorem, ToldBy, ToldOf, ToldRaces, ToldWithout}
+use Rattle.hm_flaw_top.specs.Told.{IsRaceOf, Tells}
 use Rattle.hm_flaw_top.specs.Withouts.{Found as Sought, HasFound, MayStop, Searched, Searches, WithoutsBy}
 use Rattle.hm_flaw_search.specs.declared.answer.Answer.{Answer}
 use Rattle.hm_flaw_search.specs.declared.answer.Found.{Found}
@@ -68,9 +74,25 @@ is_right parts l c h most a x = record {
   seen = x.seen;
 }
 
+-- what holds of the race by its fields holds of these
+moved : (P : List Part → Flaw → Program → List Entry → Type 0) (parts : List Part) (l : Flaw) (c : Program) (h : List Entry) (r : FlawRaceValue) → IsRaceOf parts l c h r → P (judged_parts r.judging) r.flaw r.script r.set_up → P parts l c h
+moved P parts l c h r z x =
+    subst (λ (p : List Part). P p l c h) z.parts_are
+    (subst (λ (f : Flaw). P (judged_parts r.judging) f c h) z.flaw
+    (subst (λ (s : Program). P (judged_parts r.judging) r.flaw s h) z.script
+    (subst (λ (g : List Entry). P (judged_parts r.judging) r.flaw r.script g) z.set_up x)))
+
+right_holds : (parts : List Part) (l : Flaw) (c : Program) (h : List Entry) (most : ℕ) (r : FlawRaceValue) → IsRaceOf parts l c h r → (first : List Hold) (found : FoundHolds) → AreFound r first most found → AreRight parts l c h found
+right_holds parts l c h most r z first (FoundHolds.Needed holds n) x = record {
+  wrong = moved (λ p f s g. AreSure p f s g holds.items) parts l c h r z x.0.wrong;
+  needed = λ i less. let y = x.1 i less in (y.turns, moved (λ p f s g. TurnsFail p f s g (remove holds.items i) y.turns) parts l c h r z y.fail);
+}
+right_holds parts l c h most r z first (FoundHolds.NotSure turns) x = tt
+right_holds parts l c h most r z first FoundHolds.Cut x = tt
+
 told_of : (which : Which) (parts : List Part) (most : ℕ) (c : Program) (h : List Entry) (t : Telling) → Tells which parts most c h t → ToldOf which parts most c h t
 told_of (Which.One l) parts most c h t x = record { answer = x.answer; is = is_right parts l c h most x.answer x.is; told = x.told }
-told_of (Which.Holds l) parts most c h t x = record { answer = x.answer; is = is_right parts l c h most x.answer x.is; race = x.race; of_race = x.of_race; more = x.more; holds = x.holds; told = x.told }
+told_of (Which.Holds l) parts most c h t x = record { answer = x.answer; is = is_right parts l c h most x.answer x.is; race = x.race; of_race = x.of_race; more = x.more; holds = x.holds; right = right_holds parts l c h most x.race x.of_race; told = x.told }
 told_of Which.All parts most c h t x = record { rows = x.rows; rules = x.rules; are = λ row listed. is_right parts row.rule c h most row.answer (x.are row listed); told = x.told }
 
 -- ---- the streams of a call

@@ -1,5 +1,5 @@
 -- The theorem of the program hmmwithout: what its user is told.
-use Rattle.std.specs.Prelude.{◌≡◌, ◌↔◌, ℕ, ◌+◌, ◌≤◌, true, false, List, [], length, Some}
+use Rattle.std.specs.Prelude.{◌≡◌, ◌↔◌, ℕ, ◌+◌, ◌≤◌, true, false, List, [], length, Some, ◌<◌, remove, ⊤}
 use Rattle.std.specs.Prelude.{Result, Ok, Err}
 use Rattle.hm_base.specs.Program.{Program}
 use Rattle.hm_edge.specs.Exits.{Arguments, Exits}
@@ -25,6 +25,10 @@ use Rattle.hm_script.specs.Built.{has_drain}
 use Rattle.hm_search.specs.Goals.{AreMissed, IsSoon, Reaches}
 use Rattle.hm_search.specs.Known.{HaveForms, IsCut, IsKnown, IsNear, KnownValue, forms}
 use Rattle.hm_search.specs.declared.search.End.{End}
+use Rattle.hm_held_search.specs.Finding.{IsFound}
+use Rattle.hm_held_search.specs.declared.finding.FoundHolds.{FoundHolds}
+use Rattle.hm_holds.specs.Orders.{AreSure, TurnsFail}
+use Rattle.hm_holds.specs.declared.holds.Hold.{Hold}
 use Rattle.hm_flaw_top.specs.Runs.{Runs, name, usage}
 use Rattle.hm_flaw_search.specs.Owing.{IsOwed, race_entries}
 use Rattle.hm_flaw_search.specs.Unused.{IsUnused}
@@ -98,8 +102,17 @@ pub record ToldOne (parts : List Part) (most : ℕ) (l : Flaw) (c : Program) (h 
   pub is : IsRight parts l c h most answer
   pub told : t ≡ told_one (length h) answer
 
--- what is told of one driver and of the holds of the race: **every order of turns that keeps them goes wrong, and
--- without one of them some order does not** (`IsFound`)
+-- every order of turns that keeps the holds goes wrong, and without one of them some order does not
+pub record AreRightHolds (parts : List Part) (l : Flaw) (c : Program) (h : List Entry) (ds : List Hold) : Type 0 where
+  pub wrong : AreSure parts l c h ds
+  pub needed : (i : ℕ) → i < length ds → (turns : List ℕ) × TurnsFail parts l c h (remove ds i) turns
+
+-- what is right of holds that were found
+abbrev pub AreRight : List Part → Flaw → Program → List Entry → FoundHolds → Type 0
+AreRight parts l c h (FoundHolds.Needed holds n) = AreRightHolds parts l c h holds.items
+AreRight parts l c h found = ⊤
+
+-- what is told of one driver and of the holds of the race
 pub record ToldHeld (parts : List Part) (most : ℕ) (l : Flaw) (c : Program) (h : List Entry) (t : Telling)
     : Type 0 where
   pub answer : Answer
@@ -108,6 +121,8 @@ pub record ToldHeld (parts : List Part) (most : ℕ) (l : Flaw) (c : Program) (h
   pub of_race : IsRaceOf parts l c h race
   pub more : List ℕ
   pub holds : TellsMore race most answer.found more
+  -- **Every order of turns that keeps the holds goes wrong, and none of them can be left out.**
+  pub right : (first : List Hold) (found : FoundHolds) → IsFound race first most found → AreRight parts l c h found
   pub told : t ≡ told_more (length h) answer more
 
 -- what is told of all drivers: a line for each, in their order
