@@ -39,12 +39,15 @@ def no_race(why):
 
 
 def race_in(text):
-    """The entries that hmmwithout wrote, and the part that the last one breaks; no part if nobody can go on."""
+    """The entries that hmmwithout wrote, the part that the last one breaks, and the line of what was owed, if there is
+    one; no part if nobody can go on."""
     lines = text.splitlines()
     last = next((at for at, line in enumerate(lines) if line.startswith('breaks ') or line == 'stuck'), None)
     if last is None or not last:
         no_race('it has no line of a part, and none that says stuck')
-    return lines[:last], lines[last].split(' ')[1] if lines[last] != 'stuck' else None
+    owed = next((line.removeprefix('owed ') for line in lines if line.startswith('owed ')), None)
+    race = [line for line in lines[:last] if not line.startswith('owed ')]
+    return race, lines[last].split(' ')[1] if lines[last] != 'stuck' else None, owed
 
 
 def actor_of(line):
@@ -116,21 +119,24 @@ def entries_of(script, rule, turns, answers_alone):
 
 
 def race_of(script, rule, text):
-    """The race that hmmwithout wrote, taken once more, and the part that its last row breaks."""
-    written, part = race_in(text)
+    """The race that hmmwithout wrote, taken once more, the part that its last row breaks, and what was owed."""
+    written, part, owed = race_in(text)
     turns = tuple(actor_of(line) for line in written)
     for answers_alone in (False, True):
         if entries_of(script, rule, turns, answers_alone) == written:
-            return Shown(script, rule, turns, answers_alone), part
+            return Shown(script, rule, turns, answers_alone), part, owed
     no_race('this driver comes to other entries')
 
 
-def page_text(shown, part, rule):
+def page_text(shown, part, owed, rule):
     head, tail = view_page.page_parts()
     with open(os.path.join(HERE, 'view_broken.html'), encoding='ascii') as file:
         mark = file.read()
     says = f'breaks {part}: {BREAKS[part]}' if part else 'after it nobody can go on, and an operation has not ended'
     words = f'data-says="{html.escape(says)}" data-rule="{rule}" data-does="{html.escape(RULES[rule])}"'
+    if owed:
+        at, due = owed.split(' ', 1)
+        words += f' data-owed="{at}" data-due="{html.escape(due)}"'
     mark = mark.replace('<section id="broken"', f'<section id="broken" {words} data-setup="{len(shown.set_up)}"')
     lines = ''.join(line + '\n' for line in shown.lines())
     return head + lines + tail.replace('</body>', mark + '</body>')
@@ -149,8 +155,8 @@ def main():
     except scripts.Refused as bad:
         print(f'view_broken.py: script line {bad.args[0]}: {bad.args[1]}', file=sys.stderr)
         sys.exit(3)
-    shown, part = race_of(script, rule, given.data_of([shortest]).decode())
-    sys.stdout.write(page_text(shown, part, rule))
+    shown, part, owed = race_of(script, rule, given.data_of([shortest]).decode())
+    sys.stdout.write(page_text(shown, part, owed, rule))
 
 
 if __name__ == '__main__':
