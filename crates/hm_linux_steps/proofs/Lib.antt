@@ -1,0 +1,4 @@
+pub mod Left
+pub mod OtherLocks
+pub mod Mirrors
+pub mod Noting

@@ -1,0 +1,4 @@
+pub mod Found
+pub mod Left
+pub mod Notes
+pub mod Refusals

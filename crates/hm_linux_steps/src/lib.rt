@@ -1,0 +1,22 @@
+// What is due to an actor with variants of the memory manager: decided from reads alone, as by hm_steps.
+#![tactic(auto)]
+
+mod area_lists;
+mod areas;
+mod attaching;
+mod deciding;
+mod due;
+mod first;
+mod found;
+mod gone;
+mod guarding;
+mod locking;
+mod moving;
+pub mod notes;
+mod shows;
+mod snapshots;
+mod varied;
+
+pub use due::due_as;
+pub use notes::Notes;
+pub use shows::Shows;
