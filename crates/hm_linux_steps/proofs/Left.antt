@@ -1,8 +1,7 @@
 -- What is left of areas, and the state that is shown with it.
-use Rattle.std.proofs.Common.{◌≡◌, ℕ, zero, suc, ◌+◌, ◌<◌, ◌≤◌, Bool, true, false, ◌&&◌, ◌==◌, nat_lt, if◌then◌else◌, Option, Some, None, List, [], ◌∷◌, ◌++◌, map, refl, sym, ap, ◌∙◌, arith}
+use Rattle.std.proofs.Common.{◌≡◌, ℕ, zero, suc, ◌+◌, ◌<◌, ◌≤◌, Bool, true, false, ◌&&◌, ◌==◌, if◌then◌else◌, Option, Some, None, List, [], ◌∷◌, ◌++◌, map, refl, sym, ap, ◌∙◌, arith}
 use Rattle.std.proofs.lemmas.List.{map-append}
 use Rattle.std.proofs.lemmas.List.Sums.{fold-append}
-use Rattle.std.proofs.lemmas.Bool.Decides.{nat_tests}
 use Rattle.std.proofs.Math.Path.{fun_ext}
 use Rattle.std.specs.Prelude.{fold, is_some, slice_index_or}
 use Rattle.hm_base.specs.Areas.{without}
@@ -18,7 +17,7 @@ use Rattle.hm_linux.specs.Noted.{varied_from}
 use Rattle.hm_linux.specs.UnmapLetsIn.{gone_by, without_gone, areas_left}
 use Rattle.hm_linux.specs.Instead.{plain_found, locks_found}
 use Rattle.hm_linux.specs.Variants.{state_found}
-use Rattle.hm_linux_steps.specs.Found.{areas_shown, listed_areas, shown}
+use Rattle.hm_linux_steps.specs.Found.{areas_shown, shown}
 use Rattle.hm_linux_steps.specs.Left.{span_of, left_so_far}
 use Rattle.hm_linux_steps.specs.declared.area_lists.AreaLists.{AreaLists}
 
@@ -85,17 +84,6 @@ with_areas l c u f = record {
 
 shown_is : (l : Variant) (c : Program) (x : Option AreaLists) (u : State) → areas_shown x u.after.plain.areas (plain_found l c u).areas ≡ (plain_found l c u).areas → shown l c x u ≡ state_found l c (varied_from u)
 shown_is l c x u e = ap (with_areas l c u) e
-
-listed : (x : AreaLists) (own left : ℕ → List Area) → ((p : ℕ) → p < 32 → listed_areas x p ≡ left p) → areas_shown (Some x) own left ≡ left
-listed x own left h = fun_ext (λ p. by p (nat_lt p 32) refl)
-  where
-    by : (p : ℕ) (b : Bool) → nat_lt p 32 ≡ b → (if b then listed_areas x p else left p) ≡ left p
-    by p true e = h p (grind (arith, nat_tests))
-    by p false e = refl
-
-pub shown_listed : (l : Variant) (c : Program) (x : AreaLists) (u : State) → l.unmap_lets_in ≡ true → ((p : ℕ) → p < 32 → listed_areas x p ≡ areas_left c u p) → shown l c (Some x) u ≡ state_found l c (varied_from u)
-shown_listed l c x u e h =
-    shown_is l c (Some x) u (listed x u.after.plain.areas (plain_found l c u).areas (λ p m. h p m ∙ sym (ap (λ (b : Bool). (if b then areas_left c u else u.after.plain.areas) p) e)))
 
 pub shown_alike : (l : Variant) (c : Program) (u : State) → (l.unmap_lets_in && is_some (least (λ a. is_some (gone_by c u a)) 0 16)) ≡ false → shown l c None u ≡ state_found l c (varied_from u)
 shown_alike l c u e = shown_is l c None u (by l.unmap_lets_in e)

@@ -1,5 +1,5 @@
 -- Who else has an mmap lock, as actors find it.
-use Rattle.std.proofs.Common.{◌≡◌, ℕ, ◌+◌, Bool, true, false, not, ◌&&◌, ◌==◌, if◌then◌else◌, Option, Some, None, refl, ap}
+use Rattle.std.proofs.Common.{◌≡◌, ℕ, Bool, true, false, not, ◌&&◌, ◌==◌, if◌then◌else◌, Option, Some, None, refl, ap}
 use Rattle.hm_base.specs.Program.{Program}
 use Rattle.hm_history.specs.Memory.Locks.{lock_passes, lowest_other}
 use Rattle.hm_history.specs.Kernel.Going.{State}

@@ -2,7 +2,6 @@
 use Rattle.std.specs.Prelude.{ℕ, nat_lt, if◌then◌else◌, Option, Some, None, List, [], map, slice_index_or}
 use Rattle.hm_base.specs.Program.{Program}
 use Rattle.hm_base.specs.declared.area.Area.{Area}
-use Rattle.hm_history.specs.Memory.Plain.{Plain}
 use Rattle.hm_history.specs.Kernel.Going.{State, op_at}
 use Rattle.hm_history.specs.declared.Progress.{Progress}
 use Rattle.hm_linux.specs.declared.variant.Variant.{Variant}

@@ -1,6 +1,6 @@
 // The first mirror that a process ever has comes inside no invalidation.
-ghost use Rattle.std.specs.Prelude.{◌≡◌, ◌==◌};
-ghost use Rattle.hm_history.specs.Memory.Plain.{mirror_passes};
+ghost use Rattle.std.specs.Prelude.{◌≡◌, ◌==◌, ◌&&◌, is_some};
+ghost use Rattle.hm_history.specs.Memory.Plain.{mirror_proc};
 ghost use Rattle.hm_history.specs.declared.phases.Next as next;
 ghost use Rattle.hm_linux.specs.FirstAttach.{is_in_guard, has_had_mirror, attaches};
 
@@ -28,7 +28,9 @@ impl<'a, W: Shows> Passes for Invalidates<'a, W> {
 
 // Whether the mirror is or was one of the process.
 fn was_of<W: Reads>(found: &W, mirror: MirrorId, proc: Proc) -> bool
-    ensures { result ≡ mirror_passes (λ x. x.proc == proc) ((W.state found.now).after.plain.mirrors mirror) }
+    ensures { result
+        ≡ (is_some ((W.state found.now).after.plain.mirrors mirror)
+        && (mirror_proc (W.state found.now).after.plain mirror == proc)) }
 {
     found.has_mirror(mirror) && found.mirror_proc(mirror) == proc
 }

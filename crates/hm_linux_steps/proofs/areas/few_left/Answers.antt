@@ -9,5 +9,5 @@ returns-then-count-gt64 c =
     let front = cut_front c.args.span.now c.args.inside c.args.areas.now c.loop-area.area-index c.area-item.result c.loop-area-test.true in
     let item = ap (λ a. length (parts c.args.span.now c.args.inside a)) c.area-item.is in
     let more : 64 < length (cut c.args.span.now c.args.inside c.args.areas.now) =
-        omega (arith, front, item, c.loop-area.invariant.count, c.count_parts-count.ensures.count, c.if-count-gt64.true) in
+    omega (arith, front, item, c.loop-area.invariant.count, c.count_parts-count.ensures.count, c.if-count-gt64.true) in
     grind (arith, nat_tests, more)

@@ -28,4 +28,4 @@ returns g c =
     let all : c.loop-at.at ≡ 32 = omega (arith, c.loop-at.auto.at-end, c.loop-at-test.false) in
     let none : List Area = [] in
     λ p m. ap (λ (ys : List (List Area)). slice_index_or ys p none) (c.loop-at.invariant ∙ ap (λ (n : ℕ). map f (numbers 0 n)) all)
-        ∙ (number_read f none 0 32 p m ∙ ap f (add_zero p))
+    ∙ (number_read f none 0 32 p m ∙ ap f (add_zero p))
