@@ -1,4 +1,5 @@
 pub mod Left
 pub mod OtherLocks
 pub mod Mirrors
-pub mod Noting
+pub mod NoneNoted
+pub mod Written

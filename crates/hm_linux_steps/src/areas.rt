@@ -23,8 +23,8 @@ fn last_of(span: &Span) -> u64
     span.first().number() + span.count()
 }
 
-// Whether some page is in both.
-fn overlap(one: &Span, other: &Span) -> bool
+/// Whether some page is in both.
+pub(crate) fn overlap(one: &Span, other: &Span) -> bool
     ensures { result ≡ overlap one.now other.now }
 {
     one.first().number() < last_of(other) && other.first().number() < last_of(one)

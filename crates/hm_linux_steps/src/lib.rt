@@ -4,6 +4,7 @@
 mod area_lists;
 mod areas;
 mod attaching;
+mod changes;
 mod deciding;
 mod due;
 mod first;
@@ -13,10 +14,12 @@ mod guarding;
 mod locking;
 mod moving;
 pub mod notes;
+mod noting;
 mod shows;
 mod snapshots;
 mod varied;
 
 pub use due::due_as;
 pub use notes::Notes;
+pub use noting::notes_after;
 pub use shows::Shows;

@@ -1,7 +1,7 @@
 // What variants note of a race besides its state.
-ghost use Rattle.std.specs.Prelude.{◌≡◌, length, IfOk};
+ghost use Rattle.std.specs.Prelude.{◌≡◌, ℕ, ◌≤◌, false, None, length, map, slice_index_or, IfOk};
 ghost use Rattle.std.specs.List.{list_any};
-ghost use Rattle.hm_history.specs.Memory.Words.{same_frame};
+ghost use Rattle.hm_history.specs.Memory.Words.{same_frame, with_at};
 ghost use Rattle.hm_linux.specs.Noted.{nothing_noted};
 
 use hm_base::frames::is_frame;
@@ -36,6 +36,13 @@ impl Notes {
             busy: [false; 16],
             torn: [false; 16],
         })
+    }
+
+    /// Costs nothing: it hands the prover that no snapshot is torn of an actor with no number.
+    pub(crate) fn none_past(&self)
+        ensures { (a : ℕ) → 16 ≤ a → (noted_in self.now).torn a ≡ false }
+    {
+        let _ = &self.torn;
     }
 
     /// The frames that the actor has a reference to.
@@ -74,4 +81,79 @@ impl Notes {
     {
         self.torn[actor.number() as usize]
     }
+
+    /// The same once more.
+    pub(crate) fn copy(&self, alloc: Global) -> Result<Notes, NoMemory>
+        ensures { IfOk result (λ n. noted_in n ≡ noted_in self.now) }
+    {
+        Ok(Notes {
+            references: copied(alloc, &self.references)?,
+            locks: copy_locks(&self.locks),
+            busy: self.busy,
+            torn: self.torn,
+        })
+    }
+
+    /// Other references of the actor.
+    pub(crate) fn set_references(&mut self, actor: Actor, frames: Vec<Frame>)
+        ensures { noted_in self.new ≡ record (noted_in self.old) {
+          references = with_at (noted_in self.old).references actor frames.items;
+        } }
+    {
+        self.references[actor.number() as usize] = frames;
+    }
+
+    /// Another locked frame of the actor.
+    pub(crate) fn set_lock(&mut self, actor: Actor, frame: Option<Frame>)
+        ensures { noted_in self.new ≡ record (noted_in self.old) {
+          locks = with_at (noted_in self.old).locks actor frame;
+        } }
+    {
+        self.locks[actor.number() as usize] = frame;
+    }
+
+    /// Whether the actor's page was changed.
+    pub(crate) fn set_busy(&mut self, actor: Actor, busy: bool)
+        ensures { noted_in self.new ≡ record (noted_in self.old) {
+          busy = with_at (noted_in self.old).busy actor busy;
+        } }
+    {
+        self.busy[actor.number() as usize] = busy;
+    }
+
+    /// Which snapshots are torn.
+    pub(crate) fn set_torn(&mut self, torn: [bool; 16])
+        ensures { noted_in self.new ≡ record (noted_in self.old) { torn = λ a. slice_index_or torn a false } }
+    {
+        self.torn = torn;
+    }
+}
+
+fn copy_locks(locks: &[Option<Frame>; 16]) -> [Option<Frame>; 16]
+    ensures { (a : ℕ) → slice_index_or result a None ≡ slice_index_or locks.now a None }
+{
+    let mut copy = [None; 16];
+    for at in 0..16usize {
+        copy[at] = locks[at];
+    }
+    copy
+}
+
+fn list_of(alloc: Global, frames: &[Frame]) -> Result<Vec<Frame>, NoMemory>
+    ensures { IfOk result (λ x. x.items ≡ frames.now) }
+{
+    let mut all = Vec::new(alloc);
+    all.extend_from_slice(frames)?;
+    Ok(all)
+}
+
+// The same lists once more.
+fn copied(alloc: Global, lists: &[Vec<Frame>]) -> Result<Vec<Vec<Frame>>, NoMemory>
+    ensures { IfOk result (λ x. map (λ v. v.items) x.items ≡ map (λ v. v.items) lists.now) }
+{
+    let mut all = Vec::with_capacity(alloc, lists.len())?;
+    for list in lists {
+        all.push(list_of(alloc, list)?)?;
+    }
+    Ok(all)
 }

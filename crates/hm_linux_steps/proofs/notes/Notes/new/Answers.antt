@@ -1,6 +1,6 @@
 use Rattle.std.proofs.Common.{ℕ, List, [], ◌≡◌, map, replicate, ap, ◌∙◌, arith}
 use Rattle.hm_base.specs.declared.Frame.{Frame}
-use Rattle.hm_linux_steps.proofs.Noting.{none_noted}
+use Rattle.hm_linux_steps.proofs.NoneNoted.{none_noted}
 use Rattle.hm_linux_steps.proofs.notes.Notes.new.Goals as goal
 
 pub returns : goal.returns
