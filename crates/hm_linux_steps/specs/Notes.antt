@@ -1,5 +1,5 @@
 -- What variants note, as contracts see it.
-use Rattle.std.specs.Prelude.{false, None, [], map, slice_index_or}
+use Rattle.std.specs.Prelude.{◌≡◌, ℕ, false, None, [], map, slice_index_or}
 use Rattle.hm_linux.specs.Noted.{Noted}
 use Rattle.hm_linux_steps.specs.declared.notes.Notes.{Notes}
 
@@ -11,3 +11,10 @@ noted_in x = record {
   busy = λ a. slice_index_or x.busy a false;
   torn = λ a. slice_index_or x.torn a false;
 }
+
+-- the same is noted of the actor in both
+pub record SameAt (n m : Noted) (a : ℕ) : Type 0 where
+  pub references : n.references a ≡ m.references a
+  pub locks : n.locks a ≡ m.locks a
+  pub busy : n.busy a ≡ m.busy a
+  pub torn : n.torn a ≡ m.torn a

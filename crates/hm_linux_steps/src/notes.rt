@@ -1,5 +1,5 @@
 // What variants note of a race besides its state.
-ghost use Rattle.std.specs.Prelude.{◌≡◌, ℕ, ◌≤◌, false, None, length, map, slice_index_or, IfOk};
+ghost use Rattle.std.specs.Prelude.{◌≡◌, ℕ, ◌≤◌, true, false, None, [], length, map, slice_index_or, IfOk};
 ghost use Rattle.std.specs.List.{list_any};
 ghost use Rattle.hm_history.specs.Memory.Words.{same_frame, with_at};
 ghost use Rattle.hm_linux.specs.Noted.{nothing_noted};
@@ -20,7 +20,7 @@ pub struct Notes {
 }
 
 impl Notes {
-    ghost use Rattle.hm_linux_steps.specs.Notes.{noted_in};
+    ghost use Rattle.hm_linux_steps.specs.Notes.{noted_in, SameAt};
 
     /// Nothing is noted.
     pub fn new(alloc: Global) -> Result<Notes, NoMemory>
@@ -38,11 +38,40 @@ impl Notes {
         })
     }
 
-    /// Costs nothing: it hands the prover that no snapshot is torn of an actor with no number.
+    /// Costs nothing: it hands the prover that nothing is noted of an actor with no number.
     pub(crate) fn none_past(&self)
-        ensures { (a : ℕ) → 16 ≤ a → (noted_in self.now).torn a ≡ false }
+        ensures references { (a : ℕ) → 16 ≤ a → (noted_in self.now).references a ≡ [] }
+        ensures locks { (a : ℕ) → 16 ≤ a → (noted_in self.now).locks a ≡ None }
+        ensures busy { (a : ℕ) → 16 ≤ a → (noted_in self.now).busy a ≡ false }
+        ensures torn { (a : ℕ) → 16 ≤ a → (noted_in self.now).torn a ≡ false }
     {
-        let _ = &self.torn;
+        none_locked_past(&self.locks);
+    }
+
+    // Whether the same is noted of the actor in both.
+    fn same_at(&self, other: &Notes, actor: Actor) -> bool
+        ensures yes { result ≡ true → SameAt (noted_in self.now) (noted_in other.now) actor }
+        ensures no { SameAt (noted_in self.now) (noted_in other.now) actor → result ≡ true }
+    {
+        same_frames(self.references(actor), other.references(actor))
+            && self.locked(actor) == other.locked(actor)
+            && self.is_busy(actor) == other.is_busy(actor)
+            && self.is_torn(actor) == other.is_torn(actor)
+    }
+
+    /// Whether the same is noted in both.
+    pub fn same(&self, other: &Notes) -> bool
+        ensures yes { result ≡ true → noted_in self.now ≡ noted_in other.now }
+        ensures no { noted_in self.now ≡ noted_in other.now → result ≡ true }
+    {
+        self.none_past();
+        other.none_past();
+        for at in 0..16u32 {
+            if !self.same_at(other, Actor::new(at)) {
+                return false;
+            }
+        }
+        true
     }
 
     /// The frames that the actor has a reference to.
@@ -127,6 +156,29 @@ impl Notes {
     {
         self.torn = torn;
     }
+}
+
+// Whether the two are one list.
+fn same_frames(one: &[Frame], other: &[Frame]) -> bool
+    ensures yes { result ≡ true → one.now ≡ other.now }
+    ensures no { one.now ≡ other.now → result ≡ true }
+{
+    if one.len() != other.len() {
+        return false;
+    }
+    for at in 0..one.len() {
+        if one[at] != other[at] {
+            return false;
+        }
+    }
+    true
+}
+
+// Costs nothing: it hands the prover how many there are.
+fn none_locked_past(locks: &[Option<Frame>; 16])
+    ensures { (a : ℕ) → 16 ≤ a → slice_index_or locks.now a None ≡ None }
+{
+    let _ = locks;
 }
 
 fn copy_locks(locks: &[Option<Frame>; 16]) -> [Option<Frame>; 16]

@@ -20,4 +20,4 @@ pub returns : goal.returns
 returns g c =
     let t : Varied = record { state = g.W.Reads.state c.args.world.now; noted = noted_in c.args.notes.now } in
     let script = subst IsScript c.script.ensures c.facts.ensures in
-    all_torn (g.W.Reads.program c.args.world.now) t c.args.actor c.args.kind.now c.loop-at.torn script.few_actors c.loop-at.invariant.len c.none_past.ensures (λ b l. c.loop-at.invariant.so_far b (omega (arith, l, c.loop-at-test.false)))
+    all_torn (g.W.Reads.program c.args.world.now) t c.args.actor c.args.kind.now c.loop-at.torn script.few_actors c.loop-at.invariant.len c.none_past.ensures.torn (λ b l. c.loop-at.invariant.so_far b (omega (arith, l, c.loop-at-test.false)))

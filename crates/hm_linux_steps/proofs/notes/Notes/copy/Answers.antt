@@ -1,4 +1,4 @@
-use Rattle.std.proofs.Common.{◌≡◌, ℕ, Bool, false, Option, None, List, [], Vec, Global, map, refl, ap, ◌∙◌}
+use Rattle.std.proofs.Common.{ℕ, None, List, [], Vec, Global, map, refl, ap, ◌∙◌}
 use Rattle.std.proofs.Math.Path.{fun_ext}
 use Rattle.std.specs.Prelude.{slice_index_or}
 use Rattle.hm_base.specs.declared.Frame.{Frame}
