@@ -11,15 +11,17 @@ mod first;
 mod found;
 mod gone;
 mod guarding;
+mod led;
 mod locking;
 mod moving;
-pub mod notes;
+mod notes;
 mod noting;
 mod shows;
 mod snapshots;
 mod varied;
 
 pub use due::due_as;
+pub use led::{Led, leads};
 pub use notes::Notes;
 pub use noting::notes_after;
 pub use shows::Shows;
