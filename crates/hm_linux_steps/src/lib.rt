@@ -23,5 +23,5 @@ mod varied;
 pub use due::due_as;
 pub use led::{Led, leads};
 pub use notes::Notes;
-pub use noting::notes_after;
+pub use noting::{notes_after, shared_after};
 pub use shows::Shows;

@@ -23,6 +23,7 @@ use hm_linux::Variant;
 use hm_reads::Reads;
 use hm_spaces::map_locks::releases;
 use std::alloc::Global;
+use std::rc::Rc;
 
 // The change of references of a fault, an unmap or an exit, if they have some.
 fn held_as<W: Reads>(world: &W, variant: Variant, op: &Op, top: &Phase, kind: &Kind) -> Change
@@ -205,4 +206,28 @@ pub fn notes_after<W: Reads>(
         return notes.copy(alloc);
     };
     next_notes(world, notes, variant, alloc, actor, kind, op, top)
+}
+
+/// The same, of notes that are shared: if nothing changes, they are shared on.
+pub fn shared_after<W: Reads>(
+    world: &W,
+    notes: &Rc<Notes>,
+    variant: Variant,
+    alloc: Global,
+    actor: Actor,
+    kind: &Kind,
+) -> Result<Rc<Notes>, NoMemory>
+    ensures { IfOk result
+        (λ n. noted_in n.value
+        ≡ noted_top variant (W.program world.now)
+        (record { state = W.state world.now; noted = noted_in notes.now.value }) actor kind.now
+        (op_at (W.program world.now) actor ((W.state world.now).going actor).index)
+        ((W.state world.now).going actor).stack) }
+{
+    let next = notes_after(world, notes, variant, alloc, actor, kind)?;
+    if next.same(notes) {
+        Ok(notes.clone()?)
+    } else {
+        Ok(Rc::new(alloc, next)?)
+    }
 }
