@@ -1,25 +1,21 @@
 -- Orders of turns that are played to their end.
-use Rattle.std.proofs.Common.{◌≡◌, inl, inr, ℕ, zero, suc, ◌+◌, ◌<◌, arith, true, List, [], ◌∷◌, ◌++◌, length, refl, sym, ap, ◌∙◌, subst}
+use Rattle.std.proofs.Common.{◌≡◌, inl, inr, ℕ, suc, ◌+◌, ◌<◌, arith, true, List, [], ◌∷◌, ◌++◌, length, refl, sym, ap, ◌∙◌, subst}
 use Rattle.std.specs.Prelude.{fold, nat_lt, ◌&&◌}
 use Rattle.std.specs.List.{list_all}
 use Rattle.std.proofs.lemmas.List.{length-append, map-append}
 use Rattle.std.proofs.lemmas.List.Folds.{list_all-append}
 use Rattle.std.proofs.lemmas.List.Sums.{fold-append}
-use Rattle.hm_base.specs.Program.{Program}
-use Rattle.hm_history.specs.Kernel.Run.{run}
-use Rattle.hm_race_laws.specs.Closed.{IsListed}
 use Rattle.hm_race_laws.specs.Outcomes.{Point}
 use Rattle.hm_race_states.specs.Keyed.{form_in}
 use Rattle.hm_race_states.specs.declared.key.StateKey.{StateKey}
 use Rattle.hm_search.specs.Systems.{IsSystem, Stands, SystemValue, form_after, point_at}
 use Rattle.hm_race_top.specs.Run.Known.{AreKnown, IsKnown, KnownValue}
-use Rattle.hm_race_top.specs.Run.Played.{all_played, played_of, AreOrders, HasGone, HaveOrders, IsAt, IsOrder, IsTurnAt, Prefers, PrefersAll}
+use Rattle.hm_race_top.specs.Run.Played.{all_played, played_of, AreOrders, HasGone, IsAt, IsOrder, IsTurnAt, Prefers, PrefersAll}
 use Rattle.hm_race_top.specs.Run.Races.{IsRace, RaceValue}
 use Rattle.hm_race_top.specs.Run.Systems.{race_of}
 use Rattle.hm_race_top.specs.Run.Turns.{IsShown}
 use Rattle.hm_race_top.specs.declared.run.played.Played.{Played}
 use Rattle.hm_race_top.specs.declared.run.played.Turn.{Turn}
-use Rattle.hm_race_top.specs.Theorem.{OrderOf}
 use Rattle.hm_race_top.proofs.Turns.{entries_from}
 
 prefers_on : {X F : Type 0} (y : SystemValue X F) (a : ℕ) (x : X) (bs : List ℕ) (b : ℕ) → PrefersAll y a x bs → Prefers y a (fold y.turn x bs) b → PrefersAll y a x (bs ++ b ∷ [])
@@ -29,28 +25,6 @@ prefers_on y a x (c ∷ bs) b all one = (all.0, prefers_on y a (y.turn x c) bs b
 pub orders_on : {X : Type 0} (y : SystemValue X Point) (a : ℕ) (ns : List KnownValue) (n : KnownValue) → AreOrders y a ns → IsOrder y (a + length ns) n.turns → AreOrders y a (ns ++ n ∷ [])
 orders_on y a [] n all one = (subst (λ (k : ℕ). IsOrder y k n.turns) (omega (arith)) one, tt)
 orders_on y a (m ∷ ns) n all one = (all.0, orders_on y (a + 1) ns n all.1 (subst (λ (k : ℕ). IsOrder y k n.turns) (omega (arith)) one))
-
--- the order of an actor
-pub order_of : (c : Program) (played : List KnownValue) → HaveOrders c played → (a : ℕ) → a < length c.actors → OrderOf c played a
-order_of c played have a below = subst (λ (m : ℕ). OrderOf c played m) (omega (arith)) (by 0 a played have.orders (omega (arith, below, have.each)))
-  where
-    by : (k b : ℕ) (ns : List KnownValue) → AreOrders (race_of c (run c)) k ns → b < length ns → OrderOf c ns (k + b)
-    by k b [] all lt = absurd (omega (arith, lt))
-    by k zero (n ∷ ns) all lt = record {
-      state = n;
-      listed = inl refl;
-      prefers = subst (λ (m : ℕ). PrefersAll (race_of c (run c)) m (race_of c (run c)).start n.turns) (omega (arith)) all.0.prefers;
-      far = all.0.far;
-    }
-    by k (suc b) (n ∷ ns) all lt = later (by (k + 1) b ns all.1 (omega (arith, lt)))
-      where
-        later : OrderOf c ns (k + 1 + b) → OrderOf c (n ∷ ns) (k + suc b)
-        later o = record {
-          state = o.state;
-          listed = inr o.listed;
-          prefers = subst (λ (m : ℕ). PrefersAll (race_of c (run c)) m (race_of c (run c)).start o.state.turns) (omega (arith)) o.prefers;
-          far = o.far;
-        }
 
 -- one order more
 pub orders_more : (y : SystemValue Point Point) (ps : List Played) (p : Played) → AreOrders y 0 (all_played ps) → IsOrder y (length ps) p.turns → AreOrders y 0 (all_played (ps ++ p ∷ []))
