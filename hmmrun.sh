@@ -100,6 +100,7 @@ words_hmmwithout() {
   right                the same of the right driver, of which there is no such race
   --all                a line for each of these drivers
   --answers            judges answers alone, and not the whole protocol
+  --holds              after the race its few holds: where an actor waits for which entry of another one
   --most MOST          gives up beyond MOST states, and not beyond 100,000, or 20,000 for each driver of --all
   --progress           says every five seconds how long it has searched, and in how much memory; so on a terminal
 
@@ -147,7 +148,7 @@ usage() {
     [ "$name" = hmmtrace ] && several=' ..'
     [ "$name" = hmmraces ] &&
         takes='[MOST] [--table | --script N | [--strict] (--expect CONDITION .. | --expect-file LINES)]'
-    [ "$name" = hmmwithout ] && takes='RULE | right | --all [--answers] [--most MOST]'
+    [ "$name" = hmmwithout ] && takes='RULE [--holds] | right [--holds] | --all [--answers] [--most MOST]'
     [ "$name" = hmmview ] && takes='[FROM TO]'
     [ "$name" = hmmjudge ] && takes='[--standing | --all]'
     [ "$name" = hmmtrace ] && takes='[--expect RULE .. | --script RULE | --of-report]'
@@ -339,7 +340,7 @@ refuse_no_rule() {
 # Of the words of hmmwithout, in any order: a rule, and what is asked of it. Leaves them in `words`, and the others in
 # `rest`.
 read_rule_words() {
-    local rule= most=() asked=()
+    local rule= most=() asked=() holds=()
     while [ $# -gt 0 ]; do
         case $1 in
             --most)
@@ -349,6 +350,9 @@ read_rule_words() {
             --answers)
                 [ ${#asked[@]} -eq 0 ] || refuse "\`$1\` is there twice"
                 asked=("$1") ;;
+            --holds)
+                [ ${#holds[@]} -eq 0 ] || refuse "\`$1\` is there twice"
+                holds=("$1") ;;
             --all | right) set_rule "$1" ;;
             *)
                 if is_rule "$1"; then set_rule "$1"
@@ -359,7 +363,8 @@ read_rule_words() {
     done
     [ -n "$rule" ] || refuse_no_rule "${rest[@]}"
     [ ${#most[@]} -gt 0 ] || most=("$([ "$rule" = --all ] && echo 20000 || echo 100000)")
-    words=("$rule" "${asked[@]}" --most "${most[@]}")
+    [ "$rule" != --all ] || [ ${#holds[@]} -eq 0 ] || refuse '`--holds` goes with one rule'
+    words=("$rule" "${holds[@]}" "${asked[@]}" --most "${most[@]}")
 }
 
 is_trace_rule() { grep -qxF -e "$1" <<<"$(printf '%s\n' $trace_rules)"; }
@@ -510,7 +515,7 @@ refuse_option() {
     local other=
     case $1 in
         -v | -V) refuse "there is no \`$1\` here; did you mean \`--version\`?" ;;
-        --answers) other=hmmwithout ;;
+        --answers | --holds) other=hmmwithout ;;
         --table | --strict | --expect-file) other=hmmraces ;;
         --standing) other=hmmjudge ;;
         --of-report) other=hmmtrace ;;

@@ -100,8 +100,10 @@ def without(lines):
         words = text.split(' ')
         if words[0] == 'states':
             said.update(states(words))
-        elif text[:1].isdigit() and 'found' not in said:
+        elif text[:1].isdigit() and not {'owed', 'found'} & said.keys():
             said['race'].append(entry(text))
+        elif words[0] == 'owed' and said['race']:
+            said['owed'] = entry(text.removeprefix('owed '))
         else:
             said.update(found(words))
     return said

@@ -10,7 +10,8 @@ and the rule is left out: by the driver, or, if it is one of the memory manager'
 breaks a part of legality is the last one of a shortest race. With --answers only answers are judged: the first byte
 that is wrong, or the first access that should have failed. `stuck` says that an operation has not ended and nothing is
 due to anybody; `none`, with `whole`, that no order of turns lets this driver do wrong in this script. The search gives
-up, with `cut`, at more than N states (20,000). docs/BROKEN.md has the rules, and the shortest races that were found.
+up, with `cut`, at more than N states (20,000). `owed` says what a right driver would have done in place of the first
+entry that it would not have made there. docs/BROKEN.md has the rules, and the shortest races that were found.
 
 Nobody has proved it: it uses the definitional program in tools/reference. Three of its races are laws of hm_flaws.
 Ends with status 1 if a race was found, 10 if the search was cut before.
@@ -21,7 +22,7 @@ TOP = os.path.dirname(os.path.dirname(os.path.abspath(__file__)))
 sys.path[:0] = [os.path.join(TOP, 'tools'), os.path.join(TOP, 'tools', 'reference')]
 import script as scripts
 import words as given
-from drivers.race import RULES, entries, search
+from drivers.race import RULES, entries, owed, search
 
 
 def asked():
@@ -56,6 +57,8 @@ def race_of(script, rule, answers, most):
     turns, part, states, whole = search(script, rule, answers, most)
     if part:
         print(*entries(script, rule, turns, answers), sep='\n')
+        due = owed(script, rule, turns, answers)
+        print(*([f'owed {due}'] if due else []), sep='\n', end='\n' if due else '')
     print(f'breaks {part}' if part and part != 'stuck' else part or 'none')
     print(f'states {states}', 'whole' if whole else 'cut')
     sys.exit(1 if part else 0 if whole else 10)

@@ -4,9 +4,8 @@
     ./hmmwithout.sh --quick RULE [--answers] RACE.hmm > SHORTEST
     tools/view_broken.py RULE RACE.hmm SHORTEST > page.html
 
-The page is that of hmmview. Its last row is marked, and above it stands which part of legality that row breaks, which
-rule is left out, and where: the first row in which a right driver, or memory manager, would do something else, which is
-marked too. If no entry tells, as of an entry of the table that is not erased, there is no such row. The turns are those of the race that hmmwithout found; tools/drivers takes them once more, and
+The page is that of hmmview. Its last row is marked, and above it stands which part of legality that row breaks, and
+which rule is left out. The turns are those of the race that hmmwithout found; tools/drivers takes them once more, and
 must come to the same entries. Who waits is what such a driver finds. What the state says at a row is what the entries
 say, as docs/REPORT.md has it: an entry that the driver should have erased is not shown. Nobody has proved it.
 Ends with status 3 if the script is none, and with 1 if SHORTEST is no such race.
@@ -19,7 +18,6 @@ import report as reports
 import script as scripts
 from drivers.laws import Broken
 from drivers.race import RULES, Race, entries
-from due import Wait
 from run import Machine
 
 HERE = os.path.dirname(os.path.abspath(__file__))
@@ -41,12 +39,15 @@ def no_race(why):
 
 
 def race_in(text):
-    """The entries that hmmwithout wrote, and the part that the last one breaks; no part if nobody can go on."""
+    """The entries that hmmwithout wrote, the part that the last one breaks, and the line of what was owed, if there is
+    one; no part if nobody can go on."""
     lines = text.splitlines()
     last = next((at for at, line in enumerate(lines) if line.startswith('breaks ') or line == 'stuck'), None)
     if last is None or not last:
         no_race('it has no line of a part, and none that says stuck')
-    return lines[:last], lines[last].split(' ')[1] if lines[last] != 'stuck' else None
+    owed = next((line.removeprefix('owed ') for line in lines if line.startswith('owed ')), None)
+    race = [line for line in lines[:last] if not line.startswith('owed ')]
+    return race, lines[last].split(' ')[1] if lines[last] != 'stuck' else None, owed
 
 
 def actor_of(line):
@@ -56,24 +57,12 @@ def actor_of(line):
 class Shown:
     """A race whose rows are shown one after the other, by machines of their own: asking what is due moves one on."""
 
-    def __init__(self, script, rule, written, answers_alone):
-        self.script, self.rule, self.written, self.answers_alone = script, rule, written, answers_alone
-        self.turns = tuple(actor_of(line) for line in written)
+    def __init__(self, script, rule, turns, answers_alone):
+        self.script, self.rule, self.turns, self.answers_alone = script, rule, turns, answers_alone
         self.set_up = [actor for actor, _ in self.after(0).history]
 
     def after(self, count):
         return Race(self.script, self.rule, self.turns[:count], self.answers_alone)
-
-    def left_out(self):
-        """The first row in which a right driver would do something else, and what that is; none if there is none."""
-        for at, (actor, written) in enumerate(zip(self.turns, self.written)):
-            race = self.after(at)
-            race.state.rule = None
-            due, _ = race.due(actor)
-            line = None if isinstance(due, Wait) else reports.line(len(race.history), actor, due)
-            if line != written:
-                return len(race.history), 'a wait was due' if line is None else f'`{line.split(" ", 1)[1]}` was due'
-        return None
 
     def standing(self, count, actor):
         race = self.after(count)
@@ -130,23 +119,24 @@ def entries_of(script, rule, turns, answers_alone):
 
 
 def race_of(script, rule, text):
-    """The race that hmmwithout wrote, taken once more, and the part that its last row breaks."""
-    written, part = race_in(text)
+    """The race that hmmwithout wrote, taken once more, the part that its last row breaks, and what was owed."""
+    written, part, owed = race_in(text)
     turns = tuple(actor_of(line) for line in written)
     for answers_alone in (False, True):
         if entries_of(script, rule, turns, answers_alone) == written:
-            return Shown(script, rule, written, answers_alone), part
+            return Shown(script, rule, turns, answers_alone), part, owed
     no_race('this driver comes to other entries; was it written of another rule, or of another script?')
 
 
-def page_text(shown, part, rule):
+def page_text(shown, part, owed, rule):
     head, tail = view_page.page_parts()
     with open(os.path.join(HERE, 'view_broken.html'), encoding='ascii') as file:
         mark = file.read()
     says = f'breaks {part}: {BREAKS[part]}' if part else 'after it nobody can go on, and an operation has not ended'
     words = f'data-says="{html.escape(says)}" data-rule="{rule}" data-does="{html.escape(RULES[rule])}"'
-    if left_out := shown.left_out():
-        words += f' data-row="{left_out[0]}" data-due="{html.escape(left_out[1])}"'
+    if owed:
+        at, due = owed.split(' ', 1)
+        words += f' data-owed="{at}" data-due="{html.escape(due)}"'
     mark = mark.replace('<section id="broken"', f'<section id="broken" {words} data-setup="{len(shown.set_up)}"')
     lines = ''.join(line + '\n' for line in shown.lines())
     return head + lines + tail.replace('</body>', mark + '</body>')
@@ -168,8 +158,8 @@ def main():
     except scripts.Refused as bad:
         print(f'view_broken.py: script line {bad.args[0]}: {bad.args[1]}', file=sys.stderr)
         sys.exit(3)
-    shown, part = race_of(script, rule, given.data_of([shortest]).decode())
-    sys.stdout.write(page_text(shown, part, rule))
+    shown, part, owed = race_of(script, rule, given.data_of([shortest]).decode())
+    sys.stdout.write(page_text(shown, part, owed, rule))
 
 
 if __name__ == '__main__':

@@ -7,7 +7,8 @@ Each script is searched for each rule that both programs have, or for those RULE
 judged and once with answers alone: FILEs, or, if none is named, the scripts of examples/broken and those of
 examples/races that have a NAME.without; with --drawn, RUNS scripts (from seed 1) of two actors, drawn as
 tools/race_outcomes.py draws them. What is found must be the same part of legality, or `stuck`, `none` or `unused`, after
-the same number of entries; and each race that is written must end in an entry that breaks it. Where one of the two gave
+the same number of entries; and each race that is written must have the same `owed`, by the second program, but for
+rules that leave out a step beforehand (LATER), where that program sees it sooner. Where one of the two gave
 up at N states (2,000) without finding anything, nothing is compared, and it is counted. The numbers of states are not
 compared: the programs tell states apart in different ways.
 
@@ -21,7 +22,11 @@ sys.path[:0] = [os.path.join(TOP, 'tools'), os.path.join(TOP, 'tools', 'referenc
 import race_outcomes
 import script as scripts
 import words as given
-from drivers.race import RULES, is_unused, search
+from drivers.race import RULES, is_unused, owed, search
+
+
+# the step is gone from what the actor has before it when an entry before it is made; the second program looks at it late
+LATER = {'copy-all', 'drop-lost', 'freeze-others', 'freeze-first', 'set-moved'}
 
 
 class Wrong(Exception):
@@ -53,6 +58,17 @@ def compare_rule(script, rule, said, answers, most):
     return found == wanted
 
 
+def compare_owed(command, text, rule, options):
+    """Compares what was owed in the race that the command writes, if it has one."""
+    ran = subprocess.run([*command, rule, *options], input=text, capture_output=True, text=True)
+    lines = ran.stdout.splitlines()
+    turns = tuple(int(line.split(' ')[1][1:]) for line in lines if line[:1].isdigit())
+    said = next((line.removeprefix('owed ') for line in lines if line.startswith('owed ')), None)
+    due = owed(scripts.parse(text.encode()), rule, turns, '--answers' in options)
+    if said != due:
+        raise Wrong(f'{" ".join([rule, *options])}: owed {said}, and {due} by tools/broken_drivers.py')
+
+
 def compare(command, text, rules, most):
     """How many searches for these rules agree, and how many gave up."""
     script, agree, cut = scripts.parse(text.encode()), 0, 0
@@ -62,6 +78,8 @@ def compare(command, text, rules, most):
             if rule in table:
                 same = compare_rule(script, rule, table[rule], bool(options), most)
                 agree, cut = agree + same, cut + (not same)
+                if ' after ' in table[rule][0] and rule not in LATER:
+                    compare_owed(command, text, rule, [*options, '--most', str(most)])
     return agree, cut
 
 

@@ -4,7 +4,7 @@ import os, re
 import report as reports
 from due import Record, Wait
 from run import Machine
-from state import NONE
+from state import NONE, State
 
 from drivers.driver import Driver
 from drivers.laws import Broken, Laws
@@ -198,3 +198,38 @@ def entries(script, rule, turns, answers_alone):
     except Broken:
         pass
     return [reports.line(at, *entry) for at, entry in enumerate(race.history)][race.start:]
+
+
+# ---- what was owed
+
+def finds_history(race):
+    """Lets the actors of a race find the state that the history gives, with its bytes, as a right driver's do."""
+    world, laws = race.state, race.laws
+    for name in vars(State(race.script)):
+        setattr(world, name, getattr(laws, name))
+    world.rule, world.read_by = None, lambda who, at, count: laws.read(laws.process_of(who), at, count)
+
+
+def made_by(race, actor):
+    """The entry that a turn makes, also if it breaks a part."""
+    try:
+        return race.step(actor)
+    except Broken:
+        return race.history[-1][1]
+
+
+def owed(script, rule, turns, answers_alone):
+    """The line of what was due by a right driver where this one first does otherwise; none if it never does.
+
+    Each of these turns makes an entry.
+    """
+    for done, actor in enumerate(turns):
+        made = made_by(Race(script, rule, turns[:done], answers_alone), actor)
+        race = Race(script, rule, turns[:done], answers_alone)
+        finds_history(race)
+        due, _ = race.due(actor)
+        if isinstance(due, Wait):
+            return f'{len(race.history)} a{actor} waits'
+        if due != made:
+            return reports.line(len(race.history), actor, due)
+    return None

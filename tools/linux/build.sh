@@ -9,6 +9,7 @@
 #   apt-get install linux-source-6.1 build-essential flex bison bc libelf-dev cpio lz4 qemu-system-x86 python3
 # What is there already is not made again; but the changed kernel is, if edit_driver.py is not the one that it was built
 # with. To make all again, remove W. The compiler warns of large frames in test_hmm.c; that is no error.
+# With ONLY=stock in the environment the first kernel alone is made; device_files.sh needs no more.
 set -eu
 case ${1-} in --help | -h) sed -n '2,/^set/{/^#/s/^# \{0,1\}//p}' "$0"; exit 0 ;; esac
 here=$(cd "$(dirname "$0")" && pwd)
@@ -57,6 +58,7 @@ if [ ! -e bzImage.stock ]; then
     make -s -C build olddefconfig
     build stock
 fi
+[ "${ONLY:-}" != stock ] || exit 0
 edits=$(cksum < "$here/edit_driver.py")
 if [ ! -e bzImage.changed ] || [ "$(cat edits 2> /dev/null)" != "$edits" ]; then
     driver_as_it_came

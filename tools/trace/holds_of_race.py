@@ -4,7 +4,8 @@
     tools/trace/holds_of_race.py --rule RULE SCRIPT [RACE]      RACE is what hmmwithout RULE SCRIPT has written
     tools/trace/holds_of_race.py --outcome N SCRIPT [OUTCOMES]  OUTCOMES is what hmmraces SCRIPT has written
     .. --model HOLDS      in place of a hold at each change of the actor, these: `a0 after runlock 1 waits for a1 told
-                          1`, `a1 at first waits for a0 rlock 1`; 1 may be left out
+                          1`, `a1 at first waits for a0 rlock 1`; 1 may be left out. HOLDS may be what hmmwithout
+                          RULE --holds SCRIPT has written, which is also a RACE
     .. --us MICROSECONDS  the bound of each hold (100000); of a try it is 30000 at the most
 
 Without RACE or OUTCOMES it reads standard input. Each event of the model has its place in the kernel, or none
@@ -34,7 +35,7 @@ from drivers.race import Race
 import holds as steering
 
 LINE = re.compile(r'^\s*(\d+) a(\d+) (.*)')
-MODEL = re.compile(r'a(\d+) (?:at first|after (\w+)(?: (\d+))?) waits for a(\d+) (\w+)(?: (\d+))?')
+MODEL = re.compile(r'a(\d+) (?:(?:at )?first|after (\w+)(?: (\d+))?) (?:waits for|until) a(\d+) (\w+)(?: (\d+))?')
 MOST_CHOICES = 600
 HOLD_US, TRY_US = 100_000, 30_000               # a right driver waits for a try to its end
 PAGE_AT = 0x200000                              # steer_runs.c: page N of the script lies that many pages further

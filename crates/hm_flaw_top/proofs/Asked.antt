@@ -8,7 +8,7 @@ use Rattle.hm_flaw_parts.specs.declared.judged.Judging.{Judging}
 use Rattle.hm_script.specs.Numerals.{number}
 use Rattle.hm_script.specs.declared.reason.Reason.{Reason}
 use Rattle.hm_flaw_top.specs.Text.Names.{flaw_named, name_of}
-use Rattle.hm_flaw_top.specs.Text.Tasks.{AreOptions, IsTask, WordsAreTasks, after_answers, after_number, bad, ended, first_counted, first_number, last_counted, last_number, options_of, plain_task, task_by, task_in, which_by, which_of, which_word}
+use Rattle.hm_flaw_top.specs.Text.Tasks.{AreOptions, AreWords, IsTask, WordsAreTasks, after_answers, after_number, bad, ended, first_counted, first_number, last_counted, last_number, later, options_of, plain_task, task_by, task_in, which_by, which_of, which_word, words_of}
 use Rattle.hm_flaw_top.specs.declared.text.task.BadWord.{BadWord}
 use Rattle.hm_flaw_top.specs.declared.text.task.Task.{Task}
 use Rattle.hm_flaw_top.specs.declared.text.task.Which.{Which}
@@ -90,13 +90,36 @@ which_says w x e = by (flaw_named w) refl e
     by (Some l) is e = let same : Which.One l ≡ x = cc in subst (λ (y : Which). w ≡ which_word y) same (sym (named_own w l is))
     by None is e = all (bytes_eq w (codes "--all")) refl e
 
+later_is : (r : Result Task BadWord) (u : Task) → later r ≡ Ok u → r ≡ Ok u
+later_is (Ok t) u e = e
+later_is (Err b) u e = absurd cc
+
+-- words after one that names these drivers
+words_say : (x : Which) (w : List ℕ) (ws : List (List ℕ)) (u : Task) → w ≡ which_word x → words_of x ws ≡ Ok u → IsTask (w ∷ ws) u
+words_say (Which.One l) w [] u is e =
+    let h : Says (Which.One l) [] u = options_say (Which.One l) [] u e in
+    subst (λ (y : Which). (w ≡ which_word y) × AreWords y [] u.judging u.most) (sym h.0) (is, h.1)
+words_say (Which.One l) w (v ∷ ws) u is e = by (bytes_eq v (codes "--holds")) refl e
+  where
+    by : (r : Bool) → bytes_eq v (codes "--holds") ≡ r → (if r then later (options_of (plain_task (Which.Holds l)) ws) else options_of (plain_task (Which.One l)) (v ∷ ws)) ≡ Ok u → IsTask (w ∷ v ∷ ws) u
+    by true same e =
+        let h : Says (Which.Holds l) ws u = options_say (Which.Holds l) ws u (later_is (options_of (plain_task (Which.Holds l)) ws) u e) in
+        subst (λ (y : Which). (w ≡ which_word y) × AreWords y (v ∷ ws) u.judging u.most) (sym h.0) (is, ((bytes_eq-Decides v (codes "--holds")).0 same, h.1))
+    by false same e =
+        let h : Says (Which.One l) (v ∷ ws) u = options_say (Which.One l) (v ∷ ws) u e in
+        subst (λ (y : Which). (w ≡ which_word y) × AreWords y (v ∷ ws) u.judging u.most) (sym h.0) (is, h.1)
+words_say (Which.Holds l) w ws u is e = absurd cc
+words_say Which.All w ws u is e =
+    let h : Says Which.All ws u = options_say Which.All ws u e in
+    subst (λ (y : Which). (w ≡ which_word y) × AreWords y ws u.judging u.most) (sym h.0) (is, h.1)
+
 task_says : (ws : List (List ℕ)) (t : Task) → task_in ws ≡ Ok t → IsTask ws t
 task_says [] t e = absurd cc
 task_says (w ∷ ws) t e = by (which_of w) refl e
   where
     by : (o : Option Which) → which_of w ≡ o → task_by o ws ≡ Ok t → IsTask (w ∷ ws) t
     by None is e = absurd cc
-    by (Some x) is e = let h : Says x ws t = options_say x ws t e in (which_says w x is ∙ ap which_word (sym h.0), h.1)
+    by (Some x) is e = words_say x w ws t (which_says w x is) e
 
 -- ---- what words of a task ask for
 
@@ -131,14 +154,44 @@ all_is_no_rule : flaw_named (codes "--all") ≡ None
 unfolding flaw_named
 all_is_no_rule = refl
 
-which_again : (x : Which) → which_of (which_word x) ≡ Some x
-which_again (Which.One l) = ap (which_by (name_of l)) (named-again l)
-which_again Which.All = ap (which_by (codes "--all")) all_is_no_rule
+-- no option is `--holds`
+first_is : (v : List ℕ) (vs : List (List ℕ)) (j : Judging) (n : ℕ) → AreOptions (v ∷ vs) j n → bytes_eq v (codes "--holds") ≡ false
+first_is a [] Judging.AllParts n h = absurd h
+first_is a [] Judging.AnswersAlone n h = subst (λ (z : List ℕ). bytes_eq z (codes "--holds") ≡ false) (sym h.0) refl
+first_is m (v ∷ []) Judging.AllParts n h = subst (λ (z : List ℕ). bytes_eq z (codes "--holds") ≡ false) (sym h.0) refl
+first_is m (v ∷ []) Judging.AnswersAlone n h = absurd h
+first_is a (b ∷ d ∷ []) Judging.AllParts n h = absurd h
+first_is a (b ∷ d ∷ []) Judging.AnswersAlone n h =
+    elim h [
+      | inl p ↦ subst (λ (z : List ℕ). bytes_eq z (codes "--holds") ≡ false) (sym p.0) refl
+      | inr p ↦ subst (λ (z : List ℕ). bytes_eq z (codes "--holds") ≡ false) (sym p.0) refl
+    ]
+first_is a (b ∷ d ∷ f ∷ ws) Judging.AllParts n h = absurd h
+first_is a (b ∷ d ∷ f ∷ ws) Judging.AnswersAlone n h = absurd h
+
+one_again : (l : Flaw) (ws : List (List ℕ)) (j : Judging) (n : ℕ) → AreOptions ws j n → words_of (Which.One l) ws ≡ done (Which.One l) j n
+one_again l [] j n h = options_again (Which.One l) [] j n h
+one_again l (v ∷ ws) j n h =
+    ap (λ (r : Bool). if r then later (options_of (plain_task (Which.Holds l)) ws) else options_of (plain_task (Which.One l)) (v ∷ ws)) (first_is v ws j n h)
+    ∙ options_again (Which.One l) (v ∷ ws) j n h
+
+held_again : (l : Flaw) (w : List ℕ) (ws : List (List ℕ)) (j : Judging) (n : ℕ) → w ≡ codes "--holds" → AreOptions ws j n → words_of (Which.One l) (w ∷ ws) ≡ done (Which.Holds l) j n
+held_again l w ws j n is h =
+    subst (λ (z : List ℕ). words_of (Which.One l) (z ∷ ws) ≡ done (Which.Holds l) j n) (sym is)
+    (ap later (options_again (Which.Holds l) ws j n h))
+
+named : (l : Flaw) → which_of (name_of l) ≡ Some (Which.One l)
+named l = ap (which_by (name_of l)) (named-again l)
+
+words_again : (x : Which) (ws : List (List ℕ)) (j : Judging) (n : ℕ) → AreWords x ws j n → task_by (which_of (which_word x)) ws ≡ done x j n
+words_again (Which.One l) ws j n h = ap (λ (o : Option Which). task_by o ws) (named l) ∙ one_again l ws j n h
+words_again (Which.Holds l) [] j n h = absurd h
+words_again (Which.Holds l) (w ∷ ws) j n h = ap (λ (o : Option Which). task_by o (w ∷ ws)) (named l) ∙ held_again l w ws j n h.0 h.1
+words_again Which.All ws j n h = ap (λ (o : Option Which). task_by o ws) (ap (which_by (codes "--all")) all_is_no_rule) ∙ options_again Which.All ws j n h
 
 task_again : (ws : List (List ℕ)) (t : Task) → IsTask ws t → task_in ws ≡ Ok t
 task_again [] t h = absurd h
-task_again (w ∷ ws) t h =
-    ap (λ (o : Option Which). task_by o ws) (ap which_of h.0 ∙ which_again t.which) ∙ options_again t.which ws t.judging t.most h.1
+task_again (w ∷ ws) t h = ap (λ (v : List ℕ). task_by (which_of v) ws) h.0 ∙ words_again t.which ws t.judging t.most h.1
 
 pub words_are_tasks : WordsAreTasks
 words_are_tasks ws t = (task_says ws t, task_again ws t)

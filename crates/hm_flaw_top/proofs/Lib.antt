@@ -1,15 +1,5 @@
 mod Rows
-mod Rooms
 mod Full
 mod Named
 mod Asked
-mod Turning
-mod Waiting
-mod Sticking
-mod Playing
-mod Firsts
-mod Alike
-mod Leading
-mod Unused
-mod Answering
 mod Users

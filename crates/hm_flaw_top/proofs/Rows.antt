@@ -4,7 +4,7 @@ use Rattle.std.proofs.lemmas.List.{map-append, take_more}
 use Rattle.hm_base.specs.Program.{Program}
 use Rattle.hm_flaws.specs.declared.flaws.Flaw.{Flaw}
 use Rattle.hm_flaws.specs.declared.parts.Part.{Part}
-use Rattle.hm_flaw_top.specs.Search.Answers.{IsAnswer}
+use Rattle.hm_flaw_search.specs.Answers.{IsAnswer}
 use Rattle.hm_flaw_top.specs.declared.text.table.RuleAnswer.{RuleAnswer}
 use Rattle.hm_history.specs.declared.Entry.{Entry}
 use Rattle.hm_race_laws.specs.Closed.{IsListed}

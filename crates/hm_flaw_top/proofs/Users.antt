@@ -1,21 +1,18 @@
 -- What the user of the program is told.
-use Rattle.std.proofs.Common.{◌≡◌, ◌⊎◌, inl, inr, ℕ, ◌+◌, ◌≤◌, Bool, true, false, List, [], length, Option, Some, None, refl, sym, ap, ◌∙◌, subst}
-use Rattle.std.specs.Prelude.{◌↔◌, Result, Ok, Err}
+use Rattle.std.proofs.Common.{◌≡◌, ◌⊎◌, inl, inr, ℕ, true, false, List, Some, refl, ap, subst}
+use Rattle.std.specs.Prelude.{Result, Ok, Err}
 use Rattle.std.proofs.lemmas.Bool.{false≢true}
 use Rattle.hm_base.specs.Program.{Program}
-use Rattle.hm_edge.specs.Exits.{Exits}
 use Rattle.hm_edge.specs.Reading.{HasNotRead, IsTextOf, ReadAs, ReadFaulted}
 use Rattle.hm_edge.specs.Traffic.{IsUntouched, NoFault, Traffic}
-use Rattle.hm_edge.specs.Users.{CutShort, EndsSo, GoesOut, IsStarted, NothingOut, Spells}
-use Rattle.hm_edge.specs.Writing.{HasWritten, WriteFaulted}
+use Rattle.hm_edge.specs.Users.{CutShort}
+use Rattle.hm_edge.specs.Writing.{WriteFaulted}
 use Rattle.hm_edge.specs.declared.status.RaceEnd.{RaceEnd}
 use Rattle.hm_edge.specs.declared.status.Status.{Status}
 use Rattle.hm_edge.proofs.Telling.{cut_short, ends_so, goes_out, is_given, known, none_left, nothing_out, spells, told_no_script}
-use Rattle.hm_flaws.specs.Judged.{Breaks}
 use Rattle.hm_flaws.specs.declared.flaws.Flaw.{Flaw}
 use Rattle.hm_flaws.specs.declared.parts.Part.{Part}
 use Rattle.hm_flaw_parts.specs.Judged.{judged_parts}
-use Rattle.hm_flaw_parts.specs.Races.Judging.{Sticks}
 use Rattle.hm_history.specs.Kernel.Run.{run}
 use Rattle.hm_history.specs.declared.Entry.{Entry}
 use Rattle.hm_history.specs.declared.StepError.{StepError}
@@ -25,15 +22,20 @@ use Rattle.hm_race_top.specs.Telling.{HasTold, IsSentOn}
 use Rattle.hm_race_top.specs.Theorem.{NoRace}
 use Rattle.hm_race_top.specs.declared.telling.Telling.{Telling}
 use Rattle.hm_script.specs.Built.{has_drain}
-use Rattle.hm_search.specs.declared.search.End.{End}
+use Rattle.std.specs.Prelude.{remove}
+use Rattle.hm_flaw_search.specs.Races.{FlawRaceValue}
+use Rattle.hm_held_search.specs.Finding.{IsFound as AreFound}
+use Rattle.hm_held_search.specs.declared.finding.FoundHolds.{FoundHolds}
+use Rattle.hm_holds.specs.Orders.{AreSure, TurnsFail}
+use Rattle.hm_holds.specs.declared.holds.Hold.{Hold}
 use Rattle.hm_flaw_top.specs.Runs.{Runs, name, usage}
-use Rattle.hm_flaw_top.specs.Search.Answers.{IsAnswer, IsFound, is_broken}
+use Rattle.hm_flaw_search.specs.Answers.{IsAnswer, IsFound, is_broken}
 use Rattle.hm_flaw_top.specs.Text.Tasks.{task_in}
-use Rattle.hm_flaw_top.specs.Theorem.{IsOfRaces, IsRight, TellsRaces, Theorem, ToldBy, ToldOf, ToldRaces, ToldWithout}
-use Rattle.hm_flaw_top.specs.Told.{Tells}
+use Rattle.hm_flaw_top.specs.Theorem.{AreRight, IsOfRaces, IsRight, TellsRaces, Theorem, ToldBy, ToldOf, ToldRaces, ToldWithout}
+use Rattle.hm_flaw_top.specs.Told.{IsRaceOf, Tells}
 use Rattle.hm_flaw_top.specs.Withouts.{Found as Sought, HasFound, MayStop, Searched, Searches, WithoutsBy}
-use Rattle.hm_flaw_top.specs.declared.text.answer.Answer.{Answer}
-use Rattle.hm_flaw_top.specs.declared.text.answer.Found.{Found}
+use Rattle.hm_flaw_search.specs.declared.answer.Answer.{Answer}
+use Rattle.hm_flaw_search.specs.declared.answer.Found.{Found}
 use Rattle.hm_flaw_top.specs.declared.text.task.BadWord.{BadWord}
 use Rattle.hm_flaw_top.specs.declared.text.task.Task.{Task}
 use Rattle.hm_flaw_top.specs.declared.text.task.Which.{Which}
@@ -55,6 +57,7 @@ is_right parts l c h most a x = record {
   never_stuck = x.never;
   right = x.right;
   unused = x.unused;
+  owed = x.owed;
   reached = (λ e. broken_is a.found (x.reached.0 e), λ p. x.reached.1 (ap is_broken p.3));
   long = x.long;
   known = x.known;
@@ -71,8 +74,25 @@ is_right parts l c h most a x = record {
   seen = x.seen;
 }
 
+-- what holds of the race by its fields holds of these
+moved : (P : List Part → Flaw → Program → List Entry → Type 0) (parts : List Part) (l : Flaw) (c : Program) (h : List Entry) (r : FlawRaceValue) → IsRaceOf parts l c h r → P (judged_parts r.judging) r.flaw r.script r.set_up → P parts l c h
+moved P parts l c h r z x =
+    subst (λ (p : List Part). P p l c h) z.parts_are
+    (subst (λ (f : Flaw). P (judged_parts r.judging) f c h) z.flaw
+    (subst (λ (s : Program). P (judged_parts r.judging) r.flaw s h) z.script
+    (subst (λ (g : List Entry). P (judged_parts r.judging) r.flaw r.script g) z.set_up x)))
+
+right_holds : (parts : List Part) (l : Flaw) (c : Program) (h : List Entry) (most : ℕ) (r : FlawRaceValue) → IsRaceOf parts l c h r → (first : List Hold) (found : FoundHolds) → AreFound r first most found → AreRight parts l c h found
+right_holds parts l c h most r z first (FoundHolds.Needed holds n) x = record {
+  wrong = moved (λ p f s g. AreSure p f s g holds.items) parts l c h r z x.0.wrong;
+  needed = λ i less. let y = x.1 i less in (y.turns, moved (λ p f s g. TurnsFail p f s g (remove holds.items i) y.turns) parts l c h r z y.fail);
+}
+right_holds parts l c h most r z first (FoundHolds.NotSure turns) x = tt
+right_holds parts l c h most r z first FoundHolds.Cut x = tt
+
 told_of : (which : Which) (parts : List Part) (most : ℕ) (c : Program) (h : List Entry) (t : Telling) → Tells which parts most c h t → ToldOf which parts most c h t
 told_of (Which.One l) parts most c h t x = record { answer = x.answer; is = is_right parts l c h most x.answer x.is; told = x.told }
+told_of (Which.Holds l) parts most c h t x = record { answer = x.answer; is = is_right parts l c h most x.answer x.is; race = x.race; of_race = x.of_race; more = x.more; holds = x.holds; right = right_holds parts l c h most x.race x.of_race; told = x.told }
 told_of Which.All parts most c h t x = record { rows = x.rows; rules = x.rules; are = λ row listed. is_right parts row.rule c h most row.answer (x.are row listed); told = x.told }
 
 -- ---- the streams of a call

@@ -3,8 +3,8 @@ use Rattle.std.specs.Prelude.{ℕ, ◌==◌, Bool, true, false, List}
 use Rattle.std.specs.List.{list_any}
 use Rattle.hm_edge.specs.declared.status.RaceEnd.{RaceEnd}
 use Rattle.hm_edge.specs.declared.status.Status.{Status}
-use Rattle.hm_flaw_top.specs.Text.Answers.{answer_code}
-use Rattle.hm_flaw_top.specs.declared.text.answer.Answer.{Answer}
+use Rattle.hm_flaw_search.specs.Outcomes.{answer_code}
+use Rattle.hm_flaw_search.specs.declared.answer.Answer.{Answer}
 use Rattle.hm_flaw_top.specs.declared.text.table.RuleAnswer.{RuleAnswer}
 
 -- a driver was found that does what it must not do; or of one that is not known; or neither

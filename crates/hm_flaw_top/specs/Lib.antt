@@ -1,5 +1,4 @@
 pub mod Text
-pub mod Search
 pub mod Endings
 pub mod Told
 pub mod Withouts

@@ -11,13 +11,13 @@ name = codes "hmmwithout"
 -- what it says if a word is bad
 abbrev pub usage : List ℕ
 usage =
-    codes "usage: hmmwithout RULE | right | --all [--answers] [--most MOST], with RULE one of compare compare-sequence "
-    ++ (codes "entry-right mmap-lock own-device begin-waits begin-first set-sequence erase erase-all erase-in-time "
-    ++ (codes "own-events own-sequence own-entries stop-at-detach write-entry detach-waits copy-all clear set-moved "
-    ++ (codes "set-right set-unless-invalidated drop-lost take-from-there evict-first withdraw-first wait-for-locked "
-    ++ (codes "exclusive-waits look-again, or of the memory manager's own: tell-first end-last fork-narrows "
-    ++ (codes "fault-looks-again bring-home freeze-others freeze-first fresh-looks-again fresh-right back-right "
-    ++ codes "lock-page put-back drop-unnamed")))))
+    codes "usage: hmmwithout RULE [--holds] | right [--holds] | --all [--answers] [--most MOST], with RULE "
+    ++ (codes "one of compare compare-sequence entry-right mmap-lock own-device begin-waits begin-first "
+    ++ (codes "set-sequence erase erase-all erase-in-time own-events own-sequence own-entries stop-at-detach "
+    ++ (codes "write-entry detach-waits copy-all clear set-moved set-right set-unless-invalidated drop-lost "
+    ++ (codes "take-from-there evict-first withdraw-first wait-for-locked exclusive-waits look-again, or of the "
+    ++ (codes "memory manager's own: tell-first end-last fork-narrows fault-looks-again bring-home freeze-others "
+    ++ codes "freeze-first fresh-looks-again fresh-right back-right lock-page put-back drop-unnamed")))))
 
 -- what the words ask for was done
 abbrev pub Runs : List (List ℕ) → Traffic → Status → Type 0

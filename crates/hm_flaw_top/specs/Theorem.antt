@@ -1,9 +1,9 @@
 -- The theorem of the program hmmwithout: what its user is told.
-use Rattle.std.specs.Prelude.{◌≡◌, ◌⊎◌, ◌↔◌, ℕ, ◌+◌, ◌≤◌, true, false, List, [], length, Some, None}
+use Rattle.std.specs.Prelude.{◌≡◌, ◌↔◌, ℕ, ◌+◌, ◌≤◌, true, false, List, [], length, Some, ◌<◌, remove, ⊤}
 use Rattle.std.specs.Prelude.{Result, Ok, Err}
 use Rattle.hm_base.specs.Program.{Program}
 use Rattle.hm_edge.specs.Exits.{Arguments, Exits}
-use Rattle.hm_edge.specs.Traffic.{IsUntouched, Traffic}
+use Rattle.hm_edge.specs.Traffic.{Traffic}
 use Rattle.hm_edge.specs.Users.{CutShort, EndsSo, GoesOut, IsStarted, Spells, ToldNoScript, ToldUsage}
 use Rattle.hm_edge.specs.declared.status.RaceEnd.{RaceEnd}
 use Rattle.hm_edge.specs.declared.status.Status.{Status}
@@ -25,15 +25,21 @@ use Rattle.hm_script.specs.Built.{has_drain}
 use Rattle.hm_search.specs.Goals.{AreMissed, IsSoon, Reaches}
 use Rattle.hm_search.specs.Known.{HaveForms, IsCut, IsKnown, IsNear, KnownValue, forms}
 use Rattle.hm_search.specs.declared.search.End.{End}
+use Rattle.hm_held_search.specs.Finding.{IsFound}
+use Rattle.hm_held_search.specs.declared.finding.FoundHolds.{FoundHolds}
+use Rattle.hm_holds.specs.Orders.{AreSure, TurnsFail}
+use Rattle.hm_holds.specs.declared.holds.Hold.{Hold}
 use Rattle.hm_flaw_top.specs.Runs.{Runs, name, usage}
-use Rattle.hm_flaw_top.specs.Search.Unused.{IsUnused}
-use Rattle.hm_flaw_top.specs.Text.Answers.{race_length}
+use Rattle.hm_flaw_search.specs.Owing.{IsOwed, race_entries}
+use Rattle.hm_flaw_search.specs.Unused.{IsUnused}
+use Rattle.hm_flaw_search.specs.Outcomes.{race_length}
+use Rattle.hm_flaw_search.specs.Races.{FlawRaceValue}
 use Rattle.hm_flaw_top.specs.Text.Names.{all_flaws}
 use Rattle.hm_flaw_top.specs.Text.Tasks.{task_in}
-use Rattle.hm_flaw_top.specs.Told.{rules_in, told_all, told_one}
+use Rattle.hm_flaw_top.specs.Told.{IsRaceOf, TellsMore, rules_in, told_all, told_more, told_one}
 use Rattle.hm_flaw_top.specs.Withouts.{MayStop}
-use Rattle.hm_flaw_top.specs.declared.text.answer.Answer.{Answer}
-use Rattle.hm_flaw_top.specs.declared.text.answer.Found.{Found}
+use Rattle.hm_flaw_search.specs.declared.answer.Answer.{Answer}
+use Rattle.hm_flaw_search.specs.declared.answer.Found.{Found}
 use Rattle.hm_flaw_top.specs.declared.text.table.RuleAnswer.{RuleAnswer}
 use Rattle.hm_flaw_top.specs.declared.text.task.Task.{Task}
 use Rattle.hm_flaw_top.specs.declared.text.task.Which.{Which}
@@ -60,6 +66,10 @@ pub record IsRight (parts : List Part) (l : Flaw) (c : Program) (h : List Entry)
   -- **It is told that a rule is unused if and only if all states are known, nothing was found, and without the rule the
   -- driver comes in all turns to what the right one comes to: the same entries, and the same state.**
   pub unused : (a.unused ≡ true) ↔ IsUnused parts l c h a.end a.found
+  -- **What is told to be owed was due to that actor by the right driver, in the state after the entries before, and the
+  -- entry that was made in its place is another, the first such; if nothing is told, the right driver would have made
+  -- each entry in the same state.**
+  pub owed : IsOwed l c h (race_entries a.found) a.owed
   -- A race in which a part is broken is told if and only if the search stopped at it. The histories are no longer than
   -- any.
   pub reached :
@@ -92,6 +102,29 @@ pub record ToldOne (parts : List Part) (most : ℕ) (l : Flaw) (c : Program) (h 
   pub is : IsRight parts l c h most answer
   pub told : t ≡ told_one (length h) answer
 
+-- every order of turns that keeps the holds goes wrong, and without one of them some order does not
+pub record AreRightHolds (parts : List Part) (l : Flaw) (c : Program) (h : List Entry) (ds : List Hold) : Type 0 where
+  pub wrong : AreSure parts l c h ds
+  pub needed : (i : ℕ) → i < length ds → (turns : List ℕ) × TurnsFail parts l c h (remove ds i) turns
+
+-- what is right of holds that were found
+abbrev pub AreRight : List Part → Flaw → Program → List Entry → FoundHolds → Type 0
+AreRight parts l c h (FoundHolds.Needed holds n) = AreRightHolds parts l c h holds.items
+AreRight parts l c h found = ⊤
+
+-- what is told of one driver and of the holds of the race
+pub record ToldHeld (parts : List Part) (most : ℕ) (l : Flaw) (c : Program) (h : List Entry) (t : Telling)
+    : Type 0 where
+  pub answer : Answer
+  pub is : IsRight parts l c h most answer
+  pub race : FlawRaceValue
+  pub of_race : IsRaceOf parts l c h race
+  pub more : List ℕ
+  pub holds : TellsMore race most answer.found more
+  -- **Every order of turns that keeps the holds goes wrong, and none of them can be left out.**
+  pub right : (first : List Hold) (found : FoundHolds) → IsFound race first most found → AreRight parts l c h found
+  pub told : t ≡ told_more (length h) answer more
+
 -- what is told of all drivers: a line for each, in their order
 pub record ToldAll (parts : List Part) (most : ℕ) (c : Program) (h : List Entry) (t : Telling) : Type 0 where
   pub rows : List RuleAnswer
@@ -102,6 +135,7 @@ pub record ToldAll (parts : List Part) (most : ℕ) (c : Program) (h : List Entr
 -- what is told of those that are asked for
 abbrev pub ToldOf : Which → List Part → ℕ → Program → List Entry → Telling → Type 0
 ToldOf (Which.One l) parts most c h t = ToldOne parts most l c h t
+ToldOf (Which.Holds l) parts most c h t = ToldHeld parts most l c h t
 ToldOf Which.All parts most c h t = ToldAll parts most c h t
 
 -- The bytes are the text of a script, the races of drivers were searched after its run, and what is told of that went

@@ -1,14 +1,23 @@
 -- What is written of drivers that leave a rule out, and how the call ends then.
-use Rattle.std.specs.Prelude.{◌≡◌, ℕ, List, length, map}
+use Rattle.std.specs.Prelude.{◌≡◌, ◌⊎◌, ℕ, List, [], ◌∷◌, ◌++◌, length, map}
 use Rattle.hm_base.specs.Program.{Program}
 use Rattle.hm_flaws.specs.declared.flaws.Flaw.{Flaw}
 use Rattle.hm_flaws.specs.declared.parts.Part.{Part}
 use Rattle.hm_flaw_parts.specs.Races.Races.{flaw_system}
-use Rattle.hm_flaw_top.specs.Search.Answers.{IsAnswer}
+use Rattle.hm_flaw_parts.specs.Judged.{judged_parts}
+use Rattle.hm_flaw_search.specs.Answers.{IsAnswer}
+use Rattle.hm_flaw_search.specs.Races.{FlawRaceValue}
+use Rattle.hm_held_search.specs.Events.{event_of, first_of}
+use Rattle.hm_held_search.specs.Finding.{IsFound}
+use Rattle.hm_held_search.specs.Text.{found_text}
+use Rattle.hm_held_search.specs.declared.finding.FoundHolds.{FoundHolds}
+use Rattle.hm_holds.specs.Held.{held_system}
+use Rattle.hm_holds.specs.declared.holds.Hold.{Hold}
 use Rattle.hm_flaw_top.specs.Text.Lines.{answer_text}
 use Rattle.hm_flaw_top.specs.Text.Names.{all_flaws}
 use Rattle.hm_flaw_top.specs.Text.Table.{rules_text}
-use Rattle.hm_flaw_top.specs.declared.text.answer.Answer.{Answer}
+use Rattle.hm_flaw_search.specs.declared.answer.Answer.{Answer}
+use Rattle.hm_flaw_search.specs.declared.answer.Found.{Found}
 use Rattle.hm_flaw_top.specs.declared.text.table.RuleAnswer.{RuleAnswer}
 use Rattle.hm_flaw_top.specs.declared.text.task.Which.{Which}
 use Rattle.hm_history.specs.declared.Entry.{Entry}
@@ -30,6 +39,53 @@ pub record TellsOne (parts : List Part) (most : ℕ) (l : Flaw) (c : Program) (h
   pub answer : Answer
   pub is : IsAnswer parts l c h most answer
   pub told : t ≡ told_one (length h) answer
+
+-- ---- one driver, and the holds of the race
+
+-- a search for the holds of a race whose entries are these came to what this says
+pub record ToldHolds (r : FlawRaceValue) (most : ℕ) (es : List Entry) (text : List ℕ) : Type 0 where
+  pub found : FoundHolds
+  pub is : IsFound r (first_of (map event_of es) (length r.script.actors)) most found
+  pub text_is : text ≡ found_text found
+
+-- what is written of the holds of what was found: nothing if no part is broken
+abbrev pub TellsMore : FlawRaceValue → ℕ → Found → List ℕ → Type 0
+TellsMore r most (Found.Broken es e part) text = ToldHolds r most (es ++ e ∷ []) text
+TellsMore r most found text = text ≡ []
+
+-- this was added to a text
+pub record AddsMore (r : FlawRaceValue) (most : ℕ) (found : Found) (old new : List ℕ) : Type 0 where
+  pub more : List ℕ
+  pub tells : TellsMore r most found more
+  pub added : new ≡ old ++ more
+
+-- the race of the driver with this flaw, after the set-up h, if it is judged by these parts
+pub record IsRaceOf (parts : List Part) (l : Flaw) (c : Program) (h : List Entry) (r : FlawRaceValue) : Type 0 where
+  pub parts_are : judged_parts r.judging ≡ parts
+  pub flaw : r.flaw ≡ l
+  pub script : r.script ≡ c
+  pub set_up : r.set_up ≡ h
+
+-- the race that was found of one driver after a set-up of this length, and this after it
+abbrev pub told_more : ℕ → Answer → List ℕ → Telling
+told_more start a more = record { text = answer_text start a ++ more; ends = ending_of a }
+
+-- this is written of the driver with this flaw, after the set-up h: what a search of its races has shown, and a search
+-- for the holds of the race
+pub record TellsHolds (parts : List Part) (most : ℕ) (l : Flaw) (c : Program) (h : List Entry) (t : Telling)
+    : Type 0 where
+  pub answer : Answer
+  pub is : IsAnswer parts l c h most answer
+  pub race : FlawRaceValue
+  pub of_race : IsRaceOf parts l c h race
+  pub more : List ℕ
+  pub holds : TellsMore race most answer.found more
+  pub told : t ≡ told_more (length h) answer more
+
+-- why that fails: a search for the race does, or one for its holds
+abbrev pub HoldsMayFail : List Part → Flaw → Program → List Entry → StepError → Type 0
+HoldsMayFail parts l c h e = MayFail (flaw_system parts l c h) e
+    ⊎ ((ds : List Hold) × MayFail (held_system parts l c h ds) e)
 
 -- ---- all drivers
 
@@ -58,6 +114,7 @@ pub record TellsAll (parts : List Part) (most : ℕ) (c : Program) (h : List Ent
 -- this is written of the drivers that are asked for
 abbrev pub Tells : Which → List Part → ℕ → Program → List Entry → Telling → Type 0
 Tells (Which.One l) parts most c h t = TellsOne parts most l c h t
+Tells (Which.Holds l) parts most c h t = TellsHolds parts most l c h t
 Tells Which.All parts most c h t = TellsAll parts most c h t
 
 -- why the search of some driver's races fails
@@ -68,4 +125,5 @@ pub record FailsAtSome (parts : List Part) (c : Program) (h : List Entry) (e : S
 -- why a search of what is asked for fails
 abbrev pub FlawsMayFail : Which → List Part → Program → List Entry → StepError → Type 0
 FlawsMayFail (Which.One l) parts c h e = MayFail (flaw_system parts l c h) e
+FlawsMayFail (Which.Holds l) parts c h e = HoldsMayFail parts l c h e
 FlawsMayFail Which.All parts c h e = FailsAtSome parts c h e

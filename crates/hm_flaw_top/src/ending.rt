@@ -1,12 +1,13 @@
 // How a call ends that has searched the races of drivers, if its text goes out whole.
 ghost use Rattle.std.specs.Prelude.{◌≡◌};
 ghost use Rattle.hm_edge.specs.Messages.{code_of};
-ghost use Rattle.hm_flaw_top.specs.Text.Answers.{answer_code};
+ghost use Rattle.hm_flaw_search.specs.Outcomes.{answer_code};
 ghost use Rattle.hm_race_top.specs.Telling.{IsEnding};
 ghost use Rattle.hm_flaw_top.specs.Endings.{ending_by, ending_of, ending_of_all, has_code};
 
-use crate::text::{Answer, RuleAnswer};
+use crate::text::RuleAnswer;
 use hm_edge::{RaceEnd, Status};
+use hm_flaw_search::Answer;
 
 /// How a call ends that found a driver which does what it must not do, or one of which that is not known.
 fn ending_by(broken: bool, cut: bool) -> Status

@@ -6,7 +6,6 @@ mod call;
 mod ending;
 mod laws;
 mod process;
-mod search;
 mod text;
 mod told;
 

@@ -17,13 +17,13 @@ pub const NAME: &str = "hmmwithout";
 
 /// What it says if a word is bad.
 pub const USAGE: &str =
-    "usage: hmmwithout RULE | right | --all [--answers] [--most MOST], with RULE one of compare compare-sequence \
-    entry-right mmap-lock own-device begin-waits begin-first set-sequence erase erase-all erase-in-time \
-    own-events own-sequence own-entries stop-at-detach write-entry detach-waits copy-all clear set-moved \
-    set-right set-unless-invalidated drop-lost take-from-there evict-first withdraw-first wait-for-locked \
-    exclusive-waits look-again, or of the memory manager's own: tell-first end-last fork-narrows \
-    fault-looks-again bring-home freeze-others freeze-first fresh-looks-again fresh-right back-right \
-    lock-page put-back drop-unnamed";
+    "usage: hmmwithout RULE [--holds] | right [--holds] | --all [--answers] [--most MOST], with RULE one of \
+    compare compare-sequence entry-right mmap-lock own-device begin-waits begin-first set-sequence erase \
+    erase-all erase-in-time own-events own-sequence own-entries stop-at-detach write-entry detach-waits \
+    copy-all clear set-moved set-right set-unless-invalidated drop-lost take-from-there evict-first \
+    withdraw-first wait-for-locked exclusive-waits look-again, or of the memory manager's own: tell-first \
+    end-last fork-narrows fault-looks-again bring-home freeze-others freeze-first fresh-looks-again \
+    fresh-right back-right lock-page put-back drop-unnamed";
 
 /// The call of hmmwithout.
 struct Leaving;

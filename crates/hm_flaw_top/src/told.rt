@@ -1,21 +1,24 @@
 // What is to be written of drivers that leave a rule out, and how the call ends then.
-ghost use Rattle.std.specs.Prelude.{◌≡◌, ◌≤◌, [], length, IfErr, IfOk};
+ghost use Rattle.std.specs.Prelude.{◌≡◌, ◌≤◌, [], length, IfErr, IfOk, OnOk};
+ghost use Rattle.hm_held_search.specs.Finding.{MayFailBy};
 ghost use Rattle.hm_flaw_parts.specs.Judged.{judged_parts};
-ghost use Rattle.hm_flaw_top.specs.Search.Races.{IsFirst};
+ghost use Rattle.hm_flaw_search.specs.Races.{IsFirst};
 ghost use Rattle.hm_flaw_top.specs.Text.Names.{all_flaws};
 ghost use Rattle.hm_flaw_parts.specs.Races.Races.{flaw_system};
 ghost use Rattle.hm_history.specs.Laws.{DueFrom};
 ghost use Rattle.hm_race_top.specs.Telling.{IsEnding};
 ghost use Rattle.hm_search.specs.Known.{MayFail};
-ghost use Rattle.hm_flaw_top.specs.Told.{rules_in, AreAnswers, FailsAtSome, FlawsMayFail, Tells, TellsAll, TellsOne};
+ghost use Rattle.hm_flaw_top.specs.Told.{rules_in, AddsMore, AreAnswers, FailsAtSome, FlawsMayFail};
+ghost use Rattle.hm_flaw_top.specs.Told.{HoldsMayFail, Tells, TellsAll, TellsHolds, TellsOne};
 
 use crate::ending::{ending_of, ending_of_all};
-use crate::search::find_race;
 use crate::text::{RuleAnswer, Task, Which, all_flaws, answer_text, rules_text};
-use hm_base::{ListOf, NoMemory, Script};
+use hm_base::{ListOf, NoMemory, Script, Text};
+use hm_flaw_search::{FlawRace, Found, find_race};
 use hm_flaw_states::first_key;
 use hm_flaw_states::key::FlawKey;
 use hm_flaws::Flaw;
+use hm_held_search::{add_found, holds_of_race};
 use hm_history::{Entry, StepError};
 use hm_race_top::telling::Telling;
 use skip_rules::Multiples;
@@ -46,6 +49,65 @@ fn tell_one(
             }),
             Err(NoMemory) => Err(StepError::NoMemory),
         },
+        Err(error) => Err(error),
+    }
+}
+
+/// Adds what is to be written of the holds of what was found. It fails as a search for holds does.
+fn add_holds(race: &FlawRace, found: &Found, most: u64, text: &mut Text) -> Result<(), StepError>
+    ensures holds { OnOk result (AddsMore race.now most found.now text.old text.new) }
+    ensures fails { IfErr result (MayFailBy race.now) }
+{
+    match found {
+        Found::Broken { entries, last, .. } => {
+            let holds = holds_of_race(race, entries.as_slice(), last, most)?;
+            match add_found(race.alloc, text, &holds) {
+                Ok(()) => Ok(()),
+                Err(NoMemory) => Err(StepError::NoMemory),
+            }
+        }
+        Found::Stuck { .. } | Found::Nothing => Ok(()),
+    }
+}
+
+/// What is to be written of the driver with this flaw, and of the holds of the race. It fails as the searches do, and if
+/// memory runs out.
+fn tell_holds(
+    alloc: Global,
+    script: &Script,
+    set_up: &[Entry],
+    first: &FlawKey,
+    flaw: Flaw,
+    task: Task,
+) -> Result<Telling, StepError>
+    requires due { DueFrom script.now [] set_up.now }
+    requires few { length set_up.now ≤ 2000000 }
+    requires first { IsFirst script.now set_up.now first.now }
+    ensures tells { IfOk result (TellsHolds (judged_parts task.judging) task.most flaw script.now set_up.now) }
+    ensures ends { IfOk result (λ t. IsEnding t.ends) }
+    ensures fails { IfErr result (HoldsMayFail (judged_parts task.judging) flaw script.now set_up.now) }
+{
+    let judging = task.judging;
+    let answer = match find_race(alloc, script, set_up, first, flaw, judging, task.most) {
+        Ok(answer) => answer,
+        Err(error) => return Err(error),
+    };
+    let Ok(mut text) = answer_text(alloc, set_up.len() as u64, &answer) else {
+        return Err(StepError::NoMemory);
+    };
+    let race = FlawRace {
+        alloc,
+        script,
+        set_up,
+        first,
+        flaw,
+        judging,
+    };
+    match add_holds(&race, &answer.found, task.most, &mut text) {
+        Ok(()) => Ok(Telling {
+            text,
+            ends: ending_of(&answer),
+        }),
         Err(error) => Err(error),
     }
 }
@@ -130,6 +192,7 @@ pub(crate) fn tell(
     };
     match task.which {
         Which::One(flaw) => tell_one(alloc, script, set_up, &first, flaw, task),
+        Which::Holds(flaw) => tell_holds(alloc, script, set_up, &first, flaw, task),
         Which::All => tell_all(alloc, script, set_up, &first, task),
     }
 }

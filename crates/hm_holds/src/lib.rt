@@ -6,10 +6,11 @@ ghost use Rattle.hm_holds.specs.Laws.{HeldRacesAreSystems, KeptTurnsAreJudged, K
 ghost use Rattle.hm_holds.specs.Laws.{SureBreaks, WholeIsSure};
 
 mod holds;
+mod same;
 mod words;
 
 pub use holds::{Hold, HoldState, Nth};
-pub use words::{Word, word_of};
+pub use words::{Word, same_word, word_of};
 
 /// A race of a driver with a flaw, of which only the orders of turns are looked at that keep some holds, is a system
 /// that can be searched.

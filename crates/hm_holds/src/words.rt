@@ -94,7 +94,7 @@ pub fn word_of(kind: &Kind) -> Word
 }
 
 /// Whether the two are the same.
-pub(crate) fn same_word(one: Word, other: Word) -> bool
+pub fn same_word(one: Word, other: Word) -> bool
     ensures { result ≡ same_word one other }
 {
     one == other

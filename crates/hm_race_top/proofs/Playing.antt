@@ -1,5 +1,5 @@
 -- Orders of turns that are played to their end.
-use Rattle.std.proofs.Common.{◌≡◌, inl, inr, ℕ, suc, ◌+◌, ◌<◌, arith, Bool, true, false, List, [], ◌∷◌, ◌++◌, length, refl, sym, ap, ◌∙◌, subst}
+use Rattle.std.proofs.Common.{◌≡◌, inl, inr, ℕ, suc, ◌+◌, ◌<◌, arith, true, List, [], ◌∷◌, ◌++◌, length, refl, sym, ap, ◌∙◌, subst}
 use Rattle.std.specs.Prelude.{fold, nat_lt, ◌&&◌}
 use Rattle.std.specs.List.{list_all}
 use Rattle.std.proofs.lemmas.List.{length-append, map-append}
@@ -10,28 +10,13 @@ use Rattle.hm_race_states.specs.Keyed.{form_in}
 use Rattle.hm_race_states.specs.declared.key.StateKey.{StateKey}
 use Rattle.hm_search.specs.Systems.{IsSystem, Stands, SystemValue, form_after, point_at}
 use Rattle.hm_race_top.specs.Run.Known.{AreKnown, IsKnown, KnownValue}
-use Rattle.hm_race_top.specs.Run.Played.{all_played, played_of, AreOrders, HasGone, IsAt, IsOrder, IsTurnAt, NobodyGoes, Prefers, PrefersAll}
+use Rattle.hm_race_top.specs.Run.Played.{all_played, played_of, AreOrders, HasGone, IsAt, IsOrder, IsTurnAt, Prefers, PrefersAll}
 use Rattle.hm_race_top.specs.Run.Races.{IsRace, RaceValue}
 use Rattle.hm_race_top.specs.Run.Systems.{race_of}
 use Rattle.hm_race_top.specs.Run.Turns.{IsShown}
 use Rattle.hm_race_top.specs.declared.run.played.Played.{Played}
 use Rattle.hm_race_top.specs.declared.run.played.Turn.{Turn}
 use Rattle.hm_race_top.proofs.Turns.{entries_from}
-
--- if nothing is due to those that there are, nothing is due to anybody
-pub nobody_goes : {X F : Type 0} (y : SystemValue X F) → IsSystem y → (x : X) → ((a : ℕ) → a < y.actors → y.is_due x a ≡ false) → NobodyGoes y x
-nobody_goes y s x none a = by (y.is_due x a) refl
-  where
-    by : (b : Bool) → y.is_due x a ≡ b → y.is_due x a ≡ false
-    by false e = e
-    by true e = none a (s.own x a e)
-
--- somebody else has the turn only if nothing is due to the actor
-pub prefers_other : {X F : Type 0} (y : SystemValue X F) (a : ℕ) (x : X) (b : ℕ) → y.is_due x a ≡ false → Prefers y a x b
-prefers_other y a x b none due = absurd (no (sym none ∙ due))
-  where
-    no : false ≡ true → ⊥
-    no e = cc
 
 prefers_on : {X F : Type 0} (y : SystemValue X F) (a : ℕ) (x : X) (bs : List ℕ) (b : ℕ) → PrefersAll y a x bs → Prefers y a (fold y.turn x bs) b → PrefersAll y a x (bs ++ b ∷ [])
 prefers_on y a x [] b all one = (one, tt)

@@ -1,5 +1,5 @@
 -- What the user of the program is told.
-use Rattle.std.proofs.Common.{◌≡◌, ◌⊎◌, inl, inr, ℕ, true, false, List, [], ◌∷◌, Option, Some, None, refl, sym, ap, subst}
+use Rattle.std.proofs.Common.{◌≡◌, ◌⊎◌, inl, inr, ℕ, zero, suc, ◌+◌, ◌<◌, arith, true, false, List, [], ◌∷◌, length, Option, Some, None, refl, sym, ap, subst}
 use Rattle.hm_base.specs.Program.{Program}
 use Rattle.hm_edge.specs.Reading.{HasNotRead, IsTextOf, ReadAs, ReadFaulted}
 use Rattle.hm_edge.specs.Traffic.{IsUntouched, NoFault, Traffic}
@@ -16,18 +16,43 @@ use Rattle.hm_search.specs.declared.search.End.{End}
 use Rattle.hm_race_top.specs.Asked.{HasNoTask, front, questions_in}
 use Rattle.hm_race_top.specs.Races.{Found, HasFound, HasStopped, Holds, RacesBy, Searched, Searches}
 use Rattle.hm_race_top.specs.Run.Known.{KnownValue, MayFail}
+use Rattle.hm_race_top.specs.Run.Played.{AreOrders, HaveOrders, PrefersAll}
+use Rattle.hm_race_top.specs.Run.Systems.{race_of}
 use Rattle.hm_race_top.specs.Runs.{Runs, name, usage}
 use Rattle.hm_race_top.proofs.Unasked.{none_has}
 use Rattle.hm_race_top.specs.Telling.{HasTold, IsSentOn, IsStrict, told}
-use Rattle.hm_race_top.specs.Theorem.{AreRight, IsOfRace, IsUnasked, NoRace, TellsRace, Theorem, ToldBy, ToldRace, ToldRacing}
+use Rattle.hm_race_top.specs.Theorem.{AreRight, IsOfRace, IsUnasked, NoRace, OrderOf, TellsRace, Theorem, ToldBy, ToldRace, ToldRacing}
 use Rattle.hm_race_top.specs.declared.asked.Task.{Task}
+
+-- the order of an actor
+order_of : (c : Program) (played : List KnownValue) → HaveOrders c played → (a : ℕ) → a < length c.actors → OrderOf c played a
+order_of c played have a below = subst (λ (m : ℕ). OrderOf c played m) (omega (arith)) (by 0 a played have.orders (omega (arith, below, have.each)))
+  where
+    by : (k b : ℕ) (ns : List KnownValue) → AreOrders (race_of c (run c)) k ns → b < length ns → OrderOf c ns (k + b)
+    by k b [] all lt = absurd (omega (arith, lt))
+    by k zero (n ∷ ns) all lt = record {
+      state = n;
+      listed = inl refl;
+      prefers = subst (λ (m : ℕ). PrefersAll (race_of c (run c)) m (race_of c (run c)).start n.turns) (omega (arith)) all.0.prefers;
+      far = all.0.far;
+    }
+    by k (suc b) (n ∷ ns) all lt = later (by (k + 1) b ns all.1 (omega (arith, lt)))
+      where
+        later : OrderOf c ns (k + 1 + b) → OrderOf c (n ∷ ns) (k + suc b)
+        later o = record {
+          state = o.state;
+          listed = inr o.listed;
+          prefers = subst (λ (m : ℕ). PrefersAll (race_of c (run c)) m (race_of c (run c)).start o.state.turns) (omega (arith)) o.prefers;
+          far = o.far;
+        }
 
 are_right : (most : ℕ) (c : Program) (task : Task) (known played : List KnownValue) (end : End) → Holds most c task known played end → AreRight most c task known played end
 are_right most c task known played end h = record {
   all = h.complete;
   real = h.real;
   once = h.distinct;
-  orders = h.orders;
+  orders = λ cut a below. order_of c played (h.orders cut) a below;
+  each = λ cut. (h.orders cut).each;
   led = h.led;
   no_order = h.no_order;
   right = h.right;

@@ -1,5 +1,5 @@
 -- The theorem of the program hmmraces: what its user is told.
-use Rattle.std.specs.Prelude.{◌≡◌, ◌⊎◌, ℕ, ◌≤◌, true, false, List, [], ◌++◌, length, Option, Some, None}
+use Rattle.std.specs.Prelude.{◌≡◌, ◌⊎◌, ℕ, ◌<◌, ◌≤◌, true, false, List, [], ◌++◌, length, Option, Some, None}
 use Rattle.hm_base.specs.Program.{Program}
 use Rattle.hm_edge.specs.Exits.{Arguments, Exits}
 use Rattle.hm_edge.specs.Traffic.{IsUntouched, Traffic}
@@ -22,7 +22,8 @@ use Rattle.hm_race_top.specs.Asked.{HasNoTask, IsTask, front, goals_in, question
 use Rattle.hm_race_top.specs.Goals.{settled}
 use Rattle.hm_race_top.specs.Races.{IsSure}
 use Rattle.hm_race_top.specs.Run.Known.{AreFewest, IsCut, IsKnown, IsNear, IsSoon, KnownValue, MayFail}
-use Rattle.hm_race_top.specs.Run.Played.{HaveOrders}
+use Rattle.hm_race_top.specs.Run.Played.{IsOver, PrefersAll}
+use Rattle.hm_race_top.specs.Run.Systems.{race_of}
 use Rattle.hm_race_top.specs.Runs.{Runs, name, usage}
 use Rattle.hm_race_top.specs.Telling.{IsStrict, told}
 use Rattle.hm_race_lines.specs.Answers.{answer_lines}
@@ -36,6 +37,14 @@ use Rattle.hm_race_top.specs.declared.asked.Task.{Task}
 use Rattle.hm_race_top.specs.declared.text.block.OutcomeBlock.{OutcomeBlock}
 use Rattle.hm_race_top.specs.declared.text.conditions.question.Question.{Question}
 
+-- An order of turns of the actor, and what it comes to: it has the turn as long as something is due to it, and else
+-- another one, until nobody can go on, the history is full, or 4,096 turns were made.
+pub record OrderOf (c : Program) (played : List KnownValue) (a : ℕ) : Type 0 where
+  pub state : KnownValue
+  pub listed : IsListed played state
+  pub prefers : PrefersAll (race_of c (run c)) a (race_of c (run c)).start state.turns
+  pub far : IsOver (race_of c (run c)) state.turns ⊎ (4096 ≤ length state.turns)
+
 -- What is right of the outcomes and states that are told of a script's race.
 pub record AreRight (most : ℕ) (c : Program) (task : Task) (known played : List KnownValue) (end : End) : Type 0 where
   -- **If the search ended `whole`, every outcome is there**: after every list of entries that are due one after the
@@ -45,9 +54,10 @@ pub record AreRight (most : ℕ) (c : Program) (task : Task) (known played : Lis
   -- Every outcome that is there can come: its schedule leads to it, by a legal history. None is there twice.
   pub real : (b : OutcomeBlock) → IsListed (blocks_known c (known ++ played)) b → IsTrueOf c b
   pub once : AreDistinct (lines_of (blocks_known c (known ++ played)))
-  -- **If the search was `cut`, each actor has an order of turns in which it goes as long as it can**, and somebody else
-  -- then: until nobody can go on, or through 4,096 turns. If all operations have ended there, its outcome is there.
-  pub orders : end ≡ End.Cut → HaveOrders c played
+  -- **If the search was `cut`, an order of turns was played for each actor, and for nobody else.** If all operations
+  -- have ended there, its outcome is there.
+  pub orders : end ≡ End.Cut → (a : ℕ) → a < length c.actors → OrderOf c played a
+  pub each : end ≡ End.Cut → length played ≡ length c.actors
   pub led : (n : KnownValue) → IsListed played n → IsKnown c (run c) n
   pub no_order : ¬ (end ≡ End.Cut) → played ≡ []
   -- What is said of each condition is right of the race.

@@ -4,10 +4,10 @@ use Rattle.std.specs.List.{flat_map}
 use Rattle.std.specs.Fmt.{decimal}
 use Rattle.hm_flaws.specs.declared.flaws.Flaw.{Flaw}
 use Rattle.hm_race_top.specs.Text.Text.{padded, states_line}
-use Rattle.hm_flaw_top.specs.Text.Answers.{extent, nothing_word}
+use Rattle.hm_flaw_search.specs.Outcomes.{extent, nothing_word}
 use Rattle.hm_flaw_top.specs.Text.Names.{name_of, part_text}
-use Rattle.hm_flaw_top.specs.declared.text.answer.Answer.{Answer}
-use Rattle.hm_flaw_top.specs.declared.text.answer.Found.{Found}
+use Rattle.hm_flaw_search.specs.declared.answer.Answer.{Answer}
+use Rattle.hm_flaw_search.specs.declared.answer.Found.{Found}
 use Rattle.hm_flaw_top.specs.declared.text.table.RuleAnswer.{RuleAnswer}
 
 -- what was found: the part that is broken, or `stuck`, with the number of entries; or `none`, or `unused`

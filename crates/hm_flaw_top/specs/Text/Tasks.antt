@@ -1,5 +1,5 @@
 -- What the words after the program's name ask for.
-use Rattle.std.specs.Prelude.{◌≡◌, ◌⊎◌, ◌↔◌, ℕ, if◌then◌else◌, List, [], ◌∷◌, Option, Some, None, Result, Ok, Err}
+use Rattle.std.specs.Prelude.{◌≡◌, ◌⊎◌, ◌↔◌, ℕ, ◌+◌, if◌then◌else◌, List, [], ◌∷◌, Option, Some, None, Result, Ok, Err}
 use Rattle.std.specs.Prelude.{codes}
 use Rattle.std.specs.Str.{bytes_eq}
 use Rattle.hm_flaws.specs.declared.flaws.Flaw.{Flaw}
@@ -14,12 +14,13 @@ use Rattle.hm_flaw_top.specs.declared.text.task.WordFault.{WordFault}
 
 -- ---- the words of a task
 
--- the word that says of which drivers: the rule that one leaves out, `right` of the right one, or all of them
+-- the first word, which says of which drivers: the rule that one leaves out, `right` of the right one, or all of them
 abbrev pub which_word : Which → List ℕ
 which_word (Which.One l) = name_of l
+which_word (Which.Holds l) = name_of l
 which_word Which.All = codes "--all"
 
--- the words after it, in any order: `--answers` if answers alone are judged, and `--most` with the number of states,
+-- the words after that, in any order: `--answers` if answers alone are judged, and `--most` with the number of states,
 -- which is 1,000,000 without that
 abbrev pub AreOptions : List (List ℕ) → Judging → ℕ → Type 0
 AreOptions [] Judging.AllParts n = n ≡ 1000000
@@ -30,10 +31,17 @@ AreOptions (u ∷ v ∷ w ∷ []) Judging.AnswersAlone n =
     ⊎ ((u ≡ codes "--most") × (number v ≡ Ok n) × (w ≡ codes "--answers"))
 AreOptions _ _ _ = ⊥
 
+-- the words after the first: `--holds` comes before the others, if holds are asked for
+abbrev pub AreWords : Which → List (List ℕ) → Judging → ℕ → Type 0
+AreWords (Which.One l) ws judging n = AreOptions ws judging n
+AreWords (Which.Holds l) [] judging n = ⊥
+AreWords (Which.Holds l) (w ∷ ws) judging n = (w ≡ codes "--holds") × AreOptions ws judging n
+AreWords Which.All ws judging n = AreOptions ws judging n
+
 -- all words of a task
 abbrev pub IsTask : List (List ℕ) → Task → Type 0
 IsTask [] t = ⊥
-IsTask (w ∷ ws) t = (w ≡ which_word t.which) × AreOptions ws t.judging t.most
+IsTask (w ∷ ws) t = (w ≡ which_word t.which) × AreWords t.which ws t.judging t.most
 
 -- ---- the same, word by word, with the first that is bad
 
@@ -78,7 +86,7 @@ abbrev pub first_number : Task → List (List ℕ) → Result Task BadWord
 first_number t [] = bad 3 WordFault.Missing
 first_number t (w ∷ ws) = first_counted t ws (number w)
 
--- after the first word
+-- after the first word, and `--holds`
 abbrev pub options_of : Task → List (List ℕ) → Result Task BadWord
 options_of t [] = Ok t
 options_of t (w ∷ ws) =
@@ -98,9 +106,23 @@ which_of w = which_by w (flaw_named w)
 abbrev pub plain_task : Which → Task
 plain_task x = record { which = x; judging = Judging.AllParts; most = 1000000 }
 
+-- the same after one word more
+abbrev pub later : Result Task BadWord → Result Task BadWord
+later (Ok t) = Ok t
+later (Err b) = Err (record { at = b.at + 1; why = b.why })
+
+-- after the first word, which names these drivers; none names a driver whose holds are asked for
+abbrev pub words_of : Which → List (List ℕ) → Result Task BadWord
+words_of (Which.One l) [] = options_of (plain_task (Which.One l)) []
+words_of (Which.One l) (w ∷ ws) =
+    if bytes_eq w (codes "--holds") then later (options_of (plain_task (Which.Holds l)) ws)
+    else options_of (plain_task (Which.One l)) (w ∷ ws)
+words_of (Which.Holds l) ws = bad 1 WordFault.NoRule
+words_of Which.All ws = options_of (plain_task Which.All) ws
+
 -- by the drivers that the first word names
 abbrev pub task_by : Option Which → List (List ℕ) → Result Task BadWord
-task_by (Some x) ws = options_of (plain_task x) ws
+task_by (Some x) ws = words_of x ws
 task_by None ws = bad 1 WordFault.NoRule
 
 -- what the words ask for, or the first that is bad

@@ -6,9 +6,9 @@ ghost use Rattle.hm_race_top.specs.Text.Text.{padded, states_line};
 ghost use Rattle.hm_flaw_top.specs.Text.Names.{name_of, part_text};
 ghost use Rattle.hm_flaw_top.specs.Text.Table.{outcome_words, rule_line, rules_text};
 
-use crate::text::answer::{Answer, Found};
 use crate::text::names::{part_name, rule_name};
 use hm_base::{NoMemory, Text};
+use hm_flaw_search::{Answer, Found};
 use hm_flaws::Flaw;
 use hm_race_top::text::{add_decimal, add_padded, add_states};
 use std::alloc::Global;

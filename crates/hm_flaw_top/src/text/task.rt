@@ -1,8 +1,8 @@
 // What the words after the program's name ask for.
-ghost use Rattle.std.specs.Prelude.{◌≡◌, map, string_bytes, IfErr, IfOk};
+ghost use Rattle.std.specs.Prelude.{◌≡◌, ◌≤◌, map, string_bytes, IfErr, IfOk};
 ghost use Rattle.hm_flaw_top.specs.declared.text.task.Task.{Task as AnyTask};
 ghost use Rattle.hm_flaw_top.specs.Text.Tasks.{after_answers, after_number, bad, ended, first_number, last_number};
-ghost use Rattle.hm_flaw_top.specs.Text.Tasks.{options_of, task_in, which_of, IsTask, WordsAreTasks};
+ghost use Rattle.hm_flaw_top.specs.Text.Tasks.{later, options_of, task_in, which_of, words_of, IsTask, WordsAreTasks};
 
 use crate::text::names::rule_named;
 use hm_flaw_parts::Judging;
@@ -17,6 +17,8 @@ pub const MOST_STATES: u64 = 1_000_000;
 pub enum Which {
     /// Of this one.
     One(Flaw),
+    /// Of this one, and the holds of the race.
+    Holds(Flaw),
     /// Of each, one after the other.
     All,
 }
@@ -58,14 +60,18 @@ pub fn words_are_tasks()
 
 /// The word of this number is bad.
 fn bad(at: u64, why: WordFault) -> Result<Task, BadWord>
-    ensures { result ≡ bad at why }
+    requires { at ≤ 5 }
+    ensures exact { result ≡ bad at why }
+    ensures few { IfErr result (λ b. b.at ≤ 5) }
 {
     Err(BadWord { at, why })
 }
 
 /// The task, if no word comes after the others; it would have this number.
 fn ended(at: u64, task: Task, words: &[String]) -> Result<Task, BadWord>
-    ensures { result ≡ ended at task (map string_bytes words.now) }
+    requires { at ≤ 5 }
+    ensures exact { result ≡ ended at task (map string_bytes words.now) }
+    ensures few { IfErr result (λ b. b.at ≤ 5) }
 {
     match words {
         [] => Ok(task),
@@ -97,7 +103,8 @@ fn with_answers(task: Task) -> Task
 
 /// The number that comes after `--answers` and `--most`.
 fn last_number(task: Task, words: &[String]) -> Result<Task, BadWord>
-    ensures { result ≡ last_number task (map string_bytes words.now) }
+    ensures exact { result ≡ last_number task (map string_bytes words.now) }
+    ensures few { IfErr result (λ b. b.at ≤ 5) }
 {
     match words {
         [] => bad(4, WordFault::Missing),
@@ -110,7 +117,8 @@ fn last_number(task: Task, words: &[String]) -> Result<Task, BadWord>
 
 /// The words that come after `--answers`.
 fn after_answers(task: Task, words: &[String]) -> Result<Task, BadWord>
-    ensures { result ≡ after_answers task (map string_bytes words.now) }
+    ensures exact { result ≡ after_answers task (map string_bytes words.now) }
+    ensures few { IfErr result (λ b. b.at ≤ 5) }
 {
     match words {
         [] => Ok(task),
@@ -126,7 +134,8 @@ fn after_answers(task: Task, words: &[String]) -> Result<Task, BadWord>
 
 /// The words that come after `--most` and its number.
 fn after_number(task: Task, words: &[String]) -> Result<Task, BadWord>
-    ensures { result ≡ after_number task (map string_bytes words.now) }
+    ensures exact { result ≡ after_number task (map string_bytes words.now) }
+    ensures few { IfErr result (λ b. b.at ≤ 5) }
 {
     match words {
         [] => Ok(task),
@@ -142,7 +151,8 @@ fn after_number(task: Task, words: &[String]) -> Result<Task, BadWord>
 
 /// The number that comes after `--most`, and the words after it.
 fn first_number(task: Task, words: &[String]) -> Result<Task, BadWord>
-    ensures { result ≡ first_number task (map string_bytes words.now) }
+    ensures exact { result ≡ first_number task (map string_bytes words.now) }
+    ensures few { IfErr result (λ b. b.at ≤ 5) }
 {
     match words {
         [] => bad(3, WordFault::Missing),
@@ -155,7 +165,8 @@ fn first_number(task: Task, words: &[String]) -> Result<Task, BadWord>
 
 /// The words that come after the first.
 fn options_of(task: Task, words: &[String]) -> Result<Task, BadWord>
-    ensures { result ≡ options_of task (map string_bytes words.now) }
+    ensures exact { result ≡ options_of task (map string_bytes words.now) }
+    ensures few { IfErr result (λ b. b.at ≤ 5) }
 {
     match words {
         [] => Ok(task),
@@ -198,8 +209,49 @@ fn plain_task(which: Which) -> Task
     }
 }
 
-/// What the words ask for: a rule, `right` or `--all`, and then in any order `--answers` and `--most` with a number. Or
-/// the first of them that may not stand there.
+/// The same after one word more.
+fn later(asked: Result<Task, BadWord>) -> Result<Task, BadWord>
+    requires { IfErr asked (λ b. b.at ≤ 5) }
+    ensures { result ≡ later asked }
+{
+    match asked {
+        Ok(task) => Ok(task),
+        Err(word) => Err(BadWord {
+            at: word.at + 1,
+            why: word.why,
+        }),
+    }
+}
+
+/// The words that come after the first, which names this driver: `--holds` may be the first of them.
+fn words_of_one(flaw: Flaw, words: &[String]) -> Result<Task, BadWord>
+    ensures { result ≡ words_of (Which.One flaw) (map string_bytes words.now) }
+{
+    match words {
+        [] => options_of(plain_task(Which::One(flaw)), words),
+        [word, rest @ ..] => {
+            if word.as_str() == "--holds" {
+                later(options_of(plain_task(Which::Holds(flaw)), rest))
+            } else {
+                options_of(plain_task(Which::One(flaw)), words)
+            }
+        }
+    }
+}
+
+/// The words that come after the first, which names these drivers.
+fn words_of(which: Which, words: &[String]) -> Result<Task, BadWord>
+    ensures { result ≡ words_of which (map string_bytes words.now) }
+{
+    match which {
+        Which::One(flaw) => words_of_one(flaw, words),
+        Which::Holds(_) => bad(1, WordFault::NoRule),
+        Which::All => options_of(plain_task(which), words),
+    }
+}
+
+/// What the words ask for: a rule, `right` or `--all`, after a rule perhaps `--holds`, and then in any order `--answers`
+/// and `--most` with a number. Or the first of them that may not stand there.
 pub fn task_of(words: &[String]) -> Result<Task, BadWord>
     ensures exact { result ≡ task_in (map string_bytes words.now) }
     ensures task { IfOk result (IsTask (map string_bytes words.now)) }
@@ -209,7 +261,7 @@ pub fn task_of(words: &[String]) -> Result<Task, BadWord>
     match words {
         [] => bad(1, WordFault::Missing),
         [word, rest @ ..] => match which_of(word.as_str()) {
-            Some(which) => options_of(plain_task(which), rest),
+            Some(which) => words_of(which, rest),
             None => bad(1, WordFault::NoRule),
         },
     }

@@ -1,7 +1,7 @@
 use Rattle.std.proofs.Common.{◌≡◌, ℕ, ◌++◌, codes, sym, subst, OnOk}
 use Rattle.std.specs.Fmt.{decimal}
 use Rattle.hm_flaw_top.specs.Text.Table.{outcome_words}
-use Rattle.hm_flaw_top.specs.declared.text.answer.Found.{Found}
+use Rattle.hm_flaw_search.specs.declared.answer.Found.{Found}
 use Rattle.hm_flaw_top.proofs.text.table.add_outcome.Goals as goal
 
 pub returns-in-Stuck : goal.returns-in-Stuck

@@ -1,0 +1,11 @@
+mod Rooms
+mod Turning
+mod Waiting
+mod Sticking
+mod Playing
+mod Owing
+mod Reached
+mod Alike
+mod Leading
+mod Unused
+mod Answering

@@ -1,7 +1,0 @@
-use Rattle.std.proofs.Common.{take}
-use Rattle.hm_flaw_top.specs.Search.Unused.{KnownTurnAlike}
-use Rattle.hm_flaw_top.proofs.search.race.FlawRace.known_turn_alike.Given as goal
-
--- turns at the states so far are alike
-abbrev pub invariant-loop-state : goal.invariant-loop-state
-invariant-loop-state l = KnownTurnAlike l.self.flaw l.self.script (take l.state-index l.known)

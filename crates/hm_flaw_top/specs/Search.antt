@@ -1,8 +1,0 @@
--- The shortest races of a driver with a flaw.
-pub mod Answers
-pub mod Alike
-pub mod Finding
-pub mod Played
-pub mod Races
-pub mod Same
-pub mod Unused

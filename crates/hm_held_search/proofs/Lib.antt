@@ -1,0 +1,4 @@
+mod DeadEnds
+mod Trying
+mod Turning
+mod Waiting
