@@ -1,16 +1,17 @@
 #!/usr/bin/env python3
 """One page of a race that punishes a driver, or the memory manager, if it leaves one rule out.
 
-    ./hmmwithout.sh --quick RULE [--answers] RACE.hmm > SHORTEST
+    ./hmmwithout.sh --quick RULE [--holds] [--answers] RACE.hmm > SHORTEST
     tools/view_broken.py RULE RACE.hmm SHORTEST > page.html
 
 The page is that of hmmview. Its last row is marked, and above it stands which part of legality that row breaks, and
 which rule is left out. The turns are those of the race that hmmwithout found; tools/drivers takes them once more, and
-must come to the same entries. Who waits is what such a driver finds. What the state says at a row is what the entries
+must come to the same entries. If SHORTEST has holds, each is an arrow: from the row that an actor waits for to the row
+with which it then goes on. Who waits is what such a driver finds. What the state says at a row is what the entries
 say, as docs/REPORT.md has it: an entry that the driver should have erased is not shown. Nobody has proved it.
 Ends with status 3 if the script is none, and with 1 if SHORTEST is no such race.
 """
-import html, os, sys
+import html, json, os, re, sys
 
 import view_page
 import words as given
@@ -38,20 +39,34 @@ def no_race(why):
     sys.exit(1)
 
 
+HOLD = re.compile(r'hold a(\d+) (?:first|after (\w+) (\d+)) until a(\d+) (\w+) (\d+)$')
+
+
 def race_in(text):
-    """The entries that hmmwithout wrote, the part that the last one breaks, and the line of what was owed, if there is
-    one; no part if nobody can go on."""
+    """The entries that hmmwithout wrote, the part that the last one breaks, the line of what was owed, if there is one,
+    and those of its holds; no part if nobody can go on."""
     lines = text.splitlines()
     last = next((at for at, line in enumerate(lines) if line.startswith('breaks ') or line == 'stuck'), None)
     if last is None or not last:
         no_race('it has no line of a part, and none that says stuck')
     owed = next((line.removeprefix('owed ') for line in lines if line.startswith('owed ')), None)
     race = [line for line in lines[:last] if not line.startswith('owed ')]
-    return race, lines[last].split(' ')[1] if lines[last] != 'stuck' else None, owed
+    part = lines[last].split(' ')[1] if lines[last] != 'stuck' else None
+    return race, part, owed, [line for line in lines[last:] if HOLD.match(line)]
 
 
 def actor_of(line):
     return int(line.split(' ')[1][1:])
+
+
+def arrow_of(race, start, hold):
+    """A hold as rows: the one that is waited for, the one with which the actor goes on, and what it says of them."""
+    actor, word, number, other, until, count = HOLD.match(hold).groups()
+    at = lambda who, what, nth: [i for i, line in enumerate(race) if line.split(' ')[1:3] == ['a' + who, what]][int(nth) - 1]
+    own = at(actor, word, number) if word else -1
+    on = next((i for i, line in enumerate(race) if i > own and actor_of(line) == int(actor)), len(race) - 1)
+    after = f'after row {start + own}' if word else 'at first'
+    return [start + at(other, until, count), start + on, f'a{actor} {after} waits for a{other} {until}, row ']
 
 
 class Shown:
@@ -119,16 +134,18 @@ def entries_of(script, rule, turns, answers_alone):
 
 
 def race_of(script, rule, text):
-    """The race that hmmwithout wrote, taken once more, the part that its last row breaks, and what was owed."""
-    written, part, owed = race_in(text)
+    """The race that hmmwithout wrote, taken once more, the part that its last row breaks, what was owed, and an arrow for
+    each of its holds."""
+    written, part, owed, holds = race_in(text)
     turns = tuple(actor_of(line) for line in written)
     for answers_alone in (False, True):
         if entries_of(script, rule, turns, answers_alone) == written:
-            return Shown(script, rule, turns, answers_alone), part, owed
+            shown = Shown(script, rule, turns, answers_alone)
+            return shown, part, owed, [arrow_of(written, len(shown.set_up), hold) for hold in holds]
     no_race('this driver comes to other entries; was it written of another rule, or of another script?')
 
 
-def page_text(shown, part, owed, rule):
+def page_text(shown, part, owed, arrows, rule):
     head, tail = view_page.page_parts()
     with open(os.path.join(HERE, 'view_broken.html'), encoding='ascii') as file:
         mark = file.read()
@@ -137,6 +154,7 @@ def page_text(shown, part, owed, rule):
     if owed:
         at, due = owed.split(' ', 1)
         words += f' data-owed="{at}" data-due="{html.escape(due)}"'
+    words += f' data-arrows="{html.escape(json.dumps(arrows))}"'
     mark = mark.replace('<section id="broken"', f'<section id="broken" {words} data-setup="{len(shown.set_up)}"')
     lines = ''.join(line + '\n' for line in shown.lines())
     return head + lines + tail.replace('</body>', mark + '</body>')
@@ -158,8 +176,8 @@ def main():
     except scripts.Refused as bad:
         print(f'view_broken.py: script line {bad.args[0]}: {bad.args[1]}', file=sys.stderr)
         sys.exit(3)
-    shown, part, owed = race_of(script, rule, given.data_of([shortest]).decode())
-    sys.stdout.write(page_text(shown, part, owed, rule))
+    shown, part, owed, arrows = race_of(script, rule, given.data_of([shortest]).decode())
+    sys.stdout.write(page_text(shown, part, owed, arrows, rule))
 
 
 if __name__ == '__main__':
