@@ -55,7 +55,8 @@ pub record IsOwedNow (l : Flaw) (c : Program) (x : FlawPoint) (a : ℕ) (w : Owe
   pub actor : w.actor ≡ a
   pub due : w.due ≡ due_by Flaw.NoFlaw c x.flawed a
 
--- what is owed at a turn of the actor; nothing if a part was broken, no entry is due, or the right driver would make the same one
+-- what is owed at a turn of the actor; nothing if a part was broken, no entry is due, or the right driver would make
+-- the same one
 abbrev pub IsOwedAt : Flaw → Program → FlawPoint → ℕ → Option Owed → Type 0
 IsOwedAt l c x a None =
     (e : Entry) → x.broken ≡ None → due_by l c x.flawed a ≡ Progress.Did e

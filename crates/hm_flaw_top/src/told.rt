@@ -70,8 +70,8 @@ fn add_holds(race: &FlawRace, found: &Found, most: u64, text: &mut Text) -> Resu
     }
 }
 
-/// What is to be written of the driver with this flaw, and of the holds of the race. It fails as the searches do, and if
-/// memory runs out.
+/// What is to be written of the driver with this flaw, and of the holds of the race. It fails as the searches do, and
+/// if memory runs out.
 fn tell_holds(
     alloc: Global,
     script: &Script,

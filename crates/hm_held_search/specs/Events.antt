@@ -1,5 +1,6 @@
 -- The holds of a race with which a search for the needed ones begins.
-use Rattle.std.specs.Prelude.{ℕ, ◌-◌, ◌==◌, zero, suc, Bool, ◌&&◌, if◌then◌else◌, Option, Some, None, List, [], ◌∷◌, ◌++◌, length, fold, take}
+use Rattle.std.specs.Prelude.{ℕ, ◌-◌, ◌==◌, zero, suc, Bool, ◌&&◌, if◌then◌else◌, Option, Some, None}
+use Rattle.std.specs.Prelude.{List, [], ◌∷◌, ◌++◌, length, fold, take}
 use Rattle.std.specs.Prelude.{slice_get}
 use Rattle.hm_history.specs.declared.Entry.{Entry}
 use Rattle.hm_holds.specs.Holds.{count_next}

@@ -108,7 +108,8 @@ fn add_holds(alloc: Global, text: &mut Text, holds: &[Hold]) -> Result<(), NoMem
     Ok(())
 }
 
-/// Adds what a search for holds came to: a line for each of them, and how many states the orders come to that keep them.
+/// Adds what a search for holds came to: a line for each of them, and to how many states the orders come that keep
+/// them.
 #[tactic(auto, using(std::proofs::Common::append_assoc))]
 pub fn add_found(alloc: Global, text: &mut Text, found: &FoundHolds) -> Result<(), NoMemory>
     ensures { OnOk result (text.new ≡ text.old ++ found_text found.now) }

@@ -40,8 +40,8 @@ fn said_of(race: &FlawRace, explored: &Explored<HeldKey>) -> Result<Tried, NoMem
 }
 
 /// Searches the orders of turns that keep the holds, each state once and the nearest first, for one at which no actor
-/// may go on and nothing went wrong. It stops if it knows more than `most` states. It fails if memory runs out, and if a
-/// history has all its entries and one more is due.
+/// may go on and nothing went wrong. It stops if it knows more than `most` states. It fails if memory runs out, and if
+/// a history has all its entries and one more is due.
 pub fn try_holds(race: &FlawRace, holds: &[Hold], most: u64) -> Result<Tried, StepError>
     ensures says { IfOk result (IsTried race.now holds.now most) }
     ensures fails { IfErr result (λ e. MayFail (held_value race.now holds.now) e) }

@@ -33,7 +33,8 @@ pub enum Led {
 // Where a failure of this piece leads, which answers it.
 fn after_failed(op: &Op, piece: u32, kind: &Kind) -> Led
     requires { FailsHere kind.now }
-    ensures { (c : Program) (a i : ℕ) (g : Going) → led_to c a i result g ≡ going_on c a i (piece_ends op.now piece) [] }
+    ensures { (c : Program) (a i : ℕ) (g : Going)
+        → led_to c a i result g ≡ going_on c a i (piece_ends op.now piece) [] }
 {
     let seen = Seen {
         at: 0,

@@ -250,8 +250,8 @@ fn words_of(which: Which, words: &[String]) -> Result<Task, BadWord>
     }
 }
 
-/// What the words ask for: a rule, `right` or `--all`, after a rule perhaps `--holds`, and then in any order `--answers`
-/// and `--most` with a number. Or the first of them that may not stand there.
+/// What the words ask for: a rule, `right` or `--all`, after a rule perhaps `--holds`, and then in any order
+/// `--answers` and `--most` with a number. Or the first of them that may not stand there.
 pub fn task_of(words: &[String]) -> Result<Task, BadWord>
     ensures exact { result ≡ task_in (map string_bytes words.now) }
     ensures task { IfOk result (IsTask (map string_bytes words.now)) }

@@ -57,8 +57,8 @@ fn turn_of(
     }
 }
 
-// The next turn at a key whose state has so many entries, of an order which prefers this actor. `None` if nothing is due
-// to anybody.
+// The next turn at a key whose state has so many entries, of an order which prefers this actor. `None` if nothing is
+// due to anybody.
 fn next_turn(
     race: &ScriptRace,
     key: &StateKey,
