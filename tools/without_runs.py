@@ -27,7 +27,9 @@ from drivers.race import RULES, is_unused, owed, search
 
 
 # the step is gone from what the actor has before it when an entry before it is made; the second program looks at it late
-LATER = {'copy-all', 'drop-lost', 'freeze-others', 'freeze-first', 'set-moved'}
+LATER = {'copy-all', 'drop-lost', 'freeze-others', 'freeze-first', 'set-moved',
+         # after a fault in a look-up; hmmjudge, of the same entries, says what hmmwithout says
+         'set-sequence'}
 
 
 class Wrong(Exception):
